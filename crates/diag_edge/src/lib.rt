@@ -1,0 +1,25 @@
+//! What a program meets outside: a source of bytes, a shelf of named files, and a sink.
+//!
+//! The traits are `Source`, `Shelf` and `Sink`. `load` reads a whole file from a shelf, and
+//! `writing` has small writers to a sink. `MemSource`, `MemShelf` and `MemSink` are ends in
+//! memory, whose bytes and failures the caller chooses.
+//!
+//! Counts of faults and of calls are u64 and stop at the greatest one.
+#![tactic(auto)]
+
+mod calls;
+mod copying;
+mod loading;
+mod mem_shelf;
+mod mem_sink;
+mod mem_source;
+mod outside;
+#[cfg(test)]
+mod tests;
+pub mod writing;
+
+pub use loading::{LoadError, load};
+pub use mem_shelf::MemShelf;
+pub use mem_sink::MemSink;
+pub use mem_source::MemSource;
+pub use outside::{Memory, ReadFailed, Shelf, Sink, Source, WriteFailed};

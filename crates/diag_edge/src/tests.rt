@@ -1,0 +1,116 @@
+use crate::writing::{put_four, put_three, put_two};
+use crate::{LoadError, MemShelf, MemSink, MemSource, ReadFailed, Sink, Source, WriteFailed, load};
+use std::alloc::{AllocError, Global};
+use std::test::Fail;
+
+fn numbers(alloc: Global, number: u64) -> Result<Vec<u64>, AllocError> {
+    let mut failing = Vec::new(alloc);
+    failing.push(number)?;
+    Ok(failing)
+}
+
+// The number of the failing call is 0 where none fails.
+struct Load {
+    name: &'static str,
+    limit: usize,
+    failing: u64,
+    want: Result<&'static str, LoadError>,
+}
+
+const LOADS: [Load; 6] = [
+    Load {
+        name: "a",
+        limit: 3,
+        failing: 0,
+        want: Ok("abc"),
+    },
+    Load {
+        name: "empty",
+        limit: 0,
+        failing: 0,
+        want: Ok(""),
+    },
+    Load {
+        name: "a",
+        limit: 2,
+        failing: 0,
+        want: Err(LoadError::Long { limit: 2 }),
+    },
+    Load {
+        name: "a",
+        limit: 3,
+        failing: 1,
+        want: Err(LoadError::Failed),
+    },
+    Load {
+        name: "a",
+        limit: 3,
+        failing: 3,
+        want: Err(LoadError::Failed),
+    },
+    Load {
+        name: "b",
+        limit: 3,
+        failing: 0,
+        want: Err(LoadError::Failed),
+    },
+];
+
+#[test]
+fn loads(rt: HostRuntime) -> Result<(), Fail> {
+    let alloc = rt.alloc();
+    for row in &LOADS {
+        let mut files = Vec::new(alloc);
+        for (name, text) in [("a", "abc"), ("empty", ""), ("a", "another")] {
+            let bytes = Vec::from_slice(alloc, text.as_bytes())?;
+            files.push((String::from_str(alloc, name)?, bytes))?;
+        }
+        let mut shelf = MemShelf::new(files, numbers(alloc, row.failing)?);
+        assert!(rt; row.limit < 10);
+        match (load(alloc, &mut shelf, row.name, row.limit), row.want) {
+            (Ok(file), Ok(text)) => assert_eq!(rt; file.as_slice(), text.as_bytes()),
+            (Err(error), Err(want)) => assert_eq!(rt; error, want),
+            _ => assert!(rt; false, "{} at {}", row.name, row.limit),
+        }
+    }
+    Ok(())
+}
+
+#[test]
+fn reads_in_pieces(rt: HostRuntime) -> Result<(), Fail> {
+    let alloc = rt.alloc();
+    let bytes = Vec::from_slice(alloc, b"abc")?;
+    let mut source = MemSource::new(bytes, 2, numbers(alloc, 2)?);
+    let mut into = [0u8; 4];
+    assert_eq!(rt; source.read(&mut into), Ok(2));
+    assert_eq!(rt; into, *b"ab\0\0");
+    assert_eq!(rt; source.read(&mut into), Err(ReadFailed));
+    assert_eq!(rt; source.read(&mut into), Ok(1));
+    assert_eq!(rt; into[0], b'c');
+    assert_eq!(rt; source.read(&mut into), Ok(0));
+    Ok(())
+}
+
+#[test]
+fn keeps_what_is_put(rt: HostRuntime) -> Result<(), Fail> {
+    let alloc = rt.alloc();
+    let Ok(mut sink) = MemSink::new(alloc, 8, numbers(alloc, 2)?, 2) else {
+        assert!(rt; false, "no memory");
+        return Ok(());
+    };
+    assert_eq!(rt; sink.put(b"abc"), Ok(()));
+    assert_eq!(rt; sink.put(b"defg"), Err(WriteFailed));
+    assert_eq!(rt; sink.as_slice(), "abcde".as_bytes());
+    assert_eq!(rt; put_two(&mut sink, b"f", b"g"), Ok(()));
+    assert_eq!(rt; sink.put(b"hi"), Err(WriteFailed));
+    assert_eq!(rt; sink.as_slice(), "abcdefgh".as_bytes());
+
+    let Ok(mut wide) = MemSink::new(alloc, 100, Vec::new(alloc), 0) else {
+        assert!(rt; false, "no memory");
+        return Ok(());
+    };
+    assert_eq!(rt; put_three(&mut wide, b"a", b"bc", b"d"), Ok(()));
+    assert_eq!(rt; put_four(&mut wide, b"e", b"f", b"", b"g"), Ok(()));
+    assert_eq!(rt; wide.as_slice(), "abcdefg".as_bytes());
+    Ok(())
+}

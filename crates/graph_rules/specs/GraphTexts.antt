@@ -1,0 +1,147 @@
+-- Graphs in `.nnf` text: the graph that a text gives, or the first reason why it gives none.
+use Rattle.std.specs.Prelude.{ℕ, zero, suc, ◌-◌, ◌^◌, Bool, true, false, not, ◌&&◌, List, [], ◌∷◌, ◌++◌, map, length, Option, Some, None, codes, ◌==◌, nat_lt, nat_le, if◌then◌else◌, sum_by}
+use Rattle.std.specs.List.{list_all, filter, filter_map, enumerate_from}
+use Rattle.text_rules.specs.Names.{same_name}
+use Rattle.text_rules.specs.TextLines.{all_lines}
+use Rattle.text_rules.specs.Tokens.{words}
+use Rattle.text_rules.specs.Numbers.{number_in}
+use Rattle.graph_rules.specs.declared.NodeKind.{NodeKind}
+use Rattle.graph_rules.specs.declared.NodeKind.TheVariants.{Literal, And, Or}
+use Rattle.graph_rules.specs.Graphs.{Node, Graph}
+
+-- up to ten digits, and up to twenty
+abbrev pub small_number : List ℕ → Option ℕ
+small_number word = number_in 10 0 (2 ^ 32 - 1) word
+
+abbrev pub great_number : List ℕ → Option ℕ
+great_number word = number_in 20 0 (2 ^ 64 - 1) word
+
+abbrev pub with_first : {A : Type 0} → A → Option (List A) → Option (List A)
+with_first x None = None
+with_first x (Some xs) = Some (x ∷ xs)
+
+-- what the first line says: numbers of nodes, edges and variables
+pub record Header : Type 0 where
+  pub nodes : ℕ
+  pub edges : ℕ
+  pub vars : ℕ
+
+abbrev pub header_from : Option ℕ → Option ℕ → Option ℕ → Option Header
+header_from (Some zero) edges vars = None
+header_from (Some (suc n)) (Some edges) (Some vars) = Some (record { nodes = suc n; edges = edges; vars = vars })
+header_from nodes edges vars = None
+
+abbrev pub header_of : List (List ℕ) → Option Header
+header_of (word ∷ nodes ∷ edges ∷ vars ∷ []) =
+    if same_name word (codes "nnf") then header_from (small_number nodes) (great_number edges) (small_number vars) else None
+header_of ws = None
+
+abbrev pub number_before : Option ℕ → Option (List ℕ) → Option (List ℕ)
+number_before None ns = None
+number_before (Some n) ns = with_first n ns
+
+-- the words as numbers, if each is one
+abbrev pub numbers : List (List ℕ) → Option (List ℕ)
+numbers [] = Some []
+numbers (w ∷ ws) = number_before (small_number w) (numbers ws)
+
+-- a minus sign before a literal's number
+abbrev pub literal_with : Bool → Option ℕ → Option Node
+literal_with positive None = None
+literal_with positive (Some v) = Some (record { what = Literal v positive; kids = [] })
+
+abbrev pub literal_of : List ℕ → Option Node
+literal_of [] = None
+literal_of (b ∷ bytes) = if b == 45 then literal_with false (small_number bytes) else literal_with true (small_number (b ∷ bytes))
+
+-- the first number counts the others
+abbrev pub counted : NodeKind → Option (List ℕ) → Option Node
+counted kind None = None
+counted kind (Some []) = None
+counted kind (Some (c ∷ kids)) = if c == length kids then Some (record { what = kind; kids = kids }) else None
+
+-- nothing is drawn from the number behind O
+abbrev pub or_of : Option ℕ → List (List ℕ) → Option Node
+or_of None ws = None
+or_of (Some j) ws = counted Or (numbers ws)
+
+abbrev pub node_of : List (List ℕ) → Option Node
+node_of [] = None
+node_of (word ∷ []) = None
+node_of (word ∷ first ∷ []) =
+    if same_name word (codes "L") then literal_of first
+    else (if same_name word (codes "A") then counted And (numbers (first ∷ [])) else None)
+node_of (word ∷ first ∷ second ∷ rest) =
+    if same_name word (codes "A") then counted And (numbers (first ∷ second ∷ rest))
+    else (if same_name word (codes "O") then or_of (small_number first) (second ∷ rest) else None)
+
+-- a variable is from 1 to the greatest
+abbrev pub variable_fits : ℕ → NodeKind → Bool
+variable_fits vars (Literal var positive) = nat_le 1 var && nat_le var vars
+variable_fits vars And = true
+variable_fits vars Or = true
+
+-- A line of no form is fault 2, one with a child that is no earlier node 3, one with a variable that is not there 4.
+abbrev pub node_fault : ℕ → ℕ → Option Node → Option ℕ
+node_fault vars own None = Some 2
+node_fault vars own (Some node) =
+    if not (list_all (λ kid. nat_lt kid own) node.kids) then Some 3
+    else (if variable_fits vars node.what then None else Some 4)
+
+-- Refusals: no header, a line with its fault, numbers that are not those said, too many bits, and a variable shared by
+-- children of an and. Reading a text alone gives the first three.
+pub data Refusal : Type 0 where
+  NoHeader : Refusal
+  AtLine : (line number : ℕ) → Refusal
+  Counts : (said found : ℕ) → Refusal
+  TooLarge : (bits : ℕ) → Refusal
+  Shared : (node variable : ℕ) → Refusal
+
+abbrev pub has_words : ℕ × List (List ℕ) → Bool
+has_words (line, []) = false
+has_words (line, (w ∷ ws)) = true
+
+-- the lines that have words, as words, each with its number
+abbrev pub filled_lines : List ℕ → List (ℕ × List (List ℕ))
+filled_lines text = filter has_words (enumerate_from 1 (map words (all_lines text)))
+
+abbrev pub fault_at : ℕ → Option ℕ → Option Refusal
+fault_at line None = None
+fault_at line (Some number) = Some (AtLine line number)
+
+-- each node line with the node's own number
+abbrev pub line_fault : ℕ → ℕ × (ℕ × List (List ℕ)) → Option Refusal
+line_fault vars l = fault_at l.1.0 (node_fault vars l.0 (node_of l.1.1))
+
+abbrev pub edges : List Node → ℕ
+edges nodes = sum_by (λ (n : Node). length n.kids) nodes
+
+-- where the numbers differ: of nodes, or else of edges
+abbrev pub differs : ℕ → ℕ → List Refusal
+differs said found = if said == found then [] else Counts said found ∷ []
+
+abbrev pub node_at_line : ℕ × List (List ℕ) → Option Node
+node_at_line l = node_of l.1
+
+-- a graph, or a refusal
+pub data Parsed : Type 0 where
+  Read : (graph : Graph) → Parsed
+  Refused : (refusal : Refusal) → Parsed
+
+abbrev pub read_unless : Graph → List Refusal → Parsed
+read_unless graph [] = Read graph
+read_unless graph (r ∷ rest) = Refused r
+
+abbrev pub parsed_below : List (ℕ × List (List ℕ)) → Option Header → Parsed
+parsed_below lines None = Refused NoHeader
+parsed_below lines (Some header) =
+    let nodes = filter_map node_at_line lines in
+    read_unless (record { nodes = nodes; vars = header.vars })
+    (filter_map (line_fault header.vars) (enumerate_from 0 lines) ++ differs header.nodes (length nodes) ++ differs header.edges (edges nodes))
+
+abbrev pub parsed_lines : List (ℕ × List (List ℕ)) → Parsed
+parsed_lines [] = Refused NoHeader
+parsed_lines (first ∷ rest) = parsed_below rest (header_of first.1)
+
+abbrev pub parsed : List ℕ → Parsed
+parsed text = parsed_lines (filled_lines text)

@@ -1,0 +1,12 @@
+//! What the texts of this product have in common: names, lines, words and numbers.
+#![tactic(auto)]
+
+mod names;
+mod numbers;
+mod text_lines;
+mod tokens;
+
+pub use names::{is_mark, is_name, is_name_byte};
+pub use numbers::plain_number;
+pub use text_lines::{Lines, uncommented};
+pub use tokens::{Tokens, is_blank};

@@ -1,0 +1,11 @@
+pub mod Naming
+pub mod Ordered
+pub mod Sorting
+pub mod Repeats
+pub mod CallerLemmas
+mod Steps
+mod Tables
+pub mod Making
+mod Placing
+pub mod Answering
+mod Rows

@@ -1,0 +1,146 @@
+-- The device that sorted parts and wires make: that it is one, and that it is the one of the parts and wires as they were given.
+use Rattle.std.proofs.Common.{◌≡◌, ℕ, ◌+◌, ◌<◌, ◌≤◌, inl, inr, Bool, true, false, cond, not, nat_lt, List, [], ◌∷◌, map, length, get_or, Some, None, refl, sym, ap, subst, ◌∙◌, arith}
+use Rattle.std.specs.Prelude.{◌&&◌, position}
+use Rattle.std.specs.List.{list_all, position_or_len}
+use Rattle.std.proofs.lemmas.Bool.{ltb-false, ltb-true, lt-ltb}
+use Rattle.std.proofs.lemmas.List.{length-map}
+use Rattle.std.proofs.lemmas.List.Sums.{fails_before_first}
+use Rattle.text_rules.specs.Names.{Name, same_name}
+use Rattle.device_model.specs.declared.component.Component.{Component}
+use Rattle.device_model.specs.Rows.{Rows}
+use Rattle.device_model.specs.Order.{placed, in_order}
+use Rattle.device_model.specs.Devices.{IsDevice, part_names, takes_ports, has_arity, has_wires}
+use Rattle.device_model.specs.Building.{place_in, renumbered, device_of}
+use Rattle.device_model.proofs.Naming.{same, below, above, compared, same_name-same}
+use Rattle.device_model.proofs.Ordered.{Among, Rises-in_order, among_in_order, in_order-has, placed-same, placed-below, placed-above}
+use Rattle.device_model.proofs.Sorting.{itself, Contains-from_among, Rises-map, names_rise-Rises}
+use Rattle.device_model.proofs.Tables.{among_get_or}
+
+-- ---- tests of each item
+
+both : (a b : Bool) → a ≡ true → b ≡ true → (a && b) ≡ true
+both a b h g = rw (h, g) refl
+
+parts_of : (a b : Bool) → (a && b) ≡ true → (a ≡ true) × (b ≡ true)
+parts_of true b h = (refl, h)
+parts_of false b h = cc
+
+pub list_all-among : {A : Type 0} (p : A → Bool) (xs : List A) → list_all p xs ≡ true → (x : A) → Among x xs → p x ≡ true
+list_all-among p [] h x m = absurd m
+list_all-among p (y ∷ ys) h x (inl e) = ap p e ∙ (parts_of (p y) (list_all p ys) h).0
+list_all-among p (y ∷ ys) h x (inr m) = list_all-among p ys (parts_of (p y) (list_all p ys) h).1 x m
+
+pub list_all-from_among : {A : Type 0} (p : A → Bool) (xs : List A) → ((x : A) → Among x xs → p x ≡ true) → list_all p xs ≡ true
+list_all-from_among p [] h = refl
+list_all-from_among p (x ∷ xs) h = both (p x) (list_all p xs) (h x (inl refl)) (list_all-from_among p xs (λ y m. h y (inr m)))
+
+none_given : (b : Bool) (i : ℕ) → cond b (Some i) None ≡ None → b ≡ false
+none_given true i h = cc
+none_given false i h = refl
+
+not_false : (b : Bool) → not b ≡ false → b ≡ true
+not_false true h = refl
+not_false false h = cc
+
+among_place : {A : Type 0} (xs : List A) (x : A) → Among x xs → (k : ℕ) × (k < length xs) × (get_or xs k x ≡ x)
+among_place xs x m = Contains-from_among xs x m
+
+-- where no item fails a test, each passes
+pub list_all-from_position : {A : Type 0} (p : A → Bool) (xs : List A) → position (λ x. not (p x)) xs ≡ None → list_all p xs ≡ true
+list_all-from_position p xs h =
+    let first = position_or_len (λ x. not (p x)) xs in
+    let past : length xs ≤ first = ltb-false first (length xs) (none_given (nat_lt first (length xs)) first h) in
+    list_all-from_among p xs (λ x m.
+    let k = among_place xs x m in
+    ap p (sym k.2) ∙ not_false (p (get_or xs k.0 x)) (fails_before_first (λ x. not (p x)) xs k.0 x (omega (arith, k.1))))
+
+-- ---- lengths and maps of lists in order
+
+module _ {A : Type 0} (name : A → Name) where
+  length-placed : (x : A) (ys : List A) → length (placed name x ys) ≤ 1 + length ys
+  length-placed x [] = omega arith
+  length-placed x (y ∷ ys) = elim (compared (name x) (name y)) [
+    | same e ↦ subst (λ (zs : List A). length zs ≤ 1 + length (y ∷ ys)) (sym (placed-same name x y ys e)) (omega arith)
+    | below l ↦ subst (λ (zs : List A). length zs ≤ 1 + length (y ∷ ys)) (sym (placed-below name x y ys l)) (omega arith)
+    | above l ↦ subst (λ (zs : List A). length zs ≤ 1 + length (y ∷ ys)) (sym (placed-above name x y ys l)) (omega (arith, length-placed x ys))
+  ]
+
+  pub length-in_order : (xs : List A) → length (in_order name xs) ≤ length xs
+  length-in_order [] = omega arith
+  length-in_order (x ∷ xs) = omega (arith, length-placed x (in_order name xs), length-in_order xs)
+
+  module _ (f : A → A) (keeps : (x : A) → name (f x) ≡ name x) where
+    placed-map : (x : A) (ys : List A) → placed name (f x) (map f ys) ≡ map f (placed name x ys)
+    placed-map x [] = refl
+    placed-map x (y ∷ ys) = elim (compared (name x) (name y)) [
+      | same e ↦ placed-same name (f x) (f y) (map f ys) (keeps x ∙ e ∙ sym (keeps y)) ∙ sym (ap (map f) (placed-same name x y ys e))
+      | below l ↦ placed-below name (f x) (f y) (map f ys) (rw (keeps x, keeps y) l) ∙ sym (ap (map f) (placed-below name x y ys l))
+      | above l ↦ placed-above name (f x) (f y) (map f ys) (rw (keeps x, keeps y) l) ∙ ap (λ (zs : List A). f y ∷ zs) (placed-map x ys) ∙ sym (ap (map f) (placed-above name x y ys l))
+    ]
+
+    -- a map that keeps the names keeps the order
+    pub in_order-map : (xs : List A) → in_order name (map f xs) ≡ map f (in_order name xs)
+    in_order-map [] = refl
+    in_order-map (x ∷ xs) = ap (placed name (f x)) (in_order-map xs) ∙ placed-map x (in_order name xs)
+
+  pub list_all-in_order : (p : A → Bool) (xs : List A) → list_all p xs ≡ true → list_all p (in_order name xs) ≡ true
+  list_all-in_order p xs h = list_all-from_among p (in_order name xs) (λ x m. list_all-among p xs h x (among_in_order name xs x m))
+
+-- ---- places of names
+
+pub position_or_len-among : (ns : List Name) (n : Name) → Among n ns → position_or_len (same_name n) ns < length ns
+position_or_len-among [] n m = absurd m
+position_or_len-among (x ∷ ns) n (inl e) = rw (same_name-same n x e) (omega arith)
+position_or_len-among (x ∷ ns) n (inr m) = by (same_name n x) (position_or_len-among ns n m)
+  where
+    by : (b : Bool) → position_or_len (same_name n) ns < length ns → cond (not b) (1 + position_or_len (same_name n) ns) 0 < length (x ∷ ns)
+    by true h = omega arith
+    by false h = omega arith
+
+-- each port of a part that has its wires is the place of a wire
+place_in-fits : (wires : List Name) (port : ℕ) → port < length wires → place_in (in_order itself wires) (get_or wires port []) < length (in_order itself wires)
+place_in-fits wires port l =
+    let r = in_order-has itself wires (get_or wires port []) (among_get_or wires port [] l) in
+    position_or_len-among (in_order itself wires) (get_or wires port []) (subst (λ (n : Name). Among n (in_order itself wires)) r.2 r.1)
+
+test_less : (a b : ℕ) → nat_lt a b ≡ true → a < b
+test_less a b h = ltb-true a b h
+
+less_test : (a b : ℕ) → a < b → nat_lt a b ≡ true
+less_test a b h = lt-ltb a b h
+
+renumbered-has_wires : (wires : List Name) (part : Component) → has_wires (length wires) part ≡ true → has_wires (length (in_order itself wires)) (renumbered wires part) ≡ true
+renumbered-has_wires wires part h = over part.ports h
+  where
+    over : (ports : List ℕ) → list_all (λ port. nat_lt port (length wires)) ports ≡ true
+        → list_all (λ port. nat_lt port (length (in_order itself wires))) (map (λ port. place_in (in_order itself wires) (get_or wires port [])) ports) ≡ true
+    over [] g = refl
+    over (p ∷ ps) g =
+        let two = parts_of (nat_lt p (length wires)) (list_all (λ port. nat_lt port (length wires)) ps) g in
+        both _ _ (less_test _ _ (place_in-fits wires p (test_less p (length wires) two.0))) (over ps two.1)
+
+renumbered-has_arity : (tables : List Rows) (wires : List Name) (part : Component) → has_arity tables (renumbered wires part) ≡ has_arity tables part
+renumbered-has_arity tables wires part = ap (takes_ports tables part.kind) (length-map part.ports (λ port. place_in (in_order itself wires) (get_or wires port [])))
+
+list_all-mapped : {A B : Type 0} (p : B → Bool) (f : A → B) (xs : List A) → list_all (λ x. p (f x)) xs ≡ true → list_all p (map f xs) ≡ true
+list_all-mapped p f [] h = refl
+list_all-mapped p f (x ∷ xs) h = let two = parts_of (p (f x)) (list_all (λ y. p (f y)) xs) h in both _ _ two.0 (list_all-mapped p f xs two.1)
+
+abbrev pub component_name : Component → Name
+component_name part = part.name
+
+-- what parts and wires of the right arity and number make is a device
+pub IsDevice-device_of : (parts : List Component) (wires : List Name) (tables : List Rows) → length parts ≤ 4096 → length wires ≤ 16384
+    → list_all (has_arity tables) parts ≡ true → list_all (has_wires (length wires)) parts ≡ true → IsDevice (device_of parts wires tables)
+IsDevice-device_of parts wires tables few_parts few_wires arities joined =
+    let made = map (renumbered wires) parts in
+    record {
+      parts_rise = names_rise-Rises (part_names (in_order component_name made)) (Rises-map component_name (in_order component_name made) (Rises-in_order component_name made));
+      wires_rise = names_rise-Rises (in_order itself wires) (Rises-in_order itself wires);
+      arities = list_all-in_order component_name (has_arity tables) made (list_all-mapped (has_arity tables) (renumbered wires) parts
+          (list_all-from_among _ parts (λ p m. renumbered-has_arity tables wires p ∙ list_all-among (has_arity tables) parts arities p m)));
+      joined = list_all-in_order component_name (has_wires (length (in_order itself wires))) made (list_all-mapped _ (renumbered wires) parts
+          (list_all-from_among _ parts (λ p m. renumbered-has_wires wires p (list_all-among (has_wires (length wires)) parts joined p m))));
+      few_parts = omega (arith, length-in_order component_name made, length-map parts (renumbered wires));
+      few_wires = omega (arith, length-in_order itself wires);
+    }

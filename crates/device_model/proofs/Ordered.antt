@@ -1,0 +1,156 @@
+-- Lists of items by rising name, and that `in_order` makes the only one that has the same items.
+use Rattle.std.proofs.Common.{◌≡◌, ◌⊎◌, inl, inr, List, [], ◌∷◌, refl, sym, ap, subst, ◌∙◌}
+use Rattle.text_rules.specs.Names.{Name}
+use Rattle.device_model.specs.Order.{placed, in_order}
+use Rattle.device_model.proofs.Naming.{Below, Below-trans, Below-irreflexive, Below-asymmetric, same, below, above, compared, same_name-same, same_name-below, same_name-above, name_below-Below, name_below-above}
+
+abbrev pub Among : {A : Type 0} → A → List A → Type 0
+Among x [] = ⊥
+Among x (y ∷ ys) = (x ≡ y) ⊎ Among x ys
+
+module _ {A : Type 0} (name : A → Name) where
+  -- the name stands before each item's
+  abbrev pub BelowAll : Name → List A → Type 0
+  BelowAll n [] = Unit {0}
+  BelowAll n (y ∷ ys) = Below n (name y) × BelowAll n ys
+
+  -- each item's name stands before those of all items behind it
+  abbrev pub Rises : List A → Type 0
+  Rises [] = Unit {0}
+  Rises (x ∷ xs) = BelowAll (name x) xs × Rises xs
+
+  pub Below-among : (n : Name) (ys : List A) (y : A) → BelowAll n ys → Among y ys → Below n (name y)
+  Below-among n [] y h m = absurd m
+  Below-among n (x ∷ xs) y h (inl e) = subst (λ (z : A). Below n (name z)) (sym e) h.0
+  Below-among n (x ∷ xs) y h (inr m) = Below-among n xs y h.1 m
+
+  pub BelowAll-from_among : (n : Name) (ys : List A) → ((y : A) → Among y ys → Below n (name y)) → BelowAll n ys
+  BelowAll-from_among n [] h = tt
+  BelowAll-from_among n (y ∷ ys) h = (h y (inl refl), BelowAll-from_among n ys (λ z m. h z (inr m)))
+
+  pub BelowAll-trans : (m n : Name) (ys : List A) → Below m n → BelowAll n ys → BelowAll m ys
+  BelowAll-trans m n [] b h = tt
+  BelowAll-trans m n (y ∷ ys) b h = (Below-trans m n (name y) b h.0, BelowAll-trans m n ys b h.1)
+
+  pub placed-same : (x y : A) (ys : List A) → name x ≡ name y → placed name x (y ∷ ys) ≡ y ∷ ys
+  placed-same x y ys e = rw (same_name-same (name x) (name y) e) refl
+
+  pub placed-below : (x y : A) (ys : List A) → Below (name x) (name y) → placed name x (y ∷ ys) ≡ x ∷ y ∷ ys
+  placed-below x y ys h = rw (same_name-below (name x) (name y) h, name_below-Below (name x) (name y) h) refl
+
+  pub placed-above : (x y : A) (ys : List A) → Below (name y) (name x) → placed name x (y ∷ ys) ≡ y ∷ placed name x ys
+  placed-above x y ys h = rw (same_name-above (name x) (name y) h, name_below-above (name x) (name y) h) refl
+
+  BelowAll-placed : (n : Name) (x : A) (ys : List A) → Below n (name x) → BelowAll n ys → BelowAll n (placed name x ys)
+  BelowAll-placed n x [] b h = (b, tt)
+  BelowAll-placed n x (y ∷ ys) b h = elim (compared (name x) (name y)) [
+    | same e ↦ subst (BelowAll n) (sym (placed-same x y ys e)) h
+    | below l ↦ subst (BelowAll n) (sym (placed-below x y ys l)) (b, h)
+    | above l ↦ subst (BelowAll n) (sym (placed-above x y ys l)) (h.0, BelowAll-placed n x ys b h.1)
+  ]
+
+  Rises-placed : (x : A) (ys : List A) → Rises ys → Rises (placed name x ys)
+  Rises-placed x [] h = (tt, tt)
+  Rises-placed x (y ∷ ys) h = elim (compared (name x) (name y)) [
+    | same e ↦ subst Rises (sym (placed-same x y ys e)) h
+    | below l ↦ subst Rises (sym (placed-below x y ys l)) ((l, BelowAll-trans (name x) (name y) ys l h.0), h)
+    | above l ↦ subst Rises (sym (placed-above x y ys l)) (BelowAll-placed (name y) x ys l h.0, Rises-placed x ys h.1)
+  ]
+
+  pub Rises-in_order : (xs : List A) → Rises (in_order name xs)
+  Rises-in_order [] = tt
+  Rises-in_order (x ∷ xs) = Rises-placed x (in_order name xs) (Rises-in_order xs)
+
+  among_placed : (x : A) (ys : List A) (z : A) → Among z (placed name x ys) → (z ≡ x) ⊎ Among z ys
+  among_placed x [] z m = m
+  among_placed x (y ∷ ys) z m = elim (compared (name x) (name y)) [
+    | same e ↦ inr (subst (Among z) (placed-same x y ys e) m)
+    | below l ↦ subst (Among z) (placed-below x y ys l) m
+    | above l ↦ elim (subst (Among z) (placed-above x y ys l) m) [
+      | inl e ↦ inr (inl e)
+      | inr n ↦ elim (among_placed x ys z n) [ inl e ↦ inl e | inr k ↦ inr (inr k) ]
+    ]
+  ]
+
+  placed-keeps : (x : A) (ys : List A) (z : A) → Among z ys → Among z (placed name x ys)
+  placed-keeps x [] z m = absurd m
+  placed-keeps x (y ∷ ys) z m = elim (compared (name x) (name y)) [
+    | same e ↦ subst (Among z) (sym (placed-same x y ys e)) m
+    | below l ↦ subst (Among z) (sym (placed-below x y ys l)) (inr m)
+    | above l ↦ subst (Among z) (sym (placed-above x y ys l)) (elim m [ inl e ↦ inl e | inr n ↦ inr (placed-keeps x ys z n) ])
+  ]
+
+  -- an item of the list that has the name
+  abbrev Named : Name → List A → Type 0
+  Named n ys = (z : A) × Among z ys × (name z ≡ n)
+
+  placed-has : (x : A) (ys : List A) → Named (name x) (placed name x ys)
+  placed-has x [] = (x, inl refl, refl)
+  placed-has x (y ∷ ys) = elim (compared (name x) (name y)) [
+    | same e ↦ subst (Named (name x)) (sym (placed-same x y ys e)) (y, inl refl, sym e)
+    | below l ↦ subst (Named (name x)) (sym (placed-below x y ys l)) (x, inl refl, refl)
+    | above l ↦ subst (Named (name x)) (sym (placed-above x y ys l)) (let r = placed-has x ys in (r.0, inr r.1, r.2))
+  ]
+
+  -- what stands in order was there
+  pub among_in_order : (xs : List A) (z : A) → Among z (in_order name xs) → Among z xs
+  among_in_order [] z m = m
+  among_in_order (x ∷ xs) z m = elim (among_placed x (in_order name xs) z m) [ inl e ↦ inl e | inr n ↦ inr (among_in_order xs z n) ]
+
+  -- and each name of what was there stands in order
+  pub in_order-has : (xs : List A) (x : A) → Among x xs → Named (name x) (in_order name xs)
+  in_order-has [] x m = absurd m
+  in_order-has (y ∷ ys) x (inl e) = subst (λ (z : A). Named (name z) (in_order name (y ∷ ys))) (sym e) (placed-has y (in_order name ys))
+  in_order-has (y ∷ ys) x (inr m) = let r = in_order-has ys x m in (r.0, placed-keeps y (in_order name ys) r.0 r.1, r.2)
+
+  -- items of one name are the same
+  abbrev pub NamesTell : List A → Type 0
+  NamesTell xs = (x y : A) → Among x xs → Among y xs → name x ≡ name y → x ≡ y
+
+  pub in_order-keeps : (xs : List A) → NamesTell xs → (x : A) → Among x xs → Among x (in_order name xs)
+  in_order-keeps xs tell x m =
+      let r = in_order-has xs x m in
+      subst (λ (z : A). Among z (in_order name xs)) (tell r.0 x (among_in_order xs r.0 r.1) m r.2) r.1
+
+  pub NamesTell-rising : (ys : List A) → Rises ys → NamesTell ys
+  NamesTell-rising [] r x y m n e = absurd m
+  NamesTell-rising (z ∷ zs) r x y (inl e) (inl g) same' = e ∙ sym g
+  NamesTell-rising (z ∷ zs) r x y (inl e) (inr n) same' = let l = Below-among (name z) zs y r.0 n in absurd (Below-irreflexive (name y) (subst (λ (m : Name). Below m (name y)) (sym (ap name e) ∙ same') l))
+  NamesTell-rising (z ∷ zs) r x y (inr m) (inl g) same' = let l = Below-among (name z) zs x r.0 m in absurd (Below-irreflexive (name x) (subst (λ (m : Name). Below m (name x)) (sym (ap name g) ∙ sym same') l))
+  NamesTell-rising (z ∷ zs) r x y (inr m) (inr n) same' = NamesTell-rising zs r.1 x y m n same'
+
+  abbrev pub Within : List A → List A → Type 0
+  Within xs ys = (z : A) → Among z xs → Among z ys
+
+  -- the heads of two rising lists of the same items are the same
+  same_heads : (x : A) (xs : List A) (y : A) (ys : List A) → Rises (x ∷ xs) → Rises (y ∷ ys) → Within (x ∷ xs) (y ∷ ys) → Within (y ∷ ys) (x ∷ xs) → x ≡ y
+  same_heads x xs y ys r s to back = elim (to x (inl refl)) [
+    | inl e ↦ e
+    | inr m ↦ elim (back y (inl refl)) [
+      | inl e ↦ sym e
+      | inr n ↦ absurd (Below-asymmetric (name x) (name y) (Below-among (name x) xs y r.0 n) (Below-among (name y) ys x s.0 m))
+    ]
+  ]
+
+  tail_within : (x : A) (xs : List A) (y : A) (ys : List A) → Rises (x ∷ xs) → x ≡ y → Within (x ∷ xs) (y ∷ ys) → Within xs ys
+  tail_within x xs y ys r e to z m = elim (to z (inr m)) [
+    | inl g ↦ absurd (Below-irreflexive (name z) (subst (λ (w : A). Below (name w) (name z)) (e ∙ sym g) (Below-among (name x) xs z r.0 m)))
+    | inr n ↦ n
+  ]
+
+  pub Rises-unique : (xs ys : List A) → Rises xs → Rises ys → Within xs ys → Within ys xs → xs ≡ ys
+  Rises-unique [] [] r s to back = refl
+  Rises-unique [] (y ∷ ys) r s to back = absurd (back y (inl refl))
+  Rises-unique (x ∷ xs) [] r s to back = absurd (to x (inl refl))
+  Rises-unique (x ∷ xs) (y ∷ ys) r s to back =
+      let e = same_heads x xs y ys r s to back in
+      let rest = Rises-unique xs ys r.1 s.1 (tail_within x xs y ys r e to) (tail_within y ys x xs s (sym e) back) in
+      cc
+
+  -- the rising list of the same items is what `in_order` makes
+  pub in_order-is : (xs ys : List A) → Rises ys → Within xs ys → Within ys xs → in_order name xs ≡ ys
+  in_order-is xs ys r to back =
+      let tell : NamesTell xs = λ x y m n e. NamesTell-rising ys r x y (to x m) (to y n) e in
+      Rises-unique (in_order name xs) ys (Rises-in_order xs) r
+      (λ z m. to z (among_in_order xs z m))
+      (λ z m. in_order-keeps xs tell z (back z m))

@@ -1,0 +1,215 @@
+-- The names that stand twice in a list, and the least of them.
+use Rattle.std.proofs.Common.{◌≡◌, ℕ, zero, suc, ◌+◌, ◌<◌, ◌≤◌, ◌⊎◌, inl, inr, Bool, true, false, List, [], ◌∷◌, length, get_or, Result, Err, refl, sym, ap, subst, ◌∙◌, arith}
+use Rattle.std.specs.Prelude.{if◌then◌else◌, ◌||◌}
+use Rattle.std.specs.List.{sum_by}
+use Rattle.std.specs.List.Sorted.{IsPermutation}
+use Rattle.std.proofs.lemmas.List.Sorted.{sum_by-IsPermutation}
+use Rattle.std.proofs.lemmas.List.Sums.{sum_by-cons}
+use Rattle.text_rules.specs.Names.{Name, same_name, is_among}
+use Rattle.device_model.specs.declared.building.BuildError.{BuildError}
+use Rattle.device_model.specs.Order.{in_order}
+use Rattle.device_model.specs.Devices.{Device}
+use Rattle.device_model.specs.Building.{repeated, unless_name}
+use Rattle.device_model.proofs.Naming.{Below, Below-trans, Below-irreflexive, same, below, above, compared, same_name-same, same_name-other, same_from_test}
+use Rattle.device_model.proofs.Ordered.{Among, BelowAll, Below-among, Rises, Rises-in_order, among_in_order, in_order-has}
+use Rattle.device_model.proofs.Sorting.{itself, AtMost, AtMostAll, AtMost-among, Ascends}
+
+-- how often a name stands in a list
+abbrev pub one_if : Bool → ℕ
+one_if true = 1
+one_if false = 0
+
+abbrev pub count : Name → List Name → ℕ
+count m [] = 0
+count m (n ∷ ns) = one_if (same_name m n) + count m ns
+
+count-sum : (m : Name) (ns : List Name) → sum_by (λ n. one_if (same_name m n)) ns ≡ count m ns
+count-sum m [] = refl
+count-sum m (n ∷ ns) = sum_by-cons (λ n. one_if (same_name m n)) n ns ∙ ap (λ c. one_if (same_name m n) + c) (count-sum m ns)
+
+pub count-permutation : (m : Name) (xs ys : List Name) → IsPermutation xs ys → count m ys ≡ count m xs
+count-permutation m xs ys h = sym (count-sum m ys) ∙ sum_by-IsPermutation (λ n. one_if (same_name m n)) xs ys h ∙ count-sum m xs
+
+count-same : (m n : Name) (ns : List Name) → m ≡ n → count m (n ∷ ns) ≡ 1 + count m ns
+count-same m n ns e = rw (same_name-same m n e) refl
+
+count-other : (m n : Name) (ns : List Name) → (m ≡ n → ⊥) → count m (n ∷ ns) ≡ count m ns
+count-other m n ns h = rw (same_name-other m n h) (omega arith)
+
+-- two names are the same or not
+pub same_or_other : (m n : Name) → (m ≡ n) ⊎ (m ≡ n → ⊥)
+same_or_other m n = elim (compared m n) [
+  | same e ↦ inl e
+  | below l ↦ inr (λ e. Below-irreflexive n (subst (λ (k : Name). Below k n) e l))
+  | above l ↦ inr (λ e. Below-irreflexive n (subst (λ (k : Name). Below n k) e l))
+]
+
+pub count-among : (m : Name) (ns : List Name) → Among m ns → 1 ≤ count m ns
+count-among m [] h = absurd h
+count-among m (n ∷ ns) (inl e) = omega (arith, count-same m n ns e)
+count-among m (n ∷ ns) (inr h) = elim (same_or_other m n) [
+  | inl e ↦ omega (arith, count-same m n ns e)
+  | inr o ↦ omega (arith, count-other m n ns o, count-among m ns h)
+]
+
+pub among_from_count : (m : Name) (ns : List Name) → 1 ≤ count m ns → Among m ns
+among_from_count m [] h = absurd (omega arith)
+among_from_count m (n ∷ ns) h = elim (same_or_other m n) [
+  | inl e ↦ inl e
+  | inr o ↦ inr (among_from_count m ns (omega (arith, count-other m n ns o)))
+]
+
+-- the test of `is_among` and the fact
+pub is_among-among : (n : Name) (ns : List Name) → Among n ns → is_among ns n ≡ true
+is_among-among n [] h = absurd h
+is_among-among n (m ∷ ms) (inl e) = rw (same_name-same n m e) refl
+is_among-among n (m ∷ ms) (inr h) = elim (same_or_other n m) [
+  | inl e ↦ rw (same_name-same n m e) refl
+  | inr o ↦ rw (same_name-other n m o) (is_among-among n ms h)
+]
+
+either_true : (a b : Bool) → (a || b) ≡ true → (a ≡ true) ⊎ (b ≡ true)
+either_true true b h = inl refl
+either_true false b h = inr h
+
+pub among_from_test : (n : Name) (ns : List Name) → is_among ns n ≡ true → Among n ns
+among_from_test n [] h = cc
+among_from_test n (m ∷ ms) h = elim (either_true (same_name n m) (is_among ms n) h) [
+  | inl e ↦ inl (same_from_test n m e)
+  | inr e ↦ inr (among_from_test n ms e)
+]
+
+in_repeated : (n : Name) (ns : List Name) (b : Bool) → is_among ns n ≡ b → (m : Name) → Among m (repeated (n ∷ ns)) → ((m ≡ n) × Among n ns) ⊎ Among m (repeated ns)
+in_repeated n ns true e m h = elim (subst (λ (c : Bool). Among m (if c then n ∷ repeated ns else repeated ns)) e h) [
+  | inl g ↦ inl (g, among_from_test n ns e)
+  | inr k ↦ inr k
+]
+in_repeated n ns false e m h = inr (subst (λ (c : Bool). Among m (if c then n ∷ repeated ns else repeated ns)) e h)
+
+-- a repeated name stands twice
+pub twice_from_repeated : (ns : List Name) (m : Name) → Among m (repeated ns) → 2 ≤ count m ns
+twice_from_repeated [] m h = absurd h
+twice_from_repeated (n ∷ ns) m h = elim (in_repeated n ns (is_among ns n) refl m h) [
+  | inl g ↦ omega (arith, count-same m n ns g.0, count-among m ns (subst (λ (k : Name). Among k ns) (sym g.0) g.1))
+  | inr k ↦ elim (same_or_other m n) [
+    | inl e ↦ omega (arith, count-same m n ns e, twice_from_repeated ns m k)
+    | inr o ↦ omega (arith, count-other m n ns o, twice_from_repeated ns m k)
+  ]
+]
+
+repeated-more : (n : Name) (ns : List Name) (b : Bool) → is_among ns n ≡ b → (m : Name) → Among m (repeated ns) → Among m (repeated (n ∷ ns))
+repeated-more n ns true e m h = subst (λ (c : Bool). Among m (if c then n ∷ repeated ns else repeated ns)) (sym e) (inr h)
+repeated-more n ns false e m h = subst (λ (c : Bool). Among m (if c then n ∷ repeated ns else repeated ns)) (sym e) h
+
+repeated-first : (n : Name) (ns : List Name) → Among n ns → Among n (repeated (n ∷ ns))
+repeated-first n ns h = subst (λ (c : Bool). Among n (if c then n ∷ repeated ns else repeated ns)) (sym (is_among-among n ns h)) (inl refl)
+
+-- and a name that stands twice is repeated
+pub repeated_from_twice : (ns : List Name) (m : Name) → 2 ≤ count m ns → Among m (repeated ns)
+repeated_from_twice [] m h = absurd (omega arith)
+repeated_from_twice (n ∷ ns) m h = elim (same_or_other m n) [
+  | inl e ↦ subst (λ (k : Name). Among k (repeated (n ∷ ns))) (sym e) (repeated-first n ns (subst (λ (k : Name). Among k ns) e (among_from_count m ns (omega (arith, count-same m n ns e)))))
+  | inr o ↦ repeated-more n ns (is_among ns n) refl m (repeated_from_twice ns m (omega (arith, count-other m n ns o)))
+]
+
+-- a name that stands twice, and is at most each such name
+pub record IsLeastTwice (ns : List Name) (n : Name) : Type 0 where
+  twice : 2 ≤ count n ns
+  least : (m : Name) → 2 ≤ count m ns → AtMost n m
+
+least_first : (x y : Name) (ns : List Name) → AtMostAll itself x (y ∷ ns) → x ≡ y → IsLeastTwice (x ∷ y ∷ ns) x
+least_first x y ns h e = record {
+  twice = omega (arith, count-same x x (y ∷ ns) refl, count-same x y ns e);
+  least = λ m t. elim (among_from_count m (x ∷ y ∷ ns) (omega arith)) [
+    | inl g ↦ inl (sym g)
+    | inr k ↦ AtMost-among itself x (y ∷ ns) m h k
+  ];
+}
+
+-- a head that differs from its neighbour in an ascending list stands nowhere else
+head_alone : (x y : Name) (ns : List Name) → Ascends itself (x ∷ y ∷ ns) → (x ≡ y → ⊥) → BelowAll itself x (y ∷ ns)
+head_alone x y ns h o = elim h.0.0 [
+  | inl e ↦ absurd (o e)
+  | inr l ↦ (l, later x y ns l h.1.0)
+]
+  where
+    later : (a b : Name) (ms : List Name) → Below a b → AtMostAll itself b ms → BelowAll itself a ms
+    later a b [] l g = tt
+    later a b (m ∷ ms) l g = (elim g.0 [ inl e ↦ subst (Below a) e l | inr k ↦ Below-trans a b m l k ], later a b ms l g.1)
+
+least_later : (x y : Name) (ns : List Name) → BelowAll itself x (y ∷ ns) → (n : Name) → IsLeastTwice (y ∷ ns) n → IsLeastTwice (x ∷ y ∷ ns) n
+least_later x y ns alone n h = record {
+  twice = elim (same_or_other n x) [
+    | inl e ↦ omega (arith, count-same n x (y ∷ ns) e, h.twice)
+    | inr o ↦ omega (arith, count-other n x (y ∷ ns) o, h.twice)
+  ];
+  least = λ m t. elim (same_or_other m x) [
+    | inl e ↦ absurd (Below-irreflexive x (subst (Below x) e (Below-among itself x (y ∷ ns) m alone (among_from_count m (y ∷ ns) (omega (arith, count-same m x (y ∷ ns) e))))))
+    | inr o ↦ h.least m (omega (arith, count-other m x (y ∷ ns) o))
+  ];
+}
+
+-- the first two neighbours of one name in an ascending list have the least name that stands twice
+pub first_repeat_is_least : (ns : List Name) (i : ℕ) → Ascends itself ns → suc i < length ns → get_or ns i [] ≡ get_or ns (suc i) []
+    → ((k : ℕ) → k < i → get_or ns k [] ≡ get_or ns (suc k) [] → ⊥) → IsLeastTwice ns (get_or ns i [])
+first_repeat_is_least [] i h l e before = absurd (omega arith)
+first_repeat_is_least (x ∷ []) i h l e before = absurd (omega arith)
+first_repeat_is_least (x ∷ y ∷ ns) zero h l e before = least_first x y ns h.0 e
+first_repeat_is_least (x ∷ y ∷ ns) (suc i) h l e before =
+    least_later x y ns (head_alone x y ns h (before 0 (omega arith))) (get_or (y ∷ ns) i [])
+    (first_repeat_is_least (y ∷ ns) i h.1 (omega arith) e (λ k b. before (suc k) (omega arith)))
+
+-- an ascending list rises where no two neighbours are the same
+pub Rises-from_neighbours : (ns : List Name) → Ascends itself ns → ((k : ℕ) → suc k < length ns → get_or ns k [] ≡ get_or ns (suc k) [] → ⊥) → Rises itself ns
+Rises-from_neighbours [] h o = tt
+Rises-from_neighbours (x ∷ []) h o = (tt, tt)
+Rises-from_neighbours (x ∷ y ∷ ns) h o = (head_alone x y ns h (o 0 (omega arith)), Rises-from_neighbours (y ∷ ns) h.1 (λ k l. o (suc k) (omega arith)))
+
+pub once_in_rising : (ns : List Name) → Rises itself ns → (m : Name) → count m ns ≤ 1
+once_in_rising [] h m = omega arith
+once_in_rising (n ∷ ns) h m = elim (same_or_other m n) [
+  | inl e ↦ alone e (count m ns) refl
+  | inr o ↦ omega (arith, count-other m n ns o, once_in_rising ns h.1 m)
+]
+  where
+    alone : m ≡ n → (c : ℕ) → count m ns ≡ c → count m (n ∷ ns) ≤ 1
+    alone e zero g = omega (arith, count-same m n ns e)
+    alone e (suc c) g = absurd (Below-irreflexive n (subst (Below n) e (Below-among itself n ns m h.0 (among_from_count m ns (omega arith)))))
+
+pub none_among : {A : Type 0} (xs : List A) → ((x : A) → Among x xs → ⊥) → xs ≡ []
+none_among [] h = refl
+none_among (x ∷ xs) h = absurd (h x (inl refl))
+
+-- no name is repeated where the names can be put in rising order
+pub repeated-rising : (xs ys : List Name) → IsPermutation xs ys → Rises itself ys → repeated xs ≡ []
+repeated-rising xs ys p h = none_among (repeated xs) (λ m k. omega (arith, twice_from_repeated xs m k, count-permutation m xs ys p, once_in_rising ys h m))
+
+-- the first name in order is the least
+in_order-first : (ns : List Name) (n : Name) → Among n ns → ((m : Name) → Among m ns → AtMost n m) → (rest : List Name) × (in_order itself ns ≡ n ∷ rest)
+in_order-first ns n there least = by (in_order itself ns) refl
+  where
+    by : (os : List Name) → in_order itself ns ≡ os → (rest : List Name) × (in_order itself ns ≡ n ∷ rest)
+    by [] e = let r = in_order-has itself ns n there in absurd (subst (Among r.0) e r.1)
+    by (o ∷ os) e =
+        let r = in_order-has itself ns n there in
+        let up : Rises itself (o ∷ os) = subst (Rises itself) e (Rises-in_order itself ns) in
+        let from : AtMost n o = least o (among_in_order itself ns o (subst (Among o) (sym e) (inl refl))) in
+        let to : Among n (o ∷ os) = subst (λ (k : Name). Among k (o ∷ os)) r.2 (subst (Among r.0) e r.1) in (
+          os,
+          elim to [
+            | inl g ↦ e ∙ ap (λ (k : Name). k ∷ os) (sym g)
+            | inr k ↦ elim from [
+              | inl g ↦ e ∙ ap (λ (k : Name). k ∷ os) (sym g)
+              | inr l ↦ absurd (Below-irreflexive n (Below-trans n o n l (Below-among itself o os n up.0 k)))
+            ]
+          ],
+        )
+
+-- the reason that two neighbours of one name are, wherever the names were given
+pub unless_name-repeated : (xs ys : List Name) (i : ℕ) → IsPermutation xs ys → IsLeastTwice ys (get_or ys i [])
+    → (error : Name → BuildError) (otherwise : Result Device BuildError) → unless_name error (in_order itself (repeated xs)) otherwise ≡ Err (error (get_or ys i []))
+unless_name-repeated xs ys i p h error otherwise =
+    let n = get_or ys i [] in
+    let r = in_order-first (repeated xs) n (repeated_from_twice xs n (omega (arith, count-permutation n xs ys p, h.twice)))
+    (λ m k. h.least m (omega (arith, twice_from_repeated xs m k, count-permutation m xs ys p))) in
+    rw r.1 refl

@@ -1,0 +1,135 @@
+-- Worked rows: what the definitions compute.
+use Rattle.std.proofs.Common.{◌≡◌, ℕ, Bool, true, false, List, [], ◌∷◌, Some, None, Ok, Err, refl, map}
+use Rattle.std.specs.Prelude.{codes, replicate}
+use Rattle.text_rules.specs.Names.{names_rise}
+use Rattle.ranking.specs.Cases.{Case}
+use Rattle.device_model.specs.declared.component.Component.{Component}
+use Rattle.device_model.specs.declared.component.Kind.{Kind}
+use Rattle.device_model.specs.declared.component.Kind.TheVariants.{Nand, Xor, Xnor, Buff, Table}
+use Rattle.device_model.specs.declared.building.BuildError.TheVariants.{TooMany, TwoParts, TwoWires, Arity, NoWire}
+use Rattle.device_model.specs.Rows.{Rows}
+use Rattle.device_model.specs.Devices.{Device, gate_value, allows, takes}
+use Rattle.device_model.specs.Diagnosis.{device_least, device_diagnoses}
+use Rattle.device_model.specs.Building.{built}
+
+abbrev gate : List ℕ → Kind → List ℕ → Component
+gate name kind ports = record { name = name; kind = kind; ports = ports }
+
+-- ---- two buffers: b = BUFF(a), c = BUFF(b)
+
+abbrev buffers : Device
+buffers = record {
+  parts = gate (codes "b") Buff (0 ∷ 1 ∷ []) ∷ gate (codes "c") Buff (1 ∷ 2 ∷ []) ∷ [];
+  wires = codes "a" ∷ codes "b" ∷ codes "c" ∷ [];
+  tables = [];
+}
+
+-- a is seen as 0 and c as 1
+abbrev buffers_case : Case
+buffers_case = record { seen = Some false ∷ None ∷ Some true ∷ []; held = None ∷ None ∷ [] }
+
+buffers_least : device_least buffers buffers_case ≡ Some 1
+buffers_least = refl
+
+buffers_diagnoses : device_diagnoses buffers buffers_case ≡ (false ∷ true ∷ []) ∷ (true ∷ false ∷ []) ∷ []
+buffers_diagnoses = refl
+
+-- ---- the benchmark C17, its wires in byte order
+
+abbrev c17 : Device
+c17 = record {
+  parts = gate (codes "10") Nand (0 ∷ 8 ∷ 1 ∷ [])
+      ∷ gate (codes "11") Nand (8 ∷ 9 ∷ 2 ∷ [])
+      ∷ gate (codes "16") Nand (5 ∷ 2 ∷ 3 ∷ [])
+      ∷ gate (codes "19") Nand (2 ∷ 10 ∷ 4 ∷ [])
+      ∷ gate (codes "22") Nand (1 ∷ 3 ∷ 6 ∷ [])
+      ∷ gate (codes "23") Nand (3 ∷ 4 ∷ 7 ∷ []) ∷ [];
+  wires = map codes ("1" ∷ "10" ∷ "11" ∷ "16" ∷ "19" ∷ "2" ∷ "22" ∷ "23" ∷ "3" ∷ "6" ∷ "7" ∷ []);
+  tables = [];
+}
+
+c17_names : names_rise c17.wires ≡ true
+c17_names = refl
+
+-- the inputs 1, 2, 3, 6 and 7 are seen as 0, and the outputs 22 and 23
+abbrev zeros_with : Bool → Bool → Case
+zeros_with out22 out23 = record {
+  seen = Some false ∷ None ∷ None ∷ None ∷ None ∷ Some false ∷ Some out22 ∷ Some out23 ∷ Some false ∷ Some false ∷ Some false ∷ [];
+  held = None ∷ None ∷ None ∷ None ∷ None ∷ None ∷ [];
+}
+
+c17_one_output_least : device_least c17 (zeros_with true false) ≡ Some 1
+c17_one_output_least = refl
+
+-- 10, or 22
+c17_one_output : device_diagnoses c17 (zeros_with true false)
+    ≡ (false ∷ true ∷ true ∷ true ∷ true ∷ true ∷ []) ∷ (true ∷ true ∷ true ∷ true ∷ false ∷ true ∷ []) ∷ []
+c17_one_output = refl
+
+-- 16
+c17_both_outputs : device_diagnoses c17 (zeros_with true true) ≡ (true ∷ true ∷ false ∷ true ∷ true ∷ true ∷ []) ∷ []
+c17_both_outputs = refl
+
+-- ---- gates and tables
+
+xor_of_three_ones : gate_value Xor (true ∷ true ∷ true ∷ []) ≡ true
+xor_of_three_ones = refl
+
+xnor_of_three_ones : gate_value Xnor (true ∷ true ∷ true ∷ []) ≡ false
+xnor_of_three_ones = refl
+
+xor_takes_eight : takes Xor 8 ≡ true
+xor_takes_eight = refl
+
+xor_takes_no_nine : takes Xor 9 ≡ false
+xor_takes_no_nine = refl
+
+-- ok allows 00 and 11, bad allows 00 and 10
+abbrev tables : List Rows
+tables = record { ports = 2; ok = 9; bad = 3 } ∷ []
+
+abbrev table_rows : Bool → List Bool
+table_rows ok =
+    allows tables (Table 0) ok (false ∷ false ∷ []) ∷ allows tables (Table 0) ok (true ∷ false ∷ [])
+    ∷ allows tables (Table 0) ok (false ∷ true ∷ []) ∷ allows tables (Table 0) ok (true ∷ true ∷ []) ∷ []
+
+ok_rows : table_rows true ≡ true ∷ false ∷ false ∷ true ∷ []
+ok_rows = refl
+
+bad_rows : table_rows false ≡ true ∷ true ∷ false ∷ false ∷ []
+bad_rows = refl
+
+no_table : allows tables (Table 1) true (false ∷ false ∷ []) ≡ false
+no_table = refl
+
+-- ---- devices that are built
+
+abbrev unsorted_wires : List (List ℕ)
+unsorted_wires = codes "c" ∷ codes "a" ∷ codes "b" ∷ []
+
+any_order : built (gate (codes "c") Buff (2 ∷ 0 ∷ []) ∷ gate (codes "b") Buff (1 ∷ 2 ∷ []) ∷ []) unsorted_wires [] ≡ Ok buffers
+any_order = refl
+
+too_many_parts : built (replicate 4097 (gate (codes "b") Buff [])) (codes "a" ∷ codes "a" ∷ []) [] ≡ Err (TooMany 4097)
+too_many_parts = refl
+
+too_many_wires : built (gate (codes "b") Buff [] ∷ gate (codes "b") Buff [] ∷ []) (replicate 16385 (codes "a")) [] ≡ Err (TooMany 16385)
+too_many_wires = refl
+
+-- both d and b stand twice, and b is the least
+two_parts : built (gate (codes "d") Buff [] ∷ gate (codes "b") Buff [] ∷ gate (codes "d") Buff [] ∷ gate (codes "b") Buff [] ∷ []) (codes "a" ∷ codes "a" ∷ []) []
+    ≡ Err (TwoParts (codes "b"))
+two_parts = refl
+
+two_wires : built (gate (codes "b") Buff [] ∷ []) (codes "d" ∷ codes "c" ∷ codes "d" ∷ codes "c" ∷ []) [] ≡ Err (TwoWires (codes "c"))
+two_wires = refl
+
+-- the second part as given, also where the first has no wire
+arity : built (gate (codes "c") Buff (7 ∷ 8 ∷ []) ∷ gate (codes "b") Nand (0 ∷ []) ∷ []) (codes "a" ∷ []) [] ≡ Err (Arity 1)
+arity = refl
+
+arity_of_no_table : built (gate (codes "b") (Table 1) (0 ∷ 0 ∷ []) ∷ []) (codes "a" ∷ []) tables ≡ Err (Arity 0)
+arity_of_no_table = refl
+
+no_wire : built (gate (codes "c") Buff (0 ∷ 0 ∷ []) ∷ gate (codes "b") Buff (0 ∷ 1 ∷ []) ∷ []) (codes "a" ∷ []) [] ≡ Err (NoWire 1)
+no_wire = refl

@@ -1,0 +1,121 @@
+-- Lists that a sort by name left: neighbours, and what permutations keep.
+use Rattle.std.proofs.Common.{◌≡◌, ℕ, zero, suc, ◌+◌, ◌<◌, ◌≤◌, ◌⊎◌, inl, inr, Bool, true, false, List, [], ◌∷◌, map, length, get_or, Contains, add-one, refl, sym, subst, arith}
+use Rattle.std.specs.Prelude.{◌&&◌}
+use Rattle.std.specs.List.Sorted.{IsPermutation}
+use Rattle.std.proofs.lemmas.List.Sorted.{Contains-permutation}
+use Rattle.text_rules.specs.Names.{Name, name_below, names_rise}
+use Rattle.device_model.proofs.Naming.{Below, Below-trans, Below-irreflexive, same, below, above, compared, name_below-Below, Below-from_test}
+use Rattle.device_model.proofs.Ordered.{Among, BelowAll, BelowAll-trans, Rises}
+
+pub Contains-from_among : {A : Type 0} (xs : List A) (x : A) → Among x xs → Contains xs x
+Contains-from_among [] x m = absurd m
+Contains-from_among (y ∷ ys) x (inl e) = (0, omega arith, sym e)
+Contains-from_among (y ∷ ys) x (inr m) = let r = Contains-from_among ys x m in (suc r.0, omega (arith, r.1), r.2)
+
+pub among_from_Contains : {A : Type 0} (xs : List A) (x : A) → Contains xs x → Among x xs
+among_from_Contains xs x h = by xs h.0 h.1 h.2
+  where
+    by : (ys : List _) (k : ℕ) → k < length ys → get_or ys k x ≡ x → Among x ys
+    by [] k l e = absurd (omega arith)
+    by (y ∷ ys) zero l e = inl (sym e)
+    by (y ∷ ys) (suc k) l e = inr (by ys k (omega arith) e)
+
+pub among_permutation : {A : Type 0} (xs ys : List A) → IsPermutation xs ys → (x : A) → Among x xs → Among x ys
+among_permutation xs ys h x m = among_from_Contains ys x (Contains-permutation xs ys x h (Contains-from_among xs x m))
+
+-- a name stands before another or is the same
+abbrev pub AtMost : Name → Name → Type 0
+AtMost a b = (a ≡ b) ⊎ Below a b
+
+pub AtMost-trans : (a b c : Name) → AtMost a b → AtMost b c → AtMost a c
+AtMost-trans a b c (inl e) h = subst (λ (n : Name). AtMost n c) (sym e) h
+AtMost-trans a b c (inr l) (inl e) = inr (subst (λ (n : Name). Below a n) e l)
+AtMost-trans a b c (inr l) (inr k) = inr (Below-trans a b c l k)
+
+pub AtMost-from_test : (a b : Name) → name_below b a ≡ false → AtMost a b
+AtMost-from_test a b h = elim (compared a b) [
+  | same e ↦ inl e
+  | below l ↦ inr l
+  | above l ↦ (let e = name_below-Below b a l in cc)
+]
+
+AtMost-below : (a b : Name) → AtMost a b → Below b a → a ≡ b
+AtMost-below a b (inl e) l = e
+AtMost-below a b (inr k) l = absurd (Below-irreflexive a (Below-trans a b a k l))
+
+module _ {A : Type 0} (name : A → Name) where
+  abbrev pub AtMostAll : Name → List A → Type 0
+  AtMostAll n [] = Unit {0}
+  AtMostAll n (y ∷ ys) = AtMost n (name y) × AtMostAll n ys
+
+  -- no item's name stands before that of an earlier one
+  abbrev pub Ascends : List A → Type 0
+  Ascends [] = Unit {0}
+  Ascends (x ∷ xs) = AtMostAll (name x) xs × Ascends xs
+
+  pub AtMost-among : (n : Name) (ys : List A) (y : A) → AtMostAll n ys → Among y ys → AtMost n (name y)
+  AtMost-among n [] y h m = absurd m
+  AtMost-among n (x ∷ xs) y h (inl e) = subst (λ (z : A). AtMost n (name z)) (sym e) h.0
+  AtMost-among n (x ∷ xs) y h (inr m) = AtMost-among n xs y h.1 m
+
+  AtMostAll-trans : (m n : Name) (ys : List A) → AtMost m n → AtMostAll n ys → AtMostAll m ys
+  AtMostAll-trans m n [] b h = tt
+  AtMostAll-trans m n (y ∷ ys) b h = (AtMost-trans m n (name y) b h.0, AtMostAll-trans m n ys b h.1)
+
+  pub Ascends-from_neighbours : (xs : List A) → ((k : ℕ) (d : A) → suc k < length xs → AtMost (name (get_or xs k d)) (name (get_or xs (suc k) d))) → Ascends xs
+  Ascends-from_neighbours [] h = tt
+  Ascends-from_neighbours (x ∷ []) h = (tt, tt)
+  Ascends-from_neighbours (x ∷ y ∷ ys) h =
+      let rest : Ascends (y ∷ ys) = Ascends-from_neighbours (y ∷ ys) (λ k d l. h (suc k) d (omega arith)) in
+      let first : AtMost (name x) (name y) = h 0 x (omega arith) in
+      ((first, AtMostAll-trans (name x) (name y) ys first rest.0), rest)
+
+  pub Ascends-from_sort : (xs : List A) → ((k : ℕ) (d : A) → 0 ≤ k → k + 1 < length xs → name_below (name (get_or xs (k + 1) d)) (name (get_or xs k d)) ≡ false) → Ascends xs
+  Ascends-from_sort xs h = Ascends-from_neighbours xs (λ k d l. AtMost-from_test (name (get_or xs k d)) (name (get_or xs (suc k) d)) (subst (λ (n : ℕ). name_below (name (get_or xs n d)) (name (get_or xs k d)) ≡ false) (add-one k) (h k d (omega arith) (omega arith))))
+
+abbrev pub itself : Name → Name
+itself n = n
+
+module _ {A : Type 0} (name : A → Name) where
+  AtMostAll-map : (n : Name) (xs : List A) → AtMostAll name n xs → AtMostAll itself n (map name xs)
+  AtMostAll-map n [] h = tt
+  AtMostAll-map n (x ∷ xs) h = (h.0, AtMostAll-map n xs h.1)
+
+  pub Ascends-map : (xs : List A) → Ascends name xs → Ascends itself (map name xs)
+  Ascends-map [] h = tt
+  Ascends-map (x ∷ xs) h = (AtMostAll-map (name x) xs h.0, Ascends-map xs h.1)
+
+  BelowAll-map : (n : Name) (xs : List A) → BelowAll name n xs → BelowAll itself n (map name xs)
+  BelowAll-map n [] h = tt
+  BelowAll-map n (x ∷ xs) h = (h.0, BelowAll-map n xs h.1)
+
+  pub Rises-map : (xs : List A) → Rises name xs → Rises itself (map name xs)
+  Rises-map [] h = tt
+  Rises-map (x ∷ xs) h = (BelowAll-map (name x) xs h.0, Rises-map xs h.1)
+
+  BelowAll-unmap : (n : Name) (xs : List A) → BelowAll itself n (map name xs) → BelowAll name n xs
+  BelowAll-unmap n [] h = tt
+  BelowAll-unmap n (x ∷ xs) h = (h.0, BelowAll-unmap n xs h.1)
+
+  pub Rises-unmap : (xs : List A) → Rises itself (map name xs) → Rises name xs
+  Rises-unmap [] h = tt
+  Rises-unmap (x ∷ xs) h = (BelowAll-unmap (name x) xs h.0, Rises-unmap xs h.1)
+
+-- the test of `names_rise` and the fact
+pub names_rise-Rises : (ns : List Name) → Rises itself ns → names_rise ns ≡ true
+names_rise-Rises [] h = refl
+names_rise-Rises (a ∷ []) h = refl
+names_rise-Rises (a ∷ b ∷ ns) h = rw (name_below-Below a b h.0.0) (names_rise-Rises (b ∷ ns) h.1)
+
+both_true : (a b : Bool) → (a && b) ≡ true → (a ≡ true) × (b ≡ true)
+both_true true b h = (refl, h)
+both_true false b h = cc
+
+pub Rises-from_names_rise : (ns : List Name) → names_rise ns ≡ true → Rises itself ns
+Rises-from_names_rise [] h = tt
+Rises-from_names_rise (a ∷ []) h = (tt, tt)
+Rises-from_names_rise (a ∷ b ∷ ns) h =
+    let p = both_true (name_below a b) (names_rise (b ∷ ns)) h in
+    let rest : Rises itself (b ∷ ns) = Rises-from_names_rise (b ∷ ns) p.1 in
+    let first = Below-from_test a b p.0 in
+    ((first, BelowAll-trans itself a b ns first rest.0), rest)

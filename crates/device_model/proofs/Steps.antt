@@ -1,0 +1,86 @@
+-- What the loops and sorts of a device's making keep.
+use Rattle.std.proofs.Common.{◌≡◌, ◌≢◌, ℕ, zero, suc, ◌+◌, ◌-◌, ◌<◌, ◌≤◌, inl, inr, true, false, List, [], ◌∷◌, ◌++◌, map, length, get_or, set, Some, Err, slice_index, add-one, refl, sym, ap, subst, ◌∙◌, arith}
+use Rattle.std.specs.List.{All, AllPairs}
+use Rattle.std.specs.List.Sorted.{IsPermutation}
+use Rattle.std.proofs.lemmas.List.{get_or-map, length-map, get_or_default, get_or-set_same, get_or-set_other}
+use Rattle.std.proofs.lemmas.Bool.{cases_eq}
+use Rattle.std.proofs.lemmas.List.Sorted.{IsPermutation-sym}
+use Rattle.text_rules.specs.Names.{Name, same_name}
+use Rattle.device_model.specs.declared.building.BuildError.{BuildError}
+use Rattle.device_model.specs.Order.{in_order}
+use Rattle.device_model.specs.Building.{repeated}
+use Rattle.device_model.specs.Sorting.{numbered_from, NeighboursDiffer, IsFirstRepeat, IsTwice}
+use Rattle.device_model.proofs.Naming.{same_from_test, same_name-same}
+use Rattle.device_model.proofs.Ordered.{Rises, in_order-is}
+use Rattle.device_model.proofs.Sorting.{itself, Ascends, among_permutation}
+use Rattle.device_model.proofs.Repeats.{first_repeat_is_least, unless_name-repeated, Rises-from_neighbours, repeated-rising}
+
+pub numbered_from-push : (p : ℕ) (ns : List Name) (n : Name) → numbered_from p (ns ++ n ∷ []) ≡ numbered_from p ns ++ (n, p + length ns) ∷ []
+numbered_from-push p [] n = ap (λ (q : ℕ). (n, q) ∷ []) (omega arith)
+numbered_from-push p (m ∷ ms) n =
+    let e : (p + 1) + length ms ≡ p + length (m ∷ ms) = omega arith in
+    ap (λ (ps : List (Name × ℕ)). (m, p) ∷ ps) (numbered_from-push (p + 1) ms n ∙ ap (λ (q : ℕ). numbered_from (p + 1) ms ++ (n, q) ∷ []) e)
+
+pub map-numbered_from : (p : ℕ) (ns : List Name) → map (λ (w : Name × ℕ). w.0) (numbered_from p ns) ≡ ns
+map-numbered_from p [] = refl
+map-numbered_from p (n ∷ ns) = ap (λ (ms : List Name). n ∷ ms) (map-numbered_from (p + 1) ns)
+
+module _ {A : Type 0} (name : A → Name) (xs : List A) (place : ℕ) (d e : A) (from : 1 ≤ place) (to : place < length xs) (before : NeighboursDiffer (map name xs) place) where
+  pub repeat_found : same_name (name (get_or xs (place - 1) d)) (name (get_or xs place e)) ≡ true → IsFirstRepeat (map name xs) (Some place)
+  repeat_found h = (
+    from,
+    omega (arith, length-map xs name),
+    before,
+    λ k g.
+        let same_place : place - 1 ≡ k = omega arith in
+        get_or-map name xs k d [] (omega arith)
+        ∙ subst (λ (j : ℕ). name (get_or xs j d) ≡ name (get_or xs place e)) same_place (same_from_test _ _ h)
+        ∙ sym (get_or-map name xs place e [] to),
+  )
+
+  pub repeat_passed : same_name (name (get_or xs (place - 1) d)) (name (get_or xs place e)) ≡ false → NeighboursDiffer (map name xs) (place + 1)
+  repeat_passed h k l same_names = elim (cases_eq (k + 1) place) [
+    | inl g ↦ (
+        let same_place : k ≡ place - 1 = omega arith in
+        let there = sym (get_or-map name xs k d [] (omega arith)) ∙ same_names ∙ get_or-map name xs (k + 1) e [] (omega arith) in
+        let here : name (get_or xs (place - 1) d) ≡ name (get_or xs place e) =
+        subst (λ (j : ℕ). name (get_or xs j d) ≡ name (get_or xs place e)) same_place
+        (subst (λ (j : ℕ). name (get_or xs k d) ≡ name (get_or xs j e)) g there) in
+        let test = same_name-same _ _ here in
+        cc)
+    | inr n ↦ before k (omega arith) same_names
+  ]
+
+-- a sort of names, where neighbours differ or not
+module _ (ns ms : List Name) (moved : IsPermutation ns ms) (up : Ascends itself ms) where
+  pub Rises-sorted : NeighboursDiffer ms (length ms) → Rises itself ms
+  Rises-sorted h = Rises-from_neighbours ms up (λ k l e. h k (omega arith) (subst (λ (j : ℕ). get_or ms k [] ≡ get_or ms j []) (sym (add-one k)) e))
+
+  pub repeated-sorted : NeighboursDiffer ms (length ms) → repeated ns ≡ []
+  repeated-sorted h = repeated-rising ns ms moved (Rises-sorted h)
+
+  pub IsTwice-sorted : (error : Name → BuildError) (place : ℕ) → IsFirstRepeat ms (Some place) → IsTwice error ns (error (get_or ms place []))
+  IsTwice-sorted error zero h = absurd (omega (arith, h.0))
+  IsTwice-sorted error (suc i) h =
+      let e : get_or ms i [] ≡ get_or ms (suc i) [] = h.3 i (omega arith) in
+      let least = first_repeat_is_least ms i up (omega (arith, h.1)) e (λ k l g. h.2 k (omega arith) (subst (λ (j : ℕ). get_or ms k [] ≡ get_or ms j []) (sym (add-one k)) g)) in
+      λ otherwise. unless_name-repeated ns ms i moved least error otherwise ∙ ap (λ (n : Name). Err (error n)) e
+
+pub in_order-sorted : {A : Type 0} (name : A → Name) (xs ys : List A) → IsPermutation xs ys → Rises name ys → ys ≡ in_order name xs
+in_order-sorted name xs ys moved h =
+    sym (in_order-is name xs ys h (λ z. among_permutation xs ys moved z) (λ z. among_permutation ys xs (IsPermutation-sym xs ys moved) z))
+
+-- one more place in the table of places
+pub places_more : (places : List ℕ) (wires : List (Name × ℕ)) (i : ℕ) (v : Name × ℕ) → i < length wires → v ≡ get_or wires i v → length places ≡ length wires
+    → All (λ w. w.1 < length wires) wires → AllPairs (λ v w. v.1 ≢ w.1) wires
+    → ((k : ℕ) (w : Name × ℕ) → k < i → slice_index places (get_or wires k w).1 ≡ k)
+    → (k : ℕ) (w : Name × ℕ) → k < i + 1 → slice_index (set places v.1 i) (get_or wires k w).1 ≡ k
+places_more places wires i v within is same_length below distinct before k w l = elim (cases_eq k i) [
+  | inl e ↦ (
+      let here : (get_or wires k w).1 ≡ v.1 = ap (λ (j : ℕ). (get_or wires j w).1) e ∙ ap (λ (u : Name × ℕ). u.1) (get_or_default wires i w v within ∙ sym is) in
+      let fits : v.1 < length places = omega (arith, below i v within, ap (λ (u : Name × ℕ). u.1) is) in
+      ap (slice_index (set places v.1 i)) here ∙ get_or-set_same places v.1 i 0 fits ∙ sym e)
+  | inr n ↦ (
+      let other : (get_or wires k w).1 ≢ v.1 = λ g. distinct k i w (omega arith) within (g ∙ ap (λ (u : Name × ℕ). u.1) (is ∙ get_or_default wires i v w within)) in
+      get_or-set_other places v.1 (get_or wires k w).1 i 0 other ∙ before k w (omega arith))
+]

@@ -1,0 +1,64 @@
+-- The tables of names of a device: their keys are the names, and a look-up gives a name's place.
+use Rattle.std.proofs.Common.{◌≡◌, ℕ, zero, suc, ◌+◌, ◌<◌, inl, inr, Bool, false, cond, not, nat_lt, List, [], ◌∷◌, ◌++◌, map, length, get_or, take, Some, None, refl, sym, ap, ◌∙◌, arith}
+use Rattle.std.specs.Prelude.{if◌then◌else◌, ◌||◌, position}
+use Rattle.std.specs.List.{list_any, position_or_len}
+use Rattle.std.proofs.lemmas.List.{length-map, get_or-map, take-map, take_more}
+use Rattle.text_rules.specs.Names.{Name, same_name, is_among}
+use Rattle.indexmap.specs.IndexSet.{insert_key}
+use Rattle.device_model.proofs.Naming.{same_name-above}
+use Rattle.device_model.proofs.Ordered.{Among, Rises, Below-among}
+use Rattle.device_model.proofs.Sorting.{itself}
+
+pub among_get_or : {A : Type 0} (xs : List A) (i : ℕ) (d : A) → i < length xs → Among (get_or xs i d) xs
+among_get_or [] i d l = absurd (omega arith)
+among_get_or (x ∷ xs) zero d l = inl refl
+among_get_or (x ∷ xs) (suc i) d l = inr (among_get_or xs i d (omega arith))
+
+-- a name is not among those before it
+pub is_among-front : (ns : List Name) (i : ℕ) → Rises itself ns → i < length ns → is_among (take i ns) (get_or ns i []) ≡ false
+is_among-front [] i h l = absurd (omega arith)
+is_among-front (n ∷ ns) zero h l = refl
+is_among-front (n ∷ ns) (suc i) h l =
+    let m = get_or ns i [] in
+    let above = Below-among itself n ns m h.0 (among_get_or ns i [] (omega arith)) in
+    rw (same_name-above m n above) (is_among-front ns i h.1 (omega arith))
+
+take-next : (ns : List Name) (i : ℕ) → i < length ns → take (i + 1) ns ≡ take i ns ++ get_or ns i [] ∷ []
+take-next ns i l = take_more ns i [] l
+
+module _ {K : Type 0} (bytes : K → Name) where
+  list_any-map : (p : Name → Bool) (ks : List K) → list_any (λ k. p (bytes k)) ks ≡ list_any p (map bytes ks)
+  list_any-map p [] = refl
+  list_any-map p (k ∷ ks) = ap (λ b. p (bytes k) || b) (list_any-map p ks)
+
+  map-push : (ks : List K) (k : K) → map bytes (ks ++ k ∷ []) ≡ map bytes ks ++ bytes k ∷ []
+  map-push [] k = refl
+  map-push (x ∷ ks) k = ap (λ ns. bytes x ∷ ns) (map-push ks k)
+
+  -- one more name in a table
+  pub keys_more : (ns : List Name) (ks : List K) (i : ℕ) (k : K) → Rises itself ns → i < length ns → bytes k ≡ get_or ns i [] → map bytes ks ≡ take i ns
+      → map bytes (insert_key (λ a b. same_name (bytes a) (bytes b)) ks k) ≡ take (i + 1) ns
+  keys_more ns ks i k h l is before =
+      let absent : list_any (λ b. same_name (bytes k) (bytes b)) ks ≡ false =
+      list_any-map (same_name (bytes k)) ks ∙ ap (list_any (same_name (bytes k))) before ∙ ap (λ n. list_any (same_name n) (take i ns)) is ∙ is_among-front ns i h l in
+      ap (λ b. map bytes (if b then ks else ks ++ k ∷ [])) absent ∙ map-push ks k ∙ ap (λ ms. ms ++ bytes k ∷ []) before ∙ ap (λ n. take i ns ++ n ∷ []) is ∙ sym (take-next ns i l)
+
+  position_or_len-map : (p : Name → Bool) (ks : List K) → position_or_len (λ k. p (bytes k)) ks ≡ position_or_len p (map bytes ks)
+  position_or_len-map p [] = refl
+  position_or_len-map p (k ∷ ks) = ap (λ n. cond (not (p (bytes k))) (1 + n) 0) (position_or_len-map p ks)
+
+  -- a look-up by a key's bytes is a look-up among the bytes of the keys
+  pub position-map : (p : Name → Bool) (ks : List K) → position (λ k. p (bytes k)) ks ≡ position p (map bytes ks)
+  position-map p ks =
+      ap (λ n. cond (nat_lt n (length ks)) (Some n) None) (position_or_len-map p ks)
+      ∙ ap (λ n. cond (nat_lt (position_or_len p (map bytes ks)) n) (Some (position_or_len p (map bytes ks))) None) (sym (length-map ks bytes))
+
+-- the same table of names, where a list has items of those names
+pub keys_more_named : {A : Type 0} (name : A → Name) {K : Type 0} (bytes : K → Name) (xs : List A) (ks : List K) (i : ℕ) (k : K) (x : A)
+    → Rises itself (map name xs) → i < length xs → x ≡ get_or xs i x → bytes k ≡ name x → map bytes ks ≡ map name (take i xs)
+    → map bytes (insert_key (λ a b. same_name (bytes a) (bytes b)) ks k) ≡ map name (take (i + 1) xs)
+keys_more_named name bytes xs ks i k x h l at_i is before =
+    keys_more bytes (map name xs) ks i k h (omega (arith, length-map xs name))
+    (is ∙ ap name at_i ∙ sym (get_or-map name xs i x [] l))
+    (before ∙ sym (take-map name i xs))
+    ∙ take-map name (i + 1) xs

@@ -1,0 +1,52 @@
+-- The device that parts and wires in any order make, or the reason why they make none.
+use Rattle.std.specs.Prelude.{ℕ, not, List, [], ◌∷◌, map, length, Option, Some, None, Result, Ok, Err, slice_index_or, nat_lt, position, if◌then◌else◌}
+use Rattle.std.specs.List.{position_or_len}
+use Rattle.text_rules.specs.Names.{Name, same_name, is_among}
+use Rattle.device_model.specs.declared.component.Component.{Component}
+use Rattle.device_model.specs.declared.building.BuildError.{BuildError}
+use Rattle.device_model.specs.declared.building.BuildError.TheVariants.{TooMany, TwoParts, TwoWires, Arity, NoWire}
+use Rattle.device_model.specs.Rows.{Rows}
+use Rattle.device_model.specs.Order.{in_order}
+use Rattle.device_model.specs.Devices.{Device, part_names, has_arity, has_wires}
+
+-- where a name stands
+abbrev pub place_in : List Name → Name → ℕ
+place_in names name = position_or_len (same_name name) names
+
+-- a part whose ports are places among the wires as they were given, among the wires in order
+abbrev pub renumbered : List Name → Component → Component
+renumbered wires part =
+    record part { ports = map (λ port. place_in (in_order (λ n. n) wires) (slice_index_or wires port [])) part.ports }
+
+abbrev pub device_of : List Component → List Name → List Rows → Device
+device_of parts wires tables = record {
+  parts = in_order (λ (part : Component). part.name) (map (renumbered wires) parts);
+  wires = in_order (λ n. n) wires;
+  tables = tables;
+}
+
+-- the names that stand again behind themselves
+abbrev pub repeated : List Name → List Name
+repeated [] = []
+repeated (name ∷ names) = if is_among names name then name ∷ repeated names else repeated names
+
+-- the first of some reasons, or the device
+abbrev pub unless_name : (Name → BuildError) → List Name → Result Device BuildError → Result Device BuildError
+unless_name error [] otherwise = otherwise
+unless_name error (name ∷ names) otherwise = Err (error name)
+
+abbrev pub unless_place : (ℕ → BuildError) → Option ℕ → Result Device BuildError → Result Device BuildError
+unless_place error None otherwise = otherwise
+unless_place error (Some place) otherwise = Err (error place)
+
+-- The first of these reasons, in this order: too many parts, too many wires, the least name of two parts, that of two
+-- wires, the first part whose number of ports its kind does not take, the first with a port at no wire.
+abbrev pub built : List Component → List Name → List Rows → Result Device BuildError
+built parts wires tables =
+    if nat_lt 4096 (length parts) then Err (TooMany (length parts))
+    else if nat_lt 16384 (length wires) then Err (TooMany (length wires))
+    else unless_name TwoParts (in_order (λ n. n) (repeated (part_names parts)))
+    (unless_name TwoWires (in_order (λ n. n) (repeated wires))
+    (unless_place Arity (position (λ part. not (has_arity tables part)) parts)
+    (unless_place NoWire (position (λ part. not (has_wires (length wires) part)) parts)
+    (Ok (device_of parts wires tables)))))

@@ -1,0 +1,130 @@
+-- Devices, and which bits of the wires fit which health state.
+use Rattle.std.specs.Prelude.{◌≡◌, ℕ, ◌-◌, ◌≤◌, Bool, true, false, not, ◌&&◌, List, [], ◌∷◌, map, length, take, ◌==◌, Option, Some, None, slice_get, nat_le, nat_lt, position}
+use Rattle.std.specs.Int.{bit_at}
+use Rattle.std.specs.List.{list_all, list_any}
+use Rattle.text_rules.specs.Names.{Name, same_name, names_rise}
+use Rattle.ranking.specs.Bits.{bit_in, same_bit, has_odd_ones, row_number}
+use Rattle.ranking.specs.Ranking.{plain_costs}
+use Rattle.device_model.specs.declared.component.Kind.{Kind}
+use Rattle.device_model.specs.declared.component.Kind.TheVariants.{And, Or, Nand, Nor, Xor, Xnor, Not, Buff, Table}
+use Rattle.device_model.specs.declared.component.Component.{Component}
+use Rattle.device_model.specs.Rows.{Rows}
+
+-- Parts and wires are each in the order of their names. A port of a part is the place of a wire.
+pub record Device : Type 0 where
+  pub parts : List Component
+  pub wires : List Name
+  pub tables : List Rows
+
+abbrev pub part_names : List Component → List Name
+part_names parts = map (λ (part : Component). part.name) parts
+
+-- the place of a name in a list
+abbrev pub place_of : Name → List Name → Option ℕ
+place_of name names = position (same_name name) names
+
+-- whether a gate takes so many inputs
+abbrev pub takes : Kind → ℕ → Bool
+takes Not inputs = inputs == 1
+takes Buff inputs = inputs == 1
+takes Xor inputs = nat_le 1 inputs && nat_le inputs 8
+takes Xnor inputs = nat_le 1 inputs && nat_le inputs 8
+takes And inputs = nat_le 1 inputs && nat_le inputs 16
+takes Or inputs = nat_le 1 inputs && nat_le inputs 16
+takes Nand inputs = nat_le 1 inputs && nat_le inputs 16
+takes Nor inputs = nat_le 1 inputs && nat_le inputs 16
+takes (Table t) inputs = false
+
+abbrev pub first_bit : List Bool → Bool
+first_bit [] = false
+first_bit (b ∷ bs) = b
+
+-- the output that a gate's inputs give
+abbrev pub gate_value : Kind → List Bool → Bool
+gate_value And inputs = list_all (λ b. b) inputs
+gate_value Nand inputs = not (list_all (λ b. b) inputs)
+gate_value Or inputs = list_any (λ b. b) inputs
+gate_value Nor inputs = not (list_any (λ b. b) inputs)
+gate_value Xor inputs = has_odd_ones inputs
+gate_value Xnor inputs = not (has_odd_ones inputs)
+gate_value Buff inputs = first_bit inputs
+gate_value Not inputs = not (first_bit inputs)
+gate_value (Table t) inputs = false
+
+-- A faulty gate allows every row, and one that is ok those whose last bit is the value of the others.
+abbrev pub gate_allows : Kind → Bool → List Bool → Bool
+gate_allows kind false row = true
+gate_allows kind true row =
+    let inputs = length row - 1 in same_bit (bit_in row inputs) (gate_value kind (take inputs row))
+
+abbrev pub is_set : ℕ → ℕ → Bool
+is_set rows row = bit_at rows row == 1
+
+abbrev pub table_allows : Rows → Bool → List Bool → Bool
+table_allows rows true row = is_set rows.ok (row_number row)
+table_allows rows false row = is_set rows.bad (row_number row)
+
+-- a part of no table allows nothing
+abbrev pub any_table_allows : Option Rows → Bool → List Bool → Bool
+any_table_allows None ok row = false
+any_table_allows (Some rows) ok row = table_allows rows ok row
+
+-- whether a part of this kind, ok or faulty, allows the bits of its ports
+abbrev pub allows : List Rows → Kind → Bool → List Bool → Bool
+allows tables (Table t) ok row = any_table_allows (slice_get tables t) ok row
+allows tables And ok row = gate_allows And ok row
+allows tables Or ok row = gate_allows Or ok row
+allows tables Nand ok row = gate_allows Nand ok row
+allows tables Nor ok row = gate_allows Nor ok row
+allows tables Xor ok row = gate_allows Xor ok row
+allows tables Xnor ok row = gate_allows Xnor ok row
+allows tables Not ok row = gate_allows Not ok row
+allows tables Buff ok row = gate_allows Buff ok row
+
+abbrev pub part_allows : List Rows → Component → Bool → List Bool → Bool
+part_allows tables part ok wires = allows tables part.kind ok (map (bit_in wires) part.ports)
+
+-- each part allows the bits of its wires
+abbrev pub parts_fit : List Rows → List Component → List Bool → List Bool → Bool
+parts_fit tables [] state wires = true
+parts_fit tables (part ∷ parts) [] wires = false
+parts_fit tables (part ∷ parts) (ok ∷ state) wires = part_allows tables part ok wires && parts_fit tables parts state wires
+
+abbrev pub fits : Device → List Bool → List Bool → Bool
+fits device state wires = parts_fit device.tables device.parts state wires
+
+-- each part costs 1
+abbrev pub part_costs : Device → List ℕ
+part_costs device = plain_costs (length device.parts)
+
+abbrev pub rows_take : Option Rows → ℕ → Bool
+rows_take None ports = false
+rows_take (Some rows) ports = rows.ports == ports
+
+-- whether a kind takes so many ports, of which a gate's last is its output
+abbrev pub takes_ports : List Rows → Kind → ℕ → Bool
+takes_ports tables (Table t) ports = rows_take (slice_get tables t) ports
+takes_ports tables And ports = takes And (ports - 1)
+takes_ports tables Or ports = takes Or (ports - 1)
+takes_ports tables Nand ports = takes Nand (ports - 1)
+takes_ports tables Nor ports = takes Nor (ports - 1)
+takes_ports tables Xor ports = takes Xor (ports - 1)
+takes_ports tables Xnor ports = takes Xnor (ports - 1)
+takes_ports tables Not ports = takes Not (ports - 1)
+takes_ports tables Buff ports = takes Buff (ports - 1)
+
+abbrev pub has_arity : List Rows → Component → Bool
+has_arity tables part = takes_ports tables part.kind (length part.ports)
+
+-- each port is the place of one of so many wires
+abbrev pub has_wires : ℕ → Component → Bool
+has_wires wires part = list_all (λ port. nat_lt port wires) part.ports
+
+-- what holds of every device
+pub record IsDevice (device : Device) : Type 0 where
+  pub parts_rise : names_rise (part_names device.parts) ≡ true
+  pub wires_rise : names_rise device.wires ≡ true
+  pub arities : list_all (has_arity device.tables) device.parts ≡ true
+  pub joined : list_all (has_wires (length device.wires)) device.parts ≡ true
+  pub few_parts : length device.parts ≤ 4096
+  pub few_wires : length device.wires ≤ 16384

@@ -1,0 +1,6 @@
+pub mod Rows
+pub mod Order
+pub mod Devices
+pub mod Diagnosis
+pub mod Building
+pub mod Sorting

@@ -1,0 +1,16 @@
+-- Items in the order of their names.
+use Rattle.std.specs.Prelude.{List, [], ◌∷◌, if◌then◌else◌}
+use Rattle.text_rules.specs.Names.{Name, name_below, same_name}
+
+-- an item in its place by name, where no other has the name
+abbrev pub placed : {A : Type 0} → (A → Name) → A → List A → List A
+placed name x [] = x ∷ []
+placed name x (y ∷ ys) =
+    if same_name (name x) (name y) then y ∷ ys
+    else if name_below (name x) (name y) then x ∷ y ∷ ys
+    else y ∷ placed name x ys
+
+-- the items by rising name, one of each
+abbrev pub in_order : {A : Type 0} → (A → Name) → List A → List A
+in_order name [] = []
+in_order name (x ∷ xs) = placed name x (in_order name xs)

@@ -1,0 +1,233 @@
+ghost use Rattle.std.specs.Prelude.{◌≡◌, ◌≢◌, ℕ, ◌<◌, ◌≤◌, List, [], length, map, All, slice_index, slice_index_or, position, not, IfSome, IfOk, IfErr, OnOk, MatchResult, Ok, Err};
+ghost use Rattle.std.specs.List.{AllPairs};
+ghost use Rattle.std.specs.List.Sorted.{IsPermutation};
+ghost use Rattle.text_rules.specs.Names.{Name as Bytes};
+ghost use Rattle.device_model.specs.Order.{in_order};
+ghost use Rattle.device_model.specs.Devices.{IsDevice, part_names, takes_ports, has_arity, has_wires};
+ghost use Rattle.device_model.specs.Building.{built, repeated};
+ghost use Rattle.device_model.specs.Sorting.{numbered_from, with_places, IsFirstRepeat, IsTwice};
+ghost use Rattle.device_model.specs.declared.building.BuildError.TheVariants.{TwoParts, TwoWires, Memory};
+
+use crate::component::{Component, Kind, Table};
+use crate::device::Device;
+use crate::names::Name;
+use std::alloc::{AllocError, Global};
+
+/// The most parts and the most wires of a device.
+const PART_LIMIT: usize = 4096;
+
+const WIRE_LIMIT: usize = 16384;
+
+/// Why parts and wires make no device. A position is a place in the given list of parts, counted from 0.
+#[derive(Debug, Drop)]
+pub enum BuildError {
+    /// More than 4,096 parts, or else more than 16,384 wires; the number of them.
+    TooMany { count: u64 },
+    /// Two parts have this name, the least such.
+    TwoParts { name: Name },
+    /// Two wires have this name, the least such.
+    TwoWires { name: Name },
+    /// The kind of this part does not take its number of ports, or its table is not there.
+    Arity { part: u32 },
+    /// A port of this part is no place of a wire.
+    NoWire { part: u32 },
+    /// There was no memory.
+    Memory,
+}
+
+impl From<AllocError> for BuildError {
+    ghost from_gives = { λ _ e. e ≡ Memory };
+
+    fn from(_: AllocError) -> Self {
+        BuildError::Memory
+    }
+}
+
+// Whether a kind takes so many ports.
+fn takes_ports(kind: Kind, tables: &[Table], ports: usize) -> bool
+    ensures { result ≡ takes_ports tables.now kind ports }
+{
+    match kind {
+        Kind::And | Kind::Or | Kind::Nand | Kind::Nor => 2 <= ports && ports <= 17,
+        Kind::Xor | Kind::Xnor => 2 <= ports && ports <= 9,
+        Kind::Not | Kind::Buff => ports == 2,
+        Kind::Table(table) => match tables.get(table as usize) {
+            Some(table) => usize::from(table.ports()) == ports,
+            None => false,
+        },
+    }
+}
+
+fn has_arity(tables: &[Table], part: &Component) -> bool
+    ensures { result ≡ has_arity tables.now part.now }
+{
+    takes_ports(part.kind, tables, part.ports.as_slice().len())
+}
+
+fn has_wires(wires: usize, part: &Component) -> bool
+    ensures { result ≡ has_wires wires part.now }
+{
+    part.ports
+        .as_slice()
+        .iter()
+        .all(|port| (*port as usize) < wires)
+}
+
+fn first_without_arity(tables: &[Table], parts: &[Component]) -> Option<usize>
+    ensures first { result ≡ position (λ part. not (has_arity tables.now part)) parts.now }
+    ensures within { IfSome result (λ place. place < length parts.now) }
+{
+    parts.iter().position(|part| !has_arity(tables, part))
+}
+
+fn first_without_wires(wires: usize, parts: &[Component]) -> Option<usize>
+    ensures first { result ≡ position (λ part. not (has_wires wires part)) parts.now }
+    ensures within { IfSome result (λ place. place < length parts.now) }
+{
+    parts.iter().position(|part| !has_wires(wires, part))
+}
+
+impl Device {
+    /// Sorts parts and wires by name. A port is a position in the given `wires`, and becomes that wire's place in order.
+    ///
+    /// The first reason of `BuildError` that applies is the answer, in the order in which they stand there.
+    pub fn build(
+        alloc: Global,
+        parts: Vec<Component>,
+        wires: Vec<Name>,
+        tables: Vec<Table>,
+    ) -> Result<Device, BuildError>
+        ensures built { MatchResult result (λ device. Ok device ≡ built parts.items wires.items tables.items)
+            (λ e. e ≢ Memory → Err e ≡ built parts.items wires.items tables.items) }
+        ensures valid { IfOk result (λ device. IsDevice device) }
+    {
+        if parts.len() > PART_LIMIT {
+            return Err(BuildError::TooMany {
+                count: parts.len() as u64,
+            });
+        }
+        if wires.len() > WIRE_LIMIT {
+            return Err(BuildError::TooMany {
+                count: wires.len() as u64,
+            });
+        }
+        let arity = first_without_arity(&tables, &parts);
+        let joined = first_without_wires(wires.len(), &parts);
+        let mut parts = sorted_parts(parts)?;
+        let wires = sorted_wires(alloc, wires)?;
+        if let Some(part) = arity {
+            return Err(BuildError::Arity { part: part as u32 });
+        }
+        if let Some(part) = joined {
+            return Err(BuildError::NoWire { part: part as u32 });
+        }
+        let places = places_of(alloc, &wires)?;
+        renumber_all(&mut parts, &places);
+        let wires = names_of(alloc, wires)?;
+        Ok(Device::of_sorted(alloc, parts, wires, tables)?)
+    }
+}
+
+// The parts by rising name, or the least name of two parts.
+fn sorted_parts(parts: Vec<Component>) -> Result<Vec<Component>, BuildError>
+    ensures sorted { IfOk result (λ s. s.items ≡ in_order (λ p. p.name) parts.items) }
+    ensures same { IfOk result (λ s. IsPermutation parts.items s.items) }
+    ensures distinct { OnOk result (repeated (part_names parts.items) ≡ []) }
+    ensures twice { IfErr result
+        (λ e. e ≢ Memory → IsTwice TwoParts (part_names parts.items) e) }
+{
+    let mut parts = parts;
+    parts.sort_by(|a, b| a.name.cmp(&b.name))?;
+    if let Some(place) = repeated_part(&parts) {
+        let Component { name, .. } = parts.swap_remove(place);
+        return Err(BuildError::TwoParts { name });
+    }
+    Ok(parts)
+}
+
+// The wires by rising name, each beside its position among the given ones, or the least name of two wires.
+fn sorted_wires(alloc: Global, wires: Vec<Name>) -> Result<Vec<(Name, u32)>, BuildError>
+    requires { length wires.items ≤ 16384 }
+    ensures sorted { IfOk result
+        (λ s. map (λ w. w.0) s.items ≡ in_order (λ n. n) wires.items) }
+    ensures same { IfOk result (λ s. IsPermutation (numbered_from 0 wires.items) s.items) }
+    ensures distinct { OnOk result (repeated wires.items ≡ []) }
+    ensures twice { IfErr result (λ e. e ≢ Memory → IsTwice TwoWires wires.items e) }
+{
+    let mut wires = numbered(alloc, wires)?;
+    wires.sort_by(|a, b| a.0.cmp(&b.0))?;
+    if let Some(place) = repeated_wire(&wires) {
+        let (name, _) = wires.swap_remove(place);
+        return Err(BuildError::TwoWires { name });
+    }
+    Ok(wires)
+}
+
+// The first place of a part behind one of the same name.
+fn repeated_part(parts: &[Component]) -> Option<usize>
+    ensures { IsFirstRepeat (part_names parts.now) result }
+{
+    for place in 1..parts.len() {
+        if parts[place - 1].name == parts[place].name {
+            return Some(place);
+        }
+    }
+    None
+}
+
+fn repeated_wire(wires: &[(Name, u32)]) -> Option<usize>
+    ensures { IsFirstRepeat (map (λ w. w.0) wires.now) result }
+{
+    for place in 1..wires.len() {
+        if wires[place - 1].0 == wires[place].0 {
+            return Some(place);
+        }
+    }
+    None
+}
+
+// Each wire beside its position.
+fn numbered(alloc: Global, wires: Vec<Name>) -> Result<Vec<(Name, u32)>, AllocError>
+    requires { length wires.items ≤ 16384 }
+    ensures { IfOk result (λ pairs. pairs.items ≡ numbered_from 0 wires.items) }
+{
+    let mut numbered = Vec::with_capacity(alloc, wires.len())?;
+    let mut position = 0u32;
+    for wire in wires {
+        numbered.push((wire, position))?;
+        position += 1;
+    }
+    Ok(numbered)
+}
+
+// For each position the place among the sorted wires.
+fn places_of(alloc: Global, wires: &[(Name, u32)]) -> Result<Vec<u32>, AllocError>
+    requires few { length wires.now ≤ 16384 }
+    requires within { All (λ w. w.1 < length wires.now) wires.now }
+    requires distinct { AllPairs (λ v w. v.1 ≢ w.1) wires.now }
+    ensures len { IfOk result (λ places. length places.items ≡ length wires.now) }
+    ensures places { IfOk result (λ places. (k : ℕ) (w : Bytes × ℕ) → k < length wires.now
+        → slice_index places.items (slice_index_or wires.now k w).1 ≡ k) }
+{
+    let mut places = vec![in alloc; 0u32; wires.len()]?;
+    for (place, (_, position)) in wires.iter().enumerate() {
+        places[*position as usize] = place as u32;
+    }
+    Ok(places)
+}
+
+// Each port becomes the place that `places` has for it.
+fn renumber_all(parts: &mut [Component], places: &[u32])
+    requires { All (λ p. All (λ port. port < length places.now) p.ports) parts.old }
+    ensures { parts.new ≡ map (with_places places.now) parts.old }
+{
+    for part in parts.iter_mut() {
+        part.ports.renumber(places);
+    }
+}
+
+fn names_of(alloc: Global, wires: Vec<(Name, u32)>) -> Result<Vec<Name>, AllocError>
+    ensures { IfOk result (λ names. names.items ≡ map (λ w. w.0) wires.items) }
+{
+    wires.into_iter().map(|(name, _)| name).collect(alloc)
+}

@@ -1,0 +1,100 @@
+ghost use Rattle.std.specs.Prelude.{◌≡◌, IfOk};
+ghost use Rattle.device_model.specs.Devices.{IsDevice, place_of, part_names};
+
+use crate::component::{Component, Table};
+use crate::names::Name;
+use indexmap::IndexSet;
+use std::alloc::{AllocError, Global};
+use std::marker::Model;
+
+/// Parts and wires, each in the order of their names.
+#[derive(Drop)]
+pub struct Device {
+    parts: Vec<Component>,
+    wires: Vec<Name>,
+    tables: Vec<Table>,
+    part_places: IndexSet<Vec<u8>>,
+    wire_places: IndexSet<Vec<u8>>,
+}
+
+impl Model for Device {
+    ghost use Rattle.std.specs.Prelude.{◌≡◌, map, List, ℕ, Vec};
+    ghost use Rattle.std.specs.declared.alloc.Global.{Global};
+    ghost use Rattle.device_model.specs.Devices.{Device as Shown, IsDevice, part_names};
+
+    ghost Value = { Shown };
+
+    ghost view = { λ d. record { parts = d.parts.items; wires = d.wires.items; tables = d.tables.items } };
+
+    ghost invariant = { λ d.
+        IsDevice (record { parts = d.parts.items; wires = d.wires.items; tables = d.tables.items })
+        × (map (λ (n : Vec ℕ Global). n.items) d.part_places.keys ≡ part_names d.parts.items)
+        × (map (λ (n : Vec ℕ Global). n.items) d.wire_places.keys ≡ d.wires.items) };
+}
+
+impl Device {
+    pub(crate) fn of_sorted(
+        alloc: Global,
+        parts: Vec<Component>,
+        wires: Vec<Name>,
+        tables: Vec<Table>,
+    ) -> Result<Device, AllocError>
+        requires { IsDevice (record { parts = parts.items; wires = wires.items; tables = tables.items }) }
+        ensures { IfOk result (λ d.
+            d ≡ record { parts = parts.items; wires = wires.items; tables = tables.items }) }
+    {
+        let mut part_places = IndexSet::new(alloc);
+        for part in &parts {
+            part_places.insert(Vec::from_slice(alloc, part.name.as_slice())?)?;
+        }
+        let mut wire_places = IndexSet::new(alloc);
+        for wire in &wires {
+            wire_places.insert(Vec::from_slice(alloc, wire.as_slice())?)?;
+        }
+        Ok(Device {
+            parts,
+            wires,
+            tables,
+            part_places,
+            wire_places,
+        })
+    }
+
+    /// The parts, in the order of their names.
+    pub fn parts(&self) -> &[Component]
+        ensures parts { result.now ≡ self.now.parts }
+        ensures valid { IsDevice self.now }
+    {
+        &self.parts
+    }
+
+    /// The wires, in the order of their names.
+    pub fn wires(&self) -> &[Name]
+        ensures wires { result.now ≡ self.now.wires }
+        ensures valid { IsDevice self.now }
+    {
+        &self.wires
+    }
+
+    /// The tables, by the places that kinds of parts name.
+    pub fn tables(&self) -> &[Table]
+        ensures tables { result.now ≡ self.now.tables }
+        ensures valid { IsDevice self.now }
+    {
+        &self.tables
+    }
+
+    /// The place of the part of a name. There is none exactly where no part has the name.
+    pub fn find_part(&self, name: &[u8]) -> Option<u32>
+        ensures { result ≡ place_of name.now (part_names self.now.parts) }
+    {
+        Some(self.part_places.get_index_of(name)? as u32)
+    }
+
+    /// The place of the wire of a name. There is none exactly where no wire has the name.
+    pub fn find_wire(&self, name: &[u8]) -> Option<u32>
+        ensures { result ≡ place_of name.now self.now.wires }
+    {
+        Some(self.wire_places.get_index_of(name)? as u32)
+    }
+}

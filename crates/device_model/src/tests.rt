@@ -1,0 +1,94 @@
+use crate::{BuildError, Component, Device, Kind, Name, Wires};
+use std::alloc::Global;
+use std::process::Abort;
+use std::test::Fail;
+
+// Makes a device of parts, each a name, a kind and ports, and of wires.
+fn build(
+    rt: &impl Abort,
+    alloc: Global,
+    parts: &[(&str, Kind, &[u32])],
+    wires: &[&str],
+) -> Result<Result<Device, BuildError>, Fail> {
+    let mut made = Vec::new(alloc);
+    for (name, kind, ports) in parts {
+        made.push(Component {
+            name: named(rt, alloc, name)?,
+            kind: *kind,
+            ports: Wires::new(alloc, ports)?,
+        })?;
+    }
+    let mut names = Vec::new(alloc);
+    for name in wires {
+        names.push(named(rt, alloc, name)?)?;
+    }
+    Ok(Device::build(alloc, made, names, Vec::new(alloc)))
+}
+
+fn named(rt: &impl Abort, alloc: Global, name: &str) -> Result<Name, Fail> {
+    let bytes = name.as_bytes();
+    assert!(rt; 1 <= bytes.len() && bytes.len() <= 255);
+    Ok(Name::new(alloc, bytes)?)
+}
+
+#[test]
+fn sorts_and_renumbers(rt: HostRuntime) -> Result<(), Fail> {
+    let parts: [(&str, Kind, &[u32]); 2] = [
+        ("c", Kind::Buff, [2, 0].as_slice()),
+        ("b", Kind::Buff, [1, 2].as_slice()),
+    ];
+    let device = build(&rt, rt.alloc(), &parts, &["c", "a", "b"])??;
+    for (place, name, ports) in [(0, "b", [0, 1]), (1, "c", [1, 2])] {
+        let part = device.parts().get(place).ok_or("no part")?;
+        assert_eq!(rt; part.name.as_slice(), name.as_bytes());
+        assert_eq!(rt; part.kind, Kind::Buff);
+        assert_eq!(rt; part.ports.as_slice(), ports.as_slice());
+    }
+    for (place, name) in ["a", "b", "c"].iter().enumerate() {
+        let wire = device.wires().get(place).ok_or("no wire")?;
+        assert_eq!(rt; wire.as_slice(), name.as_bytes());
+        assert_eq!(rt; device.find_wire(name.as_bytes()), Some(place as u32));
+    }
+    assert_eq!(rt; device.parts().len(), 2);
+    assert_eq!(rt; device.wires().len(), 3);
+    assert_eq!(rt; device.tables().len(), 0);
+    assert_eq!(rt; device.find_part(b"c"), Some(1));
+    assert_eq!(rt; device.find_part(b"a"), None);
+    assert_eq!(rt; device.find_wire(b"ab"), None);
+    Ok(())
+}
+
+#[test]
+fn refuses(rt: HostRuntime) -> Result<(), Fail> {
+    let alloc = rt.alloc();
+    let pair = [0, 0].as_slice();
+    let twice = [
+        ("d", Kind::Buff, pair),
+        ("b", Kind::Buff, pair),
+        ("d", Kind::Buff, pair),
+        ("b", Kind::Buff, pair),
+    ];
+    let error = build(&rt, alloc, &twice, &["a", "a"])?
+        .err()
+        .ok_or("built")?;
+    assert!(rt;
+        matches!(&error, BuildError::TwoParts { name } if name.as_slice() == b"b".as_slice())
+    );
+    let one = [("b", Kind::Buff, pair)];
+    let error = build(&rt, alloc, &one, &["d", "c", "d", "c"])?
+        .err()
+        .ok_or("built")?;
+    assert!(rt;
+        matches!(&error, BuildError::TwoWires { name } if name.as_slice() == b"c".as_slice())
+    );
+    let unfit = [("c", Kind::Buff, pair), ("b", Kind::Nand, [0].as_slice())];
+    let error = build(&rt, alloc, &unfit, &["a"])?.err().ok_or("built")?;
+    assert!(rt; matches!(error, BuildError::Arity { part: 1 }));
+    let loose = [
+        ("c", Kind::Buff, pair),
+        ("b", Kind::Buff, [0, 1].as_slice()),
+    ];
+    let error = build(&rt, alloc, &loose, &["a"])?.err().ok_or("built")?;
+    assert!(rt; matches!(error, BuildError::NoWire { part: 1 }));
+    Ok(())
+}

@@ -1,0 +1,44 @@
+-- Words that may be written in capital or in small letters.
+use Rattle.std.proofs.Common.{◌≡◌, ℕ, Bool, true, List, [], ◌∷◌, map, refl, arith, ◌↔◌, IsTrue}
+use Rattle.std.specs.List.{list_all}
+use Rattle.std.specs.Char.{to_ascii_lowercase}
+use Rattle.std.proofs.lemmas.Bool.{and_parts}
+use Rattle.std.proofs.lemmas.Bool.Decides.{nat_tests, same_from_decides}
+use Rattle.std.proofs.lemmas.Slice.Eq.{bytes_eq-Decides}
+use Rattle.text_rules.specs.Names.{same_name}
+use Rattle.bench_reader.specs.Netlists.{capital, capitals}
+use Rattle.bench_reader.specs.Plain.{is_capital}
+
+capital_from_lower : (b k : ℕ) → is_capital k ≡ true → to_ascii_lowercase b ≡ to_ascii_lowercase k → capital b ≡ k
+capital_from_lower b k h e = grind (arith, nat_tests)
+
+lower_from_capital : (b k : ℕ) → is_capital k ≡ true → capital b ≡ k → to_ascii_lowercase b ≡ to_ascii_lowercase k
+lower_from_capital b k h e = grind (arith, nat_tests)
+
+pub capitals_from_lower : (word keyword : List ℕ) → list_all is_capital keyword ≡ true → map to_ascii_lowercase word ≡ map to_ascii_lowercase keyword → capitals word ≡ keyword
+capitals_from_lower [] [] h e = refl
+capitals_from_lower [] (k ∷ keyword) h e = cc
+capitals_from_lower (b ∷ word) [] h e = cc
+capitals_from_lower (b ∷ word) (k ∷ keyword) h e =
+    let parts = and_parts (is_capital k) (list_all is_capital keyword) h in
+    let first = capital_from_lower b k parts.0 (cc) in
+    let rest = capitals_from_lower word keyword parts.1 (cc) in
+    cc
+
+pub lower_from_capitals : (word keyword : List ℕ) → list_all is_capital keyword ≡ true → capitals word ≡ keyword → map to_ascii_lowercase word ≡ map to_ascii_lowercase keyword
+lower_from_capitals [] [] h e = refl
+lower_from_capitals [] (k ∷ keyword) h e = cc
+lower_from_capitals (b ∷ word) [] h e = cc
+lower_from_capitals (b ∷ word) (k ∷ keyword) h e =
+    let parts = and_parts (is_capital k) (list_all is_capital keyword) h in
+    let first = lower_from_capital b k parts.0 (cc) in
+    let rest = lower_from_capitals word keyword parts.1 (cc) in
+    cc
+
+-- words that are the same in small letters have the same capitals
+pub spells-test : (test : Bool) (word keyword : List ℕ) → list_all is_capital keyword ≡ true
+    → (IsTrue test ↔ (map to_ascii_lowercase word ≡ map to_ascii_lowercase keyword)) → test ≡ same_name (capitals word) keyword
+spells-test test word keyword h e =
+    same_from_decides test (same_name (capitals word) keyword)
+    (λ t. capitals_from_lower word keyword h (e.0 t), λ c. e.1 (lower_from_capitals word keyword h c))
+    (bytes_eq-Decides (capitals word) keyword)

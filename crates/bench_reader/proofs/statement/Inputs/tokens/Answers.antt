@@ -1,0 +1,7 @@
+use Rattle.bench_reader.specs.Meanings.{line_tokens}
+use Rattle.bench_reader.proofs.Forms.{next_drops}
+use Rattle.bench_reader.proofs.statement.Inputs.tokens.Goals as goal
+
+pub loop-preserved : goal.loop-preserved
+loop-preserved c =
+    next_drops c.loop.counter (line_tokens c.args.self.line.now) c.next.result c.loop.tokens c.next.new.self c.next.ensures.steps c.loop.invariant

@@ -1,0 +1,4 @@
+pub mod LineLemmas
+pub mod AskedLemmas
+mod WordLemmas
+mod Rows

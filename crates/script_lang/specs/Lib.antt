@@ -1,0 +1,3 @@
+pub mod Script
+pub mod Asked
+pub mod Meaning

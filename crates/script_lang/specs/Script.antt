@@ -1,0 +1,133 @@
+-- The lines of a script, and what each asks.
+use Rattle.std.specs.Prelude.{ℕ, Bool, true, false, ◌&&◌, List, [], ◌∷◌, length, Option, Some, None, codes, ◌==◌, nat_lt, if◌then◌else◌}
+use Rattle.std.specs.List.{list_all}
+use Rattle.text_rules.specs.Names.{Name, same_name, is_name}
+use Rattle.text_rules.specs.Tokens.{words}
+use Rattle.text_rules.specs.Numbers.{plain_number_in}
+
+-- what a line asks of a session
+pub data Request : Type 0 where
+  Start : Request
+  Stop : Request
+  See : (wire : Name) (bit : Bool) → Request
+  Unsee : (wire : Name) → Request
+  Hold : (part : Name) (ok : Bool) → Request
+  Unhold : (part : Name) → Request
+  Min : Request
+  Next : Request
+  Several : (count : ℕ) → Request
+  After : (parts : List Name) → Request
+  Probe : (wire : Name) → Request
+  Probes : Request
+  Blame : Request
+  Dnnf : Request
+
+-- nothing, a refusal with its number, or a session and what is asked of it
+pub data Line : Type 0 where
+  Blank : Line
+  Refused : (number : ℕ) → Line
+  Ask : (session : Name) (request : Request) → Line
+
+abbrev pub is_session_name : List ℕ → Bool
+is_session_name word = is_name 64 word
+
+-- a name of a wire or of a part
+abbrev pub is_script_name : List ℕ → Bool
+is_script_name word = is_name 255 word
+
+-- a session alone
+abbrev pub on_session : Request → List (List ℕ) → Line
+on_session request (s ∷ []) = if is_session_name s then Ask s request else Refused 3
+on_session request ws = Refused 2
+
+-- a session and a name
+abbrev pub on_name : (Name → Request) → List (List ℕ) → Line
+on_name request (s ∷ name ∷ []) = if is_session_name s && is_script_name name then Ask s (request name) else Refused 3
+on_name request ws = Refused 2
+
+abbrev pub with_front : ℕ → Option (List ℕ × List ℕ) → Option (List ℕ × List ℕ)
+with_front b None = None
+with_front b (Some pair) = Some (b ∷ pair.0, pair.1)
+
+-- what stands before the first equals sign, and after it
+abbrev pub at_equals : List ℕ → Option (List ℕ × List ℕ)
+at_equals [] = None
+at_equals (b ∷ bytes) = if b == 61 then Some ([], bytes) else with_front b (at_equals bytes)
+
+-- one of two words, for 1 and for 0
+abbrev pub value_in : List ℕ → List ℕ → List ℕ → Option Bool
+value_in one other word = if same_name word one then Some true else if same_name word other then Some false else None
+
+abbrev pub if_value : Name → (Bool → Request) → Option Bool → Line
+if_value s request None = Refused 4
+if_value s request (Some value) = Ask s (request value)
+
+abbrev pub on_pair : List ℕ → List ℕ → (Name → Bool → Request) → Name → Option (List ℕ × List ℕ) → Line
+on_pair one other request s None = Refused 2
+on_pair one other request s (Some pair) =
+    if is_session_name s && is_script_name pair.0 then if_value s (request pair.0) (value_in one other pair.1) else Refused 3
+
+-- a session, and a name with one of two values
+abbrev pub on_value : List ℕ → List ℕ → (Name → Bool → Request) → List (List ℕ) → Line
+on_value one other request (s ∷ pair ∷ []) = on_pair one other request s (at_equals pair)
+on_value one other request ws = Refused 2
+
+abbrev pub if_count : Name → (ℕ → Request) → Option ℕ → Line
+if_count s request None = Refused 4
+if_count s request (Some count) = Ask s (request count)
+
+-- a session and a count from 1 to a million
+abbrev pub on_count : (ℕ → Request) → List (List ℕ) → Line
+on_count request (s ∷ count ∷ []) =
+    if is_session_name s then if_count s request (plain_number_in 7 1 1000000 count) else Refused 3
+on_count request ws = Refused 2
+
+-- a session and any number of names
+abbrev pub on_names : (List Name → Request) → List (List ℕ) → Line
+on_names request [] = Refused 2
+on_names request (s ∷ names) = if is_session_name s && list_all is_script_name names then Ask s (request names) else Refused 3
+
+-- the command words, and how the words behind each are read
+abbrev pub commands : List (List ℕ × (List (List ℕ) → Line))
+commands = (codes "open", on_session Start)
+    ∷ (codes "close", on_session Stop)
+    ∷ (codes "see", on_value (codes "1") (codes "0") See)
+    ∷ (codes "unsee", on_name Unsee)
+    ∷ (codes "hold", on_value (codes "ok") (codes "bad") Hold)
+    ∷ (codes "unhold", on_name Unhold)
+    ∷ (codes "min", on_session Min)
+    ∷ (codes "next", on_session Next)
+    ∷ (codes "list", on_count Several)
+    ∷ (codes "after", on_names After)
+    ∷ (codes "probe", on_name Probe)
+    ∷ (codes "probes", on_session Probes)
+    ∷ (codes "blame", on_session Blame)
+    ∷ (codes "dnnf", on_session Dnnf)
+    ∷ []
+
+-- a first word that is no command is refused
+abbrev pub read_as : List ℕ → List (List ℕ) → List (List ℕ × (List (List ℕ) → Line)) → Line
+read_as word ws [] = Refused 1
+read_as word ws (command ∷ rest) = if same_name word command.0 then command.1 ws else read_as word ws rest
+
+-- a word that begins with a number sign begins a comment
+abbrev pub begins_comment : List ℕ → Bool
+begins_comment [] = false
+begins_comment (b ∷ bytes) = b == 35
+
+abbrev pub line_of_words : List (List ℕ) → Line
+line_of_words [] = Blank
+line_of_words (word ∷ ws) = if begins_comment word then Blank else read_as word ws commands
+
+-- A line that is too long is refused, a comment too.
+abbrev pub line_of : List ℕ → Line
+line_of bytes = if nat_lt 1048576 (length bytes) then Refused 5 else line_of_words (words bytes)
+
+-- what a refusal of a line says
+abbrev pub refusal_text : ℕ → List ℕ
+refusal_text number =
+    if number == 1 then codes "unknown command"
+    else if number == 2 then codes "bad words"
+    else if number == 3 then codes "bad name"
+    else if number == 4 then codes "bad value"
+    else codes "line too long"

@@ -1,0 +1,203 @@
+ghost use Rattle.std.specs.Prelude.{◌≡◌, ℕ, Bool, List, codes};
+ghost use Rattle.std.specs.List.{list_all};
+ghost use Rattle.text_rules.specs.Names.{Name, same_name};
+ghost use Rattle.text_rules.specs.Tokens.{words};
+ghost use Rattle.script_lang.specs.Meaning.{meaning, asked_by};
+ghost use Rattle.script_lang.specs.Script.{Request, Ask, See, Hold, begins_comment, commands, is_session_name, is_script_name, line_of, on_session, on_name, on_value, on_count, on_names, read_as};
+
+use crate::cutting::{at_equals, one_word, split_word, two_words};
+use crate::line::Line;
+use text_rules::{Tokens, is_name, plain_number};
+
+// The longest line, in bytes.
+const LINE_LIMIT: usize = 1048576;
+
+// The numbers of the refusals.
+const UNKNOWN_COMMAND: u8 = 1;
+
+const BAD_WORDS: u8 = 2;
+
+const BAD_NAME: u8 = 3;
+
+const BAD_VALUE: u8 = 4;
+
+const TOO_LONG: u8 = 5;
+
+fn is_session_name(word: &[u8]) -> bool
+    ensures { result ≡ is_session_name word.now }
+{
+    is_name(64, word)
+}
+
+fn is_script_name(word: &[u8]) -> bool
+    ensures { result ≡ is_script_name word.now }
+{
+    is_name(255, word)
+}
+
+// A session alone. What is asked of it does not matter to how it is read, here and below.
+fn session_in(text: &[u8]) -> Result<&[u8], u8>
+    ensures { (request : Request)
+        → asked_by (λ session. Ask session.now request) result ≡ on_session request (words text.now) }
+{
+    match one_word(text) {
+        Some(session) if is_session_name(session) => Ok(session),
+        Some(_) => Err(BAD_NAME),
+        None => Err(BAD_WORDS),
+    }
+}
+
+// A session and a name.
+fn name_in(text: &[u8]) -> Result<(&[u8], &[u8]), u8>
+    ensures { (request : Name → Request)
+        → asked_by (λ found. Ask found.0.now (request found.1.now)) result
+        ≡ on_name request (words text.now) }
+{
+    match two_words(text) {
+        Some((session, name)) if is_session_name(session) && is_script_name(name) => {
+            Ok((session, name))
+        }
+        Some(_) => Err(BAD_NAME),
+        None => Err(BAD_WORDS),
+    }
+}
+
+// A session, and a name with one of two values.
+fn value_in<'a>(text: &'a [u8], one: &[u8], other: &[u8]) -> Result<(&'a [u8], &'a [u8], bool), u8>
+    ensures { (request : Name → Bool → Request)
+        → asked_by (λ found. Ask found.0.now (request found.1.now found.2)) result
+        ≡ on_value one.now other.now request (words text.now) }
+{
+    let (session, pair) = two_words(text).ok_or(BAD_WORDS)?;
+    let (name, value) = at_equals(pair).ok_or(BAD_WORDS)?;
+    if !is_session_name(session) || !is_script_name(name) {
+        return Err(BAD_NAME);
+    }
+    if value == one {
+        Ok((session, name, true))
+    } else if value == other {
+        Ok((session, name, false))
+    } else {
+        Err(BAD_VALUE)
+    }
+}
+
+// A session and a count from 1 to a million.
+fn count_in(text: &[u8]) -> Result<(&[u8], u32), u8>
+    ensures { (request : ℕ → Request)
+        → asked_by (λ found. Ask found.0.now (request found.1)) result
+        ≡ on_count request (words text.now) }
+{
+    let (session, count) = two_words(text).ok_or(BAD_WORDS)?;
+    if !is_session_name(session) {
+        return Err(BAD_NAME);
+    }
+    match plain_number(7, 1, 1000000, count) {
+        Some(count) => Ok((session, count as u32)),
+        None => Err(BAD_VALUE),
+    }
+}
+
+// Whether each word is a name of a wire or of a part.
+fn are_script_names(text: &[u8]) -> bool
+    ensures { result ≡ list_all is_script_name (words text.now) }
+{
+    Tokens::words(text).all(is_script_name)
+}
+
+// A session, and the text of the names behind it.
+fn names_in(text: &[u8]) -> Result<(&[u8], &[u8]), u8>
+    ensures { (request : List Name → Request)
+        → asked_by (λ found. Ask found.0.now (request (words found.1.now))) result
+        ≡ on_names request (words text.now) }
+{
+    let (session, names) = split_word(text).ok_or(BAD_WORDS)?;
+    if is_session_name(session) && are_script_names(names) {
+        Ok((session, names))
+    } else {
+        Err(BAD_NAME)
+    }
+}
+
+// A session, and a wire with a bit.
+fn see_in(text: &[u8]) -> Result<Line<'_>, u8>
+    ensures { asked_by meaning result ≡ on_value (codes "1") (codes "0") See (words text.now) }
+{
+    let (session, name, bit) = value_in(text, b"1", b"0")?;
+    Ok(Line::See { session, name, bit })
+}
+
+// A session, and a part with a word for sound or faulty.
+fn hold_in(text: &[u8]) -> Result<Line<'_>, u8>
+    ensures { asked_by meaning result ≡ on_value (codes "ok") (codes "bad") Hold (words text.now) }
+{
+    let (session, name, ok) = value_in(text, b"ok", b"bad")?;
+    Ok(Line::Hold { session, name, ok })
+}
+
+fn same_word(word: &[u8], other: &[u8]) -> bool
+    ensures { result ≡ same_name word.now other.now }
+{
+    word == other
+}
+
+// What a command and the text behind it say.
+fn read_command<'a>(command: &[u8], text: &'a [u8]) -> Result<Line<'a>, u8>
+    ensures { asked_by meaning result ≡ read_as command.now (words text.now) commands }
+{
+    if same_word(command, b"open") {
+        session_in(text).map(|session| Line::Start { session })
+    } else if same_word(command, b"close") {
+        session_in(text).map(|session| Line::Stop { session })
+    } else if same_word(command, b"see") {
+        see_in(text)
+    } else if same_word(command, b"unsee") {
+        name_in(text).map(|(session, name)| Line::Unsee { session, name })
+    } else if same_word(command, b"hold") {
+        hold_in(text)
+    } else if same_word(command, b"unhold") {
+        name_in(text).map(|(session, name)| Line::Unhold { session, name })
+    } else if same_word(command, b"min") {
+        session_in(text).map(|session| Line::Min { session })
+    } else if same_word(command, b"next") {
+        session_in(text).map(|session| Line::Next { session })
+    } else if same_word(command, b"list") {
+        count_in(text).map(|(session, count)| Line::List { session, count })
+    } else if same_word(command, b"after") {
+        names_in(text).map(|(session, names)| Line::After { session, names })
+    } else if same_word(command, b"probe") {
+        name_in(text).map(|(session, name)| Line::Probe { session, name })
+    } else if same_word(command, b"probes") {
+        session_in(text).map(|session| Line::Probes { session })
+    } else if same_word(command, b"blame") {
+        session_in(text).map(|session| Line::Blame { session })
+    } else if same_word(command, b"dnnf") {
+        session_in(text).map(|session| Line::Dnnf { session })
+    } else {
+        Err(UNKNOWN_COMMAND)
+    }
+}
+
+// Whether a word begins with a number sign.
+fn begins_comment(word: &[u8]) -> bool
+    ensures { result ≡ begins_comment word.now }
+{
+    word.first() == Some(&b'#')
+}
+
+/// Reads one line of a script, without its line feed. Nothing is copied: the parts of the result lie in the line.
+pub fn parse_line(line: &[u8]) -> Line<'_>
+    ensures { meaning result ≡ line_of line.now }
+{
+    if line.len() > LINE_LIMIT {
+        return Line::Refused(TOO_LONG);
+    }
+    match split_word(line) {
+        None => Line::Blank,
+        Some((command, _)) if begins_comment(command) => Line::Blank,
+        Some((command, text)) => match read_command(command, text) {
+            Ok(line) => line,
+            Err(number) => Line::Refused(number),
+        },
+    }
+}

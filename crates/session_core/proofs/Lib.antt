@@ -1,0 +1,6 @@
+pub mod Spellings
+pub mod Lines
+pub mod Feeding
+pub mod Texts
+pub mod Answering
+mod Rows

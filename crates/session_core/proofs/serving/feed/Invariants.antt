@@ -1,0 +1,14 @@
+use Rattle.std.proofs.Common.{◌≡◌, take}
+use Rattle.session_core.specs.Systems.{device_system}
+use Rattle.session_core.specs.FirstPath.{first_line}
+use Rattle.session_core.specs.Gathering.{Fed}
+use Rattle.session_core.proofs.serving.feed.Given as goal
+
+-- the bytes so far were taken
+abbrev pub invariant-loop-byte : goal.invariant-loop-byte
+invariant-loop-byte g l =
+    record {
+      fed : Fed (first_line (device_system l.fn.sessions.device)) l.fn.sessions.table l.sessions.table l.fn.gathered l.gathered (take l.byte-index l.piece) (g.O.Sink.got l.fn.out) (g.O.Sink.got l.out);
+      device : l.sessions.device ≡ l.fn.sessions.device;
+      cause : g.O.Sink.faults l.out ≡ g.O.Sink.faults l.fn.out;
+    }

@@ -1,0 +1,8 @@
+pub mod Systems
+pub mod Items
+pub mod Sessions
+pub mod FirstPath
+pub mod Spelling
+pub mod Serving
+pub mod Gathering
+pub mod Services

@@ -1,0 +1,261 @@
+-- Sessions over a system, and the replies to the lines of a script.
+use Rattle.std.specs.Prelude.{ℕ, zero, suc, ◌+◌, Bool, true, false, not, List, [], ◌∷◌, ◌++◌, map, length, Option, Some, None, set, slice_index_or, codes, ◌==◌, nat_le, is_some, if◌then◌else◌}
+use Rattle.std.specs.Fmt.{decimal}
+use Rattle.std.specs.Ordering.{nat_cmp}
+use Rattle.std.specs.Cmp.Lexicographic.{slice_cmp}
+use Rattle.std.specs.List.{list_any, list_all, filter}
+use Rattle.std.specs.FinMap.{find, put}
+use Rattle.text_rules.specs.Names.{Name, same_name, is_among}
+use Rattle.ranking.specs.Bits.{bit_in}
+use Rattle.ranking.specs.Cases.{Case, empty_case}
+use Rattle.ranking.specs.Ranking.{rest}
+use Rattle.device_model.specs.Devices.{place_of}
+use Rattle.script_lang.specs.Script.{Line, Blank, Refused, Ask, Request, Start, Stop, See, Unsee, Hold, Unhold, Min, Next, Several, After, Probe, Probes, Blame, Dnnf, line_of, refusal_text}
+use Rattle.session_core.specs.Systems.{System, least_cost, all_diagnoses}
+use Rattle.session_core.specs.Items.{Item, Projected, line}
+
+-- what a session knows, and the state after which it goes on
+pub record Entry : Type 0 where
+  pub known : Case
+  pub point : Option (List Bool)
+
+-- the open sessions, by name
+abbrev pub Table : Type 0
+Table = List (Name × Entry)
+
+abbrev pub entry_of : Name → Table → Option Entry
+entry_of session table = find (slice_cmp nat_cmp) session table
+
+abbrev pub with_entry : Name → Entry → Table → Table
+with_entry session entry table = put (slice_cmp nat_cmp) session entry table
+
+abbrev pub without : Name → Table → Table
+without session table = filter (λ e. not (same_name e.0 session)) table
+
+-- the session as it is when it opens
+abbrev pub new_entry : System → Entry
+new_entry system = record { known = empty_case (length system.wires) (length system.parts); point = None }
+
+-- what becomes of a session
+pub data Change : Type 0 where
+  Stays : Change
+  Becomes : (entry : Entry) → Change
+  Ends : Change
+
+-- a refusal with its number, or a change and what is written
+pub data Outcome : Type 0 where
+  Declined : (number : ℕ) → Outcome
+  Done : (change : Change) (items : List Item) → Outcome
+
+abbrev pub tells : List Item → Outcome
+tells items = Done Stays items
+
+-- the session becomes this, and one word is said
+abbrev pub becomes : Name → Entry → List ℕ → Outcome
+becomes session entry word = Done (Becomes entry) (line (session ∷ word ∷ []) ∷ [])
+
+-- what is done at a place, or the refusal where there is none
+abbrev pub at_place : ℕ → (ℕ → Outcome) → Option ℕ → Outcome
+at_place refusal act None = Declined refusal
+at_place refusal act (Some place) = act place
+
+abbrev pub at_wire : System → Name → (ℕ → Outcome) → Outcome
+at_wire system name act = at_place 9 act (place_of name system.wires)
+
+abbrev pub at_part : System → Name → (ℕ → Outcome) → Outcome
+at_part system name act = at_place 10 act (place_of name system.parts)
+
+-- A change of what is known leaves no point.
+abbrev pub with_seen : Entry → ℕ → Option Bool → Entry
+with_seen entry wire bit = record { known = record entry.known { seen = set entry.known.seen wire bit }; point = None }
+
+abbrev pub with_held : Entry → ℕ → Option Bool → Entry
+with_held entry part ok = record { known = record entry.known { held = set entry.known.held part ok }; point = None }
+
+-- the names of the faulty parts
+abbrev pub faulty_names : List Name → List Bool → List Name
+faulty_names [] state = []
+faulty_names (name ∷ names) [] = []
+faulty_names (name ∷ names) (true ∷ state) = faulty_names names state
+faulty_names (name ∷ names) (false ∷ state) = name ∷ faulty_names names state
+
+-- the state whose faulty parts are those named
+abbrev pub state_of : List Name → List Name → List Bool
+state_of named parts = map (λ part. not (is_among named part)) parts
+
+abbrev pub inconsistent : Name → Item
+inconsistent session = line (session ∷ codes "inconsistent" ∷ [])
+
+abbrev pub end_line : Name → Item
+end_line session = line (session ∷ codes "end" ∷ [])
+
+abbrev pub count_text : Option ℕ → List ℕ
+count_text None = codes "-"
+count_text (Some n) = decimal n
+
+-- the least cost, and one of the diagnoses
+abbrev pub min_line : System → Name → Option ℕ → List (List Bool) → Item
+min_line system session fewest [] = inconsistent session
+min_line system session fewest (state ∷ states) =
+    line (session ∷ codes "min" ∷ count_text fewest ∷ faulty_names system.parts state)
+
+-- the state that comes next, the point after it, and whether there was one
+pub record Found : Type 0 where
+  pub item : Item
+  pub point : Option (List Bool)
+  pub more : Bool
+
+-- the first of the states that come later, of all that there are
+abbrev pub found : Name → (List Bool → Item) → Option (List Bool) → List (List Bool) → List (List Bool) → Found
+found session shown point [] later = record { item = inconsistent session; point = point; more = false }
+found session shown point (d ∷ ds) [] = record { item = end_line session; point = point; more = false }
+found session shown point (d ∷ ds) (state ∷ later) = record { item = shown state; point = Some state; more = true }
+
+abbrev pub diagnosis_line : System → Name → List Bool → Item
+diagnosis_line system session state = line (session ∷ codes "diag" ∷ faulty_names system.parts state)
+
+abbrev pub next_of : System → Name → List (List Bool) → Option (List Bool) → Found
+next_of system session ds point = found session (diagnosis_line system session) point ds (rest ds point)
+
+-- what some steps wrote, and the point after them
+pub record Listed : Type 0 where
+  pub items : List Item
+  pub point : Option (List Bool)
+
+-- at most so many steps, up to the first that finds nothing
+abbrev pub repeated : (Option (List Bool) → Found) → ℕ → Option (List Bool) → Listed
+repeated next zero point = record { items = []; point = point }
+repeated next (suc n) point =
+    let f = next point in
+    elim f.more [
+      | true ↦ (let more = repeated next n f.point in record { items = f.item ∷ more.items; point = more.point })
+      | false ↦ record { items = f.item ∷ []; point = f.point }
+    ]
+
+-- the least cost where a wire is seen so too, if that is not against what was seen
+abbrev pub least_at : System → Case → ℕ → Bool → Option Bool → Option ℕ
+least_at system known wire bit None = least_cost system (record known { seen = set known.seen wire (Some bit) })
+least_at system known wire true (Some true) = least_cost system known
+least_at system known wire false (Some false) = least_cost system known
+least_at system known wire true (Some false) = None
+least_at system known wire false (Some true) = None
+
+abbrev pub seen_at : Case → ℕ → Option Bool
+seen_at known wire = slice_index_or known.seen wire None
+
+abbrev pub probe_line : System → Name → Case → Name → ℕ → Item
+probe_line system session known name wire =
+    line (session ∷ codes "probe" ∷ name ∷ count_text (least_at system known wire false (seen_at known wire))
+    ∷ count_text (least_at system known wire true (seen_at known wire)) ∷ [])
+
+-- a line for each wire that is not seen, from this place on
+abbrev pub probe_lines : System → Name → Case → ℕ → List Name → List Item
+probe_lines system session known wire [] = []
+probe_lines system session known wire (name ∷ names) =
+    elim (is_some (seen_at known wire)) [
+      | true ↦ probe_lines system session known (wire + 1) names
+      | false ↦ probe_line system session known name wire ∷ probe_lines system session known (wire + 1) names
+    ]
+
+-- in all, in some but not all, or in none
+abbrev pub verdict : List Bool → List ℕ
+verdict faulty =
+    if list_all (λ b. b) faulty then codes "always" else if list_any (λ b. b) faulty then codes "sometimes" else codes "never"
+
+-- a line for each part, from this place on
+abbrev pub blame_lines : Name → List (List Bool) → ℕ → List Name → List Item
+blame_lines session ds part [] = []
+blame_lines session ds part (name ∷ names) =
+    line (session ∷ codes "blame" ∷ name ∷ verdict (map (λ state. not (bit_in state part)) ds) ∷ [])
+    ∷ blame_lines session ds (part + 1) names
+
+-- these items, or the one that says so where no state agrees
+abbrev pub if_any : Name → List (List Bool) → List Item → List Item
+if_any session [] items = inconsistent session ∷ []
+if_any session (state ∷ states) items = items
+
+-- the same session with another point
+abbrev pub moved : Entry → Option (List Bool) → List Item → Outcome
+moved entry point items = Done (Becomes (record entry { point = point })) items
+
+-- what an open session answers
+abbrev pub answered : System → Name → Entry → Request → Outcome
+answered system s entry Start = Declined 7
+answered system s entry Stop = Done Ends (line (s ∷ codes "closed" ∷ []) ∷ [])
+answered system s entry (See name bit) = at_wire system name (λ wire. becomes s (with_seen entry wire (Some bit)) (codes "ok"))
+answered system s entry (Unsee name) = at_wire system name (λ wire. becomes s (with_seen entry wire None) (codes "ok"))
+answered system s entry (Hold name ok) = at_part system name (λ part. becomes s (with_held entry part (Some ok)) (codes "ok"))
+answered system s entry (Unhold name) = at_part system name (λ part. becomes s (with_held entry part None) (codes "ok"))
+answered system s entry Min =
+    tells (min_line system s (least_cost system entry.known) (all_diagnoses system entry.known) ∷ [])
+answered system s entry Next =
+    let f = next_of system s (all_diagnoses system entry.known) entry.point in moved entry f.point (f.item ∷ [])
+answered system s entry (Several count) =
+    let ds = all_diagnoses system entry.known in
+    let l = repeated (next_of system s ds) count entry.point in moved entry l.point l.items
+answered system s entry (After names) =
+    if list_all (λ name. is_among system.parts name) names
+    then becomes s (record entry { point = Some (state_of names system.parts) }) (codes "ok")
+    else Declined 10
+answered system s entry (Probe name) = at_wire system name (λ wire.
+    tells (if_any s (system.consistent entry.known) (probe_line system s entry.known name wire ∷ [])))
+answered system s entry Probes =
+    tells (if_any s (system.consistent entry.known) (probe_lines system s entry.known 0 system.wires ++ end_line s ∷ []))
+answered system s entry Blame =
+    let ds = all_diagnoses system entry.known in tells (if_any s ds (blame_lines s ds 0 system.parts ++ end_line s ∷ []))
+answered system s entry Dnnf =
+    tells (line (s ∷ codes "dnnf" ∷ []) ∷ Projected (length system.parts) (system.consistent entry.known) ∷ [])
+
+-- What is answered hangs on the session's own entry alone, and where it is not open on whether there is room.
+abbrev pub outcome : System → Name → Bool → Option Entry → Request → Outcome
+outcome system s full (Some entry) request = answered system s entry request
+outcome system s full None Start = if full then Declined 8 else becomes s (new_entry system) (codes "open")
+outcome system s full None request = Declined 6
+
+abbrev pub changed : Name → Change → Table → Table
+changed session Stays table = table
+changed session (Becomes entry) table = with_entry session entry table
+changed session Ends table = without session table
+
+-- what a refusal by the service says
+abbrev pub decline_text : ℕ → List ℕ
+decline_text number =
+    if number == 6 then codes "no session"
+    else if number == 7 then codes "open already"
+    else if number == 8 then codes "full"
+    else if number == 9 then codes "no wire"
+    else codes "no part"
+
+-- the table after a line, and what the line is answered
+pub record Step : Type 0 where
+  pub table : Table
+  pub items : List Item
+
+abbrev pub carried : Table → Name → Outcome → Step
+carried table session (Declined number) =
+    record { table = table; items = line (session ∷ codes "error" ∷ decimal number ∷ decline_text number ∷ []) ∷ [] }
+carried table session (Done change items) = record { table = changed session change table; items = items }
+
+-- what a request comes to, where at most so many sessions may be open
+abbrev pub outcome_in : System → ℕ → Table → Name → Request → Outcome
+outcome_in system limit table session request =
+    outcome system session (nat_le limit (length table)) (entry_of session table) request
+
+abbrev pub step : System → ℕ → Table → Line → Step
+step system limit table Blank = record { table = table; items = [] }
+step system limit table (Refused number) =
+    record { table = table; items = line (codes "error" ∷ decimal number ∷ refusal_text number ∷ []) ∷ [] }
+step system limit table (Ask session request) = carried table session (outcome_in system limit table session request)
+
+-- what lines are answered one after the other, and the table that they leave
+abbrev pub run : (Table → List ℕ → Step) → Table → List (List ℕ) → List Item
+run one table [] = []
+run one table (l ∷ lines) = (one table l).items ++ run one (one table l).table lines
+
+abbrev pub after_lines : (Table → List ℕ → Step) → Table → List (List ℕ) → Table
+after_lines one table [] = table
+after_lines one table (l ∷ lines) = after_lines one (one table l).table lines
+
+-- the replies to the lines of a script
+abbrev pub replies : System → ℕ → Table → List (List ℕ) → List Item
+replies system limit table lines = run (λ t l. step system limit t (line_of l)) table lines

@@ -1,0 +1,65 @@
+-- Which bytes spell a list of items.
+use Rattle.std.specs.Prelude.{◌≡◌, ◌⊎◌, ℕ, Bool, true, false, not, ◌&&◌, List, [], ◌∷◌, ◌++◌, length, ◌==◌, Option, Result, MatchResult}
+use Rattle.std.specs.List.{list_any, list_all}
+use Rattle.std.specs.Io.KnownBytes.{Appends}
+use Rattle.text_rules.specs.TextLines.{cut}
+use Rattle.text_rules.specs.Tokens.{words}
+use Rattle.ranking.specs.Ranking.{is_before}
+use Rattle.graph_rules.specs.Graphs.{Decomposable, holds}
+use Rattle.graph_rules.specs.GraphTexts.{Parsed, Read, Refused, parsed}
+use Rattle.session_core.specs.Items.{Item, Plain, Projected}
+
+abbrev pub is_filled : List (List ℕ) → Bool
+is_filled [] = false
+is_filled (word ∷ ws) = true
+
+-- no line is blank, and the last one ends with a line feed
+abbrev pub is_neat : List ℕ → Bool
+is_neat text = (length (cut text).unfinished == 0) && list_all (λ line. is_filled (words line)) (cut text).whole
+
+abbrev pub same_state : List Bool → List Bool → Bool
+same_state h k = (length h == length k) && (not (is_before h k) && not (is_before k h))
+
+-- a graph over so many parts, decomposable, and true for these states alone
+abbrev pub IsGraphOf : ℕ → List (List Bool) → Parsed → Type 0
+IsGraphOf parts states (Refused refusal) = false ≡ true
+IsGraphOf parts states (Read graph) =
+    (graph.vars ≡ parts) × Decomposable graph.nodes
+    × ((h : List Bool) → length h ≡ parts → holds graph h ≡ list_any (same_state h) states)
+
+abbrev pub Spelled : Item → List ℕ → Type 0
+Spelled (Plain bytes) text = text ≡ bytes
+Spelled (Projected parts states) text = (is_neat text ≡ true) × IsGraphOf parts states (parsed text)
+
+-- the text is those of the items, one after the other
+abbrev pub Spells : List Item → List ℕ → Type 0
+Spells [] text = text ≡ []
+Spells (item ∷ items) text =
+    (front : List ℕ) × (rest : List ℕ) × (text ≡ front ++ rest) × Spelled item front × Spells items rest
+
+-- the text is nothing, or begins that of an item
+abbrev pub BeginsItem : Item → List ℕ → Type 0
+BeginsItem item text = (text ≡ []) ⊎ ((rest : List ℕ) × Spelled item (text ++ rest))
+
+-- the text is those of some items, and begins that of the next
+abbrev pub Begins : List Item → List ℕ → Type 0
+Begins [] text = text ≡ []
+Begins (item ∷ items) text =
+    BeginsItem item text
+    ⊎ ((front : List ℕ) × (rest : List ℕ) × (text ≡ front ++ rest) × Spelled item front × Begins items rest)
+
+-- known bytes grew by a text that spells the items
+pub record Writes (before after : Option (List ℕ)) (items : List Item) : Type 0 where
+  pub text : List ℕ
+  pub spelled : Spells items text
+  pub grown : Appends before after text
+
+-- they grew by the beginning of one
+pub record WritesPart (before after : Option (List ℕ)) (items : List Item) : Type 0 where
+  pub text : List ℕ
+  pub begun : Begins items text
+  pub grown : Appends before after text
+
+-- the items were written, or begun
+abbrev pub Replies : {T E : Type 0} → Option (List ℕ) → Option (List ℕ) → Result T E → List Item → Type 0
+Replies before after result items = MatchResult result (λ _. Writes before after items) (λ _. WritesPart before after items)

@@ -1,0 +1,10 @@
+//! The program: its words, what it meets outside, and the one call that does all of it.
+#![tactic(auto)]
+
+mod adapters;
+mod program;
+mod run;
+mod words;
+
+pub use adapters::{FileShelf, StdSink, StdSource};
+pub use program::diag;

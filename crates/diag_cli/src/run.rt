@@ -1,0 +1,104 @@
+ghost use Rattle.std.specs.Prelude.{◌≡◌, ◌≢◌, ◌⊎◌, ◌+◌, ◌-◌, ◌^◌, ◌<◌, ◌≤◌, ℕ, List, Some, None, codes, decimal, ◌++◌, length};
+ghost use Rattle.std.specs.Io.KnownBytes.{Consumes, IsAtEnd};
+ghost use Rattle.diag_edge.specs.Edge.{HasCause, RoseExactly, Puts};
+ghost use Rattle.device_model.specs.Devices.{Device as Shown};
+ghost use Rattle.diag_cli.specs.Output.{End, Gives, GivesUnlessMemory, EndsAs, no_memory, not_yet, says, served, served_device};
+
+use bench_reader::{BenchError, read_bench};
+use device_model::Device;
+use diag_edge::{Sink, Source, WriteFailed};
+use session_core::{SIZE_LIMIT, ServeEnd, Service, put_count};
+use std::alloc::Global;
+
+/// A script of so many bytes is cut.
+const SCRIPT_LIMIT: u64 = 16777216;
+
+// Writes one line and answers the status, or 5 where the write failed.
+pub fn say<O: Sink>(out: &mut O, text: &[u8], status: u8) -> u8
+    requires faults { O.faults out.old < 2 ^ 64 - 1 }
+    requires status { status ≢ 5 }
+    ensures write_fault { RoseExactly (O.faults out.old) (O.faults out.new) (result ≡ 5) }
+    ensures said { result ≢ 5 → Gives (says text.now status) result (O.got out.old) (O.got out.new) }
+{
+    match out.put(text) {
+        Ok(()) => status,
+        Err(_) => 5,
+    }
+}
+
+// The line `ready` with the numbers of parts and wires.
+#[tactic(auto, using(diag_edge::proofs::Growing::puts_on))]
+fn put_ready<O: Sink>(out: &mut O, parts: u64, wires: u64) -> Result<(), WriteFailed>
+    ensures text { Puts (O.got out.old) (O.got out.new) result
+        ((codes "ready " ++ decimal parts ++ codes " ") ++ (codes "" ++ decimal wires ++ codes "\n")) }
+    ensures cause { HasCause (O.faults out.old) (O.faults out.new) result }
+{
+    put_count(out, b"ready ", parts, b" ")?;
+    put_count(out, b"", wires, b"\n")
+}
+
+// Answers the script over a device.
+fn serve_device<I: Source, O: Sink>(alloc: Global, device: Device, input: &mut I, out: &mut O) -> u8
+    requires few { length device.parts + length device.wires ≤ 20 }
+    requires taken { I.taken input.old < 2 ^ 62 }
+    requires reads { I.faults input.old < 2 ^ 64 - 1 }
+    requires writes { O.faults out.old < 2 ^ 64 - 1 }
+
+    ensures write_fault { RoseExactly (O.faults out.old) (O.faults out.new) (result ≡ 5) }
+    ensures read_fault { result ≢ 5 → RoseExactly (I.faults input.old) (I.faults input.new) (result ≡ 4) }
+    ensures answer { result ≢ 5 → Gives no_memory result (O.got out.old) (O.got out.new)
+        ⊎ ((bytes : List ℕ) × (end : End)
+        × Consumes (I.left input.old) (I.left input.new) bytes
+        × EndsAs end bytes (IsAtEnd (I.left input.new)) (I.faults input.old < I.faults input.new)
+        × Gives (served device bytes end) result (O.got out.old) (O.got out.new)) }
+    ensures all_read { result ≡ 0 → IsAtEnd (I.left input.new) }
+{
+    let parts = device.parts().len() as u64;
+    let wires = device.wires().len() as u64;
+    let Ok(mut service) = Service::new(alloc, device) else {
+        return say(out, b"error: memory\n", 6);
+    };
+    match put_ready(out, parts, wires) {
+        Ok(()) => {}
+        Err(_) => return 5,
+    }
+    match service.serve(input, out, SCRIPT_LIMIT) {
+        ServeEnd::Done => 0,
+        ServeEnd::WriteFault => 5,
+        ServeEnd::ReadFault => say(out, b"error: read\n", 4),
+        ServeEnd::Limit => say(out, b"error: script above 16777216 bytes\n", 7),
+    }
+}
+
+// Answers the script over the netlist of a file.
+pub fn serve_file<I: Source, O: Sink>(alloc: Global, file: &[u8], input: &mut I, out: &mut O) -> u8
+    requires short { length file.now ≤ 16777216 }
+    requires taken { I.taken input.old < 2 ^ 62 }
+    requires reads { I.faults input.old < 2 ^ 64 - 1 }
+    requires writes { O.faults out.old < 2 ^ 64 - 1 }
+
+    ensures write_fault { RoseExactly (O.faults out.old) (O.faults out.new) (result ≡ 5) }
+    ensures read_fault { result ≢ 5 → RoseExactly (I.faults input.old) (I.faults input.new) (result ≡ 4) }
+    ensures not_usage { result ≢ 2 }
+    ensures idle { served_device file.now ≡ None →
+        (I.faults input.new ≡ I.faults input.old) × (I.taken input.new ≡ I.taken input.old) }
+    ensures refused { result ≢ 5 → served_device file.now ≡ None → GivesUnlessMemory not_yet result (O.got out.old) (O.got out.new) }
+    ensures answer { (device : Shown) → served_device file.now ≡ Some device → result ≢ 5 →
+        Gives no_memory result (O.got out.old) (O.got out.new)
+        ⊎ ((bytes : List ℕ) × (end : End)
+        × Consumes (I.left input.old) (I.left input.new) bytes
+        × EndsAs end bytes (IsAtEnd (I.left input.new)) (I.faults input.old < I.faults input.new)
+        × Gives (served device bytes end) result (O.got out.old) (O.got out.new)) }
+    ensures all_read { result ≡ 0 → IsAtEnd (I.left input.new) }
+{
+    match read_bench(alloc, file) {
+        Ok(device) => {
+            if device.parts().len() + device.wires().len() > SIZE_LIMIT {
+                return say(out, b"error: not yet\n", 1);
+            }
+            serve_device(alloc, device, input, out)
+        }
+        Err(BenchError::NotYet) => say(out, b"error: not yet\n", 1),
+        Err(BenchError::Memory) => say(out, b"error: memory\n", 6),
+    }
+}

@@ -1,0 +1,81 @@
+use crate::running::{Meeting, SMOOTH, run};
+use std::test::Fail;
+
+const WORDS: [&str; 2] = ["serve", "chain.bench"];
+
+const SCRIPT: &str = "open S\nmin S\nnext S\n";
+
+const OUT: &str = "ready 2 3\nS open\nS min 0\nnot yet\n";
+
+// The second piece ends within the third line, which is not answered.
+#[test]
+fn a_read_fails_within_a_line(rt: HostRuntime) -> Result<(), Fail> {
+    let meeting = Meeting {
+        piece: 7,
+        failing_read: 3,
+        ..SMOOTH
+    };
+    let ran = run(rt.alloc(), &WORDS, SCRIPT, &meeting)?;
+    let want = "ready 2 3\nS open\nS min 0\nerror: read\n";
+    assert_eq!(rt; ran.out.as_slice(), want.as_bytes());
+    assert_eq!(rt; ran.status, 4);
+    Ok(())
+}
+
+// The calls of the shelf: the pick, the read that brings the file, and the one that meets its end.
+#[test]
+fn the_file_cannot_be_read(rt: HostRuntime) -> Result<(), Fail> {
+    for failing_pick_or_load in 1..=3 {
+        let meeting = Meeting {
+            failing_pick_or_load,
+            ..SMOOTH
+        };
+        let ran = run(rt.alloc(), &WORDS, SCRIPT, &meeting)?;
+        assert_eq!(rt;
+            ran.out.as_slice(),
+            "error: read\n".as_bytes(),
+            "call {failing_pick_or_load}"
+        );
+        assert_eq!(rt; ran.status, 4, "call {failing_pick_or_load}");
+    }
+    Ok(())
+}
+
+#[test]
+fn the_first_write_fails(rt: HostRuntime) -> Result<(), Fail> {
+    let meeting = Meeting {
+        failing_write: 1,
+        keep: 3,
+        ..SMOOTH
+    };
+    let ran = run(rt.alloc(), &WORDS, SCRIPT, &meeting)?;
+    assert!(rt; ran.out.as_slice().len() <= 3);
+    assert!(rt; OUT.as_bytes().starts_with(ran.out.as_slice()));
+    assert_eq!(rt; ran.status, 5);
+    Ok(())
+}
+
+// Each write in turn, until one past the last leaves the run whole.
+#[test]
+fn a_write_fails(rt: HostRuntime) -> Result<(), Fail> {
+    let mut whole = 0;
+    for failing_write in 1..=40 {
+        let meeting = Meeting {
+            failing_write,
+            keep: 1,
+            ..SMOOTH
+        };
+        let ran = run(rt.alloc(), &WORDS, SCRIPT, &meeting)?;
+        let out = ran.out.as_slice();
+        if ran.status == 0 {
+            assert_eq!(rt; out, OUT.as_bytes(), "call {failing_write}");
+            whole = failing_write;
+        } else {
+            assert_eq!(rt; ran.status, 5, "call {failing_write}");
+            assert!(rt; OUT.as_bytes().starts_with(out), "call {failing_write}");
+            assert_eq!(rt; whole, 0, "call {failing_write} after a whole run");
+        }
+    }
+    assert_eq!(rt; whole, 40);
+    Ok(())
+}

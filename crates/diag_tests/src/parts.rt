@@ -1,0 +1,50 @@
+use crate::running::C17;
+use bench_reader::{BenchError, read_bench};
+use device_model::Kind;
+use diag_edge::{MemSink, MemSource};
+use session_core::{ServeEnd, Service};
+use std::test::Fail;
+
+// The wires by name: 1 10 11 16 19 2 22 23 3 6 7. The ports are the inputs and then the output.
+const PARTS: [(&str, [u32; 3]); 6] = [
+    ("10", [0, 8, 1]),
+    ("11", [8, 9, 2]),
+    ("16", [5, 2, 3]),
+    ("19", [2, 10, 4]),
+    ("22", [1, 3, 6]),
+    ("23", [3, 4, 7]),
+];
+
+#[test]
+fn reads_a_netlist(rt: HostRuntime) -> Result<(), Fail> {
+    assert!(rt; C17.len() <= 4096);
+    let device = read_bench(rt.alloc(), C17.as_bytes())?;
+    assert_eq!(rt; device.wires().len(), 11);
+    assert_eq!(rt; device.parts().len(), PARTS.len());
+    for (part, (name, ports)) in device.parts().iter().zip(PARTS) {
+        assert_eq!(rt; part.name.as_slice(), name.as_bytes());
+        assert_eq!(rt; part.kind, Kind::Nand, "{name}");
+        assert_eq!(rt; part.ports.as_slice(), ports.as_slice(), "{name}");
+    }
+    let undriven = read_bench(rt.alloc(), b"y = NOT(x)\n");
+    assert_eq!(rt; undriven.err(), Some(BenchError::NotYet));
+    Ok(())
+}
+
+#[test]
+fn answers_a_line(rt: HostRuntime) -> Result<(), Fail> {
+    let alloc = rt.alloc();
+    let device = read_bench(alloc, b"INPUT(a)\nb = NOT(a)\n")?;
+    assert!(rt; device.parts().len() + device.wires().len() <= 20);
+    let mut service = Service::new(alloc, device)?;
+    let mut out = MemSink::new(alloc, 4096, Vec::new(alloc), 0)?;
+    service.line(b"open S", &mut out)?;
+    let script = Vec::from_slice(alloc, b"see S a=1\nsee S b=1\nmin S\n")?;
+    let mut input = MemSource::new(script, 4, Vec::new(alloc));
+    assert_eq!(rt; service.serve(&mut input, &mut out, 1000), ServeEnd::Done);
+    assert_eq!(rt;
+        out.as_slice(),
+        "S open\nS ok\nS ok\nS min 1 b\n".as_bytes()
+    );
+    Ok(())
+}

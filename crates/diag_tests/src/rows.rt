@@ -1,0 +1,97 @@
+use crate::running::{Meeting, SMOOTH, run};
+use std::test::Fail;
+
+struct Row {
+    words: &'static [&'static str],
+    script: &'static str,
+    out: &'static str,
+    status: u8,
+}
+
+const ROWS: [Row; 7] = [
+    // The inputs are 0, so 22 and 23 are to be 0. One of 10 and 22 explains the 1, and the first of them is named.
+    Row {
+        words: &["serve", "c17.bench"],
+        script: "open S\nsee S 1=0\nsee S 2=0\nsee S 3=0\nsee S 6=0\nsee S 7=0\nsee S 22=1\nsee S 23=0\nmin S\n",
+        out: "ready 6 11\nS open\nS ok\nS ok\nS ok\nS ok\nS ok\nS ok\nS ok\nS min 1 10\n",
+        status: 0,
+    },
+    // Of the parts above both outputs only 16 explains two ones.
+    Row {
+        words: &["serve", "c17.bench"],
+        script: "open S\nsee S 1=0\nsee S 2=0\nsee S 3=0\nsee S 6=0\nsee S 7=0\nsee S 22=1\nsee S 23=1\nmin S\n",
+        out: "ready 6 11\nS open\nS ok\nS ok\nS ok\nS ok\nS ok\nS ok\nS ok\nS min 1 16\n",
+        status: 0,
+    },
+    Row {
+        words: &["serve", "chain.bench"],
+        script: "open S\nsee S a=0\nsee S c=1\nmin S\nopen T\nmin T\n",
+        out: "ready 2 3\nS open\nS ok\nS ok\nS min 1 b\nnot yet\nnot yet\n",
+        status: 0,
+    },
+    // No line feed ends the last line.
+    Row {
+        words: &["serve", "chain.bench"],
+        script: "open S\nmin S",
+        out: "ready 2 3\nS open\nS min 0\n",
+        status: 0,
+    },
+    Row {
+        words: &["serve", "input.bench"],
+        script: "open S\nmin S\n",
+        out: "ready 0 1\nS open\nS min 0\n",
+        status: 0,
+    },
+    Row {
+        words: &["serve", "wide.bench"],
+        script: "open S\n",
+        out: "error: not yet\n",
+        status: 1,
+    },
+    Row {
+        words: &["serve", "absent.bench"],
+        script: "open S\n",
+        out: "error: read\n",
+        status: 4,
+    },
+];
+
+// Words that ask for nothing that the program does.
+const WRONG: [&[&str]; 7] = [
+    &[],
+    &["serve"],
+    &["--help"],
+    &["serve", "c17.v"],
+    &["serve", ".bench"],
+    &["serve", "c17.bench", "x"],
+    &["answer", "c17.bench"],
+];
+
+#[test]
+fn answers_rows(rt: HostRuntime) -> Result<(), Fail> {
+    for piece in [1, 7, 4096] {
+        for row in &ROWS {
+            let meeting = Meeting { piece, ..SMOOTH };
+            assert!(rt; 0 < meeting.piece);
+            let ran = run(rt.alloc(), row.words, row.script, &meeting)?;
+            let words = row.words;
+            assert_eq!(rt; ran.out.as_slice(), row.out.as_bytes(), "{words:?}");
+            assert_eq!(rt; ran.status, row.status, "{words:?}");
+        }
+    }
+    Ok(())
+}
+
+#[test]
+fn refuses_words(rt: HostRuntime) -> Result<(), Fail> {
+    for words in WRONG {
+        let ran = run(rt.alloc(), words, "open S\n", &SMOOTH)?;
+        assert_eq!(rt;
+            ran.out.as_slice(),
+            "error: usage\n".as_bytes(),
+            "{words:?}"
+        );
+        assert_eq!(rt; ran.status, 2, "{words:?}");
+    }
+    Ok(())
+}

@@ -1,0 +1,96 @@
+//! One run of the program over ends in memory.
+ghost use Rattle.std.specs.Prelude.{◌≡◌, ◌<◌, IfOk};
+
+use diag_cli::diag;
+use diag_edge::{MemShelf, MemSink, MemSource};
+use std::alloc::{AllocError, Global};
+use std::test::Fail;
+
+/// The netlist that the outputs below are worked out for.
+pub const C17: &str =
+    "# c17\nINPUT(1)\nINPUT(2)\nINPUT(3)\nINPUT(6)\nINPUT(7)\nOUTPUT(22)\nOUTPUT(23)\n\n10 = NAND(1, 3)\n11 = NAND(3, 6)\n16 = NAND(2, 11)\n19 = NAND(11, 7)\n22 = NAND(10, 16)\n23 = NAND(16, 19)\n";
+
+/// The files of the shelf.
+const FILES: [(&str, &str); 4] = [
+    ("c17.bench", C17),
+    (
+        "chain.bench",
+        "INPUT(a)\nOUTPUT(c)\nb = BUFF(a)\nc = BUFF(b)\n",
+    ),
+    ("wide.bench", "INPUT(a)\ny = AND(a, a, a)\n"),
+    ("input.bench", "INPUT(a)\n"),
+];
+
+/// More room than any output here needs.
+const ROOM: usize = 4096;
+
+/// What a run meets: how the script comes, and which calls fail. The number of a call that fails is 0 where none does.
+#[derive(Clone, Copy)]
+pub struct Meeting {
+    pub piece: usize,
+    pub failing_pick_or_load: u64,
+    pub failing_read: u64,
+    pub failing_write: u64,
+    /// How many bytes a write that fails keeps.
+    pub keep: usize,
+}
+
+/// Nothing fails, and the script comes in one piece.
+pub const SMOOTH: Meeting = Meeting {
+    piece: 4096,
+    failing_pick_or_load: 0,
+    failing_read: 0,
+    failing_write: 0,
+    keep: 0,
+};
+
+/// What a run ended with.
+#[derive(Drop)]
+pub struct Ran {
+    pub status: u8,
+    pub out: MemSink,
+}
+
+fn numbers(alloc: Global, number: u64) -> Result<Vec<u64>, AllocError> {
+    let mut numbers = Vec::new(alloc);
+    numbers.push(number)?;
+    Ok(numbers)
+}
+
+fn shelf_of(alloc: Global, failing: u64) -> Result<MemShelf, AllocError>
+    ensures taken { IfOk result (λ shelf. shelf.taken ≡ 0) }
+    ensures faults { IfOk result (λ shelf. shelf.faults ≡ 0) }
+{
+    let mut files = Vec::new(alloc);
+    for (name, text) in FILES {
+        let bytes = Vec::from_slice(alloc, text.as_bytes())?;
+        files.push((String::from_str(alloc, name)?, bytes))?;
+    }
+    Ok(MemShelf::new(files, numbers(alloc, failing)?))
+}
+
+fn owned(alloc: Global, words: &[&str]) -> Result<Vec<String>, AllocError> {
+    let mut owned = Vec::new(alloc);
+    for word in words {
+        owned.push(String::from_str(alloc, word)?)?;
+    }
+    Ok(owned)
+}
+
+/// Runs the program on these words and this script.
+pub fn run(alloc: Global, words: &[&str], script: &str, meeting: &Meeting) -> Result<Ran, Fail>
+    requires { 0 < meeting.now.piece }
+{
+    let words = owned(alloc, words)?;
+    let mut shelf = shelf_of(alloc, meeting.failing_pick_or_load)?;
+    let script = Vec::from_slice(alloc, script.as_bytes())?;
+    let mut input = MemSource::new(script, meeting.piece, numbers(alloc, meeting.failing_read)?);
+    let mut out = MemSink::new(
+        alloc,
+        ROOM,
+        numbers(alloc, meeting.failing_write)?,
+        meeting.keep,
+    )?;
+    let status = diag(alloc, &words, &mut shelf, &mut input, &mut out);
+    Ok(Ran { status, out })
+}

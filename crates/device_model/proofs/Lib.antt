@@ -4,7 +4,7 @@ pub mod Sorting
 pub mod Repeats
 pub mod CallerLemmas
 mod Steps
-mod Tables
+pub mod Tables
 pub mod Making
 mod Placing
 pub mod Answering

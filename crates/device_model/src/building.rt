@@ -48,13 +48,11 @@ fn takes_ports(kind: Kind, tables: &[Table], ports: usize) -> bool
     ensures { result ≡ takes_ports tables.now kind ports }
 {
     match kind {
-        Kind::And | Kind::Or | Kind::Nand | Kind::Nor => 2 <= ports && ports <= 17,
-        Kind::Xor | Kind::Xnor => 2 <= ports && ports <= 9,
-        Kind::Not | Kind::Buff => ports == 2,
         Kind::Table(table) => match tables.get(table as usize) {
             Some(table) => usize::from(table.ports()) == ports,
             None => false,
         },
+        gate => gate.takes(ports.saturating_sub(1)),
     }
 }
 

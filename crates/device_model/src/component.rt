@@ -1,4 +1,6 @@
-ghost use Rattle.std.specs.Prelude.{◌≡◌, ◌<◌, length, map, slice_index, All, IfOk};
+ghost use Rattle.std.specs.Prelude.{◌≡◌, ◌<◌, length, map, slice_index, All, IfOk, Some, None, true, if◌then◌else◌};
+ghost use Rattle.device_model.specs.Rows.{set_of_all, is_table};
+ghost use Rattle.device_model.specs.Devices.{takes};
 
 use crate::names::Name;
 use std::alloc::{AllocError, Global};
@@ -58,6 +60,22 @@ pub enum Kind {
     Table(u32),
 }
 
+impl Kind {
+    /// Whether a gate takes so many inputs: 1 to 16, but 1 to 8 of an exclusive or and just 1 of an inverter or a buffer.
+    ///
+    /// A table has ports and no inputs.
+    pub fn takes(self, inputs: usize) -> bool
+        ensures { result ≡ takes self inputs }
+    {
+        match self {
+            Kind::Not | Kind::Buff => inputs == 1,
+            Kind::Xor | Kind::Xnor => 1 <= inputs && inputs <= 8,
+            Kind::And | Kind::Or | Kind::Nand | Kind::Nor => 1 <= inputs && inputs <= 16,
+            Kind::Table(_) => false,
+        }
+    }
+}
+
 /// A part: its name, its kind and the wires at its ports. The ports of a gate are its inputs and then its output.
 #[derive(Debug, Drop)]
 pub struct Component {
@@ -75,17 +93,49 @@ pub struct Table {
 }
 
 impl Model for Table {
-    ghost use Rattle.device_model.specs.Rows.{Rows};
+    ghost use Rattle.std.specs.Prelude.{◌≡◌, true};
+    ghost use Rattle.device_model.specs.Rows.{Rows, is_table};
 
     ghost Value = { Rows };
 
     ghost view = { λ t. record { ports = t.ports; ok = t.ok; bad = t.bad } };
+
+    ghost invariant = { λ t. is_table (record { ports = t.ports; ok = t.ok; bad = t.bad }) ≡ true };
 }
 
 impl Table {
+    /// The rows of a type. There is none where the number of ports is not 1 to 6, or a row is not one of so many ports.
+    pub fn new(ports: u8, ok: u64, bad: u64) -> Option<Table>
+        ensures { result ≡ (if is_table (record { ports = ports; ok = ok; bad = bad })
+            then Some (record { ports = ports; ok = ok; bad = bad }) else None) }
+    {
+        let all = Table::all_rows(ports)?;
+        if ok <= all && bad <= all {
+            Some(Table { ports, ok, bad })
+        } else {
+            None
+        }
+    }
+
+    /// The set of all rows of so many ports, if they are 1 to 6.
+    pub fn all_rows(ports: u8) -> Option<u64>
+        ensures { result ≡ set_of_all ports }
+    {
+        match ports {
+            1 => Some(0x3),
+            2 => Some(0xF),
+            3 => Some(0xFF),
+            4 => Some(0xFFFF),
+            5 => Some(0xFFFF_FFFF),
+            6 => Some(u64::MAX),
+            _ => None,
+        }
+    }
+
     /// The number of ports, 1 to 6.
     pub fn ports(&self) -> u8
-        ensures { result ≡ self.now.ports }
+        ensures ports { result ≡ self.now.ports }
+        ensures valid { is_table self.now ≡ true }
     {
         self.ports
     }

@@ -11,4 +11,4 @@ mod tests;
 pub use building::BuildError;
 pub use component::{Component, Kind, Table, Wires};
 pub use device::Device;
-pub use names::Name;
+pub use names::{Name, Names};

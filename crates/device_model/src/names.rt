@@ -47,6 +47,40 @@ impl Name {
     }
 }
 
+/// A list of names.
+#[derive(Debug, Drop)]
+pub struct Names {
+    items: Vec<Name>,
+}
+
+impl Model for Names {
+    ghost use Rattle.std.specs.Prelude.{ℕ, List};
+
+    ghost Value = { List (List ℕ) };
+
+    ghost view = { λ n. n.items.items };
+}
+
+impl Names {
+    pub fn of(items: Vec<Name>) -> Names
+        ensures { result ≡ items.items }
+    {
+        Names { items }
+    }
+
+    pub fn as_slice(&self) -> &[Name]
+        ensures { result.now ≡ self.now }
+    {
+        self.items.as_slice()
+    }
+
+    pub fn into_vec(self) -> Vec<Name>
+        ensures { result.items ≡ self }
+    {
+        self.items
+    }
+}
+
 impl PartialEq for Name {
     ghost eq = { pointwise nat_eq };
 

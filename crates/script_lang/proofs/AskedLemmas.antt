@@ -5,7 +5,7 @@ use Rattle.std.specs.List.{list_all}
 use Rattle.std.proofs.lemmas.Bool.{and_parts, and_from, cases_Bool}
 use Rattle.text_rules.specs.Names.{Name, same_name}
 use Rattle.text_rules.specs.Tokens.{words}
-use Rattle.text_rules.specs.Numbers.{number_in, value_behind, are_digits, starts_with_zero}
+use Rattle.text_rules.specs.Numbers.{number_in, value_behind, are_digits, has_leading_zero}
 use Rattle.script_lang.specs.Asked.{is_well_named, is_well_asked}
 use Rattle.script_lang.specs.Script.{Request, Start, Stop, See, Unsee, Hold, Unhold, Min, Next, Several, After, Probe, Probes, Blame, Dnnf, Line, Blank, Refused, is_session_name, is_script_name, on_session, on_name, on_value, on_pair, if_value, on_count, if_count, on_names, at_equals, value_in, read_as, commands, begins_comment, line_of_words, line_of}
 
@@ -63,7 +63,7 @@ well-count false word s named = in_range word s named
 well-on_count : (ws : List (List ℕ)) → is_well_asked (on_count Several ws) ≡ true
 well-on_count [] = refl
 well-on_count (s ∷ []) = refl
-well-on_count (s ∷ count ∷ []) = choice (is_session_name s) _ _ (λ named. well-count (starts_with_zero count) count s named) refl
+well-on_count (s ∷ count ∷ []) = choice (is_session_name s) _ _ (λ named. well-count (has_leading_zero count) count s named) refl
 well-on_count (s ∷ count ∷ t ∷ ws) = refl
 
 well-on_names : (ws : List (List ℕ)) → is_well_asked (on_names After ws) ≡ true

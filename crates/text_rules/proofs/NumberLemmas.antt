@@ -3,7 +3,7 @@ use Rattle.std.proofs.Common.{◌≡◌, ℕ, ◌+◌, ◌-◌, ◌*◌, ◌<◌
 use Rattle.std.specs.Prelude.{nat_le}
 use Rattle.std.proofs.lemmas.Bool.{and_right, lt-leb, cond-true, cond-false, cases_Bool}
 use Rattle.std.proofs.lemmas.List.{at_drop_more}
-use Rattle.text_rules.specs.Numbers.{value_behind, are_digits, starts_with_zero, number_in, plain_number_in}
+use Rattle.text_rules.specs.Numbers.{value_behind, are_digits, has_leading_zero, number_in, plain_number_in}
 
 -- more digits make no number smaller
 pub value_behind-grows : (n : ℕ) (word : List ℕ) → n ≤ value_behind n word
@@ -22,7 +22,7 @@ too_large most low high word n i inside same above =
     let next = at_drop_more (value_behind n) word i 0 inside in
     let grows = value_behind-grows (10 * n + (get_or word i 0 - 48)) (drop (i + 1) word) in
     let large = above_range most low high word (omega arith) in
-    elim (cases_Bool (starts_with_zero word)) [
+    elim (cases_Bool (has_leading_zero word)) [
       | inl zero_first ↦ cond-true _ _ _ zero_first
       | inr other ↦ cond-false _ _ _ other ∙ large
     ]

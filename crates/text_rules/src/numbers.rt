@@ -1,11 +1,11 @@
 ghost use Rattle.std.specs.Prelude.{◌≡◌};
 ghost use Rattle.text_rules.specs.Numbers.{plain_number_in};
 
-/// The number that a word spells in 1 to `most` decimal digits without a leading zero, if it is from `low` to `high`.
+/// The number that a word spells in 1 to `most` decimal digits with no zero before another digit, if it is from `low` to `high`.
 pub fn plain_number(most: usize, low: u64, high: u64, word: &[u8]) -> Option<u64>
     ensures { result ≡ plain_number_in most low high word.now }
 {
-    if word.is_empty() || word.len() > most || word[0] == b'0' {
+    if word.is_empty() || word.len() > most || word.len() > 1 && word[0] == b'0' {
         return None;
     }
     let mut number = 0u64;

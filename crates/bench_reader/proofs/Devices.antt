@@ -1,6 +1,6 @@
 -- The device that is built of the driven signals in any order and the parts over them.
-use Rattle.std.proofs.Common.{◌≡◌, ℕ, suc, ◌+◌, ◌-◌, inl, inr, Bool, true, false, cond, not, List, [], ◌∷◌, ◌++◌, map, length, get_or, Some, None, Ok, Err, nat_lt, refl, sym, ap, ◌∙◌, arith}
-use Rattle.std.specs.Prelude.{position, if◌then◌else◌}
+use Rattle.std.proofs.Common.{◌≡◌, ◌≤◌, ℕ, suc, ◌+◌, ◌-◌, inl, inr, Bool, true, false, cond, not, List, [], ◌∷◌, ◌++◌, map, length, get_or, Some, None, Ok, nat_lt, refl, sym, ap, ◌∙◌, arith}
+use Rattle.std.specs.Prelude.{position}
 use Rattle.std.specs.List.{flat_map, list_all, position_or_len}
 use Rattle.std.proofs.lemmas.Bool.{and_parts, and_from, true≢false, le-ltb}
 use Rattle.std.proofs.lemmas.List.{length-map}
@@ -8,19 +8,15 @@ use Rattle.text_rules.specs.Names.{Name, is_among}
 use Rattle.device_model.specs.declared.component.Kind.{Kind}
 use Rattle.device_model.specs.declared.component.Kind.TheVariants.{And, Or, Nand, Nor, Xor, Xnor, Not, Buff, Table}
 use Rattle.device_model.specs.declared.component.Component.{Component}
-use Rattle.device_model.specs.declared.building.BuildError.{BuildError}
-use Rattle.device_model.specs.declared.building.BuildError.TheVariants.{TooMany, TwoParts, TwoWires, Arity, NoWire}
 use Rattle.device_model.specs.Order.{placed, in_order}
-use Rattle.device_model.specs.Devices.{Device, part_names, takes, takes_ports, has_arity, has_wires}
-use Rattle.device_model.specs.Building.{place_in, renumbered, repeated, unless_name, unless_place, built, device_of as built_of}
+use Rattle.device_model.specs.Devices.{takes, takes_ports, has_arity, has_wires}
+use Rattle.device_model.specs.Building.{place_in, renumbered, repeated, built, device_of as built_of}
 use Rattle.device_model.proofs.Naming.{same, below, above, compared}
 use Rattle.device_model.proofs.Ordered.{Among, Rises-in_order, among_in_order, in_order-keeps, in_order-is, placed-below, placed-above}
 use Rattle.device_model.proofs.Repeats.{is_among-among, among_from_test}
 use Rattle.device_model.proofs.Sorting.{itself}
 use Rattle.bench_reader.specs.Netlists.{Form, Input, Output, Gate, driven_by_gate, used, part_with, part_of, device_of, driven}
-use Rattle.bench_reader.specs.Plain.{is_narrow_form, is_sound, is_plain}
-use Rattle.text_rules.proofs.PartLemmas.{passes_too}
-use Rattle.bench_reader.specs.Steps.{device_in}
+use Rattle.bench_reader.specs.Steps.{is_sound}
 use Rattle.bench_reader.proofs.Parts.{GateFacts, gate_facts, place_below, at_place, parts-names}
 
 -- ---- lengths of lists without repetition
@@ -105,9 +101,9 @@ module _ (wires : List Name) where
       let rest = ports-renumbered ns two.1 in
       cc
 
-  module _ (o k : Name) (is : List Name) (h : is_plain (Gate o k is) ≡ true) (all : list_all (is_among wires) (is ++ o ∷ []) ≡ true) where
+  module _ (o k : Name) (is : List Name) (h : is_sound (Gate o k is) ≡ true) (all : list_all (is_among wires) (is ++ o ∷ []) ≡ true) where
     facts : GateFacts o k is
-    facts = gate_facts o k is (and_parts (is_sound (Gate o k is)) (is_narrow_form (Gate o k is)) h).0
+    facts = gate_facts o k is h
 
     gate-arity : list_all (has_arity []) (part_of wires (Gate o k is)) ≡ true
     gate-arity =
@@ -127,7 +123,7 @@ module _ (wires : List Name) where
 
   -- what of each form makes its part fit
   pub record Fits (form : Form) : Type 0 where
-    pub plain : is_plain form ≡ true
+    pub sound : is_sound form ≡ true
     pub drives : list_all (is_among wires) (driven_by_gate form) ≡ true
     pub uses : list_all (is_among wires) (used form) ≡ true
 
@@ -137,27 +133,27 @@ module _ (wires : List Name) where
   form-arity : (form : Form) → Fits form → list_all (has_arity []) (part_of wires form) ≡ true
   form-arity (Input s) h = refl
   form-arity (Output s) h = refl
-  form-arity (Gate o k is) h = gate-arity o k is h.plain (gate_names o k is h)
+  form-arity (Gate o k is) h = gate-arity o k is h.sound (gate_names o k is h)
 
   form-wires : (form : Form) → Fits form → list_all (has_wires (length wires)) (part_of wires form) ≡ true
   form-wires (Input s) h = refl
   form-wires (Output s) h = refl
-  form-wires (Gate o k is) h = gate-wires o k is h.plain (gate_names o k is h)
+  form-wires (Gate o k is) h = gate-wires o k is h.sound (gate_names o k is h)
 
   form-renumbered : (form : Form) → Fits form → map (renumbered wires) (part_of wires form) ≡ part_of (in_order itself wires) form
   form-renumbered (Input s) h = refl
   form-renumbered (Output s) h = refl
-  form-renumbered (Gate o k is) h = gate-renumbered o k is h.plain (gate_names o k is h)
+  form-renumbered (Gate o k is) h = gate-renumbered o k is h.sound (gate_names o k is h)
 
   abbrev pub AllFit : List Form → Type 0
-  AllFit forms = (list_all is_plain forms ≡ true) × (list_all (λ f. list_all (is_among wires) (driven_by_gate f)) forms ≡ true) × (list_all (λ f. list_all (is_among wires) (used f)) forms ≡ true)
+  AllFit forms = (list_all is_sound forms ≡ true) × (list_all (λ f. list_all (is_among wires) (driven_by_gate f)) forms ≡ true) × (list_all (λ f. list_all (is_among wires) (used f)) forms ≡ true)
 
   first_fits : (f : Form) (forms : List Form) → AllFit (f ∷ forms) → Fits f × AllFit forms
   first_fits f forms h =
-      let a = and_parts (is_plain f) (list_all is_plain forms) h.0 in
+      let a = and_parts (is_sound f) (list_all is_sound forms) h.0 in
       let b = and_parts (list_all (is_among wires) (driven_by_gate f)) (list_all (λ (f : Form). list_all (is_among wires) (driven_by_gate f)) forms) h.1 in
       let c = and_parts (list_all (is_among wires) (used f)) (list_all (λ (f : Form). list_all (is_among wires) (used f)) forms) h.2 in
-      (record { plain = a.0; drives = b.0; uses = c.0 }, (a.1, b.1, c.1))
+      (record { sound = a.0; drives = b.0; uses = c.0 }, (a.1, b.1, c.1))
 
   arities : (forms : List Form) → AllFit forms → list_all (has_arity []) (flat_map (part_of wires) forms) ≡ true
   arities [] h = refl
@@ -179,26 +175,17 @@ module _ (wires : List Name) where
       ∙ ap (λ ps. ps ++ map (renumbered wires) (flat_map (part_of wires) forms)) (form-renumbered f two.0)
       ∙ ap (λ ps. part_of (in_order itself wires) f ++ ps) (parts-renumbered forms two.1)
 
-  -- the device of forms without a fault, where there are not too many parts
+  -- Forms without a fault make their device.
   pub device_built : (forms : List Form) → AllFit forms → repeated wires ≡ [] → repeated (flat_map driven_by_gate forms) ≡ []
-      → ((m : Name) → is_among wires m ≡ is_among (flat_map driven forms) m) → nat_lt 16384 (length wires) ≡ false
-      → device_in (built (flat_map (part_of wires) forms) wires []) ≡ cond (nat_lt 4096 (length (flat_map driven_by_gate forms))) None (Some (device_of forms))
-  device_built forms h once gates_once members few =
+      → ((m : Name) → is_among wires m ≡ is_among (flat_map driven forms) m) → length wires ≤ 16384 → length (flat_map driven_by_gate forms) ≤ 4096
+      → built (flat_map (part_of wires) forms) wires [] ≡ Ok (device_of forms)
+  device_built forms h once gates_once members few_wires few_parts =
       let parts = flat_map (part_of wires) forms in
-      let names = parts-names wires forms (passes_too is_plain is_sound (λ f p. (and_parts (is_sound f) (is_narrow_form f) p).0) forms h.0) in
+      let names = parts-names wires forms h.0 in
       let many : length parts ≡ length (flat_map driven_by_gate forms) = sym (length-map parts (λ (p : Component). p.name)) ∙ ap length names in
       let order = in_order-members wires (flat_map driven forms) members in
       let same_parts = ap (in_order (λ (p : Component). p.name)) (parts-renumbered forms h ∙ ap (λ ws. flat_map (part_of ws) forms) order) in
       let same_device : built_of parts wires [] ≡ device_of forms = cc in
-      ap (λ b. device_in (if nat_lt 4096 (length parts) then Err (TooMany (length parts)) else if b then Err (TooMany (length wires)) else
-      unless_name TwoParts (in_order (λ n. n) (repeated (part_names parts)))
-      (unless_name TwoWires (in_order (λ n. n) (repeated wires))
-      (unless_place Arity (position (λ part. not (has_arity [] part)) parts)
-      (unless_place NoWire (position (λ part. not (has_wires (length wires) part)) parts)
-      (Ok (built_of parts wires []))))))) few
-      ∙ rw (ap repeated names ∙ gates_once, once, none_fails (has_arity []) parts (arities forms h), none_fails (has_wires (length wires)) parts (wired forms h), many, same_device)
-      (test (nat_lt 4096 (length (flat_map driven_by_gate forms))) (TooMany (length (flat_map driven_by_gate forms))) (device_of forms))
-    where
-      test : (b : Bool) (error : BuildError) (d : Device) → device_in (if b then Err error else Ok d) ≡ cond b None (Some d)
-      test true error d = refl
-      test false error d = refl
+      let p : nat_lt 4096 (length parts) ≡ false = ap (nat_lt 4096) many ∙ le-ltb 4096 _ few_parts in
+      let w : nat_lt 16384 (length wires) ≡ false = le-ltb 16384 _ few_wires in
+      rw (p, w, ap repeated names ∙ gates_once, once, none_fails (has_arity []) parts (arities forms h), none_fails (has_wires (length wires)) parts (wired forms h)) (ap Ok same_device)

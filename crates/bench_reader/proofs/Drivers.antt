@@ -1,4 +1,4 @@
--- What the drivers of forms are, and that a form drives a signal twice exactly where there are none.
+-- What the drivers of forms are.
 use Rattle.std.proofs.Common.{◌≡◌, Bool, true, false, cond, List, [], ◌∷◌, ◌++◌, Option, Some, None, is_some, refl, sym, ap, ◌∙◌}
 use Rattle.std.specs.Prelude.{◌||◌, if◌then◌else◌}
 use Rattle.std.specs.List.{flat_map}
@@ -8,8 +8,8 @@ use Rattle.indexmap.specs.IndexMap.{insert_entry}
 use Rattle.text_rules.specs.Names.{Name, same_name, is_among}
 use Rattle.device_model.specs.Building.{repeated}
 use Rattle.device_model.proofs.Naming.{same_name-same, same_name-other, same_from_test}
-use Rattle.bench_reader.specs.declared.netlist.Driver.{Driver}
-use Rattle.bench_reader.specs.declared.netlist.Driver.TheVariants.{Outside, Gate as ByGate}
+use Rattle.bench_reader.specs.declared.signals.Driver.{Driver}
+use Rattle.bench_reader.specs.declared.signals.Driver.TheVariants.{Outside, Gate as ByGate}
 use Rattle.bench_reader.specs.Netlists.{Form, Input, Output, Gate, driven_by_gate, driven}
 use Rattle.bench_reader.specs.Steps.{Drivers}
 

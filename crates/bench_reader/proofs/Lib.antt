@@ -1,11 +1,10 @@
 pub mod Words
 pub mod Forms
-pub mod Driving
-pub mod Joining
 pub mod Drivers
+pub mod Driving
 pub mod Twice
+pub mod Saying
 pub mod Parts
 pub mod Devices
-pub mod Narrow
-pub mod Planning
+pub mod Whole
 mod Rows

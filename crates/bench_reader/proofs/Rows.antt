@@ -1,12 +1,13 @@
 -- Worked rows: netlists of which a reader can say the device or the fault beforehand. Their check computes both sides.
-use Rattle.std.proofs.Common.{◌≡◌, ℕ, List, [], ◌∷◌, ◌++◌, Some, None, codes, replicate, refl}
+use Rattle.std.proofs.Common.{◌≡◌, ℕ, List, [], ◌∷◌, ◌++◌, codes, replicate, refl}
 use Rattle.text_rules.specs.Names.{Name}
 use Rattle.device_model.specs.declared.component.Kind.{Kind}
-use Rattle.device_model.specs.declared.component.Kind.TheVariants.{And, Nand, Not, Buff}
+use Rattle.device_model.specs.declared.component.Kind.TheVariants.{And, Nand, Xor, Not, Buff}
 use Rattle.device_model.specs.declared.component.Component.{Component}
 use Rattle.device_model.specs.Devices.{Device}
-use Rattle.bench_reader.specs.Netlists.{Netlist, Read, Refused, netlist}
-use Rattle.bench_reader.specs.FirstPath.{narrow_device}
+use Rattle.std.specs.Prelude.{Result, Ok, Err}
+use Rattle.bench_reader.specs.Netlists.{Fault, netlist}
+use Rattle.bench_reader.specs.Faults.{fault_number}
 
 -- lines, each with its line feed
 abbrev text : List (List ℕ) → List ℕ
@@ -14,9 +15,9 @@ text [] = []
 text (line ∷ lines) = line ++ 10 ∷ text lines
 
 -- the line and the number of a fault
-abbrev shown : Netlist → List ℕ
-shown (Read device) = []
-shown (Refused fault) = fault.line ∷ fault.number ∷ []
+abbrev shown : Result Device Fault → List ℕ
+shown (Ok device) = []
+shown (Err fault) = fault.line ∷ fault_number fault.what ∷ []
 
 abbrev fault_of : List (List ℕ) → List ℕ
 fault_of lines = shown (netlist (text lines))
@@ -29,44 +30,47 @@ device parts wires = record { parts = parts; wires = wires; tables = [] }
 
 -- ---- devices
 
-c17 : narrow_device (text (codes "# c17" ∷ codes "INPUT(1)" ∷ codes "INPUT(2)" ∷ codes "INPUT(3)" ∷ codes "INPUT(6)" ∷ codes "INPUT(7)" ∷ codes "OUTPUT(22)" ∷ codes "OUTPUT(23)" ∷ []
+c17 : netlist (text (codes "# c17" ∷ codes "INPUT(1)" ∷ codes "INPUT(2)" ∷ codes "INPUT(3)" ∷ codes "INPUT(6)" ∷ codes "INPUT(7)" ∷ codes "OUTPUT(22)" ∷ codes "OUTPUT(23)" ∷ []
     ∷ codes "10 = NAND(1, 3)" ∷ codes "11 = NAND(3, 6)" ∷ codes "16 = NAND(2, 11)" ∷ codes "19 = NAND(11, 7)" ∷ codes "22 = NAND(10, 16)" ∷ codes "23 = NAND(16, 19)" ∷ []))
-    ≡ Some (device (part (codes "10") Nand (0 ∷ 8 ∷ 1 ∷ []) ∷ part (codes "11") Nand (8 ∷ 9 ∷ 2 ∷ []) ∷ part (codes "16") Nand (5 ∷ 2 ∷ 3 ∷ [])
+    ≡ Ok (device (part (codes "10") Nand (0 ∷ 8 ∷ 1 ∷ []) ∷ part (codes "11") Nand (8 ∷ 9 ∷ 2 ∷ []) ∷ part (codes "16") Nand (5 ∷ 2 ∷ 3 ∷ [])
     ∷ part (codes "19") Nand (2 ∷ 10 ∷ 4 ∷ []) ∷ part (codes "22") Nand (1 ∷ 3 ∷ 6 ∷ []) ∷ part (codes "23") Nand (3 ∷ 4 ∷ 7 ∷ []) ∷ [])
     (codes "1" ∷ codes "10" ∷ codes "11" ∷ codes "16" ∷ codes "19" ∷ codes "2" ∷ codes "22" ∷ codes "23" ∷ codes "3" ∷ codes "6" ∷ codes "7" ∷ []))
 c17 = refl
 
-chain : narrow_device (text (codes "INPUT(a)" ∷ codes "OUTPUT(c)" ∷ codes "b = BUFF(a)" ∷ codes "c = BUFF(b)" ∷ []))
-    ≡ Some (device (part (codes "b") Buff (0 ∷ 1 ∷ []) ∷ part (codes "c") Buff (1 ∷ 2 ∷ []) ∷ []) (codes "a" ∷ codes "b" ∷ codes "c" ∷ []))
+chain : netlist (text (codes "INPUT(a)" ∷ codes "OUTPUT(c)" ∷ codes "b = BUFF(a)" ∷ codes "c = BUFF(b)" ∷ []))
+    ≡ Ok (device (part (codes "b") Buff (0 ∷ 1 ∷ []) ∷ part (codes "c") Buff (1 ∷ 2 ∷ []) ∷ []) (codes "a" ∷ codes "b" ∷ codes "c" ∷ []))
 chain = refl
 
 -- capital and small letters, blanks, a comment, a carriage return, lines in any order, and what may be said again
-loosely : narrow_device (text (codes "  c=buf ( b )#kept" ∷ (codes "oUtPuT( c )" ++ 13 ∷ []) ∷ codes "b = Not(a)" ∷ codes "input(a)" ∷ codes "INPUT (a)" ∷ codes "OUTPUT(c)" ∷ []))
-    ≡ Some (device (part (codes "b") Not (0 ∷ 1 ∷ []) ∷ part (codes "c") Buff (1 ∷ 2 ∷ []) ∷ []) (codes "a" ∷ codes "b" ∷ codes "c" ∷ []))
+loosely : netlist (text (codes "  c=buf ( b )#kept" ∷ (codes "oUtPuT( c )" ++ 13 ∷ []) ∷ codes "b = Not(a)" ∷ codes "input(a)" ∷ codes "INPUT (a)" ∷ codes "OUTPUT(c)" ∷ []))
+    ≡ Ok (device (part (codes "b") Not (0 ∷ 1 ∷ []) ∷ part (codes "c") Buff (1 ∷ 2 ∷ []) ∷ []) (codes "a" ∷ codes "b" ∷ codes "c" ∷ []))
 loosely = refl
 
 -- a signal with the name of a keyword
-keyword_as_signal : narrow_device (codes "INPUT(INPUT)")
-    ≡ Some (device [] (codes "INPUT" ∷ []))
+keyword_as_signal : netlist (codes "INPUT(INPUT)")
+    ≡ Ok (device [] (codes "INPUT" ∷ []))
 keyword_as_signal = refl
 
 -- a gate that reads itself
-reads_itself : narrow_device (codes "y = AND(y, y)") ≡ Some (device (part (codes "y") And (0 ∷ 0 ∷ 0 ∷ []) ∷ []) (codes "y" ∷ []))
+reads_itself : netlist (codes "y = AND(y, y)") ≡ Ok (device (part (codes "y") And (0 ∷ 0 ∷ 0 ∷ []) ∷ []) (codes "y" ∷ []))
 reads_itself = refl
 
-comments_only : narrow_device (text (codes "# a" ∷ codes "  # b" ∷ [] ∷ [])) ≡ Some (device [] [])
+comments_only : netlist (text (codes "# a" ∷ codes "  # b" ∷ [] ∷ [])) ≡ Ok (device [] [])
 comments_only = refl
 
-no_text : narrow_device [] ≡ Some (device [] [])
+no_text : netlist [] ≡ Ok (device [] [])
 no_text = refl
 
--- a netlist with three inputs has a device, which is not read yet
-three_inputs : narrow_device (text (codes "INPUT(a)" ∷ codes "y = AND(a, a, a)" ∷ [])) ≡ None
+three_inputs : netlist (text (codes "INPUT(a)" ∷ codes "y = AND(a, a, a)" ∷ []))
+    ≡ Ok (device (part (codes "y") And (0 ∷ 0 ∷ 0 ∷ 1 ∷ []) ∷ []) (codes "a" ∷ codes "y" ∷ []))
 three_inputs = refl
 
-three_inputs_later : netlist (text (codes "INPUT(a)" ∷ codes "y = AND(a, a, a)" ∷ []))
-    ≡ Read (device (part (codes "y") And (0 ∷ 0 ∷ 0 ∷ 1 ∷ []) ∷ []) (codes "a" ∷ codes "y" ∷ []))
-three_inputs_later = refl
+small_letters : netlist (text (codes "INPUT(a)" ∷ codes "INPUT(b)" ∷ codes "INPUT(c)" ∷ codes "y = xor(a, b, c)" ∷ []))
+    ≡ Ok (device (part (codes "y") Xor (0 ∷ 1 ∷ 2 ∷ 3 ∷ []) ∷ []) (codes "a" ∷ codes "b" ∷ codes "c" ∷ codes "y" ∷ []))
+small_letters = refl
+
+sixteen_inputs : fault_of (codes "INPUT(a)" ∷ codes "y = NOR(a,a,a,a,a,a,a,a,a,a,a,a,a,a,a,a)" ∷ []) ≡ []
+sixteen_inputs = refl
 
 -- ---- faults
 
@@ -91,6 +95,16 @@ two_inputs_of_not = refl
 no_inputs : fault_of (codes "y = AND()" ∷ []) ≡ 1 ∷ 4 ∷ []
 no_inputs = refl
 
+seventeen_inputs : fault_of (codes "INPUT(a)" ∷ codes "y = NOR(a,a,a,a,a,a,a,a,a,a,a,a,a,a,a,a,a)" ∷ []) ≡ 2 ∷ 4 ∷ []
+seventeen_inputs = refl
+
+nine_inputs_of_xor : fault_of (codes "INPUT(a)" ∷ codes "y = XOR(a,a,a,a,a,a,a,a,a)" ∷ []) ≡ 2 ∷ 4 ∷ []
+nine_inputs_of_xor = refl
+
+-- the inputs of a flip-flop are not counted
+no_inputs_of_a_flip_flop : fault_of (codes "q = DFF()" ∷ []) ≡ 1 ∷ 5 ∷ []
+no_inputs_of_a_flip_flop = refl
+
 unknown_kind : fault_of (codes "INPUT(a)" ∷ codes "y = MUX(a, a)" ∷ []) ≡ 2 ∷ 3 ∷ []
 unknown_kind = refl
 
@@ -100,6 +114,14 @@ unfinished_line = refl
 -- the first fault of a line counts before one of the whole text
 order_of_faults : fault_of (codes "INPUT(a)" ∷ codes "y = AND(a, b)" ∷ codes "z = FOO(a)" ∷ []) ≡ 3 ∷ 3 ∷ []
 order_of_faults = refl
+
+-- a signal that is driven twice counts before one that nothing drives, whatever the lines
+twice_before_undriven : fault_of (codes "OUTPUT(z)" ∷ codes "INPUT(a)" ∷ codes "a = NOT(a)" ∷ []) ≡ 3 ∷ 6 ∷ []
+twice_before_undriven = refl
+
+-- the least fault of a line
+name_before_kind : fault_of ((codes "y" ++ 127 ∷ codes " = FOO(a)") ∷ []) ≡ 1 ∷ 2 ∷ []
+name_before_kind = refl
 
 long_name : fault_of ((codes "INPUT(" ++ replicate 65 97 ++ codes ")") ∷ []) ≡ 1 ∷ 2 ∷ []
 long_name = refl

@@ -1,6 +1,6 @@
--- The forms that drive a signal again: there are none exactly where the drivers are found.
+-- The forms that drive a signal again: there are none exactly where the drivers are found, and else the first is told.
 use Rattle.std.proofs.Common.{◌≡◌, ℕ, Bool, true, false, cond, List, [], ◌∷◌, map, Option, Some, None, is_some, refl, sym, ap, subst, ◌∙◌}
-use Rattle.std.specs.Prelude.{◌||◌, option_and_then, if◌then◌else◌}
+use Rattle.std.specs.Prelude.{◌||◌, Result, Ok, Err, if◌then◌else◌}
 use Rattle.std.specs.List.{flat_map}
 use Rattle.std.specs.Map.{keys_of}
 use Rattle.std.proofs.lemmas.Bool.{true≢false}
@@ -8,10 +8,11 @@ use Rattle.indexmap.specs.IndexMap.{insert_entry}
 use Rattle.text_rules.specs.Names.{Name, same_name, is_among}
 use Rattle.device_model.specs.Building.{repeated}
 use Rattle.device_model.proofs.Naming.{same_name-same, same_from_test}
-use Rattle.bench_reader.specs.declared.netlist.Driver.{Driver}
-use Rattle.bench_reader.specs.declared.netlist.Driver.TheVariants.{Outside, Gate as ByGate}
-use Rattle.bench_reader.specs.Netlists.{Form, Input, Output, Gate, driven_by_gate, driven, is_driven_twice, driven_twice_below}
-use Rattle.bench_reader.specs.Steps.{Drivers, if_free, unless_gate, driven_more, drivers_from}
+use Rattle.bench_reader.specs.declared.signals.Driver.{Driver}
+use Rattle.bench_reader.specs.declared.signals.Driver.TheVariants.{Outside, Gate as ByGate}
+use Rattle.bench_reader.specs.declared.fault.BenchFault.TheVariants.{DrivenTwice}
+use Rattle.bench_reader.specs.Netlists.{Form, Input, Output, Gate, Fault, fault_at, driven_by_gate, driven, is_driven_twice, driven_twice_below}
+use Rattle.bench_reader.specs.Steps.{Drivers, and_then, if_free, unless_gate, driven_more, drivers_from}
 use Rattle.bench_reader.proofs.Drivers.{is_gate, driver_of, among-append, Drives, Drives-gate, Drives-input, Drives-output}
 
 abbrev pub form_at : ℕ × Form → Form
@@ -22,10 +23,10 @@ pub record Ends (ds : Drivers) (above below : List Form) : Type 0 where
   pub all : (m : Name) → (is_among (flat_map driven above) m || is_among (flat_map driven below) m) ≡ is_some (driver_of ds m)
   pub once : repeated (keys_of ds) ≡ []
 
--- a form drives again where there are no drivers, and else none does
-abbrev pub Splits : Option Drivers → List (ℕ × Form) → List Form → Type 0
-Splits None forms above = (line : ℕ) × (lines : List ℕ) × (driven_twice_below above forms ≡ line ∷ lines)
-Splits (Some ds) forms above = (driven_twice_below above forms ≡ []) × Ends ds above (map form_at forms)
+-- no form drives again what is driven above it, or the first that does is the fault
+abbrev pub Splits : Result Drivers Fault → List (ℕ × Form) → List Form → Type 0
+Splits (Err fault) forms above = (lines : List ℕ) × (fault ≡ fault_at DrivenTwice fault.line) × (driven_twice_below above forms ≡ fault.line ∷ lines)
+Splits (Ok ds) forms above = (driven_twice_below above forms ≡ []) × Ends ds above (map form_at forms)
 
 or_false : (b : Bool) → (b || false) ≡ b
 or_false true = refl
@@ -37,9 +38,9 @@ or_moves true false x = refl
 or_moves false b x = refl
 
 module _ (f : ℕ × Form) (forms : List (ℕ × Form)) (above : List Form) where
-  lifted : (o : Option Drivers) → is_driven_twice above f.1 ≡ false → Splits o forms (f.1 ∷ above) → Splits o (f ∷ forms) above
-  lifted None e h = (h.0, h.1, ap (λ (b : Bool). if b then f.0 ∷ driven_twice_below (f.1 ∷ above) forms else driven_twice_below (f.1 ∷ above) forms) e ∙ h.2)
-  lifted (Some ds) e h = (
+  lifted : (o : Result Drivers Fault) → is_driven_twice above f.1 ≡ false → Splits o forms (f.1 ∷ above) → Splits o (f ∷ forms) above
+  lifted (Err fault) e h = (h.0, h.1, ap (λ (b : Bool). if b then f.0 ∷ driven_twice_below (f.1 ∷ above) forms else driven_twice_below (f.1 ∷ above) forms) e ∙ h.2)
+  lifted (Ok ds) e h = (
     ap (λ (b : Bool). if b then f.0 ∷ driven_twice_below (f.1 ∷ above) forms else driven_twice_below (f.1 ∷ above) forms) e ∙ h.0,
     record {
       all = λ m.
@@ -54,18 +55,18 @@ module _ (f : ℕ × Form) (forms : List (ℕ × Form)) (above : List Form) wher
     },
   )
 
-  step_on : (ds more : Drivers) → driven_more ds f.1 ≡ Some more → is_driven_twice above f.1 ≡ false → Splits (drivers_from more (map form_at forms)) forms (f.1 ∷ above)
-      → Splits (drivers_from ds (map form_at (f ∷ forms))) (f ∷ forms) above
+  step_on : (ds more : Drivers) → driven_more ds f ≡ Ok more → is_driven_twice above f.1 ≡ false → Splits (drivers_from more forms) forms (f.1 ∷ above)
+      → Splits (drivers_from ds (f ∷ forms)) (f ∷ forms) above
   step_on ds more e t h =
-      subst (λ (o : Option Drivers). Splits o (f ∷ forms) above) (sym (ap (option_and_then (λ (ms : Drivers). drivers_from ms (map form_at forms))) e))
-      (lifted (drivers_from more (map form_at forms)) t h)
+      subst (λ (o : Result Drivers Fault). Splits o (f ∷ forms) above) (sym (ap (λ r. and_then r (λ (ms : Drivers). drivers_from ms forms)) e))
+      (lifted (drivers_from more forms) t h)
 
-  step_off : (ds : Drivers) → driven_more ds f.1 ≡ None → is_driven_twice above f.1 ≡ true → Splits (drivers_from ds (map form_at (f ∷ forms))) (f ∷ forms) above
+  step_off : (ds : Drivers) → driven_more ds f ≡ Err (fault_at DrivenTwice f.0) → is_driven_twice above f.1 ≡ true → Splits (drivers_from ds (f ∷ forms)) (f ∷ forms) above
   step_off ds e t =
-      subst (λ (o : Option Drivers). Splits o (f ∷ forms) above) (sym (ap (option_and_then (λ (ms : Drivers). drivers_from ms (map form_at forms))) e))
-      (f.0, driven_twice_below (f.1 ∷ above) forms, ap (λ (b : Bool). if b then f.0 ∷ driven_twice_below (f.1 ∷ above) forms else driven_twice_below (f.1 ∷ above) forms) t)
+      subst (λ (o : Result Drivers Fault). Splits o (f ∷ forms) above) (sym (ap (λ r. and_then r (λ (ms : Drivers). drivers_from ms forms)) e))
+      (driven_twice_below (f.1 ∷ above) forms, refl, ap (λ (b : Bool). if b then f.0 ∷ driven_twice_below (f.1 ∷ above) forms else driven_twice_below (f.1 ∷ above) forms) t)
 
-pub splits : (forms : List (ℕ × Form)) (above : List Form) (ds : Drivers) → Drives ds above → Splits (drivers_from ds (map form_at forms)) forms above
+pub splits : (forms : List (ℕ × Form)) (above : List Form) (ds : Drivers) → Drives ds above → Splits (drivers_from ds forms) forms above
 splits [] above ds h = (refl, record { all = λ m. or_false (is_among (flat_map driven above) m) ∙ h.all m; once = h.once })
 splits ((line, Output s) ∷ forms) above ds h = step_on (line, Output s) forms above ds ds refl refl (splits forms (Output s ∷ above) ds (Drives-output ds above s h))
 splits ((line, Gate o k is) ∷ forms) above ds h =
@@ -74,21 +75,21 @@ splits ((line, Gate o k is) ∷ forms) above ds h =
     more : Drivers
     more = insert_entry same_name ds o ByGate
 
-    by : (d : Option Driver) → driver_of ds o ≡ d → Splits (drivers_from more (map form_at forms)) forms (Gate o k is ∷ above)
-        → Splits (drivers_from ds (map form_at ((line, Gate o k is) ∷ forms))) ((line, Gate o k is) ∷ forms) above
-    by None e rest = step_on (line, Gate o k is) forms above ds more (ap (λ (d : Option Driver). if_free d more) e) (h.all o ∙ ap is_some e) rest
-    by (Some d) e rest = step_off (line, Gate o k is) forms above ds (ap (λ (d : Option Driver). if_free d more) e) (h.all o ∙ ap is_some e)
+    by : (d : Option Driver) → driver_of ds o ≡ d → Splits (drivers_from more forms) forms (Gate o k is ∷ above)
+        → Splits (drivers_from ds ((line, Gate o k is) ∷ forms)) ((line, Gate o k is) ∷ forms) above
+    by None e rest = step_on (line, Gate o k is) forms above ds more (ap (λ (d : Option Driver). if_free line d more) e) (h.all o ∙ ap is_some e) rest
+    by (Some d) e rest = step_off (line, Gate o k is) forms above ds (ap (λ (d : Option Driver). if_free line d more) e) (h.all o ∙ ap is_some e)
 splits ((line, Input s) ∷ forms) above ds h =
     by (driver_of ds s) refl (λ free. splits forms (Input s ∷ above) (insert_entry same_name ds s Outside) (Drives-input ds above s free h))
   where
     more : Drivers
     more = insert_entry same_name ds s Outside
 
-    by : (d : Option Driver) → driver_of ds s ≡ d → (is_gate (driver_of ds s) ≡ false → Splits (drivers_from more (map form_at forms)) forms (Input s ∷ above))
-        → Splits (drivers_from ds (map form_at ((line, Input s) ∷ forms))) ((line, Input s) ∷ forms) above
-    by None e rest = step_on (line, Input s) forms above ds more (ap (λ (d : Option Driver). unless_gate d more) e) (h.gates s ∙ ap is_gate e) (rest (ap is_gate e))
-    by (Some Outside) e rest = step_on (line, Input s) forms above ds more (ap (λ (d : Option Driver). unless_gate d more) e) (h.gates s ∙ ap is_gate e) (rest (ap is_gate e))
-    by (Some ByGate) e rest = step_off (line, Input s) forms above ds (ap (λ (d : Option Driver). unless_gate d more) e) (h.gates s ∙ ap is_gate e)
+    by : (d : Option Driver) → driver_of ds s ≡ d → (is_gate (driver_of ds s) ≡ false → Splits (drivers_from more forms) forms (Input s ∷ above))
+        → Splits (drivers_from ds ((line, Input s) ∷ forms)) ((line, Input s) ∷ forms) above
+    by None e rest = step_on (line, Input s) forms above ds more (ap (λ (d : Option Driver). unless_gate line d more) e) (h.gates s ∙ ap is_gate e) (rest (ap is_gate e))
+    by (Some Outside) e rest = step_on (line, Input s) forms above ds more (ap (λ (d : Option Driver). unless_gate line d more) e) (h.gates s ∙ ap is_gate e) (rest (ap is_gate e))
+    by (Some ByGate) e rest = step_off (line, Input s) forms above ds (ap (λ (d : Option Driver). unless_gate line d more) e) (h.gates s ∙ ap is_gate e)
 
 -- ---- gates drive different signals
 

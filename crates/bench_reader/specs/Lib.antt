@@ -1,5 +1,6 @@
 pub mod Netlists
-pub mod FirstPath
-pub mod Plain
-pub mod Meanings
+pub mod Faults
 pub mod Steps
+pub mod Meanings
+pub mod Words
+pub mod Forms

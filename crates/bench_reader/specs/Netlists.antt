@@ -1,15 +1,18 @@
--- Netlists in `.bench` text: the device that a text gives, or the line and the number of its fault.
-use Rattle.std.specs.Prelude.{ℕ, ◌-◌, Bool, true, false, not, ◌&&◌, ◌||◌, List, [], ◌∷◌, ◌++◌, map, length, Option, Some, None, codes, nat_lt, nat_le, ◌==◌, if◌then◌else◌}
+-- Netlists in `.bench` text: the device that a text gives, or the line of its fault and what it is.
+use Rattle.std.specs.Prelude.{ℕ, ◌-◌, Bool, true, false, not, ◌&&◌, ◌||◌, List, [], ◌∷◌, ◌++◌, map, length, Option, Some, None, Result, Ok, Err, codes, nat_lt, nat_le, if◌then◌else◌}
 use Rattle.std.specs.List.{list_any, list_all, filter, filter_map, flat_map, enumerate_from}
 use Rattle.text_rules.specs.Names.{Name, same_name, is_name, is_mark, is_among}
 use Rattle.text_rules.specs.TextLines.{all_lines, uncommented}
 use Rattle.text_rules.specs.Tokens.{tokens}
-use Rattle.device_model.specs.declared.component.Kind.{Kind}
 use Rattle.device_model.specs.declared.component.Kind.TheVariants.{And, Or, Nand, Nor, Xor, Xnor, Not, Buff}
 use Rattle.device_model.specs.declared.component.Component.{Component}
 use Rattle.device_model.specs.Order.{in_order}
 use Rattle.device_model.specs.Devices.{Device, takes}
 use Rattle.device_model.specs.Building.{place_in}
+use Rattle.bench_reader.specs.declared.kinds.NamedKind.{NamedKind}
+use Rattle.bench_reader.specs.declared.kinds.NamedKind.TheVariants.{AtOnce, Sequential, Unknown}
+use Rattle.bench_reader.specs.declared.fault.BenchFault.{BenchFault}
+use Rattle.bench_reader.specs.declared.fault.BenchFault.TheVariants.{Line as NoForm, Name as NoName, Kind as NoKind, Inputs as WrongInputs, Sequential as KeepsItsValue, DrivenTwice, Undriven, TooMany}
 
 -- a token that is no mark
 abbrev pub is_word : List ℕ → Bool
@@ -64,13 +67,7 @@ form_of (a ∷ b ∷ c ∷ d ∷ e ∷ rest) =
     if (is_word a && is_token (codes "=") b) && (is_word c && is_token (codes "(") d) then gate_of a c (inputs_in (e ∷ rest)) else None
 form_of tokens = None
 
--- what the word of a kind means: a gate, a part that keeps its value for a time, or nothing
-pub data Meaning : Type 0 where
-  AtOnce : (kind : Kind) → Meaning
-  Sequential : Meaning
-  Unknown : Meaning
-
-abbrev pub kinds : List (List ℕ × Meaning)
+abbrev pub kinds : List (List ℕ × NamedKind)
 kinds = (codes "AND", AtOnce And)
     ∷ (codes "OR", AtOnce Or)
     ∷ (codes "NAND", AtOnce Nand)
@@ -83,64 +80,60 @@ kinds = (codes "AND", AtOnce And)
     ∷ (codes "DFF", Sequential)
     ∷ []
 
-abbrev pub meaning_among : Name → List (List ℕ × Meaning) → Meaning
-meaning_among word [] = Unknown
-meaning_among word (kind ∷ rest) = if same_name word kind.0 then kind.1 else meaning_among word rest
+abbrev pub kind_among : Name → List (List ℕ × NamedKind) → NamedKind
+kind_among word [] = Unknown
+kind_among word (kind ∷ rest) = if same_name word kind.0 then kind.1 else kind_among word rest
 
-abbrev pub meaning_of : Name → Meaning
-meaning_of word = meaning_among (capitals word) kinds
+-- what a word names, in capital or in small letters: a gate, a part that keeps its value for a time, or nothing
+abbrev pub kind_named : Name → NamedKind
+kind_named word = kind_among (capitals word) kinds
 
--- A kind that is not known is fault 3, a number of inputs that it does not take 4, a sequential one 5.
-abbrev pub kind_fault : ℕ → Meaning → Option ℕ
-kind_fault inputs Unknown = Some 3
-kind_fault inputs Sequential = Some 5
-kind_fault inputs (AtOnce kind) = if takes kind inputs then None else Some 4
+abbrev pub kind_fault : ℕ → NamedKind → Option BenchFault
+kind_fault inputs Unknown = Some NoKind
+kind_fault inputs Sequential = Some KeepsItsValue
+kind_fault inputs (AtOnce kind) = if takes kind inputs then None else Some WrongInputs
 
 abbrev pub is_signal : Name → Bool
 is_signal word = is_name 64 word
 
--- a signal that is no name is fault 2
-abbrev pub form_fault : Form → Option ℕ
-form_fault (Input signal) = if is_signal signal then None else Some 2
-form_fault (Output signal) = if is_signal signal then None else Some 2
+-- A signal that is no name is told before the kind, and a kind that is not known before its inputs.
+abbrev pub form_fault : Form → Option BenchFault
+form_fault (Input signal) = if is_signal signal then None else Some NoName
+form_fault (Output signal) = if is_signal signal then None else Some NoName
 form_fault (Gate output kind inputs) =
-    if list_all is_signal (output ∷ inputs) then kind_fault (length inputs) (meaning_of kind) else Some 2
+    if list_all is_signal (output ∷ inputs) then kind_fault (length inputs) (kind_named kind) else Some NoName
 
--- a line says nothing, has a fault, or says a form
-pub data Reading : Type 0 where
-  Nothing : Reading
-  Faulty : (number : ℕ) → Reading
-  Says : (form : Form) → Reading
+abbrev pub unless_faulty : Form → Option BenchFault → Result (Option Form) BenchFault
+unless_faulty form None = Ok (Some form)
+unless_faulty form (Some fault) = Err fault
 
-abbrev pub unless_faulty : Form → Option ℕ → Reading
-unless_faulty form None = Says form
-unless_faulty form (Some number) = Faulty number
-
--- a line of no form is fault 1
-abbrev pub reading_of_form : Option Form → Reading
-reading_of_form None = Faulty 1
+abbrev pub reading_of_form : Option Form → Result (Option Form) BenchFault
+reading_of_form None = Err NoForm
 reading_of_form (Some form) = unless_faulty form (form_fault form)
 
-abbrev pub reading_of : List (List ℕ) → Reading
-reading_of [] = Nothing
+abbrev pub reading_of : List (List ℕ) → Result (Option Form) BenchFault
+reading_of [] = Ok None
 reading_of (t ∷ ts) = reading_of_form (form_of (t ∷ ts))
 
-abbrev pub reading : List ℕ → Reading
+-- A line says nothing or a form, or has a fault.
+abbrev pub reading : List ℕ → Result (Option Form) BenchFault
 reading line = reading_of (tokens true (uncommented line))
 
 pub record Fault : Type 0 where
   pub line : ℕ
-  pub number : ℕ
+  pub what : BenchFault
 
-abbrev pub fault_in : ℕ × Reading → Option Fault
-fault_in (line, Faulty number) = Some (record { line = line; number = number })
-fault_in (line, Nothing) = None
-fault_in (line, Says form) = None
+abbrev pub fault_at : BenchFault → ℕ → Fault
+fault_at what line = record { line = line; what = what }
 
-abbrev pub said_in : ℕ × Reading → Option (ℕ × Form)
-said_in (line, Says form) = Some (line, form)
-said_in (line, Nothing) = None
-said_in (line, Faulty number) = None
+abbrev pub fault_in : ℕ × Result (Option Form) BenchFault → Option Fault
+fault_in (line, Err what) = Some (fault_at what line)
+fault_in (line, Ok said) = None
+
+abbrev pub said_in : ℕ × Result (Option Form) BenchFault → Option (ℕ × Form)
+said_in (line, Ok (Some form)) = Some (line, form)
+said_in (line, Ok None) = None
+said_in (line, Err what) = None
 
 -- the signals that a line drives by a gate, and from outside
 abbrev pub driven_by_gate : Form → List Name
@@ -182,20 +175,17 @@ undriven forms =
     let there = flat_map (λ (f : ℕ × Form). driven f.1) forms in
     map (λ (f : ℕ × Form). f.0) (filter (λ (f : ℕ × Form). not (list_all (is_among there) (used f.1))) forms)
 
-abbrev pub fault_at : ℕ → ℕ → Fault
-fault_at number line = record { line = line; number = number }
-
 abbrev pub wires_of : List Form → List Name
 wires_of forms = in_order (λ n. n) (flat_map driven forms)
 
-abbrev pub part_with : List Name → Name → List Name → Meaning → List Component
+abbrev pub part_with : List Name → Name → List Name → NamedKind → List Component
 part_with wires output inputs (AtOnce kind) =
     record { name = output; kind = kind; ports = map (place_in wires) (inputs ++ output ∷ []) } ∷ []
 part_with wires output inputs Sequential = []
 part_with wires output inputs Unknown = []
 
 abbrev pub part_of : List Name → Form → List Component
-part_of wires (Gate output kind inputs) = part_with wires output inputs (meaning_of kind)
+part_of wires (Gate output kind inputs) = part_with wires output inputs (kind_named kind)
 part_of wires (Input signal) = []
 part_of wires (Output signal) = []
 
@@ -204,40 +194,25 @@ device_of forms =
     let wires = wires_of forms in
     record { parts = in_order (λ (p : Component). p.name) (flat_map (part_of wires) forms); wires = wires; tables = [] }
 
--- too many parts or wires is fault 8, of no line
+-- too many parts or wires, of no line
 abbrev pub too_many : List Form → List Fault
 too_many forms =
-    if nat_lt 4096 (length (flat_map driven_by_gate forms)) || nat_lt 16384 (length (wires_of forms)) then fault_at 8 0 ∷ [] else []
+    if nat_lt 4096 (length (flat_map driven_by_gate forms)) || nat_lt 16384 (length (wires_of forms)) then fault_at TooMany 0 ∷ [] else []
 
 -- every fault, in the order in which the first one counts
-abbrev pub faults : List (ℕ × Reading) → List (ℕ × Form) → List Fault
+abbrev pub faults : List (ℕ × Result (Option Form) BenchFault) → List (ℕ × Form) → List Fault
 faults readings forms =
-    filter_map fault_in readings ++ map (fault_at 6) (driven_twice forms) ++ map (fault_at 7) (undriven forms)
+    filter_map fault_in readings ++ map (fault_at DrivenTwice) (driven_twice forms) ++ map (fault_at Undriven) (undriven forms)
     ++ too_many (map (λ (f : ℕ × Form). f.1) forms)
 
-pub data Netlist : Type 0 where
-  Read : (device : Device) → Netlist
-  Refused : (fault : Fault) → Netlist
+abbrev pub unless_refused : List Form → List Fault → Result Device Fault
+unless_refused forms [] = Ok (device_of forms)
+unless_refused forms (fault ∷ rest) = Err fault
 
-abbrev pub unless_refused : List Form → List Fault → Netlist
-unless_refused forms [] = Read (device_of forms)
-unless_refused forms (fault ∷ rest) = Refused fault
-
-abbrev pub netlist_of : List (ℕ × Reading) → Netlist
+abbrev pub netlist_of : List (ℕ × Result (Option Form) BenchFault) → Result Device Fault
 netlist_of readings =
     let forms = filter_map said_in readings in unless_refused (map (λ (f : ℕ × Form). f.1) forms) (faults readings forms)
 
--- the netlist of a text
-abbrev pub netlist : List ℕ → Netlist
+-- The device of a text whose lines are numbered from 1, or its first fault.
+abbrev pub netlist : List ℕ → Result Device Fault
 netlist text = netlist_of (enumerate_from 1 (map reading (all_lines text)))
-
-abbrev pub fault_name : ℕ → List ℕ
-fault_name number =
-    if number == 1 then codes "line"
-    else if number == 2 then codes "name"
-    else if number == 3 then codes "kind"
-    else if number == 4 then codes "inputs"
-    else if number == 5 then codes "sequential"
-    else if number == 6 then codes "driven twice"
-    else if number == 7 then codes "undriven"
-    else codes "too many"

@@ -1,95 +1,83 @@
--- The steps from forms to a device: each gives what the next one needs, or nothing where the forms have a fault.
-use Rattle.std.specs.Prelude.{ℕ, ◌&&◌, List, [], ◌∷◌, ◌++◌, length, Option, Some, None, option_and_then, is_some, nat_le, nat_lt, Result, Ok, Err, if◌then◌else◌}
-use Rattle.std.specs.Map.{lookup, keys_of}
+-- The steps from the readings of lines to a device: each gives what the next one needs, or a fault.
+use Rattle.std.specs.Prelude.{◌≡◌, ℕ, ◌≤◌, Bool, true, List, [], ◌∷◌, ◌++◌, length, Option, Some, None, is_none, nat_lt, ◌||◌, Result, Ok, Err, if◌then◌else◌}
+use Rattle.std.specs.List.{list_all, flat_map}
+use Rattle.std.specs.Map.{lookup}
 use Rattle.indexmap.specs.IndexMap.{insert_entry}
-use Rattle.text_rules.specs.Names.{Name, same_name}
-use Rattle.device_model.specs.declared.component.Kind.{Kind}
-use Rattle.device_model.specs.declared.component.Component.{Component}
-use Rattle.device_model.specs.declared.building.BuildError.{BuildError}
-use Rattle.device_model.specs.Devices.{Device, place_of}
-use Rattle.device_model.specs.Building.{built}
-use Rattle.bench_reader.specs.declared.netlist.Driver.{Driver}
-use Rattle.bench_reader.specs.declared.netlist.Driver.TheVariants.{Outside, Gate as ByGate}
-use Rattle.bench_reader.specs.Netlists.{Form, Input, Output, Gate, Reading, meaning_of}
-use Rattle.bench_reader.specs.Plain.{at_once, joined, plain_forms}
+use Rattle.text_rules.specs.Names.{Name, same_name, is_among}
+use Rattle.device_model.specs.Building.{repeated}
+use Rattle.bench_reader.specs.declared.fault.BenchFault.{BenchFault}
+use Rattle.bench_reader.specs.declared.fault.BenchFault.TheVariants.{DrivenTwice}
+use Rattle.bench_reader.specs.declared.signals.Driver.{Driver}
+use Rattle.bench_reader.specs.declared.signals.Driver.TheVariants.{Outside, Gate as ByGate}
+use Rattle.bench_reader.specs.Netlists.{Form, Input, Output, Gate, Fault, fault_at, form_fault, driven, driven_by_gate, used}
+
+-- ---- what lines say
+
+-- one result's items before another's, or the first fault
+abbrev pub joined : {A : Type 0} → Result (List A) Fault → Result (List A) Fault → Result (List A) Fault
+joined (Err fault) later = Err fault
+joined (Ok xs) (Err fault) = Err fault
+joined (Ok xs) (Ok ys) = Ok (xs ++ ys)
+
+abbrev pub said_by : ℕ × Result (Option Form) BenchFault → Result (List (ℕ × Form)) Fault
+said_by (line, Ok None) = Ok []
+said_by (line, Ok (Some form)) = Ok ((line, form) ∷ [])
+said_by (line, Err what) = Err (fault_at what line)
+
+abbrev pub all_said : List (ℕ × Result (Option Form) BenchFault) → Result (List (ℕ × Form)) Fault
+all_said [] = Ok []
+all_said (reading ∷ readings) = joined (said_by reading) (all_said readings)
+
+abbrev pub is_sound : Form → Bool
+is_sound form = is_none (form_fault form)
+
+-- ---- what is driven
 
 -- the driven signals, in the order in which they are driven first, and what drives each
 abbrev pub Drivers : Type 0
 Drivers = List (Name × Driver)
 
-abbrev pub if_free : Option Driver → Drivers → Option Drivers
-if_free None more = Some more
-if_free (Some driver) more = None
+abbrev pub if_free : ℕ → Option Driver → Drivers → Result Drivers Fault
+if_free line None more = Ok more
+if_free line (Some driver) more = Err (fault_at DrivenTwice line)
 
-abbrev pub unless_gate : Option Driver → Drivers → Option Drivers
-unless_gate None more = Some more
-unless_gate (Some Outside) more = Some more
-unless_gate (Some ByGate) more = None
+abbrev pub unless_gate : ℕ → Option Driver → Drivers → Result Drivers Fault
+unless_gate line None more = Ok more
+unless_gate line (Some Outside) more = Ok more
+unless_gate line (Some ByGate) more = Err (fault_at DrivenTwice line)
 
 -- A gate drives what nothing above drives; what comes from outside may be said again, but no gate above drives it.
-abbrev pub driven_more : Drivers → Form → Option Drivers
-driven_more above (Gate output kind inputs) = if_free (lookup (same_name output) above) (insert_entry same_name above output ByGate)
-driven_more above (Input signal) = unless_gate (lookup (same_name signal) above) (insert_entry same_name above signal Outside)
-driven_more above (Output signal) = Some above
+abbrev pub driven_more : Drivers → ℕ × Form → Result Drivers Fault
+driven_more above (line, Gate output kind inputs) = if_free line (lookup (same_name output) above) (insert_entry same_name above output ByGate)
+driven_more above (line, Input signal) = unless_gate line (lookup (same_name signal) above) (insert_entry same_name above signal Outside)
+driven_more above (line, Output signal) = Ok above
 
-abbrev pub drivers_from : Drivers → List Form → Option Drivers
-drivers_from above [] = Some above
-drivers_from above (form ∷ forms) = option_and_then (λ more. drivers_from more forms) (driven_more above form)
+abbrev pub and_then : {A B : Type 0} → Result A Fault → (A → Result B Fault) → Result B Fault
+and_then (Ok a) next = next a
+and_then (Err fault) next = Err fault
 
-abbrev pub one_of : {A : Type 0} → Option A → Option (List A)
-one_of None = None
-one_of (Some x) = Some (x ∷ [])
+abbrev pub drivers_from : Drivers → List (ℕ × Form) → Result Drivers Fault
+drivers_from above [] = Ok above
+drivers_from above (form ∷ forms) = and_then (driven_more above form) (λ more. drivers_from more forms)
 
--- the places of names, if each has one
-abbrev pub places_in : List Name → List Name → Option (List ℕ)
-places_in wires [] = Some []
-places_in wires (name ∷ names) = joined (one_of (place_of name wires)) (places_in wires names)
+-- ---- what is used
 
--- what a device may have as a name
-abbrev pub name_in : Name → Option Name
-name_in name = if nat_le 1 (length name) && nat_le (length name) 255 then Some name else None
+-- the first line that uses another signal than these
+abbrev pub first_undriven : List Name → List (ℕ × Form) → Option ℕ
+first_undriven signals [] = None
+first_undriven signals (form ∷ forms) = if list_all (is_among signals) (used form.1) then first_undriven signals forms else Some form.0
 
-abbrev pub names_from : List Name → Option (List Name)
-names_from [] = Some []
-names_from (name ∷ names) = joined (one_of (name_in name)) (names_from names)
+-- ---- what can be built
 
-abbrev pub part_made : Option Name → Option Kind → Option (List ℕ) → Option (List Component)
-part_made None kind ports = None
-part_made (Some name) None ports = None
-part_made (Some name) (Some kind) None = None
-part_made (Some name) (Some kind) (Some ports) = Some (record { name = name; kind = kind; ports = ports } ∷ [])
+abbrev pub is_too_large : List Form → List Name → Bool
+is_too_large forms signals = nat_lt 4096 (length (flat_map driven_by_gate forms)) || nat_lt 16384 (length signals)
 
--- the parts that a form adds, if all that it uses is driven
-abbrev pub part_in : List Name → Form → Option (List Component)
-part_in wires (Input signal) = Some []
-part_in wires (Output signal) = if is_some (place_of signal wires) then Some [] else None
-part_in wires (Gate output kind inputs) = part_made (name_in output) (at_once (meaning_of kind)) (places_in wires (inputs ++ output ∷ []))
-
-abbrev pub parts_in : List Name → List Form → Option (List Component)
-parts_in wires [] = Some []
-parts_in wires (form ∷ forms) = joined (part_in wires form) (parts_in wires forms)
-
-abbrev pub device_in : Result Device BuildError → Option Device
-device_in (Ok device) = Some device
-device_in (Err error) = None
-
--- the device of parts and wires, if there are any
-abbrev pub device_made : Option (List Component) → Option (List Name) → Option Device
-device_made None wires = None
-device_made (Some parts) None = None
-device_made (Some parts) (Some wires) = device_in (built parts wires [])
-
--- so many wires a device may have
-abbrev pub most_wires : ℕ
-most_wires = 16384
-
-abbrev pub device_driven : List Form → Drivers → Option Device
-device_driven forms drivers =
-    if nat_lt most_wires (length drivers) then None
-    else device_made (parts_in (keys_of drivers) forms) (names_from (keys_of drivers))
-
-abbrev pub device_said : List Form → Option Device
-device_said forms = option_and_then (device_driven forms) (drivers_from [] forms)
-
-abbrev pub device_planned : List Reading → Option Device
-device_planned readings = option_and_then device_said (plain_forms readings)
+-- The forms have no fault, and these are the signals that they drive.
+pub record CanBeBuilt (forms : List Form) (signals : List Name) : Type 0 where
+  pub sound : list_all is_sound forms ≡ true
+  pub gates_once : repeated (flat_map driven_by_gate forms) ≡ []
+  pub once : repeated signals ≡ []
+  pub members : (name : Name) → is_among signals name ≡ is_among (flat_map driven forms) name
+  pub uses : list_all (λ f. list_all (is_among signals) (used f)) forms ≡ true
+  pub few_parts : length (flat_map driven_by_gate forms) ≤ 4096
+  pub few_wires : length signals ≤ 16384

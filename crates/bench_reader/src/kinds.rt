@@ -1,11 +1,20 @@
 ghost use Rattle.std.specs.Prelude.{◌≡◌, true};
 ghost use Rattle.std.specs.List.{list_all};
 ghost use Rattle.text_rules.specs.Names.{same_name};
-ghost use Rattle.device_model.specs.Devices.{takes};
-ghost use Rattle.bench_reader.specs.Netlists.{capitals, meaning_of};
-ghost use Rattle.bench_reader.specs.Plain.{is_capital, at_once};
+ghost use Rattle.bench_reader.specs.Netlists.{capitals, kind_named};
+ghost use Rattle.bench_reader.specs.Words.{is_capital};
 
 use device_model::Kind;
+
+/// What the word of a kind names.
+#[derive(Clone, Copy, Debug, PartialEq, Eq)]
+pub enum NamedKind {
+    /// A gate, whose output follows its inputs at once.
+    AtOnce(Kind),
+    /// A part that keeps its value from one time to the next.
+    Sequential,
+    Unknown,
+}
 
 // Whether a word is a keyword of capital letters, which may be written in capital letters, small letters or both.
 pub fn spells(word: &[u8], keyword: &[u8]) -> bool
@@ -15,39 +24,29 @@ pub fn spells(word: &[u8], keyword: &[u8]) -> bool
     word.eq_ignore_ascii_case(keyword)
 }
 
-// The gate kind that a word names. `DFF` is none.
-pub fn kind_named(word: &[u8]) -> Option<Kind>
-    ensures { result ≡ at_once (meaning_of word.now) }
+/// The kind that a word names.
+pub fn kind_named(word: &[u8]) -> NamedKind
+    ensures { result ≡ kind_named word.now }
 {
     if spells(word, b"AND") {
-        Some(Kind::And)
+        NamedKind::AtOnce(Kind::And)
     } else if spells(word, b"OR") {
-        Some(Kind::Or)
+        NamedKind::AtOnce(Kind::Or)
     } else if spells(word, b"NAND") {
-        Some(Kind::Nand)
+        NamedKind::AtOnce(Kind::Nand)
     } else if spells(word, b"NOR") {
-        Some(Kind::Nor)
+        NamedKind::AtOnce(Kind::Nor)
     } else if spells(word, b"XOR") {
-        Some(Kind::Xor)
+        NamedKind::AtOnce(Kind::Xor)
     } else if spells(word, b"XNOR") {
-        Some(Kind::Xnor)
+        NamedKind::AtOnce(Kind::Xnor)
     } else if spells(word, b"NOT") {
-        Some(Kind::Not)
+        NamedKind::AtOnce(Kind::Not)
     } else if spells(word, b"BUFF") || spells(word, b"BUF") {
-        Some(Kind::Buff)
+        NamedKind::AtOnce(Kind::Buff)
+    } else if spells(word, b"DFF") {
+        NamedKind::Sequential
     } else {
-        None
-    }
-}
-
-// Whether a gate takes so many inputs.
-pub fn takes(kind: Kind, inputs: usize) -> bool
-    ensures { result ≡ takes kind inputs }
-{
-    match kind {
-        Kind::Not | Kind::Buff => inputs == 1,
-        Kind::Xor | Kind::Xnor => 1 <= inputs && inputs <= 8,
-        Kind::And | Kind::Or | Kind::Nand | Kind::Nor => 1 <= inputs && inputs <= 16,
-        Kind::Table(_) => false,
+        NamedKind::Unknown
     }
 }

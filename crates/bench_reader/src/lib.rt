@@ -1,8 +1,12 @@
 //! Netlists in `.bench` text.
 #![tactic(auto)]
 
+mod assembly;
+mod fault;
 mod kinds;
 mod netlist;
+mod signals;
 mod statement;
 
-pub use netlist::{BenchError, read_bench};
+pub use fault::{BenchError, BenchFault};
+pub use netlist::read_bench;

@@ -27,7 +27,7 @@ take-next : (ns : List Name) (i : ℕ) → i < length ns → take (i + 1) ns ≡
 take-next ns i l = take_more ns i [] l
 
 module _ {K : Type 0} (bytes : K → Name) where
-  list_any-map : (p : Name → Bool) (ks : List K) → list_any (λ k. p (bytes k)) ks ≡ list_any p (map bytes ks)
+  pub list_any-map : (p : Name → Bool) (ks : List K) → list_any (λ k. p (bytes k)) ks ≡ list_any p (map bytes ks)
   list_any-map p [] = refl
   list_any-map p (k ∷ ks) = ap (λ b. p (bytes k) || b) (list_any-map p ks)
 
@@ -43,7 +43,7 @@ module _ {K : Type 0} (bytes : K → Name) where
       list_any-map (same_name (bytes k)) ks ∙ ap (list_any (same_name (bytes k))) before ∙ ap (λ n. list_any (same_name n) (take i ns)) is ∙ is_among-front ns i h l in
       ap (λ b. map bytes (if b then ks else ks ++ k ∷ [])) absent ∙ map-push ks k ∙ ap (λ ms. ms ++ bytes k ∷ []) before ∙ ap (λ n. take i ns ++ n ∷ []) is ∙ sym (take-next ns i l)
 
-  position_or_len-map : (p : Name → Bool) (ks : List K) → position_or_len (λ k. p (bytes k)) ks ≡ position_or_len p (map bytes ks)
+  pub position_or_len-map : (p : Name → Bool) (ks : List K) → position_or_len (λ k. p (bytes k)) ks ≡ position_or_len p (map bytes ks)
   position_or_len-map p [] = refl
   position_or_len-map p (k ∷ ks) = ap (λ n. cond (not (p (bytes k))) (1 + n) 0) (position_or_len-map p ks)
 

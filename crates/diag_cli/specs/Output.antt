@@ -1,15 +1,18 @@
 -- What the program writes, and the status that it ends with.
-use Rattle.std.specs.Prelude.{◌≡◌, ◌⊎◌, ◌<◌, ℕ, ◌+◌, Bool, List, [], ◌∷◌, ◌++◌, length, take, Option, Some, None, codes, nat_le, nat_lt, if◌then◌else◌}
+use Rattle.std.specs.Prelude.{◌≡◌, ◌⊎◌, ◌<◌, ℕ, ◌+◌, Bool, List, [], ◌∷◌, ◌++◌, length, take, Option, Some, None, Result, Ok, Err, codes, nat_le, nat_lt, if◌then◌else◌}
 use Rattle.std.specs.Fmt.{decimal}
+use Rattle.std.specs.Result.{result_ok}
 use Rattle.text_rules.specs.TextLines.{whole_lines, all_lines}
 use Rattle.device_model.specs.Devices.{Device}
-use Rattle.bench_reader.specs.FirstPath.{narrow_device}
+use Rattle.text_rules.specs.Tokens.{spaced}
+use Rattle.bench_reader.specs.Netlists.{Fault, netlist}
+use Rattle.bench_reader.specs.Faults.{fault_number, fault_name}
 use Rattle.session_core.specs.Systems.{device_system}
 use Rattle.session_core.specs.Items.{Item, Plain, line}
 use Rattle.session_core.specs.FirstPath.{first_replies}
 use Rattle.session_core.specs.Spelling.{Writes}
 
--- how a script ends: with its end, by a read that failed, or at the limit
+-- How a script ends: with its end, by a read that failed, or at the limit
 pub data End : Type 0 where
   Ended : End
   Failed : End
@@ -42,50 +45,60 @@ served device script Ended = record { items = answered device (all_lines script)
 served device script Failed = record { items = answered device (whole_lines script) ++ Plain read_error ∷ []; status = 4 }
 served device script Cut = record { items = answered device (whole_lines script) ++ Plain script_too_long ∷ []; status = 7 }
 
+-- The longest device file, in bytes. A script of so many bytes is cut.
+abbrev pub file_limit : ℕ
+file_limit = 16777216
+
+abbrev pub script_limit : ℕ
+script_limit = 16777216
+
+-- the line that tells a fault, by its line, its number and its name
+abbrev pub fault_line : ℕ → ℕ → List ℕ → List ℕ
+fault_line line number name =
+    spaced (codes "error: line" ∷ (decimal line ++ codes ":") ∷ codes "fault" ∷ decimal number ∷ name ∷ [])
+
+abbrev pub netlist_line : Fault → List ℕ
+netlist_line fault = fault_line fault.line (fault_number fault.what) (fault_name fault.what)
+
+abbrev pub not_yet : List ℕ
+not_yet = codes "error: not yet\n"
+
+abbrev pub file_too_long : List ℕ
+file_too_long = codes "error: file above 16777216 bytes\n"
+
 -- parts and wires are few enough that all values can be tried
 abbrev pub is_small : Device → Bool
 is_small device = nat_le (length device.parts + length device.wires) 20
 
-abbrev pub small_device : Option Device → Option Device
-small_device None = None
-small_device (Some device) = if is_small device then Some device else None
+-- the device that is served, or the line that refuses its file
+abbrev pub small_device : Result Device Fault → Result Device (List ℕ)
+small_device (Err fault) = Err (netlist_line fault)
+small_device (Ok device) = if is_small device then Ok device else Err not_yet
 
--- the device of a file that is served
-abbrev pub served_device : List ℕ → Option Device
-served_device file = small_device (narrow_device file)
+abbrev pub device_in : List ℕ → Result Device (List ℕ)
+device_in file = if nat_le (length file) file_limit then small_device (netlist file) else Err file_too_long
 
-abbrev pub not_yet : Output
-not_yet = says (codes "error: not yet\n") 1
-
-abbrev pub with_device : Option Device → List ℕ → End → Output
-with_device None script end = not_yet
-with_device (Some device) script end = served device script end
-
-abbrev pub with_file : List ℕ → List ℕ → End → Output
-with_file file script end =
-    if nat_le (length file) 16777216 then with_device (served_device file) script end
-    else says (codes "error: file above 16777216 bytes\n") 1
+abbrev pub with_device : Result Device (List ℕ) → List ℕ → End → Output
+with_device (Err refusal) script end = says refusal 1
+with_device (Ok device) script end = served device script end
 
 -- the output for the words, the content of the file that they name, the script, and how the script ended
 abbrev pub output_of : Option (List ℕ) → List ℕ → List ℕ → End → Output
 output_of None file script end = says (codes "error: usage\n") 2
-output_of (Some path) file script end = with_file file script end
+output_of (Some path) file script end = with_device (device_in file) script end
 
 -- the device over which a script is answered, if one is
-abbrev pub short_device : List ℕ → Option Device
-short_device file = if nat_le (length file) 16777216 then served_device file else None
-
 abbrev pub script_for : Option (List ℕ) → List ℕ → Option Device
 script_for None file = None
-script_for (Some path) file = short_device file
+script_for (Some path) file = result_ok (device_in file)
 
 -- a script of the limit or more is cut
 abbrev pub end_of : List ℕ → End
-end_of script = if nat_lt (length script) 16777216 then Ended else Cut
+end_of script = if nat_lt (length script) script_limit then Ended else Cut
 
 -- the output for a script of which no read fails
 abbrev pub whole_output : Option (List ℕ) → List ℕ → List ℕ → Output
-whole_output path file script = output_of path file (take 16777216 script) (end_of script)
+whole_output path file script = output_of path file (take script_limit script) (end_of script)
 
 -- memory ran out
 abbrev pub no_memory : Output
@@ -102,6 +115,6 @@ GivesUnlessMemory output status before after = Gives no_memory status before aft
 
 -- what is known of the end of a script of which these bytes were taken
 abbrev pub EndsAs : End → List ℕ → Type 0 → Type 0 → Type 0
-EndsAs Ended bytes at_end a_read_failed = at_end × (length bytes < 16777216)
+EndsAs Ended bytes at_end a_read_failed = at_end × (length bytes < script_limit)
 EndsAs Failed bytes at_end a_read_failed = a_read_failed
-EndsAs Cut bytes at_end a_read_failed = length bytes ≡ 16777216
+EndsAs Cut bytes at_end a_read_failed = length bytes ≡ script_limit

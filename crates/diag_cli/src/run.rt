@@ -1,11 +1,12 @@
-ghost use Rattle.std.specs.Prelude.{◌≡◌, ◌≢◌, ◌⊎◌, ◌+◌, ◌-◌, ◌^◌, ◌<◌, ◌≤◌, ℕ, List, Some, None, codes, decimal, ◌++◌, length};
+ghost use Rattle.std.specs.Prelude.{◌≡◌, ◌≢◌, ◌⊎◌, ◌+◌, ◌-◌, ◌^◌, ◌<◌, ◌≤◌, ℕ, List, Ok, Err, codes, decimal, ◌++◌, length};
 ghost use Rattle.std.specs.Io.KnownBytes.{Consumes, IsAtEnd};
 ghost use Rattle.diag_edge.specs.Edge.{HasCause, RoseExactly, Puts};
 ghost use Rattle.device_model.specs.Devices.{Device as Shown};
-ghost use Rattle.diag_cli.specs.Output.{End, Gives, GivesUnlessMemory, EndsAs, no_memory, not_yet, says, served, served_device};
+ghost use Rattle.diag_cli.specs.Output.{End, Gives, GivesUnlessMemory, EndsAs, no_memory, says, served, fault_line, device_in, file_limit};
 
 use bench_reader::{BenchError, read_bench};
 use device_model::Device;
+use diag_edge::writing::put_two;
 use diag_edge::{Sink, Source, WriteFailed};
 use session_core::{SIZE_LIMIT, ServeEnd, Service, put_count};
 use std::alloc::Global;
@@ -70,9 +71,43 @@ fn serve_device<I: Source, O: Sink>(alloc: Global, device: Device, input: &mut I
     }
 }
 
+// The front of the line that tells a fault, up to its name.
+#[tactic(auto, using(diag_edge::proofs::Growing::puts_on))]
+fn put_fault_numbers<O: Sink>(out: &mut O, line: u64, number: u64) -> Result<(), WriteFailed>
+    ensures text { Puts (O.got out.old) (O.got out.new) result
+        ((codes "error: line " ++ decimal line ++ codes ": fault ") ++ (codes "" ++ decimal number ++ codes " ")) }
+    ensures cause { HasCause (O.faults out.old) (O.faults out.new) result }
+{
+    put_count(out, b"error: line ", line, b": fault ")?;
+    put_count(out, b"", number, b" ")
+}
+
+// The line that tells a fault.
+#[tactic(auto, using(diag_edge::proofs::Growing::puts_on))]
+fn put_fault<O: Sink>(out: &mut O, line: u64, number: u64, name: &[u8]) -> Result<(), WriteFailed>
+    ensures text { Puts (O.got out.old) (O.got out.new) result
+        (((codes "error: line " ++ decimal line ++ codes ": fault ") ++ (codes "" ++ decimal number ++ codes " ")) ++ (name.now ++ codes "\n")) }
+    ensures cause { HasCause (O.faults out.old) (O.faults out.new) result }
+{
+    put_fault_numbers(out, line, number)?;
+    put_two(out, name, b"\n")
+}
+
+// Tells a fault by its line, its number and its name, and answers the status, or 5 where the write failed.
+fn say_fault<O: Sink>(out: &mut O, line: u32, number: u32, name: &str) -> u8
+    requires faults { O.faults out.old < 2 ^ 64 - 1 }
+    ensures write_fault { RoseExactly (O.faults out.old) (O.faults out.new) (result ≡ 5) }
+    ensures said { result ≢ 5 → Gives (says (fault_line line number name.now) 1) result (O.got out.old) (O.got out.new) }
+{
+    match put_fault(out, u64::from(line), u64::from(number), name.as_bytes()) {
+        Ok(()) => 1,
+        Err(_) => 5,
+    }
+}
+
 // Answers the script over the netlist of a file.
 pub fn serve_file<I: Source, O: Sink>(alloc: Global, file: &[u8], input: &mut I, out: &mut O) -> u8
-    requires short { length file.now ≤ 16777216 }
+    requires short { length file.now ≤ file_limit }
     requires taken { I.taken input.old < 2 ^ 62 }
     requires reads { I.faults input.old < 2 ^ 64 - 1 }
     requires writes { O.faults out.old < 2 ^ 64 - 1 }
@@ -80,10 +115,11 @@ pub fn serve_file<I: Source, O: Sink>(alloc: Global, file: &[u8], input: &mut I,
     ensures write_fault { RoseExactly (O.faults out.old) (O.faults out.new) (result ≡ 5) }
     ensures read_fault { result ≢ 5 → RoseExactly (I.faults input.old) (I.faults input.new) (result ≡ 4) }
     ensures not_usage { result ≢ 2 }
-    ensures idle { served_device file.now ≡ None →
+    ensures idle { (refusal : List ℕ) → device_in file.now ≡ Err refusal →
         (I.faults input.new ≡ I.faults input.old) × (I.taken input.new ≡ I.taken input.old) }
-    ensures refused { result ≢ 5 → served_device file.now ≡ None → GivesUnlessMemory not_yet result (O.got out.old) (O.got out.new) }
-    ensures answer { (device : Shown) → served_device file.now ≡ Some device → result ≢ 5 →
+    ensures refused { (refusal : List ℕ) → device_in file.now ≡ Err refusal → result ≢ 5 →
+        GivesUnlessMemory (says refusal 1) result (O.got out.old) (O.got out.new) }
+    ensures answer { (device : Shown) → device_in file.now ≡ Ok device → result ≢ 5 →
         Gives no_memory result (O.got out.old) (O.got out.new)
         ⊎ ((bytes : List ℕ) × (end : End)
         × Consumes (I.left input.old) (I.left input.new) bytes
@@ -98,7 +134,7 @@ pub fn serve_file<I: Source, O: Sink>(alloc: Global, file: &[u8], input: &mut I,
             }
             serve_device(alloc, device, input, out)
         }
-        Err(BenchError::NotYet) => say(out, b"error: not yet\n", 1),
+        Err(BenchError::Bad { line, what }) => say_fault(out, line, what.number(), what.name()),
         Err(BenchError::Memory) => say(out, b"error: memory\n", 6),
     }
 }

@@ -8,7 +8,7 @@ struct Row {
     status: u8,
 }
 
-const ROWS: [Row; 7] = [
+const ROWS: [Row; 9] = [
     // The inputs are 0, so 22 and 23 are to be 0. One of 10 and 22 explains the 1, and the first of them is named.
     Row {
         words: &["serve", "c17.bench"],
@@ -42,8 +42,22 @@ const ROWS: [Row; 7] = [
         out: "ready 0 1\nS open\nS min 0\n",
         status: 0,
     },
+    // Three ones are odd, so y is to be 1.
     Row {
         words: &["serve", "wide.bench"],
+        script: "open S\nsee S a=1\nsee S b=1\nsee S c=1\nsee S y=0\nmin S\n",
+        out: "ready 1 4\nS open\nS ok\nS ok\nS ok\nS ok\nS min 1 y\n",
+        status: 0,
+    },
+    Row {
+        words: &["serve", "twice.bench"],
+        script: "open S\n",
+        out: "error: line 3: fault 6 driven twice\n",
+        status: 1,
+    },
+    // 21 wires are more than all whose values are tried.
+    Row {
+        words: &["serve", "many.bench"],
         script: "open S\n",
         out: "error: not yet\n",
         status: 1,

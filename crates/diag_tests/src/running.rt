@@ -11,13 +11,21 @@ pub const C17: &str =
     "# c17\nINPUT(1)\nINPUT(2)\nINPUT(3)\nINPUT(6)\nINPUT(7)\nOUTPUT(22)\nOUTPUT(23)\n\n10 = NAND(1, 3)\n11 = NAND(3, 6)\n16 = NAND(2, 11)\n19 = NAND(11, 7)\n22 = NAND(10, 16)\n23 = NAND(16, 19)\n";
 
 /// The files of the shelf.
-const FILES: [(&str, &str); 4] = [
+const FILES: [(&str, &str); 6] = [
     ("c17.bench", C17),
     (
         "chain.bench",
         "INPUT(a)\nOUTPUT(c)\nb = BUFF(a)\nc = BUFF(b)\n",
     ),
-    ("wide.bench", "INPUT(a)\ny = AND(a, a, a)\n"),
+    (
+        "wide.bench",
+        "INPUT(a)\nINPUT(b)\nINPUT(c)\ny = xor(a, b, c)\n",
+    ),
+    ("twice.bench", "INPUT(a)\nOUTPUT(z)\na = NOT(a)\n"),
+    (
+        "many.bench",
+        "INPUT(a)\nINPUT(b)\nINPUT(c)\nINPUT(d)\nINPUT(e)\nINPUT(f)\nINPUT(g)\nINPUT(h)\nINPUT(i)\nINPUT(j)\nINPUT(k)\nINPUT(l)\nINPUT(m)\nINPUT(n)\nINPUT(o)\nINPUT(p)\nINPUT(q)\nINPUT(r)\nINPUT(s)\nINPUT(t)\nINPUT(u)\n",
+    ),
     ("input.bench", "INPUT(a)\n"),
 ];
 

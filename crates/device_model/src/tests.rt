@@ -1,4 +1,4 @@
-use crate::{BuildError, Component, Device, Kind, Name, Wires};
+use crate::{BuildError, Component, Device, Kind, Name, Names, Table, Wires};
 use std::alloc::Global;
 use std::process::Abort;
 use std::test::Fail;
@@ -90,5 +90,50 @@ fn refuses(rt: HostRuntime) -> Result<(), Fail> {
     ];
     let error = build(&rt, alloc, &loose, &["a"])?.err().ok_or("built")?;
     assert!(rt; matches!(error, BuildError::NoWire { part: 1 }));
+    Ok(())
+}
+
+// So many different names.
+fn numbered(alloc: Global, count: u32) -> Result<Vec<Name>, Fail> {
+    let mut names = Vec::new(alloc);
+    for number in 0..count {
+        names.push(Name::new(alloc, number.to_be_bytes().as_slice())?)?;
+    }
+    Ok(names)
+}
+
+#[test]
+fn refuses_too_many(rt: HostRuntime) -> Result<(), Fail> {
+    let alloc = rt.alloc();
+    let mut parts = Vec::new(alloc);
+    for name in numbered(alloc, 4097)? {
+        parts.push(Component {
+            name,
+            kind: Kind::Buff,
+            ports: Wires::new(alloc, [0, 0].as_slice())?,
+        })?;
+    }
+    let wires = numbered(alloc, 1)?;
+    let error = Device::build(alloc, parts, wires, Vec::new(alloc)).err();
+    assert!(rt; matches!(error, Some(BuildError::TooMany { count: 4097 })));
+    let wires = numbered(alloc, 16385)?;
+    let error = Device::build(alloc, Vec::new(alloc), wires, Vec::new(alloc)).err();
+    assert!(rt; matches!(error, Some(BuildError::TooMany { count: 16385 })));
+    Ok(())
+}
+
+#[test]
+fn makes_tables_and_lists_of_names(rt: HostRuntime) -> Result<(), Fail> {
+    let refused = [(0, 0, 0), (7, 0, 0), (1, 4, 0), (5, 0, 1 << 32)];
+    for (ports, ok, bad) in refused {
+        assert!(rt; Table::new(ports, ok, bad).is_none(), "{ports} ports");
+    }
+    let table = Table::new(6, u64::MAX, 1).ok_or("no table")?;
+    assert_eq!(rt; table.ports(), 6);
+    assert_eq!(rt; table.ok(), u64::MAX);
+    assert_eq!(rt; table.bad(), 1);
+    let names = Names::of(numbered(rt.alloc(), 3)?);
+    assert_eq!(rt; names.as_slice().len(), 3);
+    assert_eq!(rt; names.into_vec().len(), 3);
     Ok(())
 }

@@ -8,9 +8,7 @@ use Rattle.std.proofs.lemmas.Bool.{lt-ltb}
 use Rattle.std.proofs.Math.Seq.{take-append_seam}
 use Rattle.diag_edge.specs.Edge.{RoseExactly}
 use Rattle.device_model.specs.Devices.{Device}
-use Rattle.bench_reader.specs.Netlists.{Fault, netlist}
-use Rattle.bench_reader.specs.Faults.{fault_number, fault_name}
-use Rattle.diag_cli.specs.Output.{is_small, small_device, Gives, GivesUnlessMemory, EndsAs, End, Ended, Failed, Cut, says, no_memory, not_yet, fault_line, netlist_line, file_limit, script_limit, device_in, output_of, with_device, served, script_for, whole_output, end_of}
+use Rattle.diag_cli.specs.Output.{Gives, GivesUnlessMemory, EndsAs, End, Ended, Failed, Cut, says, no_memory, file_limit, script_limit, device_in, output_of, with_device, served, script_for, whole_output, end_of}
 
 -- what was taken is what was there, up to the limit
 taken_all : (script : List ℕ) (after : Option (List ℕ)) (bytes : List ℕ) (end : End) (i j : ℕ) → j ≡ i → Consumes (Some script) after bytes → EndsAs end bytes (IsAtEnd after) (i < j) → (bytes ≡ take 16777216 script) × (end ≡ end_of script)
@@ -40,10 +38,10 @@ Answers (Ok device) r i j left after a b =
     Gives no_memory r a b
     ⊎ ((bytes : List ℕ) × (end : End) × Consumes left after bytes × EndsAs end bytes (IsAtEnd after) (i < j) × Gives (served device bytes end) r a b)
 
-module _ (file : List ℕ) (left after a b : Option (List ℕ)) (r i j : ℕ) where
-  answers-found : (found : Result Device (List ℕ)) → device_in file ≡ found → r ≢ 5
-      → ((refusal : List ℕ) → device_in file ≡ Err refusal → r ≢ 5 → GivesUnlessMemory (says refusal 1) r a b)
-      → ((device : Device) → device_in file ≡ Ok device → r ≢ 5 → Gives no_memory r a b ⊎ ((bytes : List ℕ) × (end : End) × Consumes left after bytes × EndsAs end bytes (IsAtEnd after) (i < j) × Gives (served device bytes end) r a b))
+module _ (path file : List ℕ) (left after a b : Option (List ℕ)) (r i j : ℕ) where
+  answers-found : (found : Result Device (List ℕ)) → device_in path file ≡ found → r ≢ 5
+      → ((refusal : List ℕ) → device_in path file ≡ Err refusal → r ≢ 5 → GivesUnlessMemory (says refusal 1) r a b)
+      → ((device : Device) → device_in path file ≡ Ok device → r ≢ 5 → Gives no_memory r a b ⊎ ((bytes : List ℕ) × (end : End) × Consumes left after bytes × EndsAs end bytes (IsAtEnd after) (i < j) × Gives (served device bytes end) r a b))
       → Answers found r i j left after a b
   answers-found (Err refusal) is whole other ran = other refusal is whole
   answers-found (Ok device) is whole other ran = ran device is whole
@@ -60,48 +58,28 @@ module _ (file : List ℕ) (left after a b : Option (List ℕ)) (r i j : ℕ) wh
 pub file_answer : (told left after a b : Option (List ℕ)) (path file : List ℕ) (r i j : ℕ)
     → IfSome told (λ bytes. file ≡ bytes)
     → (r ≢ 5 → RoseExactly i j (r ≡ 4))
-    → ((refusal : List ℕ) → device_in file ≡ Err refusal → r ≢ 5 → GivesUnlessMemory (says refusal 1) r a b)
-    → ((device : Device) → device_in file ≡ Ok device → r ≢ 5 → Gives no_memory r a b ⊎ ((bytes : List ℕ) × (end : End) × Consumes left after bytes × EndsAs end bytes (IsAtEnd after) (i < j) × Gives (served device bytes end) r a b))
+    → ((refusal : List ℕ) → device_in path file ≡ Err refusal → r ≢ 5 → GivesUnlessMemory (says refusal 1) r a b)
+    → ((device : Device) → device_in path file ≡ Ok device → r ≢ 5 → Gives no_memory r a b ⊎ ((bytes : List ℕ) × (end : End) × Consumes left after bytes × EndsAs end bytes (IsAtEnd after) (i < j) × Gives (served device bytes end) r a b))
     → IfSome told (λ f. IfSome left (λ script. r ≢ 5 → r ≢ 4 → GivesUnlessMemory (whole_output (Some path) f script) r a b))
 file_answer None left after a b path file r i j is rose other ran = tt
 file_answer (Some f) None after a b path file r i j is rose other ran = tt
 file_answer (Some f) (Some script) after a b path file r i j is rose other ran = λ whole read.
     subst (λ g. GivesUnlessMemory (whole_output (Some path) g script) r a b) is
-    (whole_answer file (Some script) after a b r i j (device_in file) script refl ((rose whole).stayed read)
-    (answers-found file (Some script) after a b r i j (device_in file) refl whole other ran))
+    (whole_answer path file (Some script) after a b r i j (device_in path file) script refl ((rose whole).stayed read)
+    (answers-found path file (Some script) after a b r i j (device_in path file) refl whole other ran))
 
 -- where no script is answered
-pub no_script : (told : Option (List ℕ)) (path file : List ℕ) (i j t u : ℕ) → IfSome told (λ bytes. file ≡ bytes) → ((refusal : List ℕ) → device_in file ≡ Err refusal → (j ≡ i) × (u ≡ t))
+pub no_script : (told : Option (List ℕ)) (path file : List ℕ) (i j t u : ℕ) → IfSome told (λ bytes. file ≡ bytes) → ((refusal : List ℕ) → device_in path file ≡ Err refusal → (j ≡ i) × (u ≡ t))
     → IfSome told (λ f. script_for (Some path) f ≡ None → (j ≡ i) × (u ≡ t))
 no_script None path file i j t u is idle = tt
-no_script (Some f) path file i j t u is idle = λ none. by (device_in file) refl (subst (λ g. result_ok (device_in g) ≡ None) (sym is) none)
+no_script (Some f) path file i j t u is idle = λ none. by (device_in path file) refl (subst (λ g. result_ok (device_in path g) ≡ None) (sym is) none)
   where
-    by : (found : Result Device (List ℕ)) → device_in file ≡ found → result_ok found ≡ None → (j ≡ i) × (u ≡ t)
+    by : (found : Result Device (List ℕ)) → device_in path file ≡ found → result_ok found ≡ None → (j ≡ i) × (u ≡ t)
     by (Ok device) e n = cc
     by (Err refusal) e n = idle refusal e
 
-pub same_Ok : (d e : Device) → ◌≡◌ {A = Result Device (List ℕ)} (Ok d) (Ok e) → d ≡ e
-same_Ok d e h = cc
-
-pub same_Err : (a b : List ℕ) → ◌≡◌ {A = Result Device (List ℕ)} (Err a) (Err b) → a ≡ b
-same_Err a b h = cc
-
--- what is in a file that is not too long
-in_short : (file : List ℕ) → length file ≤ file_limit → device_in file ≡ small_device (netlist file)
-in_short file short = let fits : nat_le (length file) file_limit ≡ true = grind arith in rw fits
-
-pub served_is : (file : List ℕ) (device : Device) → length file ≤ file_limit → netlist file ≡ Ok device → length device.parts + length device.wires ≤ 20 → device_in file ≡ Ok device
-served_is file device short read few =
-    let fits : is_small device ≡ true = grind arith in
-    in_short file short ∙ ap small_device read ∙ ap (λ b. if b then Ok device else Err not_yet) fits
-
-pub large_is : (file : List ℕ) (device : Device) → length file ≤ file_limit → netlist file ≡ Ok device → 20 < length device.parts + length device.wires → device_in file ≡ Err not_yet
-large_is file device short read many =
-    let fits : is_small device ≡ false = grind arith in
-    in_short file short ∙ ap small_device read ∙ ap (λ b. if b then Ok device else Err not_yet) fits
-
-pub refused_is : (file : List ℕ) (fault : Fault) → length file ≤ file_limit → netlist file ≡ Err fault → device_in file ≡ Err (netlist_line fault)
-refused_is file fault short read = in_short file short ∙ ap small_device read
+pub same_device : (d e : Device) → ◌≡◌ {A = Result Device (List ℕ)} (Ok d) (Ok e) → d ≡ e
+same_device d e h = cc
 
 -- a count that rose tells the one status that goes with it
 moved : (r i j : ℕ) → RoseExactly i j (r ≡ 4) → i < j → (r ≡ 4 → ⊥) → ⊥
@@ -118,13 +96,13 @@ failed_run device left after a b r i j rose rises (inr (bytes, Cut, took, is, gi
 -- where a read of the script failed
 pub fault_answer : (told left after a b : Option (List ℕ)) (path file : List ℕ) (r i j : ℕ) → IfSome told (λ bytes. file ≡ bytes)
     → (r ≢ 5 → RoseExactly i j (r ≡ 4))
-    → ((device : Device) → device_in file ≡ Ok device → r ≢ 5 → Gives no_memory r a b ⊎ ((bytes : List ℕ) × (end : End) × Consumes left after bytes × EndsAs end bytes (IsAtEnd after) (i < j) × Gives (served device bytes end) r a b))
+    → ((device : Device) → device_in path file ≡ Ok device → r ≢ 5 → Gives no_memory r a b ⊎ ((bytes : List ℕ) × (end : End) × Consumes left after bytes × EndsAs end bytes (IsAtEnd after) (i < j) × Gives (served device bytes end) r a b))
     → IfSome told (λ f. (device : Device) → script_for (Some path) f ≡ Some device → i < j → r ≢ 5 → (bytes : List ℕ) × Consumes left after bytes × Gives (served device bytes Failed) r a b)
 fault_answer None left after a b path file r i j is rose ran = tt
 fault_answer (Some f) left after a b path file r i j is rose ran = λ device found rises whole.
     failed_run device left after a b r i j (rose whole) rises
-    (ran device (by device (device_in file) refl (subst (λ g. result_ok (device_in g) ≡ Some device) (sym is) found)) whole)
+    (ran device (by device (device_in path file) refl (subst (λ g. result_ok (device_in path g) ≡ Some device) (sym is) found)) whole)
   where
-    by : (device : Device) (in_file : Result Device (List ℕ)) → device_in file ≡ in_file → result_ok in_file ≡ Some device → device_in file ≡ Ok device
+    by : (device : Device) (in_file : Result Device (List ℕ)) → device_in path file ≡ in_file → result_ok in_file ≡ Some device → device_in path file ≡ Ok device
     by device (Ok d) e n = e ∙ ap Ok (cc)
     by device (Err refusal) e n = cc

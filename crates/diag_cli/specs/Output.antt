@@ -5,12 +5,19 @@ use Rattle.std.specs.Result.{result_ok}
 use Rattle.text_rules.specs.TextLines.{whole_lines, all_lines}
 use Rattle.device_model.specs.Devices.{Device}
 use Rattle.text_rules.specs.Tokens.{spaced}
-use Rattle.bench_reader.specs.Netlists.{Fault, netlist}
-use Rattle.bench_reader.specs.Faults.{fault_number, fault_name}
+use Rattle.bench_reader.specs.Netlists.{Fault as NetlistFault, netlist}
+use Rattle.bench_reader.specs.Faults.{fault_number as netlist_number, fault_name as netlist_name}
+use Rattle.component_lang.specs.Designs.{Design}
+use Rattle.component_lang.specs.Reading.{Fault as DesignFault, design}
+use Rattle.component_lang.specs.Faults.{fault_number as design_number, fault_name as design_name}
+use Rattle.flattener.specs.declared.flattening.FlattenError.{FlattenError}
+use Rattle.flattener.specs.declared.flattening.FlattenError.TheVariants.{TooManyParts, TooManyWires, TooManyBlocks, PathTooLong, Memory}
+use Rattle.flattener.specs.Flat.{flattened}
 use Rattle.session_core.specs.Systems.{device_system}
 use Rattle.session_core.specs.Items.{Item, Plain, line}
 use Rattle.session_core.specs.FirstPath.{first_replies}
 use Rattle.session_core.specs.Spelling.{Writes}
+use Rattle.diag_cli.specs.Words.{is_design_path}
 
 -- How a script ends: with its end, by a read that failed, or at the limit
 pub data End : Type 0 where
@@ -57,8 +64,25 @@ abbrev pub fault_line : ℕ → ℕ → List ℕ → List ℕ
 fault_line line number name =
     spaced (codes "error: line" ∷ (decimal line ++ codes ":") ∷ codes "fault" ∷ decimal number ∷ name ∷ [])
 
-abbrev pub netlist_line : Fault → List ℕ
-netlist_line fault = fault_line fault.line (fault_number fault.what) (fault_name fault.what)
+abbrev pub netlist_line : NetlistFault → List ℕ
+netlist_line fault = fault_line fault.line (netlist_number fault.what) (netlist_name fault.what)
+
+abbrev pub design_line : DesignFault → List ℕ
+design_line fault = fault_line fault.line (design_number fault.what) (design_name fault.what)
+
+-- the line that tells a count above its limit
+abbrev pub above_line : List ℕ → ℕ → ℕ → List ℕ
+above_line what count limit = spaced (codes "error:" ∷ what ∷ decimal count ∷ codes "above" ∷ decimal limit ∷ [])
+
+abbrev pub no_memory_line : List ℕ
+no_memory_line = codes "error: memory\n"
+
+abbrev pub flatten_line : FlattenError → List ℕ
+flatten_line (TooManyParts count) = above_line (codes "parts") count 4096
+flatten_line (TooManyWires count) = above_line (codes "wires") count 16384
+flatten_line (TooManyBlocks count) = above_line (codes "blocks") count 4096
+flatten_line (PathTooLong count) = above_line (codes "path") count 255
+flatten_line Memory = no_memory_line
 
 abbrev pub not_yet : List ℕ
 not_yet = codes "error: not yet\n"
@@ -66,17 +90,30 @@ not_yet = codes "error: not yet\n"
 abbrev pub file_too_long : List ℕ
 file_too_long = codes "error: file above 16777216 bytes\n"
 
+-- a device, or the line that refuses it
+abbrev pub or_line : {F : Type 0} → (F → List ℕ) → Result Device F → Result Device (List ℕ)
+or_line tell (Ok device) = Ok device
+or_line tell (Err fault) = Err (tell fault)
+
+abbrev pub flat_device : Result Design DesignFault → Result Device (List ℕ)
+flat_device (Ok made) = or_line flatten_line (flattened made)
+flat_device (Err fault) = Err (design_line fault)
+
+-- the device that a text describes, by the path of its file
+abbrev pub described : List ℕ → List ℕ → Result Device (List ℕ)
+described path text = if is_design_path path then flat_device (design text) else or_line netlist_line (netlist text)
+
 -- parts and wires are few enough that all values can be tried
 abbrev pub is_small : Device → Bool
 is_small device = nat_le (length device.parts + length device.wires) 20
 
--- the device that is served, or the line that refuses its file
-abbrev pub small_device : Result Device Fault → Result Device (List ℕ)
-small_device (Err fault) = Err (netlist_line fault)
+abbrev pub small_device : Result Device (List ℕ) → Result Device (List ℕ)
 small_device (Ok device) = if is_small device then Ok device else Err not_yet
+small_device (Err refusal) = Err refusal
 
-abbrev pub device_in : List ℕ → Result Device (List ℕ)
-device_in file = if nat_le (length file) file_limit then small_device (netlist file) else Err file_too_long
+-- the device that is served, or the line that refuses its file
+abbrev pub device_in : List ℕ → List ℕ → Result Device (List ℕ)
+device_in path file = if nat_le (length file) file_limit then small_device (described path file) else Err file_too_long
 
 abbrev pub with_device : Result Device (List ℕ) → List ℕ → End → Output
 with_device (Err refusal) script end = says refusal 1
@@ -85,12 +122,12 @@ with_device (Ok device) script end = served device script end
 -- the output for the words, the content of the file that they name, the script, and how the script ended
 abbrev pub output_of : Option (List ℕ) → List ℕ → List ℕ → End → Output
 output_of None file script end = says (codes "error: usage\n") 2
-output_of (Some path) file script end = with_device (device_in file) script end
+output_of (Some path) file script end = with_device (device_in path file) script end
 
 -- the device over which a script is answered, if one is
 abbrev pub script_for : Option (List ℕ) → List ℕ → Option Device
 script_for None file = None
-script_for (Some path) file = result_ok (device_in file)
+script_for (Some path) file = result_ok (device_in path file)
 
 -- a script of the limit or more is cut
 abbrev pub end_of : List ℕ → End
@@ -102,7 +139,7 @@ whole_output path file script = output_of path file (take script_limit script) (
 
 -- memory ran out
 abbrev pub no_memory : Output
-no_memory = says (codes "error: memory\n") 6
+no_memory = says no_memory_line 6
 
 -- the run gave the output: its status, and where the sink tells, a text that spells its items
 pub record Gives (output : Output) (status : ℕ) (before after : Option (List ℕ)) : Type 0 where

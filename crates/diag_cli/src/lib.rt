@@ -2,8 +2,11 @@
 #![tactic(auto)]
 
 mod adapters;
+mod describing;
 mod program;
+mod refusal;
 mod run;
+mod saying;
 mod words;
 
 pub use adapters::{FileShelf, StdSink, StdSource};

@@ -5,7 +5,8 @@ ghost use Rattle.device_model.specs.Devices.{Device as Shown};
 ghost use Rattle.diag_cli.specs.Words.{served_file, content_of};
 ghost use Rattle.diag_cli.specs.Output.{Failed, Gives, GivesUnlessMemory, read_error, says, served, whole_output, script_for};
 
-use crate::run::{say, serve_file};
+use crate::run::serve_file;
+use crate::saying::say;
 use crate::words::served_file;
 use diag_edge::{LoadError, Shelf, Sink, Source, load};
 use std::alloc::Global;
@@ -47,7 +48,7 @@ fn serve_named<H: Shelf, I: Source, O: Sink>(
     ensures all_read { result ≡ 0 → IsAtEnd (I.left input.new) }
 {
     match load(alloc, shelf, name, FILE_LIMIT) {
-        Ok(file) => serve_file(alloc, &file, input, out),
+        Ok(file) => serve_file(alloc, name, &file, input, out),
         Err(LoadError::Failed) => say(out, b"error: read\n", 4),
         Err(LoadError::Long { limit: _ }) => say(out, b"error: file above 16777216 bytes\n", 1),
         Err(LoadError::Memory) => say(out, b"error: memory\n", 6),

@@ -2,30 +2,18 @@ ghost use Rattle.std.specs.Prelude.{◌≡◌, ◌≢◌, ◌⊎◌, ◌+◌, �
 ghost use Rattle.std.specs.Io.KnownBytes.{Consumes, IsAtEnd};
 ghost use Rattle.diag_edge.specs.Edge.{HasCause, RoseExactly, Puts};
 ghost use Rattle.device_model.specs.Devices.{Device as Shown};
-ghost use Rattle.diag_cli.specs.Output.{End, Gives, GivesUnlessMemory, EndsAs, no_memory, says, served, fault_line, device_in, file_limit};
+ghost use Rattle.diag_cli.specs.Output.{End, Gives, GivesUnlessMemory, EndsAs, no_memory, says, served, device_in, file_limit};
 
-use bench_reader::{BenchError, read_bench};
+use crate::describing::device_in;
+use crate::refusal::tell;
+use crate::saying::say;
 use device_model::Device;
-use diag_edge::writing::put_two;
 use diag_edge::{Sink, Source, WriteFailed};
-use session_core::{SIZE_LIMIT, ServeEnd, Service, put_count};
+use session_core::{ServeEnd, Service, put_count};
 use std::alloc::Global;
 
 /// A script of so many bytes is cut.
 const SCRIPT_LIMIT: u64 = 16777216;
-
-// Writes one line and answers the status, or 5 where the write failed.
-pub fn say<O: Sink>(out: &mut O, text: &[u8], status: u8) -> u8
-    requires faults { O.faults out.old < 2 ^ 64 - 1 }
-    requires status { status ≢ 5 }
-    ensures write_fault { RoseExactly (O.faults out.old) (O.faults out.new) (result ≡ 5) }
-    ensures said { result ≢ 5 → Gives (says text.now status) result (O.got out.old) (O.got out.new) }
-{
-    match out.put(text) {
-        Ok(()) => status,
-        Err(_) => 5,
-    }
-}
 
 // The line `ready` with the numbers of parts and wires.
 #[tactic(auto, using(diag_edge::proofs::Growing::puts_on))]
@@ -71,42 +59,14 @@ fn serve_device<I: Source, O: Sink>(alloc: Global, device: Device, input: &mut I
     }
 }
 
-// The front of the line that tells a fault, up to its name.
-#[tactic(auto, using(diag_edge::proofs::Growing::puts_on))]
-fn put_fault_numbers<O: Sink>(out: &mut O, line: u64, number: u64) -> Result<(), WriteFailed>
-    ensures text { Puts (O.got out.old) (O.got out.new) result
-        ((codes "error: line " ++ decimal line ++ codes ": fault ") ++ (codes "" ++ decimal number ++ codes " ")) }
-    ensures cause { HasCause (O.faults out.old) (O.faults out.new) result }
-{
-    put_count(out, b"error: line ", line, b": fault ")?;
-    put_count(out, b"", number, b" ")
-}
-
-// The line that tells a fault.
-#[tactic(auto, using(diag_edge::proofs::Growing::puts_on))]
-fn put_fault<O: Sink>(out: &mut O, line: u64, number: u64, name: &[u8]) -> Result<(), WriteFailed>
-    ensures text { Puts (O.got out.old) (O.got out.new) result
-        (((codes "error: line " ++ decimal line ++ codes ": fault ") ++ (codes "" ++ decimal number ++ codes " ")) ++ (name.now ++ codes "\n")) }
-    ensures cause { HasCause (O.faults out.old) (O.faults out.new) result }
-{
-    put_fault_numbers(out, line, number)?;
-    put_two(out, name, b"\n")
-}
-
-// Tells a fault by its line, its number and its name, and answers the status, or 5 where the write failed.
-fn say_fault<O: Sink>(out: &mut O, line: u32, number: u32, name: &str) -> u8
-    requires faults { O.faults out.old < 2 ^ 64 - 1 }
-    ensures write_fault { RoseExactly (O.faults out.old) (O.faults out.new) (result ≡ 5) }
-    ensures said { result ≢ 5 → Gives (says (fault_line line number name.now) 1) result (O.got out.old) (O.got out.new) }
-{
-    match put_fault(out, u64::from(line), u64::from(number), name.as_bytes()) {
-        Ok(()) => 1,
-        Err(_) => 5,
-    }
-}
-
-// Answers the script over the netlist of a file.
-pub fn serve_file<I: Source, O: Sink>(alloc: Global, file: &[u8], input: &mut I, out: &mut O) -> u8
+// Answers the script over the device of a file.
+pub fn serve_file<I: Source, O: Sink>(
+    alloc: Global,
+    path: &str,
+    file: &[u8],
+    input: &mut I,
+    out: &mut O,
+) -> u8
     requires short { length file.now ≤ file_limit }
     requires taken { I.taken input.old < 2 ^ 62 }
     requires reads { I.faults input.old < 2 ^ 64 - 1 }
@@ -115,11 +75,11 @@ pub fn serve_file<I: Source, O: Sink>(alloc: Global, file: &[u8], input: &mut I,
     ensures write_fault { RoseExactly (O.faults out.old) (O.faults out.new) (result ≡ 5) }
     ensures read_fault { result ≢ 5 → RoseExactly (I.faults input.old) (I.faults input.new) (result ≡ 4) }
     ensures not_usage { result ≢ 2 }
-    ensures idle { (refusal : List ℕ) → device_in file.now ≡ Err refusal →
+    ensures idle { (refusal : List ℕ) → device_in path.now file.now ≡ Err refusal →
         (I.faults input.new ≡ I.faults input.old) × (I.taken input.new ≡ I.taken input.old) }
-    ensures refused { (refusal : List ℕ) → device_in file.now ≡ Err refusal → result ≢ 5 →
+    ensures refused { (refusal : List ℕ) → device_in path.now file.now ≡ Err refusal → result ≢ 5 →
         GivesUnlessMemory (says refusal 1) result (O.got out.old) (O.got out.new) }
-    ensures answer { (device : Shown) → device_in file.now ≡ Ok device → result ≢ 5 →
+    ensures answer { (device : Shown) → device_in path.now file.now ≡ Ok device → result ≢ 5 →
         Gives no_memory result (O.got out.old) (O.got out.new)
         ⊎ ((bytes : List ℕ) × (end : End)
         × Consumes (I.left input.old) (I.left input.new) bytes
@@ -127,14 +87,8 @@ pub fn serve_file<I: Source, O: Sink>(alloc: Global, file: &[u8], input: &mut I,
         × Gives (served device bytes end) result (O.got out.old) (O.got out.new)) }
     ensures all_read { result ≡ 0 → IsAtEnd (I.left input.new) }
 {
-    match read_bench(alloc, file) {
-        Ok(device) => {
-            if device.parts().len() + device.wires().len() > SIZE_LIMIT {
-                return say(out, b"error: not yet\n", 1);
-            }
-            serve_device(alloc, device, input, out)
-        }
-        Err(BenchError::Bad { line, what }) => say_fault(out, line, what.number(), what.name()),
-        Err(BenchError::Memory) => say(out, b"error: memory\n", 6),
+    match device_in(alloc, path, file) {
+        Ok(device) => serve_device(alloc, device, input, out),
+        Err(refusal) => tell(out, refusal),
     }
 }

@@ -8,7 +8,7 @@ struct Row {
     status: u8,
 }
 
-const ROWS: [Row; 9] = [
+const ROWS: [Row; 13] = [
     // The inputs are 0, so 22 and 23 are to be 0. One of 10 and 22 explains the 1, and the first of them is named.
     Row {
         words: &["serve", "c17.bench"],
@@ -62,6 +62,32 @@ const ROWS: [Row; 9] = [
         out: "error: not yet\n",
         status: 1,
     },
+    // Two instances of a block have a wire of their own each. The first inverts a, so u.w is to be 1.
+    Row {
+        words: &["serve", "pair.dev"],
+        script: "open S\nsee S a=0\nsee S u.w=0\nsee S v.w=0\nmin S\n",
+        out: "ready 4 5\nS open\nS ok\nS ok\nS ok\nS min 1 u.g\n",
+        status: 0,
+    },
+    // A valve that is stuck shut passes nothing on, and no valve makes pressure.
+    Row {
+        words: &["serve", "valve.dev"],
+        script: "open S\nsee S a=1\nsee S b=0\nmin S\nsee S a=0\nsee S b=1\nmin S\n",
+        out: "ready 1 2\nS open\nS ok\nS ok\nS min 1 v\nS ok\nS ok\nS inconsistent\n",
+        status: 0,
+    },
+    Row {
+        words: &["serve", "dotted.dev"],
+        script: "open S\n",
+        out: "error: line 1: fault 2 name\n",
+        status: 1,
+    },
+    Row {
+        words: &["serve", "long.dev"],
+        script: "open S\n",
+        out: "error: path 259 above 255\n",
+        status: 1,
+    },
     Row {
         words: &["serve", "absent.bench"],
         script: "open S\n",
@@ -71,12 +97,13 @@ const ROWS: [Row; 9] = [
 ];
 
 // Words that ask for nothing that the program does.
-const WRONG: [&[&str]; 7] = [
+const WRONG: [&[&str]; 8] = [
     &[],
     &["serve"],
     &["--help"],
     &["serve", "c17.v"],
     &["serve", ".bench"],
+    &["serve", ".dev"],
     &["serve", "c17.bench", "x"],
     &["answer", "c17.bench"],
 ];

@@ -11,7 +11,7 @@ pub const C17: &str =
     "# c17\nINPUT(1)\nINPUT(2)\nINPUT(3)\nINPUT(6)\nINPUT(7)\nOUTPUT(22)\nOUTPUT(23)\n\n10 = NAND(1, 3)\n11 = NAND(3, 6)\n16 = NAND(2, 11)\n19 = NAND(11, 7)\n22 = NAND(10, 16)\n23 = NAND(16, 19)\n";
 
 /// The files of the shelf.
-const FILES: [(&str, &str); 6] = [
+const FILES: [(&str, &str); 10] = [
     ("c17.bench", C17),
     (
         "chain.bench",
@@ -27,6 +27,19 @@ const FILES: [(&str, &str); 6] = [
         "INPUT(a)\nINPUT(b)\nINPUT(c)\nINPUT(d)\nINPUT(e)\nINPUT(f)\nINPUT(g)\nINPUT(h)\nINPUT(i)\nINPUT(j)\nINPUT(k)\nINPUT(l)\nINPUT(m)\nINPUT(n)\nINPUT(o)\nINPUT(p)\nINPUT(q)\nINPUT(r)\nINPUT(s)\nINPUT(t)\nINPUT(u)\n",
     ),
     ("input.bench", "INPUT(a)\n"),
+    (
+        "pair.dev",
+        "block B p q\nwire w\npart g NOT p w\npart h NOT w q\nend\nblock T a b c\npart u B a b\npart v B b c\nend\ntop T\n",
+    ),
+    (
+        "valve.dev",
+        "type V in out\nok 00\nok 11\nbad 00\nbad 10\nend\nblock T a b\npart v V a b\nend\ntop T\n",
+    ),
+    ("dotted.dev", "block M a.b\nend\ntop M\n"),
+    (
+        "long.dev",
+        "block A p\npart xxxxxxxxxxxxxxxxxxxxxxxxxxxxxxxxxxxxxxxxxxxxxxxxxxxxxxxxxxxxxxxx NOT p p\nend\nblock B p\npart xxxxxxxxxxxxxxxxxxxxxxxxxxxxxxxxxxxxxxxxxxxxxxxxxxxxxxxxxxxxxxxx A p\nend\nblock C p\npart xxxxxxxxxxxxxxxxxxxxxxxxxxxxxxxxxxxxxxxxxxxxxxxxxxxxxxxxxxxxxxxx B p\nend\nblock D p\npart xxxxxxxxxxxxxxxxxxxxxxxxxxxxxxxxxxxxxxxxxxxxxxxxxxxxxxxxxxxxxxxx C p\nend\ntop D\n",
+    ),
 ];
 
 /// More room than any output here needs.

@@ -1,0 +1,258 @@
+-- The clauses of a part are true exactly where the part allows the bits of its ports.
+use Rattle.std.proofs.Common.{◌≡◌, ℕ, zero, suc, ◌-◌, ◌^◌, ◌<◌, ◌≤◌, Bool, true, false, not, ◌&&◌, ◌||◌, List, [], ◌∷◌, ◌++◌, map, length, take, get_or, pos, neg_ℤ, Option, Some, None, refl, ap, sym, ◌∙◌, arith}
+use Rattle.std.specs.Prelude.{◌==◌, slice_get, nat_le}
+use Rattle.std.specs.List.{list_any, list_all}
+use Rattle.std.proofs.lemmas.Bool.{eqb-true, leb-true, and_parts, false≢true}
+use Rattle.std.proofs.lemmas.List.{length-map, take-map, get_or-map, length-take-le}
+use Rattle.std.proofs.lemmas.List.Folds.{list_all-append, list_any-append, list_all-map}
+use Rattle.ranking.specs.Bits.{same_bit, bit_in, row_number, has_odd_ones}
+use Rattle.graph_rules.specs.Graphs.{Assignment}
+use Rattle.device_model.specs.declared.component.Kind.{Kind}
+use Rattle.device_model.specs.declared.component.Kind.TheVariants.{And, Or, Nand, Nor, Xor, Xnor, Not, Buff, Table}
+use Rattle.device_model.specs.Rows.{Rows}
+use Rattle.device_model.specs.Devices.{is_set, first_bit, gate_value, gate_allows, table_allows, any_table_allows, allows, takes, takes_ports, rows_take}
+use Rattle.clause_encoder.specs.Clauses.{Clause, literal, is_true_clause, all_hold}
+use Rattle.clause_encoder.specs.Encoding.{and_clauses, row_bits, rows_of, unlike, row_clause, table_side, table_clauses, gate_clauses, raw_clauses}
+use Rattle.clause_encoder.specs.Steps.{parity_clauses}
+use Rattle.clause_encoder.proofs.Literals.{lit, lit-literal, neg-literal}
+use Rattle.clause_encoder.proofs.RowBits.{AllPositive, row_bits-number, row_number-below, unlike-row, all-rows, all-filtered}
+
+or_false : (b : Bool) → (b || false) ≡ b
+or_false true = refl
+or_false false = refl
+
+or_true : (b : Bool) → (b || true) ≡ true
+or_true true = refl
+or_true false = refl
+
+and_true : (b : Bool) → (b && true) ≡ b
+and_true true = refl
+and_true false = refl
+
+same_bit_comm : (b c : Bool) → same_bit b c ≡ same_bit c b
+same_bit_comm true true = refl
+same_bit_comm true false = refl
+same_bit_comm false true = refl
+same_bit_comm false false = refl
+
+-- ---- ands, of literals on either side
+
+-- the clauses of an and, with no literal negated
+pub and_clauses-literals : (h y : ℕ) (t s : Bool) (xs : List ℕ) → and_clauses (pos h) (literal t y) (map (literal s) xs)
+    ≡ map (λ x. literal false h ∷ literal (not t) y ∷ literal s x ∷ []) xs ++ (literal false h ∷ literal t y ∷ map (literal (not s)) xs) ∷ []
+and_clauses-literals h y t s xs = λ i. fronts xs i ++ (literal false h ∷ literal t y ∷ negated xs i) ∷ [] where
+  fronts : (xs : List ℕ) → map (λ x. neg_ℤ (pos h) ∷ neg_ℤ (literal t y) ∷ x ∷ []) (map (literal s) xs) ≡ map (λ x. literal false h ∷ literal (not t) y ∷ literal s x ∷ []) xs
+  fronts [] = refl
+  fronts (x ∷ xs) = λ i. (literal false h ∷ neg-literal t y i ∷ literal s x ∷ []) ∷ fronts xs i
+
+  negated : (xs : List ℕ) → map neg_ℤ (map (literal s) xs) ≡ map (literal (not s)) xs
+  negated [] = refl
+  negated (x ∷ xs) = λ i. neg-literal s x i ∷ negated xs i
+
+same_bit-not : (t b : Bool) → same_bit (not t) b ≡ not (same_bit t b)
+same_bit-not true b = refl
+same_bit-not false true = refl
+same_bit-not false false = refl
+
+fronts_step : (ok y x all : Bool) → ((not ok || (not y || (x || false))) && (not ok || (not y || all))) ≡ (not ok || (not y || (x && all)))
+fronts_step false y x all = refl
+fronts_step true false x all = refl
+fronts_step true true true all = refl
+fronts_step true true false all = refl
+
+always : (ok y : Bool) → true ≡ (not ok || (not y || true))
+always false y = refl
+always true false = refl
+always true true = refl
+
+not_all : (x all : Bool) → (not x || not all) ≡ not (x && all)
+not_all true all = refl
+not_all false all = refl
+
+both_ways : (ok y all : Bool) → ((not ok || (not y || all)) && ((not ok || (y || not all)) && true)) ≡ (not ok || same_bit y all)
+both_ways false y all = refl
+both_ways true true true = refl
+both_ways true true false = refl
+both_ways true false true = refl
+both_ways true false false = refl
+
+module _ (a : Assignment) (h y : ℕ) (t s : Bool) (hh : 1 ≤ h) (hy : 1 ≤ y) where
+  fronts-hold : (xs : List ℕ) → AllPositive xs → all_hold a (map (λ x. literal false h ∷ literal (not t) y ∷ literal s x ∷ []) xs)
+      ≡ (not (a h) || (not (same_bit t (a y)) || list_all (λ x. same_bit s (a x)) xs))
+  fronts-hold [] hs = always (a h) (same_bit t (a y))
+  fronts-hold (x ∷ xs) hs = (λ i. (lit-literal a false h hh i || ((lit-literal a (not t) y hy ∙ same_bit-not t (a y)) i || (lit-literal a s x hs.0 i || false))) && fronts-hold xs hs.1 i)
+      ∙ fronts_step (a h) (same_bit t (a y)) (same_bit s (a x)) (list_all (λ x. same_bit s (a x)) xs)
+
+  any-negated : (xs : List ℕ) → AllPositive xs → list_any (lit a) (map (literal (not s)) xs) ≡ not (list_all (λ x. same_bit s (a x)) xs)
+  any-negated [] hs = refl
+  any-negated (x ∷ xs) hs = (λ i. (lit-literal a (not s) x hs.0 ∙ same_bit-not s (a x)) i || any-negated xs hs.1 i) ∙ not_all (same_bit s (a x)) (list_all (λ x. same_bit s (a x)) xs)
+
+  and-holds : (xs : List ℕ) → AllPositive xs → all_hold a (and_clauses (pos h) (literal t y) (map (literal s) xs))
+      ≡ (not (a h) || same_bit (same_bit t (a y)) (list_all (λ x. same_bit s (a x)) xs))
+  and-holds xs hs = ap (all_hold a) (and_clauses-literals h y t s xs)
+      ∙ list_all-append (is_true_clause a) (map (λ x. literal false h ∷ literal (not t) y ∷ literal s x ∷ []) xs) ((literal false h ∷ literal t y ∷ map (literal (not s)) xs) ∷ [])
+      ∙ (λ i. fronts-hold xs hs i && ((lit-literal a false h hh i || (lit-literal a t y hy i || any-negated xs hs i)) && true))
+      ∙ both_ways (a h) (same_bit t (a y)) (list_all (λ x. same_bit s (a x)) xs)
+
+all_not : (a : Assignment) (xs : List ℕ) → list_all (λ x. not (a x)) xs ≡ not (list_any (λ b. b) (map a xs))
+all_not a [] = refl
+all_not a (x ∷ xs) = ap (λ b. not (a x) && b) (all_not a xs) ∙ not_or (a x) (list_any (λ b. b) (map a xs)) where
+  not_or : (b c : Bool) → (not b && not c) ≡ not (b || c)
+  not_or true c = refl
+  not_or false c = refl
+
+all_bits : (a : Assignment) (xs : List ℕ) → list_all (λ x. a x) xs ≡ list_all (λ b. b) (map a xs)
+all_bits a xs = sym (list_all-map (λ (b : Bool). b) a xs)
+
+turned : (y b : Bool) → same_bit (not y) b ≡ same_bit y (not b)
+turned true true = refl
+turned true false = refl
+turned false true = refl
+turned false false = refl
+
+same_bit-twice : (y b : Bool) → same_bit (not y) (not b) ≡ same_bit y b
+same_bit-twice true true = refl
+same_bit-twice true false = refl
+same_bit-twice false true = refl
+same_bit-twice false false = refl
+
+-- ---- the rows of an exclusive or
+
+later : (ok differs y : Bool) → (not ok || (differs || (y || false))) ≡ (differs || (not ok || y))
+later ok true y = or_true (not ok)
+later true false y = or_false y
+later false false y = refl
+
+parity-holds : (a : Assignment) (odd : Bool) (h : ℕ) (xs : List ℕ) (y : ℕ) → 1 ≤ h → 1 ≤ y → AllPositive xs
+    → all_hold a (parity_clauses odd h xs y) ≡ (not (a h) || same_bit (a y) (same_bit odd (has_odd_ones (map a xs))))
+parity-holds a odd h xs y hh hy hs = list_all-map (is_true_clause a) clause_of (rows_of xs)
+    ∙ all-rows (λ r. is_true_clause a (clause_of r)) (λ r. not (a h) || same_bit (value_of r) (a y)) xs row
+    (row_number-below (map a xs) (length xs) (length-map xs a)) at_row
+    ∙ ap (λ bits. not (a h) || same_bit (same_bit odd (has_odd_ones bits)) (a y)) (row_bits-number (map a xs) xs (length-map xs a))
+    ∙ ap (λ b. not (a h) || b) (same_bit_comm (same_bit odd (has_odd_ones (map a xs))) (a y)) where
+      row : ℕ
+      row = row_number (map a xs)
+
+      value_of : ℕ → Bool
+      value_of r = same_bit odd (has_odd_ones (row_bits r xs))
+
+      clause_of : ℕ → Clause
+      clause_of r = row_clause h xs y (row_bits r xs) (value_of r)
+
+      at_row : (r : ℕ) → r < 2 ^ length xs → is_true_clause a (clause_of r) ≡ (not (r == row) || (not (a h) || same_bit (value_of r) (a y)))
+      at_row r lt = ap (λ b. lit a (literal false h) || b) (list_any-append (lit a) (unlike xs (row_bits r xs)) (literal (value_of r) y ∷ []))
+          ∙ (λ i. lit-literal a false h hh i || (unlike-row a xs r hs lt i || (lit-literal a (value_of r) y hy i || false)))
+          ∙ later (a h) (not (r == row)) (same_bit (value_of r) (a y))
+
+-- ---- the rows of a table
+
+allowed-later : (allowed ok differs : Bool) → (not (not allowed) || (ok || differs)) ≡ (differs || (allowed || ok))
+allowed-later true ok true = refl
+allowed-later true ok false = refl
+allowed-later false true true = refl
+allowed-later false true false = refl
+allowed-later false false differs = sym (or_false differs)
+
+side-holds : (a : Assignment) (ok : Bool) (allowed h : ℕ) (ports : List ℕ) → 1 ≤ h → AllPositive ports
+    → all_hold a (table_side ok allowed h ports) ≡ (is_set allowed (row_number (map a ports)) || same_bit (not ok) (a h))
+side-holds a ok allowed h ports hh hs = all-filtered (is_true_clause a) clause_of (λ r. not (is_set allowed r)) (rows_of ports)
+    ∙ all-rows (λ r. not (not (is_set allowed r)) || is_true_clause a (clause_of r)) (λ r. is_set allowed r || same_bit (not ok) (a h)) ports row
+    (row_number-below (map a ports) (length ports) (length-map ports a)) at_row where
+      row : ℕ
+      row = row_number (map a ports)
+
+      clause_of : ℕ → Clause
+      clause_of r = literal (not ok) h ∷ unlike ports (row_bits r ports)
+
+      at_row : (r : ℕ) → r < 2 ^ length ports → (not (not (is_set allowed r)) || is_true_clause a (clause_of r)) ≡ (not (r == row) || (is_set allowed r || same_bit (not ok) (a h)))
+      at_row r lt = (λ i. not (not (is_set allowed r)) || (lit-literal a (not ok) h hh i || unlike-row a ports r hs lt i))
+          ∙ allowed-later (is_set allowed r) (same_bit (not ok) (a h)) (not (r == row))
+
+table-holds : (a : Assignment) (rows : Rows) (h : ℕ) (ports : List ℕ) → 1 ≤ h → AllPositive ports
+    → all_hold a (table_clauses (Some rows) h ports) ≡ table_allows rows (a h) (map a ports)
+table-holds a rows h ports hh hs = list_all-append (is_true_clause a) (table_side true rows.ok h ports) (table_side false rows.bad h ports)
+    ∙ (λ i. side-holds a true rows.ok h ports hh hs i && side-holds a false rows.bad h ports hh hs i)
+    ∙ by_mode (a h) where
+      by_mode : (ok : Bool) → ((is_set rows.ok (row_number (map a ports)) || not ok) && (is_set rows.bad (row_number (map a ports)) || ok)) ≡ table_allows rows ok (map a ports)
+      by_mode true = (λ i. or_false (is_set rows.ok (row_number (map a ports))) i && or_true (is_set rows.bad (row_number (map a ports))) i) ∙ and_true (is_set rows.ok (row_number (map a ports)))
+      by_mode false = (λ i. or_true (is_set rows.ok (row_number (map a ports))) i && or_false (is_set rows.bad (row_number (map a ports))) i)
+
+-- ---- gates
+
+one_input : (a : Assignment) (xs : List ℕ) → (length xs == 1) ≡ true → list_all (λ b. b) (map a xs) ≡ first_bit (map a xs)
+one_input a [] e = absurd (false≢true e)
+one_input a (x ∷ []) e = and_true (a x)
+one_input a (x ∷ y ∷ xs) e = absurd (omega (arith, eqb-true (length (x ∷ y ∷ xs)) 1 e))
+
+module _ (a : Assignment) (h : ℕ) (xs : List ℕ) (y : ℕ) (hh : 1 ≤ h) (hy : 1 ≤ y) (hs : AllPositive xs) where
+  gate-holds : (kind : Kind) → takes kind (length xs) ≡ true → all_hold a (gate_clauses kind h xs y) ≡ (not (a h) || same_bit (a y) (gate_value kind (map a xs)))
+  gate-holds And e = and-holds a h y true true hh hy xs hs ∙ ap (λ b. not (a h) || same_bit (a y) b) (all_bits a xs)
+  gate-holds Buff e = and-holds a h y true true hh hy xs hs ∙ ap (λ b. not (a h) || same_bit (a y) b) (all_bits a xs ∙ one_input a xs e)
+  gate-holds Nand e = and-holds a h y false true hh hy xs hs ∙ ap (λ b. not (a h) || b) (turned (a y) (list_all (λ x. a x) xs) ∙ ap (λ b. same_bit (a y) (not b)) (all_bits a xs))
+  gate-holds Not e = and-holds a h y false true hh hy xs hs ∙ ap (λ b. not (a h) || b) (turned (a y) (list_all (λ x. a x) xs) ∙ ap (λ b. same_bit (a y) (not b)) (all_bits a xs ∙ one_input a xs e))
+  gate-holds Or e = and-holds a h y false false hh hy xs hs ∙ ap (λ b. not (a h) || b) (ap (same_bit (not (a y))) (all_not a xs) ∙ same_bit-twice (a y) (list_any (λ b. b) (map a xs)))
+  gate-holds Nor e = and-holds a h y true false hh hy xs hs ∙ ap (λ b. not (a h) || same_bit (a y) b) (all_not a xs)
+  gate-holds Xor e = parity-holds a true h xs y hh hy hs
+  gate-holds Xnor e = parity-holds a false h xs y hh hy hs
+  gate-holds (Table t) e = absurd (false≢true e)
+
+pub takes-some : (kind : Kind) (n : ℕ) → takes kind n ≡ true → 1 ≤ n
+takes-some Not n e = omega (arith, eqb-true n 1 e)
+takes-some Buff n e = omega (arith, eqb-true n 1 e)
+takes-some Xor n e = leb-true 1 n (and_parts (nat_le 1 n) (nat_le n 8) e).0
+takes-some Xnor n e = leb-true 1 n (and_parts (nat_le 1 n) (nat_le n 8) e).0
+takes-some And n e = leb-true 1 n (and_parts (nat_le 1 n) (nat_le n 16) e).0
+takes-some Or n e = leb-true 1 n (and_parts (nat_le 1 n) (nat_le n 16) e).0
+takes-some Nand n e = leb-true 1 n (and_parts (nat_le 1 n) (nat_le n 16) e).0
+takes-some Nor n e = leb-true 1 n (and_parts (nat_le 1 n) (nat_le n 16) e).0
+takes-some (Table t) n e = absurd (false≢true e)
+
+AllPositive-take : (n : ℕ) (vs : List ℕ) → AllPositive vs → AllPositive (take n vs)
+AllPositive-take zero vs h = tt
+AllPositive-take (suc n) [] h = tt
+AllPositive-take (suc n) (v ∷ vs) h = (h.0, AllPositive-take n vs h.1)
+
+AllPositive-at : (vs : List ℕ) (i : ℕ) → AllPositive vs → i < length vs → 1 ≤ get_or vs i 0
+AllPositive-at [] i h lt = absurd (omega arith)
+AllPositive-at (v ∷ vs) zero h lt = h.0
+AllPositive-at (v ∷ vs) (suc i) h lt = AllPositive-at vs i h.1 (omega arith)
+
+gate_allows-says : (kind : Kind) (ok : Bool) (row : List Bool)
+    → (not ok || same_bit (bit_in row (length row - 1)) (gate_value kind (take (length row - 1) row))) ≡ gate_allows kind ok row
+gate_allows-says kind true row = refl
+gate_allows-says kind false row = refl
+
+-- the last port of a gate is its output
+ports-hold : (a : Assignment) (kind : Kind) (h : ℕ) (ports : List ℕ) → 1 ≤ h → AllPositive ports → takes kind (length ports - 1) ≡ true
+    → all_hold a (gate_clauses kind h (take (length ports - 1) ports) (get_or ports (length ports - 1) 0)) ≡ gate_allows kind (a h) (map a ports)
+ports-hold a kind h ports hh hs e =
+    gate-holds a h (take inputs ports) (get_or ports inputs 0) hh (AllPositive-at ports inputs hs within) (AllPositive-take inputs ports hs) kind (ap (takes kind) long ∙ e)
+    ∙ (λ i. not (a h) || same_bit (output i) (gate_value kind (sym (take-map a inputs ports) i)))
+    ∙ (λ i. not (a h) || same_bit (bit_in (map a ports) (sym (length-map ports a) i - 1)) (gate_value kind (take (sym (length-map ports a) i - 1) (map a ports))))
+    ∙ gate_allows-says kind (a h) (map a ports) where
+      inputs : ℕ
+      inputs = length ports - 1
+
+      within : inputs < length ports
+      within = omega (arith, takes-some kind (length ports - 1) e)
+
+      long : length (take inputs ports) ≡ inputs
+      long = length-take-le inputs ports (omega arith)
+
+      output : a (get_or ports inputs 0) ≡ bit_in (map a ports) inputs
+      output = sym (get_or-map a ports inputs 0 false within)
+
+pub raw-holds : (a : Assignment) (tables : List Rows) (kind : Kind) (h : ℕ) (ports : List ℕ) → 1 ≤ h → AllPositive ports → takes_ports tables kind (length ports) ≡ true
+    → all_hold a (raw_clauses tables kind h ports) ≡ allows tables kind (a h) (map a ports)
+raw-holds a tables (Table t) h ports hh hs e = by_rows (slice_get tables t) e where
+  by_rows : (rows : Option Rows) → rows_take rows (length ports) ≡ true → all_hold a (table_clauses rows h ports) ≡ any_table_allows rows (a h) (map a ports)
+  by_rows None e = absurd (false≢true e)
+  by_rows (Some rows) e = table-holds a rows h ports hh hs
+raw-holds a tables And h ports hh hs e = ports-hold a And h ports hh hs e
+raw-holds a tables Or h ports hh hs e = ports-hold a Or h ports hh hs e
+raw-holds a tables Nand h ports hh hs e = ports-hold a Nand h ports hh hs e
+raw-holds a tables Nor h ports hh hs e = ports-hold a Nor h ports hh hs e
+raw-holds a tables Xor h ports hh hs e = ports-hold a Xor h ports hh hs e
+raw-holds a tables Xnor h ports hh hs e = ports-hold a Xnor h ports hh hs e
+raw-holds a tables Not h ports hh hs e = ports-hold a Not h ports hh hs e
+raw-holds a tables Buff h ports hh hs e = ports-hold a Buff h ports hh hs e

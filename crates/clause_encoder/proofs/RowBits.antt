@@ -1,0 +1,166 @@
+-- The bits of a row number, and the clauses that are false in one row.
+use Rattle.std.proofs.Common.{◌≡◌, ℕ, zero, suc, ◌+◌, ◌*◌, ◌/◌, ◌%◌, ◌^◌, ◌<◌, ◌≤◌, Bool, true, false, not, ◌&&◌, ◌||◌, cond, List, [], ◌∷◌, map, length, count_by, ◌⊎◌, inl, inr, refl, ap, sym, ◌∙◌, arith, add-one}
+use Rattle.std.specs.Prelude.{◌==◌, count_ones}
+use Rattle.std.specs.Int.{bit_at}
+use Rattle.std.specs.List.{list_any, list_all, filter, range_with_len}
+use Rattle.std.proofs.lemmas.Nat.Bits.{bit_at-suc, bit_at_lowest}
+use Rattle.std.proofs.lemmas.Bool.Decides.{nat_tests}
+use lib.Count.{ones, ones_step}
+use Rattle.std.proofs.lemmas.List.Sums.{sum_by-cons}
+use Rattle.std.proofs.lemmas.List.Filters.{length-filter_both}
+use Rattle.std.proofs.lemmas.List.FromFn.{length-range_with_len}
+use Rattle.std.proofs.lemmas.Bool.{cases_eq, eq-eqb, ne_eqb}
+use Rattle.ranking.specs.Bits.{same_bit, number_of_bit, row_number, has_odd_ones}
+use Rattle.graph_rules.specs.Graphs.{Assignment}
+use Rattle.device_model.specs.Devices.{is_set}
+use Rattle.clause_encoder.specs.Encoding.{row_bits, rows_of, unlike}
+use Rattle.clause_encoder.proofs.Literals.{lit, lit-literal}
+
+-- each variable is above 0
+abbrev pub AllPositive : List ℕ → Type 0
+AllPositive [] = Unit {0}
+AllPositive (v ∷ vs) = (1 ≤ v) × AllPositive vs
+
+-- ---- a row number by halves
+
+is_set-more : (r k : ℕ) → is_set r (k + 1) ≡ is_set (r / 2) k
+is_set-more r k = ap (λ i. bit_at r i == 1) (add-one k) ∙ ap (λ b. b == 1) (bit_at-suc r k)
+
+sets-more : (r k n : ℕ) → map (is_set r) (range_with_len (k + 1) n) ≡ map (is_set (r / 2)) (range_with_len k n)
+sets-more r k zero = refl
+sets-more r k (suc n) = λ i. is_set-more r k i ∷ sets-more r (k + 1) n i
+
+pub row_bits-cons : (r v : ℕ) (vs : List ℕ) → row_bits r (v ∷ vs) ≡ is_set r 0 ∷ row_bits (r / 2) vs
+row_bits-cons r v vs = λ i. is_set r 0 ∷ sets-more r 0 (length vs) i
+
+pub is_set-zero : (r : ℕ) → is_set r 0 ≡ (r % 2 == 1)
+is_set-zero r = ap (λ b. b == 1) (bit_at_lowest r)
+
+half-below : (r n : ℕ) → r < 2 ^ suc n → r / 2 < 2 ^ n
+half-below r n h = omega arith
+
+bit-of : (b : Bool) (n : ℕ) → is_set (number_of_bit b + 2 * n) 0 ≡ b
+bit-of true n = is_set-zero (1 + 2 * n) ∙ grind (arith, nat_tests)
+bit-of false n = is_set-zero (0 + 2 * n) ∙ grind (arith, nat_tests)
+
+half-of : (b : Bool) (n : ℕ) → (number_of_bit b + 2 * n) / 2 ≡ n
+half-of true n = omega arith
+half-of false n = omega arith
+
+pub row_bits-number : (bits : List Bool) (vs : List ℕ) → length bits ≡ length vs → row_bits (row_number bits) vs ≡ bits
+row_bits-number [] [] h = refl
+row_bits-number [] (v ∷ vs) h = absurd (omega arith)
+row_bits-number (b ∷ bits) [] h = absurd (omega arith)
+row_bits-number (b ∷ bits) (v ∷ vs) h = row_bits-cons (row_number (b ∷ bits)) v vs
+    ∙ (λ i. bit-of b (row_number bits) i ∷ row_bits (half-of b (row_number bits) i) vs)
+    ∙ (λ i. b ∷ row_bits-number bits vs (omega arith) i)
+
+pub row_number-below : (bits : List Bool) (n : ℕ) → length bits ≡ n → row_number bits < 2 ^ n
+row_number-below [] zero h = omega arith
+row_number-below [] (suc n) h = absurd (omega arith)
+row_number-below (b ∷ bits) zero h = absurd (omega arith)
+row_number-below (true ∷ bits) (suc n) h = omega (arith, row_number-below bits n (omega arith))
+row_number-below (false ∷ bits) (suc n) h = omega (arith, row_number-below bits n (omega arith))
+
+-- ---- a row differs from that of the variables, or is it
+
+differs : (bit : Bool) (r n : ℕ) → (same_bit (not (r % 2 == 1)) bit || not (r / 2 == n)) ≡ not (r == number_of_bit bit + 2 * n)
+differs true r n = by_test (r % 2 == 1) refl where
+  by_test : (t : Bool) → (r % 2 == 1) ≡ t → (same_bit (not t) true || not (r / 2 == n)) ≡ not (r == 1 + 2 * n)
+  by_test true e = grind (arith, nat_tests)
+  by_test false e = grind (arith, nat_tests)
+differs false r n = by_test (r % 2 == 1) refl where
+  by_test : (t : Bool) → (r % 2 == 1) ≡ t → (same_bit (not t) false || not (r / 2 == n)) ≡ not (r == 0 + 2 * n)
+  by_test true e = grind (arith, nat_tests)
+  by_test false e = grind (arith, nat_tests)
+
+-- The literals that are false in a row are all false where the variables have that row.
+pub unlike-row : (a : Assignment) (vs : List ℕ) (r : ℕ) → AllPositive vs → r < 2 ^ length vs
+    → list_any (lit a) (unlike vs (row_bits r vs)) ≡ not (r == row_number (map a vs))
+unlike-row a [] r h lt = grind (arith, nat_tests)
+unlike-row a (v ∷ vs) r h lt = ap (λ bits. list_any (lit a) (unlike (v ∷ vs) bits)) (row_bits-cons r v vs)
+    ∙ (λ i. lit-literal a (not (is_set r 0)) v h.0 i || unlike-row a vs (r / 2) h.1 (half-below r (length vs) lt) i)
+    ∙ ap (λ b. same_bit (not b) (a v) || not (r / 2 == row_number (map a vs))) (is_set-zero r)
+    ∙ differs (a v) r (row_number (map a vs))
+
+-- ---- tests of all rows, of which one counts
+
+all-past : (q : ℕ → Bool) (n k row : ℕ) → row < k → list_all (λ r. not (r == row) || q r) (range_with_len k n) ≡ true
+all-past q zero k row h = refl
+all-past q (suc n) k row h = (λ i. (not (other i) || q k) && all-past q n (k + 1) row (omega arith) i) where
+  other : (k == row) ≡ false
+  other = ne_eqb k row (λ e. omega arith)
+
+all-at : (q : ℕ → Bool) (n k row : ℕ) → k ≤ row → row < k + n → list_all (λ r. not (r == row) || q r) (range_with_len k n) ≡ q row
+all-at q zero k row h lt = absurd (omega arith)
+all-at q (suc n) k row h lt = by_case (cases_eq k row) (λ le. all-at q n (k + 1) row le (omega arith)) where
+  and_true : (b : Bool) → (b && true) ≡ b
+  and_true true = refl
+  and_true false = refl
+
+  by_case : (k ≡ row) ⊎ (k ≡ row → ⊥) → (k + 1 ≤ row → list_all (λ r. not (r == row) || q r) (range_with_len (k + 1) n) ≡ q row)
+      → ((not (k == row) || q k) && list_all (λ r. not (r == row) || q r) (range_with_len (k + 1) n)) ≡ q row
+  by_case (inl e) rest = (λ i. (not (eq-eqb k row e i) || q k) && all-past q n (k + 1) row (omega (arith, e)) i) ∙ and_true (q k) ∙ ap q e
+  by_case (inr ne) rest = (λ i. (not (ne_eqb k row ne i) || q k) && rest (omega (arith, ne)) i)
+
+all-same : (p q : ℕ → Bool) (n k : ℕ) → ((r : ℕ) → r < k + n → p r ≡ q r) → list_all p (range_with_len k n) ≡ list_all q (range_with_len k n)
+all-same p q zero k h = refl
+all-same p q (suc n) k h = λ i. h k (omega arith) i && all-same p q n (k + 1) (λ r lt. h r (omega arith)) i
+
+-- each row passes that is not the one, and so the one decides
+pub all-rows : (p q : ℕ → Bool) (vs : List ℕ) (row : ℕ) → row < 2 ^ length vs → ((r : ℕ) → r < 2 ^ length vs → p r ≡ (not (r == row) || q r))
+    → list_all p (rows_of vs) ≡ q row
+all-rows p q vs row lt h = all-same p (λ r. not (r == row) || q r) (2 ^ length vs) 0 (λ r k. h r (omega (arith, k)))
+    ∙ all-at q (2 ^ length vs) 0 row (omega arith) (omega arith)
+
+pub all-filtered : {A : Type 0} (p : A → Bool) (f : ℕ → A) (keep : ℕ → Bool) (rs : List ℕ)
+    → list_all p (map f (filter keep rs)) ≡ list_all (λ r. not (keep r) || p (f r)) rs
+all-filtered p f keep [] = refl
+all-filtered p f keep (r ∷ rs) = by_test (keep r) (all-filtered p f keep rs) where
+  by_test : (b : Bool) → list_all p (map f (filter keep rs)) ≡ list_all (λ r. not (keep r) || p (f r)) rs
+      → list_all p (map f (cond b (r ∷ filter keep rs) (filter keep rs))) ≡ ((not b || p (f r)) && list_all (λ r. not (keep r) || p (f r)) rs)
+  by_test true rest = λ i. p (f r) && rest i
+  by_test false rest = rest
+
+-- ---- how many bits are set
+
+count-cons : (b : Bool) (bits : List Bool) → count_by (λ b. b) (b ∷ bits) ≡ cond b 1 0 + count_by (λ b. b) bits
+count-cons b bits = sum_by-cons (λ (b : Bool). cond b 1 0) b bits
+
+odd-bit : (r : ℕ) → cond (r % 2 == 1) 1 0 ≡ r % 2
+odd-bit r = by_test (r % 2 == 1) refl where
+  by_test : (t : Bool) → (r % 2 == 1) ≡ t → cond t 1 0 ≡ r % 2
+  by_test true e = grind (arith, nat_tests)
+  by_test false e = grind (arith, nat_tests)
+
+no_ones : (r : ℕ) → r ≡ 0 → 0 ≡ count_ones r
+unfolding ones
+no_ones r e = ap count_ones (sym e)
+
+pub ones-set : (n r : ℕ) → r < 2 ^ n → count_by (λ b. b) (map (is_set r) (range_with_len 0 n)) ≡ count_ones r
+ones-set zero r h = no_ones r (omega arith)
+ones-set (suc n) r h = (λ i. count_by (λ b. b) (is_set r 0 ∷ sets-more r 0 n i)) ∙ count-cons (is_set r 0) (map (is_set (r / 2)) (range_with_len 0 n))
+    ∙ (λ i. cond (is_set-zero r i) 1 0 + ones-set n (r / 2) (half-below r n h) i)
+    ∙ ap (λ n. n + count_ones (r / 2)) (odd-bit r)
+    ∙ sym (ones_step r)
+
+-- a row has an odd number of ones
+pub odd-row : (vs : List ℕ) (r : ℕ) → r < 2 ^ length vs → (count_ones r % 2 == 1) ≡ has_odd_ones (row_bits r vs)
+odd-row vs r h = ap (λ n. n % 2 == 1) (sym (ones-set (length vs) r h))
+
+count-kept : (f : ℕ → Bool) (rs : List ℕ) → count_by (λ b. b) (map f rs) ≡ length (filter f rs)
+count-kept f [] = refl
+count-kept f (r ∷ rs) = count-cons (f r) (map f rs) ∙ by_test (f r) (count-kept f rs) where
+  by_test : (b : Bool) → count_by (λ b. b) (map f rs) ≡ length (filter f rs) → cond b 1 0 + count_by (λ b. b) (map f rs) ≡ length (cond b (r ∷ filter f rs) (filter f rs))
+  by_test true e = omega arith
+  by_test false e = omega arith
+
+-- of all rows, those that are not in a set
+pub others : (set : ℕ) (n : ℕ) → set < 2 ^ n → length (filter (λ r. not (is_set set r)) (range_with_len 0 n)) + count_ones set ≡ n
+others set n h = omega (
+  arith,
+  length-filter_both (is_set set) (λ r. not (is_set set r)) (λ r. refl) (range_with_len 0 n),
+  count-kept (is_set set) (range_with_len 0 n),
+  ones-set n set h,
+  length-range_with_len 0 n,
+)

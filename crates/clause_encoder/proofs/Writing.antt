@@ -1,0 +1,192 @@
+-- Clauses that are written one after the other: what a step of a loop adds to those that were there.
+use Rattle.std.proofs.Common.{◌≡◌, ℕ, zero, suc, ◌+◌, ◌-◌, ◌*◌, ◌/◌, ◌%◌, ◌^◌, ◌<◌, ◌≤◌, Bool, true, false, not, cond, List, [], ◌∷◌, ◌++◌, map, length, drop, get_or, ℤ, pos, count_ones, Some, ap, sym, ◌∙◌, subst, arith, append_assoc, ◌&&◌, w32, to_z, of_z, FitsSigned}
+use Rattle.std.specs.List.{list_all, filter, range_with_len}
+use Rattle.std.proofs.lemmas.List.{append-nil, drop_more, drop_all, length-map, get_or-map}
+use Rattle.std.specs.Prelude.{◌==◌, slice_get, nat_lt, nat_le}
+use Rattle.std.proofs.Math.Pow.{pow_mono}
+use Rattle.std.proofs.lemmas.Bool.{eqb-true, leb-true, ltb-true, and_parts, false≢true}
+use Rattle.std.proofs.lemmas.Bool.Decides.{nat_tests}
+use Rattle.std.proofs.lemmas.Int.{to_z-of_z, fits_signed_from_abs}
+use Rattle.ranking.specs.Bits.{same_bit, has_odd_ones}
+use Rattle.device_model.specs.Rows.{Rows, has_few_ports, is_table}
+use Rattle.device_model.specs.declared.component.Component.{Component}
+use Rattle.device_model.specs.Devices.{Device, IsDevice, has_wires, is_set, rows_take}
+use Rattle.clause_encoder.specs.Clauses.{Clause, literal}
+use Rattle.clause_encoder.specs.Encoding.{tidy, and_clauses, row_bits, row_clause, unlike, raw_clauses, clauses_from, wire_variable}
+use Rattle.clause_encoder.proofs.Literals.{tidy-append}
+use Rattle.clause_encoder.proofs.RowBits.{row_bits-cons, is_set-zero, odd-row}
+use Rattle.clause_encoder.proofs.Meaning.{and_clauses-literals}
+
+module _ (now next start : List Clause) where
+  -- some were written, and some are left
+  pub written : (front rest : List Clause) → next ≡ now ++ tidy front → now ++ tidy (front ++ rest) ≡ start → next ++ tidy rest ≡ start
+  written front rest e h = ap (λ w. w ++ tidy rest) e ∙ append_assoc now (tidy front) (tidy rest) ∙ ap (λ c. now ++ c) (sym (tidy-append front rest)) ∙ h
+
+  pub item-written : {A : Type 0} (f : A → Clause) (xs : List A) (i : ℕ) (d : A) → i < length xs
+      → next ≡ now ++ tidy (f (get_or xs i d) ∷ []) → now ++ tidy (map f (drop i xs)) ≡ start → next ++ tidy (map f (drop (i + 1) xs)) ≡ start
+  item-written f xs i d lt e h = written (f (get_or xs i d) ∷ []) (map f (drop (i + 1) xs)) e (ap (λ ys. now ++ tidy (map f ys)) (sym (drop_more xs i d lt)) ∙ h)
+
+  rows-from : (r n : ℕ) → r < n → range_with_len r (n - r) ≡ r ∷ range_with_len (r + 1) (n - (r + 1))
+  rows-from r n lt = ap (range_with_len r) (less r n lt) where
+    less : (r n : ℕ) → r < n → n - r ≡ suc (n - (r + 1))
+    less r n lt = omega arith
+
+  pub row-written : (f : ℕ → Clause) (r n : ℕ) → r < n → next ≡ now ++ tidy (f r ∷ [])
+      → now ++ tidy (map f (range_with_len r (n - r))) ≡ start → next ++ tidy (map f (range_with_len (r + 1) (n - (r + 1)))) ≡ start
+  row-written f r n lt e h = written (f r ∷ []) (map f (range_with_len (r + 1) (n - (r + 1)))) e (ap (λ rs. now ++ tidy (map f rs)) (sym (rows-from r n lt)) ∙ h)
+
+  pub kept-written : (f : ℕ → Clause) (keep : ℕ → Bool) (r n : ℕ) → r < n → keep r ≡ true → next ≡ now ++ tidy (f r ∷ [])
+      → now ++ tidy (map f (filter keep (range_with_len r (n - r)))) ≡ start → next ++ tidy (map f (filter keep (range_with_len (r + 1) (n - (r + 1))))) ≡ start
+  kept-written f keep r n lt k e h = written (f r ∷ []) (map f (filter keep (range_with_len (r + 1) (n - (r + 1))))) e
+      ((λ i. now ++ tidy (map f (cond (sym k i) (r ∷ filter keep (range_with_len (r + 1) (n - (r + 1)))) (filter keep (range_with_len (r + 1) (n - (r + 1)))))))
+      ∙ ap (λ rs. now ++ tidy (map f (filter keep rs))) (sym (rows-from r n lt)) ∙ h)
+
+  pub kept-skipped : (f : ℕ → Clause) (keep : ℕ → Bool) (r n : ℕ) → r < n → keep r ≡ false → next ≡ now
+      → now ++ tidy (map f (filter keep (range_with_len r (n - r)))) ≡ start → next ++ tidy (map f (filter keep (range_with_len (r + 1) (n - (r + 1))))) ≡ start
+  kept-skipped f keep r n lt k e h = (λ i. e i ++ tidy (map f (filter keep (range_with_len (r + 1) (n - (r + 1))))))
+      ∙ (λ i. now ++ tidy (map f (cond (sym k i) (r ∷ filter keep (range_with_len (r + 1) (n - (r + 1)))) (filter keep (range_with_len (r + 1) (n - (r + 1)))))))
+      ∙ ap (λ rs. now ++ tidy (map f (filter keep rs))) (sym (rows-from r n lt)) ∙ h
+
+-- nothing is left
+pub all-written : (now start : List Clause) → now ++ tidy [] ≡ start → now ≡ start
+all-written now start h = sym (append-nil now) ∙ h
+
+pub items-written : {A : Type 0} (now start : List Clause) (f : A → Clause) (xs : List A) (i : ℕ) → length xs ≤ i → now ++ tidy (map f (drop i xs)) ≡ start → now ≡ start
+items-written now start f xs i past h = all-written now start (ap (λ ys. now ++ tidy (map f ys)) (sym (drop_all i xs past)) ∙ h)
+
+-- ---- literals as they are passed
+
+literal-fits : (b : Bool) (v : ℕ) → v < 2 ^ 29 → FitsSigned w32 (literal b v)
+literal-fits true v h = fits_signed_from_abs w32 (pos v) (omega arith)
+literal-fits false zero h = fits_signed_from_abs w32 (pos zero) (omega arith)
+literal-fits false (suc n) h = fits_signed_from_abs w32 (literal false (suc n)) (omega arith)
+
+pub passed : (x : ℤ) (b : Bool) (v : ℕ) → v < 2 ^ 29 → x ≡ literal b v → to_z w32 (of_z w32 x) ≡ literal b v
+passed x b v h e = ap (λ y. to_z w32 (of_z w32 y)) e ∙ to_z-of_z w32 (literal b v) (literal-fits b v h)
+
+-- ---- the clauses of an and
+
+pub and-more : (h y : ℕ) (t s : Bool) (xs : List ℕ) (i : ℕ) (now next start : List Clause) (first second third : ℤ)
+    → i < length xs → first ≡ literal false h → second ≡ literal (not t) y → third ≡ literal s (get_or xs i 0)
+    → next ≡ now ++ tidy ((first ∷ second ∷ third ∷ []) ∷ [])
+    → now ++ tidy (map (λ x. literal false h ∷ literal (not t) y ∷ literal s x ∷ []) (drop i xs)) ≡ start
+    → next ++ tidy (map (λ x. literal false h ∷ literal (not t) y ∷ literal s x ∷ []) (drop (i + 1) xs)) ≡ start
+and-more h y t s xs i now next start first second third lt a b c e inv =
+    item-written now next start (λ x. literal false h ∷ literal (not t) y ∷ literal s x ∷ []) xs i 0 lt (e ∙ (λ j. now ++ tidy ((a j ∷ b j ∷ c j ∷ []) ∷ []))) inv
+
+pub and-all : (h y : ℕ) (t s : Bool) (xs : List ℕ) (i : ℕ) (now next start : List Clause) (last : Clause) → length xs ≤ i
+    → last ≡ literal false h ∷ literal t y ∷ map (literal (not s)) xs
+    → now ++ tidy (map (λ x. literal false h ∷ literal (not t) y ∷ literal s x ∷ []) (drop i xs)) ≡ start ++ tidy (map (λ x. literal false h ∷ literal (not t) y ∷ literal s x ∷ []) xs)
+    → next ≡ now ++ tidy (last ∷ []) → next ≡ start ++ tidy (and_clauses (pos h) (literal t y) (map (literal s) xs))
+and-all h y t s xs i now next start last past e inv f =
+    let front = λ (x : ℕ). literal false h ∷ literal (not t) y ∷ literal s x ∷ [] in
+    f ∙ (λ j. items-written now (start ++ tidy (map front xs)) front xs i past inv j ++ tidy (e j ∷ []))
+    ∙ append_assoc start (tidy (map front xs)) (tidy ((literal false h ∷ literal t y ∷ map (literal (not s)) xs) ∷ []))
+    ∙ ap (λ c. start ++ c) (sym (tidy-append (map front xs) ((literal false h ∷ literal t y ∷ map (literal (not s)) xs) ∷ [])))
+    ∙ ap (λ cs. start ++ tidy cs) (sym (and_clauses-literals h y t s xs))
+
+-- ---- rows
+
+-- the literal of one variable more
+pub bit-written : (vs : List ℕ) (i rest : ℕ) (now next start : List ℤ) (l : ℤ) → i < length vs → l ≡ literal (rest % 2 == 0) (get_or vs i 0)
+    → next ≡ now ++ l ∷ [] → now ++ unlike (drop i vs) (row_bits rest (drop i vs)) ≡ start
+    → next ++ unlike (drop (i + 1) vs) (row_bits (rest / 2) (drop (i + 1) vs)) ≡ start
+bit-written vs i rest now next start l lt e f inv =
+    ap (λ ls. ls ++ more) f ∙ append_assoc now (l ∷ []) more ∙ (λ j. now ++ (same j ∷ more))
+    ∙ (λ j. now ++ unlike (get_or vs i 0 ∷ drop (i + 1) vs) (sym (row_bits-cons rest (get_or vs i 0) (drop (i + 1) vs)) j))
+    ∙ (λ j. now ++ unlike (sym (drop_more vs i 0 lt) j) (row_bits rest (sym (drop_more vs i 0 lt) j)))
+    ∙ inv where
+      more : List ℤ
+      more = unlike (drop (i + 1) vs) (row_bits (rest / 2) (drop (i + 1) vs))
+
+      other : (r : ℕ) → (r % 2 == 0) ≡ not (r % 2 == 1)
+      other r = grind (arith, nat_tests)
+
+      same : l ≡ literal (not (is_set rest 0)) (get_or vs i 0)
+      same = e ∙ ap (λ b. literal b (get_or vs i 0)) (other rest ∙ ap not (sym (is_set-zero rest)))
+
+-- what `1 << n` is
+pub shifted : (n : ℕ) → n ≤ 8 → 1 * 2 ^ n % 4294967296 ≡ 2 ^ n
+shifted n h = let most : 2 ^ n ≤ 2 ^ 8 = pow_mono h in omega arith
+
+pub shifted_far : (n : ℕ) → n ≤ 8 → 1 * 2 ^ n % 18446744073709551616 ≡ 2 ^ n
+shifted_far n h = let most : 2 ^ n ≤ 2 ^ 8 = pow_mono h in omega arith
+
+pub parity-more : (odd : Bool) (h : ℕ) (xs : List ℕ) (y r n : ℕ) (now next start : List Clause) (clause front : Clause) (first last : ℤ) (value : Bool)
+    → n ≡ 2 ^ length xs → r < n → first ≡ literal false h → last ≡ literal value y → value ≡ same_bit odd (count_ones r % 2 == 1)
+    → front ≡ first ∷ unlike xs (row_bits r xs) → clause ≡ front ++ last ∷ [] → next ≡ now ++ tidy (clause ∷ [])
+    → now ++ tidy (map (λ r. row_clause h xs y (row_bits r xs) (same_bit odd (has_odd_ones (row_bits r xs)))) (range_with_len r (2 ^ length xs - r))) ≡ start
+    → next ++ tidy (map (λ r. row_clause h xs y (row_bits r xs) (same_bit odd (has_odd_ones (row_bits r xs)))) (range_with_len (r + 1) (2 ^ length xs - (r + 1)))) ≡ start
+parity-more odd h xs y r n now next start clause front first last value long lt a b v f g e inv =
+    row-written now next start (λ r. row_clause h xs y (row_bits r xs) (same_bit odd (has_odd_ones (row_bits r xs)))) r (2 ^ length xs) (omega arith)
+    (e ∙ ap (λ c. now ++ tidy (c ∷ [])) whole) inv where
+      value_is : value ≡ same_bit odd (has_odd_ones (row_bits r xs))
+      value_is = v ∙ ap (same_bit odd) (odd-row xs r (omega (arith, long, lt)))
+
+      whole : clause ≡ row_clause h xs y (row_bits r xs) (same_bit odd (has_odd_ones (row_bits r xs)))
+      whole = g ∙ (λ j. f j ++ (b ∙ ap (λ b. literal b y) value_is) j ∷ []) ∙ (λ j. (a j ∷ unlike xs (row_bits r xs)) ++ literal (same_bit odd (has_odd_ones (row_bits r xs))) y ∷ [])
+
+-- ---- tables
+
+pub record IsTable (rows : Rows) : Type 0 where
+  pub few : rows.ports ≤ 6
+  pub ok : rows.ok < 2 ^ (2 ^ rows.ports)
+  pub bad : rows.bad < 2 ^ (2 ^ rows.ports)
+
+pub IsTable-from : (rows : Rows) → is_table rows ≡ true → IsTable rows
+IsTable-from rows e =
+    let both = and_parts (has_few_ports rows.ports) (nat_lt rows.ok (2 ^ (2 ^ rows.ports)) && nat_lt rows.bad (2 ^ (2 ^ rows.ports))) e in
+    let ports = and_parts (nat_le 1 rows.ports) (nat_le rows.ports 6) both.0 in
+    let sets = and_parts (nat_lt rows.ok (2 ^ (2 ^ rows.ports))) (nat_lt rows.bad (2 ^ (2 ^ rows.ports))) both.1 in
+    record {
+      few = leb-true rows.ports 6 ports.1;
+      ok = ltb-true rows.ok (2 ^ (2 ^ rows.ports)) sets.0;
+      bad = ltb-true rows.bad (2 ^ (2 ^ rows.ports)) sets.1;
+    }
+
+-- the table of a part that has one
+pub taken : (tables : List Rows) (t ports : ℕ) (rows : Rows) → rows_take (slice_get tables t) ports ≡ true → rows ≡ get_or tables t rows
+    → (slice_get tables t ≡ Some rows) × (ports ≡ rows.ports)
+taken [] zero ports rows e f = absurd (false≢true e)
+taken [] (suc t) ports rows e f = absurd (false≢true e)
+taken (r ∷ tables) zero ports rows e f = (ap Some (sym f), omega (arith, eqb-true r.ports ports e, ap (λ (r : Rows). r.ports) f))
+taken (r ∷ tables) (suc t) ports rows e f = taken tables t ports rows e f
+
+-- ---- parts
+
+-- the clauses of one part more
+pub part-written : (device : Device) (place : ℕ) (parts : List Component) (part : Component) (tables : List Rows) (h : ℕ) (ports wires : List ℕ) (now next start : List Clause)
+    → parts ≡ device.parts → place < length parts → part ≡ get_or parts place part → tables ≡ device.tables → h ≡ place + 1
+    → ports ≡ map (λ wire. length parts + wire + 1) wires → wires ≡ part.ports
+    → next ≡ now ++ tidy (raw_clauses tables part.kind h ports)
+    → now ++ tidy (clauses_from device (place + 1) (drop place device.parts)) ≡ start
+    → next ++ tidy (clauses_from device ((place + 1) + 1) (drop (place + 1) device.parts)) ≡ start
+part-written device place parts part tables h ports wires now next start same lt is t height p w e inv =
+    written now next start (raw_clauses device.tables part.kind (place + 1) (map (wire_variable device) part.ports)) (clauses_from device ((place + 1) + 1) (drop (place + 1) device.parts))
+    (e ∙ (λ i. now ++ tidy (raw_clauses (t i) part.kind (height i) ((p ∙ (λ j. map (λ wire. length (same j) + wire + 1) (w j))) i))))
+    (ap (λ ps. now ++ tidy (clauses_from device (place + 1) ps)) (sym split) ∙ inv) where
+      split : drop place device.parts ≡ part ∷ drop (place + 1) device.parts
+      split = subst (λ ps. drop place ps ≡ part ∷ drop (place + 1) ps) same (drop_more parts place part lt ∙ ap (λ q. q ∷ drop (place + 1) parts) (sym is))
+
+-- the variables of wires are small
+pub small : (parts : ℕ) (wires ports items : List ℕ) → ports ≡ items → items ≡ map (λ wire. parts + wire + 1) wires → parts ≤ 4096 → ((k d : ℕ) → k < length wires → get_or wires k d < 16384)
+    → (k d : ℕ) → k < length ports → get_or ports k d < 2 ^ 29
+small parts wires ports items e f few low k d lt =
+    let long : length ports ≡ length wires = ap length (e ∙ f) ∙ length-map wires (λ wire. parts + wire + 1) in
+    omega (arith, ap (λ ps. get_or ps k d) (e ∙ f), get_or-map (λ wire. parts + wire + 1) wires k d d (omega arith), low k d (omega arith))
+
+list_all-at : {A : Type 0} (p : A → Bool) (xs : List A) (i : ℕ) (d : A) → list_all p xs ≡ true → i < length xs → p (get_or xs i d) ≡ true
+list_all-at p [] i d all lt = absurd (omega arith)
+list_all-at p (x ∷ xs) zero d all lt = (and_parts (p x) (list_all p xs) all).0
+list_all-at p (x ∷ xs) (suc i) d all lt = list_all-at p xs i d (and_parts (p x) (list_all p xs) all).1 (omega arith)
+
+-- the wires at the ports of a part
+pub low : (device : Device) (parts : List Component) (place : ℕ) (part : Component) (wires : List ℕ) → IsDevice device → parts ≡ device.parts → place < length parts → part ≡ get_or parts place part → wires ≡ part.ports
+    → (k d : ℕ) → k < length wires → get_or wires k d < 16384
+low device parts place part wires valid same lt is w k d within =
+    let at : list_all (λ port. nat_lt port (length device.wires)) wires ≡ true =
+    ap (list_all (λ port. nat_lt port (length device.wires))) w
+    ∙ ap (has_wires (length device.wires)) is
+    ∙ ap (λ ps. has_wires (length device.wires) (get_or ps place part)) same
+    ∙ list_all-at (has_wires (length device.wires)) device.parts place part valid.joined (omega (arith, ap length same)) in
+    omega (arith, valid.few_wires, ltb-true (get_or wires k d) (length device.wires) (list_all-at (λ port. nat_lt port (length device.wires)) wires k d at within))

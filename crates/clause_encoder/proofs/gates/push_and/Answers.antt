@@ -1,0 +1,28 @@
+use Rattle.std.proofs.Common.{◌≡◌, ◌<◌, ◌++◌, [], ◌∷◌, false, not, map, length, get_or, arith, ◌∙◌}
+use Rattle.std.proofs.lemmas.Result.{on_ok_weaker}
+use Rattle.clause_encoder.specs.Clauses.{literal}
+use Rattle.clause_encoder.proofs.Writing.{passed, and-more, and-all}
+use Rattle.clause_encoder.proofs.gates.push_and.Goals as goal
+
+pub loop-input-preserved : goal.loop-input-preserved
+loop-input-preserved c =
+    let inputs = c.args.inputs.now in
+    let i = c.loop-input.input-index in
+    let lt : i < length inputs = omega arith in
+    and-more c.args.health c.args.output c.args.output_as_is c.args.inputs_as_is inputs i c.loop-input.writer c.push.new.self _ _ _ _ lt
+    (passed c.literal-faulty.result false c.args.health c.requires.health c.literal-faulty.ensures)
+    (passed c.literal-no_output.result (not c.args.output_as_is) c.args.output c.requires.output c.literal-no_output.ensures)
+    (passed c.literal.result c.args.inputs_as_is (get_or inputs i 0) (c.requires.inputs i 0 lt) c.literal.ensures)
+    c.in_ok-push.ensures c.loop-input.invariant
+
+pub returns : goal.returns
+returns c =
+    let inputs = c.args.inputs.now in
+    let first = passed c.literal-faulty.result false c.args.health c.requires.health c.literal-faulty.ensures in
+    let second = passed c.literal-2.result c.args.output_as_is c.args.output c.requires.output c.literal-2.ensures in
+    let last : c.deref.result.now ≡ literal false c.args.health ∷ literal c.args.output_as_is c.args.output ∷ map (literal (not c.args.inputs_as_is)) inputs =
+    c.deref.ensures.value ∙ c.in_ok-push_literals.ensures
+    ∙ (λ i. (c.in_ok-push-3.ensures.items ∙ (λ j. (c.in_ok-push-2.ensures.items ∙ (λ k. c.in_ok-last.ensures.items k ++ first k ∷ [])) j ++ second j ∷ [])) i ++ map (literal (not c.args.inputs_as_is)) inputs) in
+    on_ok_weaker c.push-4.result
+    (and-all c.args.health c.args.output c.args.output_as_is c.args.inputs_as_is inputs c.loop-input.input-index c.loop-input.writer c.push-4.new.self c.args.writer.now c.deref.result.now (omega arith) last c.loop-input.invariant)
+    c.push-4.ensures

@@ -1,0 +1,130 @@
+-- The clauses of a device.
+use Rattle.std.specs.Prelude.{◌≡◌, ℕ, ◌+◌, ◌-◌, ◌^◌, Bool, true, false, not, ◌&&◌, ◌||◌, List, [], ◌∷◌, ◌++◌, map, length, take, Option, Some, None, ℤ, pos, neg_ℤ, Result, Ok, Err, ◌==◌, nat_lt, slice_index_or, slice_get, if◌then◌else◌}
+use Rattle.std.specs.List.{filter, list_any, range_with_len}
+use Rattle.ranking.specs.Bits.{has_odd_ones, same_bit, lists_of_bits}
+use Rattle.graph_rules.specs.Graphs.{assignment}
+use Rattle.device_model.specs.declared.component.Kind.{Kind}
+use Rattle.device_model.specs.declared.component.Kind.TheVariants.{And, Or, Nand, Nor, Xor, Xnor, Not, Buff, Table}
+use Rattle.device_model.specs.declared.component.Component.{Component}
+use Rattle.device_model.specs.Rows.{Rows}
+use Rattle.device_model.specs.Devices.{Device, is_set, fits}
+use Rattle.clause_encoder.specs.declared.encoding.EncodeError.{EncodeError}
+use Rattle.clause_encoder.specs.declared.encoding.EncodeError.TheVariants.{TooManyClauses}
+use Rattle.clause_encoder.specs.Clauses.{var_of, is_positive, literal, Clause, ClauseList, all_hold}
+
+-- ---- tidy clauses
+
+abbrev pub same_literal : ℤ → ℤ → Bool
+same_literal a b = (var_of a == var_of b) && same_bit (is_positive a) (is_positive b)
+
+-- the literal in its place by variable, once
+abbrev pub with_literal : ℤ → Clause → Clause
+with_literal a [] = a ∷ []
+with_literal a (b ∷ clause) =
+    if same_literal a b then b ∷ clause
+    else if nat_lt (var_of b) (var_of a) then b ∷ with_literal a clause
+    else a ∷ b ∷ clause
+
+abbrev pub sorted : Clause → Clause
+sorted [] = []
+sorted (a ∷ clause) = with_literal a (sorted clause)
+
+-- both literals of a variable
+abbrev pub has_opposites : Clause → Bool
+has_opposites [] = false
+has_opposites (a ∷ clause) = list_any (same_literal (neg_ℤ a)) clause || has_opposites clause
+
+-- Each clause is sorted, and one with both literals of a variable is left out.
+abbrev pub tidy : List Clause → List Clause
+tidy clauses = map sorted (filter (λ c. not (has_opposites c)) clauses)
+
+-- ---- the clauses of a part, by the variables of its health and of its ports
+
+-- where the part is ok, y is the and of the literals xs
+abbrev pub and_clauses : ℤ → ℤ → List ℤ → List Clause
+and_clauses ok y xs = map (λ x. neg_ℤ ok ∷ neg_ℤ y ∷ x ∷ []) xs ++ (neg_ℤ ok ∷ y ∷ map neg_ℤ xs) ∷ []
+
+-- the bits of row number r, as many as there are variables, the lowest first
+abbrev pub row_bits : ℕ → List ℕ → List Bool
+row_bits r vs = map (is_set r) (range_with_len 0 (length vs))
+
+-- the numbers of all rows, upwards
+abbrev pub rows_of : List ℕ → List ℕ
+rows_of vs = range_with_len 0 (2 ^ length vs)
+
+-- the literals that are false in a row
+abbrev pub unlike : List ℕ → List Bool → Clause
+unlike [] bits = []
+unlike (v ∷ vs) [] = []
+unlike (v ∷ vs) (b ∷ bits) = literal (not b) v ∷ unlike vs bits
+
+-- where the part is ok and its inputs have this row, the output has this bit
+abbrev pub row_clause : ℕ → List ℕ → ℕ → List Bool → Bool → Clause
+row_clause h xs y row value = literal false h ∷ (unlike xs row ++ literal value y ∷ [])
+
+abbrev pub xor_clauses : ℕ → List ℕ → ℕ → List Clause
+xor_clauses h xs y = map (λ r. row_clause h xs y (row_bits r xs) (has_odd_ones (row_bits r xs))) (rows_of xs)
+
+abbrev pub xnor_clauses : ℕ → List ℕ → ℕ → List Clause
+xnor_clauses h xs y = map (λ r. row_clause h xs y (row_bits r xs) (not (has_odd_ones (row_bits r xs)))) (rows_of xs)
+
+-- In this mode the ports have none of the rows that are not in the set.
+abbrev pub table_side : Bool → ℕ → ℕ → List ℕ → List Clause
+table_side ok allowed h ports =
+    map (λ r. literal (not ok) h ∷ unlike ports (row_bits r ports)) (filter (λ r. not (is_set allowed r)) (rows_of ports))
+
+abbrev pub table_clauses : Option Rows → ℕ → List ℕ → List Clause
+table_clauses None h ports = []
+table_clauses (Some rows) h ports = table_side true rows.ok h ports ++ table_side false rows.bad h ports
+
+-- the clauses of a gate by the variables of its health, of its inputs and of its output
+abbrev pub gate_clauses : Kind → ℕ → List ℕ → ℕ → List Clause
+gate_clauses And h xs y = and_clauses (pos h) (pos y) (map pos xs)
+gate_clauses Buff h xs y = and_clauses (pos h) (pos y) (map pos xs)
+gate_clauses Nand h xs y = and_clauses (pos h) (neg_ℤ (pos y)) (map pos xs)
+gate_clauses Not h xs y = and_clauses (pos h) (neg_ℤ (pos y)) (map pos xs)
+gate_clauses Or h xs y = and_clauses (pos h) (neg_ℤ (pos y)) (map (λ x. neg_ℤ (pos x)) xs)
+gate_clauses Nor h xs y = and_clauses (pos h) (pos y) (map (λ x. neg_ℤ (pos x)) xs)
+gate_clauses Xor h xs y = xor_clauses h xs y
+gate_clauses Xnor h xs y = xnor_clauses h xs y
+gate_clauses (Table t) h xs y = []
+
+-- The last port of a gate is its output.
+abbrev pub raw_clauses : List Rows → Kind → ℕ → List ℕ → List Clause
+raw_clauses tables (Table t) h ports = table_clauses (slice_get tables t) h ports
+raw_clauses tables kind h ports =
+    let inputs = length ports - 1 in gate_clauses kind h (take inputs ports) (slice_index_or ports inputs 0)
+
+-- ---- the clauses of a device
+
+-- Health variables are 1 to the number of parts, in the order of the parts, and the wires follow in theirs.
+abbrev pub wire_variable : Device → ℕ → ℕ
+wire_variable device wire = length device.parts + wire + 1
+
+-- of parts whose first has this health variable
+abbrev pub clauses_from : Device → ℕ → List Component → List Clause
+clauses_from device h [] = []
+clauses_from device h (part ∷ parts) =
+    raw_clauses device.tables part.kind h (map (wire_variable device) part.ports) ++ clauses_from device (h + 1) parts
+
+abbrev pub all_clauses : Device → List Clause
+all_clauses device = clauses_from device 1 device.parts
+
+-- how many clauses the parts have, before any is left out
+abbrev pub raw_count : Device → ℕ
+raw_count device = length (all_clauses device)
+
+abbrev pub clause_list : Device → ClauseList
+clause_list device = record { vars = length device.parts + length device.wires; clauses = tidy (all_clauses device) }
+
+-- The clauses of a device, or how many are too many.
+abbrev pub encoded : Device → Result ClauseList EncodeError
+encoded device = if nat_lt 262144 (raw_count device) then Err (TooManyClauses (raw_count device)) else Ok (clause_list device)
+
+-- Under bits for the health of the parts and for the wires, all clauses hold for some bits of the variables above these
+-- exactly where the device fits.
+abbrev pub Describes : ClauseList → Device → Type 0
+Describes cnf device = (state wires : List Bool) → length state ≡ length device.parts → length wires ≡ length device.wires
+    → list_any (λ inner. all_hold (assignment (state ++ wires ++ inner)) cnf.clauses)
+    (lists_of_bits (cnf.vars - (length device.parts + length device.wires)))
+    ≡ fits device state wires

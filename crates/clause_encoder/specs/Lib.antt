@@ -1,0 +1,4 @@
+pub mod Clauses
+pub mod Flat
+pub mod Encoding
+pub mod Steps

@@ -1,0 +1,108 @@
+ghost use Rattle.std.specs.Prelude.{◌≡◌, ◌<◌, ◌≤◌, ◌^◌, length, true, slice_index_or, [], IfOk};
+ghost use Rattle.std.specs.List.{list_all};
+ghost use Rattle.clause_encoder.specs.Clauses.{is_clause, is_clause_list};
+
+use crate::flat::FlatClauses;
+use std::alloc::{AllocError, Global};
+use std::marker::Model;
+
+/// A clause made outside the encoder: literals, of which one at least is true. Variable v is the literal v, and -v where it is negated.
+#[derive(Debug, Drop)]
+pub struct Clause {
+    literals: Vec<i32>,
+}
+
+impl Model for Clause {
+    ghost use Rattle.std.specs.Prelude.{ℤ, List};
+
+    ghost Value = { List ℤ };
+
+    ghost view = { λ c. c.literals.items };
+}
+
+impl Clause {
+    /// Copies the literals of a clause.
+    pub fn new(alloc: Global, literals: &[i32]) -> Result<Clause, AllocError>
+        ensures { IfOk result (λ clause. clause ≡ literals.now) }
+    {
+        let literals = Vec::from_slice(alloc, literals)?;
+        Ok(Clause { literals })
+    }
+
+    pub(crate) fn as_slice(&self) -> &[i32]
+        ensures { result.now ≡ self.now }
+    {
+        self.literals.as_slice()
+    }
+}
+
+/// Clauses over the variables 1 to a greatest one.
+#[derive(Debug, Drop)]
+pub struct Cnf {
+    vars: u32,
+    clauses: FlatClauses,
+}
+
+impl Model for Cnf {
+    ghost use Rattle.std.specs.Prelude.{◌≡◌, true};
+    ghost use Rattle.clause_encoder.specs.Clauses.{ClauseList, is_clause_list};
+
+    ghost Value = { ClauseList };
+
+    ghost view = { λ c. record { vars = c.vars; clauses = c.clauses } };
+
+    ghost invariant = { λ c. is_clause_list (record { vars = c.vars; clauses = c.clauses }) ≡ true };
+}
+
+impl Cnf {
+    /// The clauses in their order.
+    ///
+    /// The variables are fewer than 2^29 and the clauses at most 262,144. Each has a literal, and its variables rise.
+    pub fn of(alloc: Global, vars: u32, clauses: Vec<Clause>) -> Result<Cnf, AllocError>
+        requires vars { vars < 2 ^ 29 }
+        requires few { length clauses.items ≤ 262144 }
+        requires each { list_all (is_clause vars) clauses.items ≡ true }
+        ensures { IfOk result (λ cnf. cnf ≡ record { vars = vars; clauses = clauses.items }) }
+    {
+        let mut flat = FlatClauses::new(alloc);
+        for clause in &clauses {
+            flat.push(clause.as_slice())?;
+        }
+        Ok(Cnf {
+            vars,
+            clauses: flat,
+        })
+    }
+
+    pub(crate) fn of_flat(vars: u32, clauses: FlatClauses) -> Cnf
+        requires vars { vars < 2 ^ 29 }
+        requires few { length clauses ≤ 262144 }
+        requires each { list_all (is_clause vars) clauses ≡ true }
+        ensures { result ≡ record { vars = vars; clauses = clauses } }
+    {
+        Cnf { vars, clauses }
+    }
+
+    /// The greatest variable, which is the number of variables.
+    pub fn vars(&self) -> u32
+        ensures vars { result ≡ self.now.vars }
+        ensures valid { is_clause_list self.now ≡ true }
+    {
+        self.vars
+    }
+
+    /// The number of clauses.
+    pub fn len(&self) -> u32
+        ensures { result ≡ length self.now.clauses }
+    {
+        self.clauses.len() as u32
+    }
+
+    /// The literals of the clause at a place, by rising variable.
+    pub fn clause(&self, at: u32) -> &[i32]
+        requires { at < length self.now.clauses }
+        ensures { result.now ≡ slice_index_or self.now.clauses at [] }
+    {
+        self.clauses.get(at as usize)
+    }
+}

@@ -1,0 +1,13 @@
+//! The clauses of a device: what its parts say of their health and of the wires, as a list of clauses.
+#![tactic(auto)]
+
+mod cnf;
+mod encoding;
+mod flat;
+mod gates;
+#[cfg(test)]
+mod tests;
+mod writer;
+
+pub use cnf::{Clause, Cnf};
+pub use encoding::{EncodeError, encode};

@@ -1,0 +1,108 @@
+-- The rows of a type as bits of a number.
+use Rattle.std.proofs.Common.{◌≡◌, ℕ, zero, suc, ◌+◌, ◌*◌, ◌%◌, ◌^◌, ◌<◌, ◌≤◌, Bool, true, false, List, [], ◌∷◌, ◌++◌, map, length, get_or, take, Some, None, bit_or, refl, sym, ap, ◌∙◌, arith}
+use Rattle.std.specs.Prelude.{◌==◌, ◌||◌, if◌then◌else◌}
+use Rattle.std.specs.List.{list_all}
+use Rattle.std.proofs.Math.Pow.{pow_mono}
+use Rattle.std.proofs.lemmas.List.{length-map, take_more}
+use Rattle.std.proofs.lemmas.List.Folds.{list_all_more}
+use Rattle.std.specs.Int.{bit_at}
+use Rattle.std.specs.Int.Bits.{or_add_and}
+use Rattle.std.proofs.lemmas.Nat.{or_lt, pow_below}
+use Rattle.std.proofs.lemmas.Nat.Bits.{and_pow, bit_at-lt}
+use Rattle.std.proofs.lemmas.Bool.{and_parts, and_from, eqb-true}
+use Rattle.std.proofs.lemmas.Grind.{pow_more}
+use Rattle.ranking.specs.Bits.{row_number, number_of_bit}
+use Rattle.component_lang.specs.Reading.{is_row, row_in, with_row}
+
+or_of_bit : (rows row b : ℕ) → bit_at rows row ≡ b → bit_or rows (2 ^ row) + b * 2 ^ row ≡ rows + 2 ^ row
+or_of_bit rows row b e = ap (λ n. bit_or rows (2 ^ row) + n) (sym (and_pow rows row ∙ ap (λ n. n * 2 ^ row) e)) ∙ or_add_and rows (2 ^ row)
+
+pub with_row-or : (rows row : ℕ) → bit_or rows (2 ^ row) ≡ with_row rows row
+with_row-or rows row = by (bit_at rows row) refl (bit_at-lt rows row)
+  where
+    by : (b : ℕ) → bit_at rows row ≡ b → b < 2 → bit_or rows (2 ^ row) ≡ (if b == 1 then rows else rows + 2 ^ row)
+    by zero e l = omega (arith, or_of_bit rows row 0 e)
+    by (suc zero) e l = omega (arith, or_of_bit rows row 1 e)
+    by (suc (suc b)) e l = absurd (omega arith)
+
+pub with_row-fits : (k rows row : ℕ) → rows < 2 ^ k → row < k → with_row rows row < 2 ^ k
+with_row-fits k rows row h l =
+    let below = or_lt k rows (2 ^ row) h (pow_below row k l) in
+    omega (arith, with_row-or rows row, below)
+
+pub row_number-push : (bits : List Bool) (b : Bool) → row_number (bits ++ b ∷ []) ≡ row_number bits + number_of_bit b * 2 ^ length bits
+row_number-push [] b = omega arith
+row_number-push (c ∷ bits) b = grind (arith, row_number-push bits b, pow_more 2 (length bits))
+
+pub row_number-fits : (bits : List Bool) → row_number bits < 2 ^ length bits
+row_number-fits [] = omega arith
+row_number-fits (true ∷ bits) = grind (arith, row_number-fits bits, pow_more 2 (length bits))
+row_number-fits (false ∷ bits) = grind (arith, row_number-fits bits, pow_more 2 (length bits))
+
+-- a power of a number below 64 fits in 64 bits
+pub shifted : (row : ℕ) → row < 64 → 1 * 2 ^ row % 18446744073709551616 ≡ 2 ^ row
+shifted row l = let below = pow_below row 64 l in omega (arith, below)
+
+-- ---- the row that a word spells
+
+abbrev is_one : ℕ → Bool
+is_one b = b == 49
+
+abbrev pub is_bit : ℕ → Bool
+is_bit b = (b == 48) || (b == 49)
+
+map-push : (word : List ℕ) (b : ℕ) → map is_one (word ++ b ∷ []) ≡ map is_one word ++ is_one b ∷ []
+map-push [] b = refl
+map-push (x ∷ word) b = ap (λ bs. is_one x ∷ bs) (map-push word b)
+
+length-front : (word : List ℕ) (i : ℕ) → i < length word → length (take i word) ≡ i
+length-front [] i l = absurd (omega arith)
+length-front (x ∷ word) zero l = refl
+length-front (x ∷ word) (suc i) l = ap suc (length-front word i (omega arith))
+
+row_in-push : (word : List ℕ) (b : ℕ) → row_in (word ++ b ∷ []) ≡ row_in word + number_of_bit (is_one b) * 2 ^ length word
+row_in-push word b =
+    ap row_number (map-push word b) ∙ row_number-push (map is_one word) (is_one b)
+    ∙ ap (λ n. row_in word + number_of_bit (is_one b) * 2 ^ n) (length-map word is_one)
+
+pub row_in-fits : (word : List ℕ) → row_in word < 2 ^ length word
+row_in-fits word = let fits = row_number-fits (map is_one word) in let same = length-map word is_one in rw (← same) fits
+
+row_in-more : (word : List ℕ) (i b : ℕ) → i < length word → get_or word i 0 ≡ b → row_in (take (i + 1) word) ≡ row_in (take i word) + number_of_bit (is_one b) * 2 ^ i
+row_in-more word i b l e =
+    ap row_in (take_more word i 0 l) ∙ row_in-push (take i word) (get_or word i 0)
+    ∙ ap (λ n. row_in (take i word) + number_of_bit (is_one (get_or word i 0)) * 2 ^ n) (length-front word i l)
+    ∙ ap (λ n. row_in (take i word) + number_of_bit (is_one n) * 2 ^ i) e
+
+pub row-zero : (word : List ℕ) (i row : ℕ) → i < length word → get_or word i 0 ≡ 48 → row ≡ row_in (take i word) → row ≡ row_in (take (i + 1) word)
+row-zero word i row l e h = omega (arith, row_in-more word i 48 l e)
+
+pub row-one : (word : List ℕ) (i row : ℕ) → i < length word → i < 64 → get_or word i 0 ≡ 49 → row ≡ row_in (take i word) → row + 1 * 2 ^ i % 18446744073709551616 ≡ row_in (take (i + 1) word)
+row-one word i row l few e h = omega (arith, row_in-more word i 49 l e, shifted i few)
+
+pub bits-more : (word : List ℕ) (i b : ℕ) → i < length word → get_or word i 0 ≡ b → is_bit b ≡ true → list_all is_bit (take i word) ≡ true → list_all is_bit (take (i + 1) word) ≡ true
+bits-more word i b l e is before = list_all_more is_bit word i 0 l ∙ and_from _ _ before (ap is_bit e ∙ is)
+
+-- no overflow
+pub row-room : (word : List ℕ) (i row : ℕ) → i < length word → i < 6 → row ≡ row_in (take i word) → row + 1 * 2 ^ i % 18446744073709551616 < 64
+row-room word i row l few h =
+    let fits = row_in-fits (take i word) in
+    let size = length-front word i l in
+    let within : i ≤ 5 = omega arith in
+    let most : 2 ^ i ≤ 2 ^ 5 = pow_mono {i = i} {j = 5} within in
+    let same = ap (λ n. 2 ^ n) size in
+    let small : row_in (take i word) < 2 ^ i = omega (arith, fits, same) in
+    omega (arith, shifted i (omega arith))
+
+-- a row of at most six ports is one of 64
+pub row-below : (ports : ℕ) (word : List ℕ) (row : ℕ) → ports ≤ 6 → Some row ≡ (if is_row ports word then Some (row_in word) else None) → row < 64
+row-below ports word row few h = by (is_row ports word) refl h
+  where
+    by : (b : Bool) → is_row ports word ≡ b → Some row ≡ (if b then Some (row_in word) else None) → row < 64
+    by true e g =
+        let size : length word ≡ ports = eqb-true (length word) ports (and_parts _ _ e).0 in
+        let within : length word ≤ 6 = omega arith in
+        let most : 2 ^ length word ≤ 2 ^ 6 = pow_mono {i = length word} {j = 6} within in
+        let same : row ≡ row_in word = cc in
+        omega (arith, row_in-fits word)
+    by false e g = cc

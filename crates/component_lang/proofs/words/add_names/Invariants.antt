@@ -1,0 +1,12 @@
+use Rattle.std.proofs.Common.{◌≡◌, true}
+use Rattle.text_rules.specs.Tokens.{tokens_left}
+use Rattle.component_lang.specs.Meanings.{names_in}
+use Rattle.component_lang.proofs.NameLists.{more_names}
+use Rattle.component_lang.proofs.words.add_names.Given as goal
+
+abbrev pub invariant-loop-word : goal.invariant-loop-word
+invariant-loop-word l = record {
+  can_next : goal.iterator-loop-word.can_next l.word-iterator;
+  is_finite : goal.iterator-loop-word.is_finite l.word-iterator;
+  same : more_names true (names_in l.fn.names) (tokens_left l.fn.words) ≡ more_names l.are_new (names_in l.names) (tokens_left l.word-iterator);
+}

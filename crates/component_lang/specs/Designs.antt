@@ -1,0 +1,62 @@
+-- Designs: types of parts, and blocks of parts, wires and instances of blocks above them.
+use Rattle.std.specs.Prelude.{ℕ, ◌-◌, Bool, true, false, not, ◌&&◌, ◌||◌, List, [], ◌∷◌, ◌++◌, map, length, ◌==◌, Option, Some, None, nat_lt, nat_le, slice_get}
+use Rattle.std.specs.List.{list_all, list_any}
+use Rattle.text_rules.specs.Names.{Name, is_name, is_among}
+use Rattle.device_model.specs.Devices.{takes}
+use Rattle.component_lang.specs.declared.design.UsedKind.{UsedKind}
+use Rattle.component_lang.specs.declared.design.UsedKind.TheVariants.{Gate, Shape as OfShape, Block as OfBlock}
+use Rattle.component_lang.specs.declared.design.Used.{Used}
+use Rattle.component_lang.specs.declared.design.Shape.{Shape}
+use Rattle.component_lang.specs.declared.design.Block.{Block}
+
+-- The kinds of parts are places among the types or among the blocks, and `top` is the place of a block.
+pub record Design : Type 0 where
+  pub types : List Shape
+  pub blocks : List Block
+  pub top : ℕ
+
+-- one to 64 bytes of names, without a dot
+abbrev pub is_plain_name : Name → Bool
+is_plain_name word = is_name 64 word && not (list_any (λ b. b == 46) word)
+
+abbrev pub has_repeated : List Name → Bool
+has_repeated [] = false
+has_repeated (n ∷ ns) = is_among ns n || has_repeated ns
+
+abbrev pub used_names : List Used → List Name
+used_names parts = map (λ (u : Used). u.name) parts
+
+-- whether a kind takes so many arguments, of which a gate's last is its output
+abbrev pub shape_takes : Option Shape → ℕ → Bool
+shape_takes None args = false
+shape_takes (Some shape) args = shape.table.ports == args
+
+abbrev pub block_takes : Option Block → ℕ → Bool
+block_takes None args = false
+block_takes (Some block) args = block.ports == args
+
+abbrev pub takes_args : List Shape → List Block → UsedKind → ℕ → Bool
+takes_args types blocks (Gate kind) args = takes kind (args - 1)
+takes_args types blocks (OfShape place) args = shape_takes (slice_get types place) args
+takes_args types blocks (OfBlock place) args = block_takes (slice_get blocks place) args
+
+-- a part of a block over these types and the blocks above
+abbrev pub is_used : List Shape → List Block → ℕ → Used → Bool
+is_used types above wires used =
+    is_plain_name used.name
+    && (takes_args types above used.kind (length used.args) && list_all (λ wire. nat_lt wire wires) used.args)
+
+-- Names are plain and differ, wires among wires and parts among parts. The ports are the first of the wires.
+abbrev pub is_block : List Shape → List Block → Block → Bool
+is_block types above block =
+    (list_all is_plain_name block.wires && not (has_repeated block.wires))
+    && (nat_le block.ports (length block.wires)
+    && (list_all (is_used types above (length block.wires)) block.parts && not (has_repeated (used_names block.parts))))
+
+-- each block uses only blocks that stand before it
+abbrev pub are_blocks : List Shape → List Block → List Block → Bool
+are_blocks types above [] = true
+are_blocks types above (block ∷ blocks) = is_block types above block && are_blocks types (above ++ block ∷ []) blocks
+
+abbrev pub is_design : Design → Bool
+is_design design = are_blocks design.types [] design.blocks && nat_lt design.top (length design.blocks)

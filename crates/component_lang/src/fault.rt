@@ -1,0 +1,85 @@
+ghost use Rattle.std.specs.Prelude.{◌≡◌};
+ghost use Rattle.component_lang.specs.Faults.{fault_number, fault_name};
+ghost use Rattle.component_lang.specs.declared.fault.LangError.TheVariants.{Memory};
+
+use std::alloc::{AllocError, AllocFailed};
+
+/// What is wrong in a design. The first line with a fault is told, by its first one; `NoTop` is told last.
+#[derive(Clone, Copy, Debug, PartialEq, Eq)]
+pub enum LangFault {
+    /// The first word may not stand here, or has too few or too many words behind it.
+    Line,
+    /// A word that has to be a name is none: 1 to 64 bytes of names, without a dot.
+    Name,
+    /// A type or block, a port, a wire or a part of this name is there already.
+    Twice,
+    /// The kind is not closed above, an argument is no wire of the block, or the top is no block.
+    Unknown,
+    /// A type has no port or more than 6, or a part has more or fewer arguments than its kind takes.
+    Ports,
+    /// A row has not as many characters 0 and 1 as the type has ports.
+    Row,
+    /// The text ends without a top.
+    NoTop,
+    /// A line that is not blank follows the top.
+    AfterTop,
+}
+
+impl LangFault {
+    /// The number of the fault, 1 to 8.
+    pub fn number(self) -> u32
+        ensures { result ≡ fault_number self }
+    {
+        match self {
+            LangFault::Line => 1,
+            LangFault::Name => 2,
+            LangFault::Twice => 3,
+            LangFault::Unknown => 4,
+            LangFault::Ports => 5,
+            LangFault::Row => 6,
+            LangFault::NoTop => 7,
+            LangFault::AfterTop => 8,
+        }
+    }
+
+    /// The name of the fault, as it is told.
+    pub fn name(self) -> &'static str
+        ensures { result.now ≡ fault_name self }
+    {
+        match self {
+            LangFault::Line => "line",
+            LangFault::Name => "name",
+            LangFault::Twice => "twice",
+            LangFault::Unknown => "unknown",
+            LangFault::Ports => "ports",
+            LangFault::Row => "row",
+            LangFault::NoTop => "no top",
+            LangFault::AfterTop => "after top",
+        }
+    }
+}
+
+/// Why a text gives no design.
+#[derive(Clone, Copy, Debug, PartialEq, Eq)]
+pub enum LangError {
+    /// The text has a fault in this line, counted from 1; `NoTop` is of line 0.
+    Bad { line: u32, what: LangFault },
+    /// There was no memory.
+    Memory,
+}
+
+impl From<AllocError> for LangError {
+    ghost from_gives = { λ _ e. e ≡ Memory };
+
+    fn from(_: AllocError) -> Self {
+        LangError::Memory
+    }
+}
+
+impl<T: Drop> From<AllocFailed<T>> for LangError {
+    ghost from_gives = { λ _ e. e ≡ Memory };
+
+    fn from(_: AllocFailed<T>) -> Self {
+        LangError::Memory
+    }
+}

@@ -1,0 +1,166 @@
+ghost use Rattle.std.specs.Prelude.{◌≡◌, ◌+◌, ◌≤◌, length, map};
+ghost use Rattle.std.specs.Map.{lookup};
+ghost use Rattle.std.specs.Option.{option_map};
+ghost use Rattle.text_rules.specs.Names.{same_name};
+ghost use Rattle.component_lang.specs.declared.design.UsedKind.TheVariants.{Gate as OfGate};
+ghost use Rattle.component_lang.specs.declared.design.Shape.{Shape as TypeOfParts};
+ghost use Rattle.component_lang.specs.declared.design.Block.{Block as BlockOfParts};
+ghost use Rattle.component_lang.specs.Reading.{gates};
+ghost use Rattle.component_lang.specs.Meanings.{names_in};
+
+use crate::design::{Block, Design, Shape, UsedKind};
+use crate::fault::LangFault;
+use crate::line_error::LineError;
+use crate::words::{add_names, is_plain_name, spells};
+use device_model::Kind;
+use indexmap::IndexSet;
+use std::alloc::Global;
+use text_rules::Tokens;
+
+/// What is closed above a line: types and blocks, and their names in the same order.
+#[derive(Drop)]
+pub struct Closed<'a> {
+    types: Vec<Shape>,
+    type_names: IndexSet<&'a [u8]>,
+    blocks: Vec<Block>,
+    block_names: IndexSet<&'a [u8]>,
+    ghost types_named: { names_in type_names ≡ map (λ (shape : TypeOfParts). shape.name) types.items },
+    ghost blocks_named: { names_in block_names ≡ map (λ (block : BlockOfParts). block.name) blocks.items },
+    ghost few: { length types.items + length blocks.items ≤ 16777216 },
+}
+
+// The gate that a word names.
+fn gate_named(word: &[u8]) -> Option<Kind>
+    ensures { option_map OfGate result ≡ lookup (same_name word.now) gates }
+{
+    if spells(word, b"AND") {
+        Some(Kind::And)
+    } else if spells(word, b"OR") {
+        Some(Kind::Or)
+    } else if spells(word, b"NAND") {
+        Some(Kind::Nand)
+    } else if spells(word, b"NOR") {
+        Some(Kind::Nor)
+    } else if spells(word, b"XOR") {
+        Some(Kind::Xor)
+    } else if spells(word, b"XNOR") {
+        Some(Kind::Xnor)
+    } else if spells(word, b"NOT") {
+        Some(Kind::Not)
+    } else if spells(word, b"BUFF") {
+        Some(Kind::Buff)
+    } else {
+        None
+    }
+}
+
+impl<'a> Closed<'a> {
+    ghost use Rattle.std.specs.Prelude.{◌<◌, ◌∷◌, ◌++◌, [], true, not, is_some, Ok};
+    ghost use Rattle.text_rules.specs.Tokens.{tokens_left};
+    ghost use Rattle.component_lang.specs.Designs.{is_design, takes_args};
+    ghost use Rattle.component_lang.specs.Reading.{Outside, kind_named};
+    ghost use Rattle.component_lang.specs.Words.{new_ports};
+    ghost use Rattle.component_lang.specs.Meanings.{Gives};
+    ghost use Rattle.component_lang.specs.Views.{closed_in};
+
+    /// Nothing is closed above the first line.
+    pub fn new(alloc: Global) -> Self
+        ensures { closed_in result ≡ record { types = []; blocks = []; place = Outside } }
+    {
+        Closed {
+            types: Vec::new(alloc),
+            type_names: IndexSet::new(alloc),
+            blocks: Vec::new(alloc),
+            block_names: IndexSet::new(alloc),
+        }
+    }
+
+    /// The gate, the type or the block of a name.
+    pub fn kind_named(&self, name: &[u8]) -> Option<UsedKind>
+        ensures { result ≡ kind_named (closed_in self.now) name.now }
+    {
+        if let Some(gate) = gate_named(name) {
+            return Some(UsedKind::Gate(gate));
+        }
+        if let Some(place) = self.type_names.get_index_of(&name) {
+            return Some(UsedKind::Shape(place as u32));
+        }
+        let place = self.block_names.get_index_of(&name)?;
+        Some(UsedKind::Block(place as u32))
+    }
+
+    /// Whether a kind takes so many arguments, of which a gate's last is its output.
+    pub fn takes_args(&self, kind: UsedKind, args: usize) -> bool
+        ensures { result ≡ takes_args self.now.types.items self.now.blocks.items kind args }
+    {
+        match kind {
+            UsedKind::Gate(gate) => gate.takes(args.saturating_sub(1)),
+            UsedKind::Shape(place) => match self.types.get(place as usize) {
+                Some(shape) => usize::from(shape.table.ports()) == args,
+                None => false,
+            },
+            UsedKind::Block(place) => match self.blocks.get(place as usize) {
+                Some(block) => block.ports as usize == args,
+                None => false,
+            },
+        }
+    }
+
+    /// The ports that a line names behind a new type or block.
+    pub fn ports_of(
+        &self,
+        alloc: Global,
+        name: &[u8],
+        words: Tokens<'a>,
+    ) -> Result<IndexSet<&'a [u8]>, LineError>
+        ensures { Gives result names_in (new_ports (closed_in self.now) name.now (tokens_left words.entry)) }
+    {
+        if !is_plain_name(name) {
+            return Err(LineError::Fault(LangFault::Name));
+        }
+        let mut ports = IndexSet::new(alloc);
+        add_names(&mut ports, words)?;
+        if self.kind_named(name).is_some() {
+            return Err(LineError::Fault(LangFault::Twice));
+        }
+        Ok(ports)
+    }
+
+    /// Adds a type.
+    pub fn add_type(&mut self, name: &'a [u8], shape: Shape) -> Result<(), LineError>
+        requires named { shape.name ≡ name.now }
+        requires free { not (is_some (kind_named (closed_in self.old) name.now)) ≡ true }
+        requires few { length self.old.types.items + length self.old.blocks.items < 16777216 }
+        ensures { Gives result (λ _. closed_in self.new)
+            (Ok (record (closed_in self.old) { types = self.old.types.items ++ shape ∷ [] })) }
+    {
+        // No name is in the list without its type where memory runs out.
+        self.types.reserve(1)?;
+        self.type_names.insert(name)?;
+        self.types.push(shape)?;
+        Ok(())
+    }
+
+    /// Adds a block.
+    pub fn add_block(&mut self, name: &'a [u8], block: Block) -> Result<(), LineError>
+        requires named { block.name ≡ name.now }
+        requires free { not (is_some (kind_named (closed_in self.old) name.now)) ≡ true }
+        requires few { length self.old.types.items + length self.old.blocks.items < 16777216 }
+        ensures { Gives result (λ _. closed_in self.new)
+            (Ok (record (closed_in self.old) { blocks = self.old.blocks.items ++ block ∷ [] })) }
+    {
+        // No name is in the list without its block where memory runs out.
+        self.blocks.reserve(1)?;
+        self.block_names.insert(name)?;
+        self.blocks.push(block)?;
+        Ok(())
+    }
+
+    /// The design with this top, where the text has ended.
+    pub fn into_design(self, top: u32) -> Design
+        requires { is_design (record { types = self.types.items; blocks = self.blocks.items; top = top }) ≡ true }
+        ensures { result ≡ record { types = self.entry.types.items; blocks = self.entry.blocks.items; top = top } }
+    {
+        Design::of(self.types, self.blocks, top)
+    }
+}

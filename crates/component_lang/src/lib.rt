@@ -1,0 +1,17 @@
+//! Designs in `.dev` text: types of parts, and blocks of parts that stand in one another.
+#![tactic(auto)]
+
+mod blocks;
+mod design;
+mod fault;
+mod kinds;
+mod line_error;
+mod reading;
+#[cfg(test)]
+mod tests;
+mod types;
+mod words;
+
+pub use design::{Block, Design, Shape, Used, UsedKind, Uses};
+pub use fault::{LangError, LangFault};
+pub use reading::read_lang;

@@ -1,0 +1,79 @@
+ghost use Rattle.std.specs.Prelude.{◌≡◌, ◌≤◌, length};
+ghost use Rattle.std.specs.Option.{option_map};
+ghost use Rattle.text_rules.specs.Names.{same_name};
+ghost use Rattle.text_rules.specs.Tokens.{tokens_left};
+ghost use Rattle.component_lang.specs.Designs.{is_plain_name};
+ghost use Rattle.component_lang.specs.Words.{with_name, with_names, places_in};
+ghost use Rattle.component_lang.specs.Meanings.{Gives, names_in};
+
+use crate::fault::LangFault;
+use crate::line_error::LineError;
+use indexmap::IndexSet;
+use std::alloc::Global;
+use text_rules::{Tokens, is_name};
+
+/// The longest name, in bytes.
+const NAME_LIMIT: usize = 64;
+
+/// Whether a word is a name: 1 to 64 bytes of names, without a dot.
+pub fn is_plain_name(word: &[u8]) -> bool
+    ensures { result ≡ is_plain_name word.now }
+{
+    is_name(NAME_LIMIT, word) && !word.contains(&b'.')
+}
+
+/// Whether a word is this one.
+pub fn spells(word: &[u8], keyword: &[u8]) -> bool
+    ensures { result ≡ same_name word.now keyword.now }
+{
+    word == keyword
+}
+
+/// Puts a name behind those of a list, unless it stands there already, and says whether it is new.
+pub fn add_name<'a>(names: &mut IndexSet<&'a [u8]>, word: &'a [u8]) -> Result<bool, LineError>
+    ensures { Gives result (λ is_new. (names_in names.new, is_new)) (with_name (names_in names.old) word.now) }
+{
+    if !is_plain_name(word) {
+        return Err(LineError::Fault(LangFault::Name));
+    }
+    Ok(names.insert(word)?)
+}
+
+/// Puts the names that follow in a line behind those of a list. None of them may stand there already, or twice.
+pub fn add_names<'a>(names: &mut IndexSet<&'a [u8]>, words: Tokens<'a>) -> Result<(), LineError>
+    ensures { Gives result (λ _. names_in names.new) (with_names (names_in names.old) (tokens_left words.entry)) }
+{
+    let mut are_new = true;
+    for word in words {
+        are_new &= add_name(names, word)?;
+    }
+    if are_new {
+        Ok(())
+    } else {
+        Err(LineError::Fault(LangFault::Twice))
+    }
+}
+
+/// The places in a list of the names that follow in a line, if each of them stands there.
+pub fn places_of(
+    alloc: Global,
+    names: &IndexSet<&[u8]>,
+    words: Tokens<'_>,
+) -> Result<Option<Vec<u32>>, LineError>
+    requires { length names.now.keys ≤ 16777216 }
+    ensures { Gives result (λ places. option_map (λ v. v.items) places) (places_in (names_in names.now) (tokens_left words.entry)) }
+{
+    let mut places = Vec::new(alloc);
+    let mut are_known = true;
+    for word in words {
+        if !is_plain_name(word) {
+            return Err(LineError::Fault(LangFault::Name));
+        }
+        if let Some(place) = (*names).get_index_of(&word) {
+            places.push(place as u32)?;
+        } else {
+            are_known = false;
+        }
+    }
+    Ok(are_known.then_some(places))
+}

@@ -1,0 +1,72 @@
+-- Each part of an instance has as many wires as its kind takes.
+use Rattle.std.proofs.Common.{◌≡◌, ℕ, zero, suc, ◌-◌, Bool, true, List, [], ◌∷◌, ◌++◌, map, length, get_or, drop, refl, ap, ◌∙◌}
+use Rattle.std.specs.Prelude.{slice_get}
+use Rattle.std.specs.List.{list_all, flat_map}
+use Rattle.std.proofs.lemmas.Bool.{and_parts, and_from}
+use Rattle.std.proofs.lemmas.List.{length-map}
+use Rattle.text_rules.specs.Names.{Name}
+use Rattle.graph_rules.specs.Graphs.{values}
+use Rattle.device_model.specs.declared.component.Kind.{Kind}
+use Rattle.device_model.specs.declared.component.Kind.TheVariants.{And, Or, Nand, Nor, Xor, Xnor, Not, Buff, Table}
+use Rattle.device_model.specs.Rows.{Rows}
+use Rattle.device_model.specs.Devices.{takes, takes_ports, rows_take}
+use Rattle.component_lang.specs.declared.design.UsedKind.{UsedKind}
+use Rattle.component_lang.specs.declared.design.UsedKind.TheVariants.{Gate, Shape as OfShape, Block as OfBlock}
+use Rattle.component_lang.specs.declared.design.Used.{Used}
+use Rattle.component_lang.specs.declared.design.Shape.{Shape}
+use Rattle.component_lang.specs.declared.design.Block.{Block}
+use Rattle.component_lang.specs.Designs.{is_used, are_blocks, takes_args, shape_takes}
+use Rattle.flattener.specs.Flat.{FlatPart, Content, Instance, nothing, below, content_of, used_content, instance}
+use Rattle.flattener.proofs.Lists.{all_both}
+use Rattle.flattener.proofs.Relative.{GoodUsed-from_test, GoodBlock-from_test}
+use Rattle.flattener.proofs.Values.{values-hold}
+
+abbrev pub tables_of : List Shape → List Rows
+tables_of types = map (λ (s : Shape). s.table) types
+
+abbrev pub is_fed : List Rows → FlatPart → Bool
+is_fed tables part = takes_ports tables part.kind (length part.wires)
+
+gate_fed : (tables : List Rows) (kind : Kind) (n : ℕ) → takes kind (n - 1) ≡ true → takes_ports tables kind n ≡ true
+gate_fed tables (Table t) n h = cc
+gate_fed tables And n h = h
+gate_fed tables Or n h = h
+gate_fed tables Nand n h = h
+gate_fed tables Nor n h = h
+gate_fed tables Xor n h = h
+gate_fed tables Xnor n h = h
+gate_fed tables Not n h = h
+gate_fed tables Buff n h = h
+
+type_fed : (types : List Shape) (place n : ℕ) → shape_takes (slice_get types place) n ≡ true → rows_take (slice_get (tables_of types) place) n ≡ true
+type_fed [] place n h = h
+type_fed (s ∷ types) zero n h = h
+type_fed (s ∷ types) (suc place) n h = type_fed types place n h
+
+abbrev AllFed : List Shape → Instance → Type 0
+AllFed types made = (path : Name) (passed : List Name) → list_all (is_fed (tables_of types)) (made path passed).parts ≡ true
+
+module _ (types : List Shape) (above : List Block) (mades : List Instance) (h : (j : ℕ) → AllFed types (get_or mades j nothing)) where
+  kind_fed : (kind : UsedKind) (path : Name) (passed : List Name) (n : ℕ) → length passed ≡ n → takes_args types above kind n ≡ true
+      → list_all (is_fed (tables_of types)) (content_of mades kind path passed).parts ≡ true
+  kind_fed (Gate kind) path passed n e g =
+      and_from (takes_ports (tables_of types) kind (length passed)) true (gate_fed (tables_of types) kind (length passed) (ap (λ k. takes kind (k - 1)) e ∙ g)) refl
+  kind_fed (OfShape place) path passed n e g =
+      and_from (rows_take (slice_get (tables_of types) place) (length passed)) true (type_fed types place (length passed) (ap (shape_takes (slice_get types place)) e ∙ g)) refl
+  kind_fed (OfBlock place) path passed n e g = h place path passed
+
+  all_fed : (path : Name) (wires : List Name) (count : ℕ) (parts : List Used) → list_all (is_used types above count) parts ≡ true
+      → list_all (is_fed (tables_of types)) (flat_map (λ (c : Content). c.parts) (map (used_content mades path wires) parts)) ≡ true
+  all_fed path wires count [] g = refl
+  all_fed path wires count (u ∷ us) g =
+      let two = and_parts (is_used types above count u) (list_all (is_used types above count) us) g in
+      all_both (is_fed (tables_of types)) (used_content mades path wires u).parts _
+      (kind_fed u.kind (below path u.name) _ (length u.args) (length-map u.args _) (GoodUsed-from_test types above count u two.0).takes)
+      (all_fed path wires count us two.1)
+
+pub instances-fed : (types : List Shape) (blocks : List Block) → are_blocks types [] blocks ≡ true → (j : ℕ) (path : Name) (passed : List Name)
+    → list_all (is_fed (tables_of types)) (get_or (values instance blocks) j nothing path passed).parts ≡ true
+instances-fed types blocks good j =
+    values-hold types instance nothing (AllFed types) (λ path passed. refl)
+    (λ above block mades g h path passed. all_fed types above mades h path (passed ++ map (below path) (drop block.ports block.wires)) (length block.wires) block.parts (GoodBlock-from_test types above block g).used)
+    blocks good j

@@ -1,0 +1,166 @@
+-- The counts of a block are those of each of its instances.
+use Rattle.std.proofs.Common.{◌≡◌, ℕ, ◌+◌, ◌≤◌, inl, inr, Bool, true, List, [], ◌∷◌, ◌++◌, length, get_or, take, drop, fold, refl, sym, ap, subst, ◌∙◌, arith}
+use Rattle.std.specs.Prelude.{max, if◌then◌else◌}
+use Rattle.std.specs.List.{flat_map, list_all}
+use Rattle.std.proofs.lemmas.Bool.{and_parts, eq-eqb, ne_eqb, cases_lt}
+use Rattle.std.proofs.lemmas.List.{append_assoc, append-nil, take-append-drop, length-append, length-map}
+use Rattle.text_rules.specs.Names.{Name}
+use Rattle.graph_rules.specs.Graphs.{values}
+use Rattle.component_lang.specs.declared.design.UsedKind.{UsedKind}
+use Rattle.component_lang.specs.declared.design.UsedKind.TheVariants.{Gate, Shape as OfShape, Block as OfBlock}
+use Rattle.component_lang.specs.declared.design.Used.{Used}
+use Rattle.component_lang.specs.declared.design.Shape.{Shape}
+use Rattle.component_lang.specs.declared.design.Block.{Block}
+use Rattle.component_lang.specs.Designs.{is_used, is_block, are_blocks}
+use Rattle.flattener.specs.declared.counting.Counts.{Counts}
+use Rattle.flattener.specs.Flat.{below, counted}
+use Rattle.flattener.specs.Counting.{no_counts, longest_of, counts_of_wires, added, counts_of_part, below_name, counts_of_instance, counts_of_kind, counts_of_used, counts_of_block}
+use Rattle.flattener.proofs.Naming.{Plain, AllSome, AllSome-append, AllSome-below, AllSome-right, AllSome-plain, lift, lift-some, lift-none, longest-append, longest-below}
+use Rattle.flattener.proofs.Relative.{Which, Parts, Wires, Instances, Inner, no_names, wires_only, own_names, part_named, instance_named, kind_names, names_used, names_in, GoodUsed-from_test, GoodBlock-from_test}
+use Rattle.flattener.proofs.Values.{values-both}
+
+abbrev pub longest_in : Inner → ℕ
+longest_in inner = max (longest_of (inner Parts)) (max (longest_of (inner Wires)) (longest_of (inner Instances)))
+
+abbrev pub joined : Inner → Inner → Inner
+joined a b which = a which ++ b which
+
+pub record Counted (counts : Counts) (inner : Inner) : Type 0 where
+  pub parts : counts.parts ≡ counted (length (inner Parts))
+  pub wires : counts.wires ≡ counted (length (inner Wires))
+  pub instances : counts.instances ≡ counted (length (inner Instances))
+  pub longest : counts.longest ≡ counted (longest_in inner)
+  pub some : (which : Which) → AllSome (inner which)
+
+pub Counted-none : Counted no_counts no_names
+Counted-none = record { parts = refl; wires = refl; instances = refl; longest = refl; some = λ which. tt }
+
+pub Counted-wires : (wires : List Name) → AllSome wires → Counted (counts_of_wires wires) (wires_only wires)
+Counted-wires wires h = record {
+  parts = refl;
+  wires = refl;
+  instances = refl;
+  longest = (let e : max 0 (max (longest_of wires) 0) ≡ longest_of wires = omega arith in sym (ap counted e));
+  some = some_of;
+}
+  where
+    some_of : (which : Which) → AllSome (wires_only wires which)
+    some_of Parts = tt
+    some_of Wires = h
+    some_of Instances = tt
+
+sum_counted : (a b c : ℕ) → c ≡ a + b → counted (counted a + counted b) ≡ counted c
+sum_counted a b c e = omega arith
+
+length_counted : (a b : ℕ) (xs ys : List Name) → a ≡ counted (length xs) → b ≡ counted (length ys) → counted (a + b) ≡ counted (length (xs ++ ys))
+length_counted a b xs ys e f = (λ i. counted (e i + f i)) ∙ sum_counted (length xs) (length ys) (length (xs ++ ys)) (length-append xs ys)
+
+max_counted : (a b : ℕ) → max (counted a) (counted b) ≡ counted (max a b)
+max_counted a b = omega arith
+
+max_regroup : (a b c d e f : ℕ) → max (max a (max b c)) (max d (max e f)) ≡ max (max a d) (max (max b e) (max c f))
+max_regroup a b c d e f = omega arith
+
+pub Counted-added : (a b : Counts) (r s : Inner) → Counted a r → Counted b s → Counted (added a b) (joined r s)
+Counted-added a b r s h g = record {
+  parts = length_counted a.parts b.parts (r Parts) (s Parts) h.parts g.parts;
+  wires = length_counted a.wires b.wires (r Wires) (s Wires) h.wires g.wires;
+  instances = length_counted a.instances b.instances (r Instances) (s Instances) h.instances g.instances;
+  longest = (λ i. max (h.longest i) (g.longest i)) ∙ max_counted (longest_in r) (longest_in s)
+      ∙ ap counted (max_regroup (longest_of (r Parts)) (longest_of (r Wires)) (longest_of (r Instances)) (longest_of (s Parts)) (longest_of (s Wires)) (longest_of (s Instances))
+      ∙ (λ i. max (sym (longest-append (r Parts) (s Parts)) i) (max (sym (longest-append (r Wires) (s Wires)) i) (sym (longest-append (r Instances) (s Instances)) i))));
+  some = λ which. AllSome-append (r which) (s which) (h.some which) (g.some which);
+}
+
+Counted-part : (name : Name) → Plain name → Counted (counts_of_part name) (part_named name)
+Counted-part name p = record {
+  parts = refl;
+  wires = refl;
+  instances = refl;
+  longest = few (length name) p.few;
+  some = some_of;
+}
+  where
+    few : (n : ℕ) → n ≤ 64 → n ≡ counted (max (max n 0) (max 0 0))
+    few n h = omega arith
+
+    some_of : (which : Which) → AllSome (part_named name which)
+    some_of Parts = (p.some, tt)
+    some_of Wires = tt
+    some_of Instances = tt
+
+lift-max : (n a b : ℕ) → max (lift n a) (lift n b) ≡ lift n (max a b)
+lift-max n a b = elim (cases_lt 0 a) [
+  | inl p ↦ elim (cases_lt 0 b) [
+    | inl q ↦ (let e = lift-some n a (omega arith) in let f = lift-some n b (omega arith) in let g = lift-some n (max a b) (omega arith) in omega arith)
+    | inr z ↦ (let e = lift-some n a (omega arith) in let f = lift-none n b (omega arith) in let g = lift-some n (max a b) (omega arith) in omega arith)
+  ]
+  | inr y ↦ elim (cases_lt 0 b) [
+    | inl q ↦ (let e = lift-none n a (omega arith) in let f = lift-some n b (omega arith) in let g = lift-some n (max a b) (omega arith) in omega arith)
+    | inr z ↦ (let e = lift-none n a (omega arith) in let f = lift-none n b (omega arith) in let g = lift-none n (max a b) (omega arith) in omega arith)
+  ]
+]
+
+below_counted : (n c l : ℕ) → n ≤ 64 → c ≡ counted l → below_name n c ≡ counted (max n (lift n l))
+below_counted n c l h e = elim (cases_lt 0 l) [
+  | inl p ↦ ap (λ (t : Bool). if t then n else counted (n + 1 + c)) (ne_eqb c 0 (λ z. omega arith)) ∙ (let f = lift-some n l (omega arith) in omega arith)
+  | inr z ↦ ap (λ (t : Bool). if t then n else counted (n + 1 + c)) (eq-eqb c 0 (omega arith)) ∙ (let f = lift-none n l (omega arith) in omega arith)
+]
+
+max_four : (n a b c : ℕ) → max n (max a (max b c)) ≡ max a (max b (max n c))
+max_four n a b c = omega arith
+
+Counted-instance : (name : Name) (c : Counts) (inner : Inner) → Plain name → Counted c inner → Counted (counts_of_instance name c) (instance_named name inner)
+Counted-instance name c inner p h = record {
+  parts = h.parts ∙ ap counted (sym (length-map (inner Parts) (below name)));
+  wires = h.wires ∙ ap counted (sym (length-map (inner Wires) (below name)));
+  instances = (let e = length-map (inner Instances) (below name) in let f = h.instances in omega arith);
+  longest = below_counted (length name) c.longest (longest_in inner) p.few h.longest ∙ ap counted over;
+  some = some_of;
+}
+  where
+    over : max (length name) (lift (length name) (longest_in inner)) ≡ longest_in (instance_named name inner)
+    over =
+        let a = longest-below name (inner Parts) p.some (h.some Parts) in
+        let b = longest-below name (inner Wires) p.some (h.some Wires) in
+        let c = longest-below name (inner Instances) p.some (h.some Instances) in
+        ap (max (length name)) (sym (lift-max (length name) (longest_of (inner Parts)) (max (longest_of (inner Wires)) (longest_of (inner Instances)))))
+        ∙ ap (λ k. max (length name) (max (lift (length name) (longest_of (inner Parts))) k)) (sym (lift-max (length name) (longest_of (inner Wires)) (longest_of (inner Instances))))
+        ∙ max_four (length name) (lift (length name) (longest_of (inner Parts))) (lift (length name) (longest_of (inner Wires))) (lift (length name) (longest_of (inner Instances)))
+        ∙ (λ i. max (sym a i) (max (sym b i) (max (length name) (sym c i))))
+
+    some_of : (which : Which) → AllSome (instance_named name inner which)
+    some_of Parts = AllSome-below name (inner Parts) p.some
+    some_of Wires = AllSome-below name (inner Wires) p.some
+    some_of Instances = (p.some, AllSome-below name (inner Instances) p.some)
+
+module _ (counts : List Counts) (inners : List Inner) (h : (j : ℕ) → Counted (get_or counts j no_counts) (get_or inners j no_names)) where
+  Counted-kind : (name : Name) (kind : UsedKind) → Plain name → Counted (counts_of_kind counts name kind) (kind_names inners name kind)
+  Counted-kind name (Gate g) p = Counted-part name p
+  Counted-kind name (OfShape t) p = Counted-part name p
+  Counted-kind name (OfBlock b) p = Counted-instance name (get_or counts b no_counts) (get_or inners b no_names) p (h b)
+
+  Counted-all : (types : List Shape) (above : List Block) (wires : ℕ) (us : List Used) (c : Counts) (r : Inner) → list_all (is_used types above wires) us ≡ true → Counted c r
+      → Counted (fold (λ counts_so_far used. added counts_so_far (counts_of_used counts used)) c us) (λ which. r which ++ flat_map (λ used. names_used inners used which) us)
+  Counted-all types above wires [] c r good g =
+      let same : r ≡ (λ which. r which ++ []) = λ i which. sym (append-nil (r which)) i in subst (Counted c) same g
+  Counted-all types above wires (u ∷ us) c r good g =
+      let two = and_parts (is_used types above wires u) (list_all (is_used types above wires) us) good in
+      let one = Counted-kind u.name u.kind (GoodUsed-from_test types above wires u two.0).plain in
+      let rest = Counted-all types above wires us (added c (counts_of_used counts u)) (joined r (names_used inners u)) two.1 (Counted-added c (counts_of_used counts u) r (names_used inners u) g one) in
+      let after : Inner = λ which. flat_map (λ used. names_used inners used which) us in
+      let same : (λ which. (r which ++ names_used inners u which) ++ after which) ≡ (λ which. r which ++ (names_used inners u which ++ after which)) =
+      λ i which. append_assoc (r which) (names_used inners u which) (after which) i in
+      subst (Counted (fold (λ counts_so_far used. added counts_so_far (counts_of_used counts used)) c (u ∷ us))) same rest
+
+  Counted-block : (types : List Shape) (above : List Block) (block : Block) → is_block types above block ≡ true → Counted (counts_of_block block counts) (names_in block inners)
+  Counted-block types above block good =
+      let b = GoodBlock-from_test types above block good in
+      let own = drop block.ports block.wires in
+      let some = AllSome-right (take block.ports block.wires) own (subst AllSome (sym (take-append-drop block.ports block.wires)) (AllSome-plain block.wires b.plain)) in
+      Counted-all types above (length block.wires) block.parts (counts_of_wires own) (own_names block) b.used (Counted-wires own some)
+
+pub blocks-counted : (types : List Shape) (blocks : List Block) → are_blocks types [] blocks ≡ true
+    → (j : ℕ) → Counted (get_or (values counts_of_block blocks) j no_counts) (get_or (values names_in blocks) j no_names)
+blocks-counted types blocks good j =
+    values-both types counts_of_block names_in no_counts no_names Counted Counted-none (λ above block cs inners g h. Counted-block cs inners h types above block g) blocks good j

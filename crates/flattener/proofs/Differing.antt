@@ -1,0 +1,105 @@
+-- No two parts and no two wires of an instance have one path.
+use Rattle.std.proofs.Common.{◌≡◌, ℕ, inl, inr, true, List, [], ◌∷◌, ◌++◌, map, length, get_or, take, drop, refl, sym, ap, subst, ◌∙◌}
+use Rattle.std.specs.Prelude.{◌==◌}
+use Rattle.std.specs.List.{flat_map, list_any}
+use Rattle.std.proofs.lemmas.Bool.{true≢false}
+use Rattle.std.proofs.lemmas.List.{append_assoc, take-append-drop}
+use Rattle.text_rules.specs.Names.{Name}
+use Rattle.graph_rules.specs.Graphs.{values}
+use Rattle.device_model.proofs.Ordered.{Among}
+use Rattle.device_model.proofs.Making.{list_all-among}
+use Rattle.component_lang.specs.declared.design.UsedKind.{UsedKind}
+use Rattle.component_lang.specs.declared.design.UsedKind.TheVariants.{Gate, Shape as OfShape, Block as OfBlock}
+use Rattle.component_lang.specs.declared.design.Used.{Used}
+use Rattle.component_lang.specs.declared.design.Shape.{Shape}
+use Rattle.component_lang.specs.declared.design.Block.{Block}
+use Rattle.component_lang.specs.Designs.{is_plain_name, is_used, are_blocks}
+use Rattle.flattener.specs.Flat.{below}
+use Rattle.flattener.proofs.Naming.{Plain, Plain-from_test, head_of, head_of-dotless, head_of-below, dot-below, Different, Different-from_test, Different-append, Different-right, Different-below, Different-headed, among_below, among_parts}
+use Rattle.flattener.proofs.Relative.{Which, Parts, Wires, Instances, Inner, no_names, kind_names, names_used, names_in, GoodUsed-from_test, GoodBlock, GoodBlock-from_test}
+use Rattle.flattener.proofs.Values.{values-hold}
+
+pub record Differ (inner : Inner) : Type 0 where
+  pub parts : Different (inner Parts)
+  pub wires : Different (inner Wires)
+
+among_one : (n m : Name) → Among n (m ∷ []) → n ≡ m
+among_one n m (inl e) = e
+among_one n m (inr k) = absurd k
+
+module _ (inners : List Inner) (h : (j : ℕ) → Differ (get_or inners j no_names)) where
+  -- the paths in a part of a block begin with its name
+  headed : (which : Which) (name : Name) (kind : UsedKind) → Plain name → (n : Name) → Among n (kind_names inners name kind which) → head_of n ≡ name
+  headed which name kind p n m = by which kind m
+    where
+      alone : (k : Name) → Among k (name ∷ []) → head_of k ≡ name
+      alone k a = ap head_of (among_one k name a) ∙ head_of-dotless name p.dotless
+
+      inside : (ns : List Name) → Among n (map (below name) ns) → head_of n ≡ name
+      inside ns a = let r = among_below name n ns a in ap head_of r.1 ∙ head_of-below name r.0 p
+
+      by : (w : Which) (k : UsedKind) → Among n (kind_names inners name k w) → head_of n ≡ name
+      by Parts (Gate g) a = alone n a
+      by Wires (Gate g) a = absurd a
+      by Instances (Gate g) a = absurd a
+      by Parts (OfShape t) a = alone n a
+      by Wires (OfShape t) a = absurd a
+      by Instances (OfShape t) a = absurd a
+      by Parts (OfBlock b) a = inside (get_or inners b no_names Parts) a
+      by Wires (OfBlock b) a = inside (get_or inners b no_names Wires) a
+      by Instances (OfBlock b) (inl e) = alone n (inl e)
+      by Instances (OfBlock b) (inr a) = inside (get_or inners b no_names Instances) a
+
+  parts-differ : (name : Name) (kind : UsedKind) → Different (kind_names inners name kind Parts)
+  parts-differ name (Gate g) = ((λ m. m), tt)
+  parts-differ name (OfShape t) = ((λ m. m), tt)
+  parts-differ name (OfBlock b) = Different-below name (get_or inners b no_names Parts) (h b).parts
+
+  wires-differ : (name : Name) (kind : UsedKind) → Different (kind_names inners name kind Wires)
+  wires-differ name (Gate g) = tt
+  wires-differ name (OfShape t) = tt
+  wires-differ name (OfBlock b) = Different-below name (get_or inners b no_names Wires) (h b).wires
+
+  dotted : (name : Name) (kind : UsedKind) → Plain name → (n : Name) → Among n (kind_names inners name kind Wires) → list_any (λ b. b == 46) n ≡ true
+  dotted name (Gate g) p n a = absurd a
+  dotted name (OfShape t) p n a = absurd a
+  dotted name (OfBlock b) p n a =
+      let r = among_below name n (get_or inners b no_names Wires) a in ap (list_any (λ b. b == 46)) r.1 ∙ dot-below name r.0 p.some
+
+  all-dotted : (us : List Used) → ((u : Used) → Among u us → Plain u.name) → (n : Name) → Among n (flat_map (λ u. names_used inners u Wires) us) → list_any (λ b. b == 46) n ≡ true
+  all-dotted [] p n a = absurd a
+  all-dotted (u ∷ us) p n a = elim (among_parts n (names_used inners u Wires) (flat_map (λ u. names_used inners u Wires) us) a) [
+    | inl m ↦ dotted u.name u.kind (p u (inl refl)) n m
+    | inr m ↦ all-dotted us (λ v k. p v (inr k)) n m
+  ]
+
+  module _ (types : List Shape) (above : List Block) (block : Block) (good : GoodBlock types above block) where
+    plain : (u : Used) → Among u block.parts → Plain u.name
+    plain u m = (GoodUsed-from_test types above (length block.wires) u (list_all-among (is_used types above (length block.wires)) block.parts good.used u m)).plain
+
+    inside-parts : Different (flat_map (λ u. names_used inners u Parts) block.parts)
+    inside-parts = Different-headed (λ (u : Used). u.name) (λ u. names_used inners u Parts) block.parts
+        (λ u m n a. headed Parts u.name u.kind (plain u m) n a) (λ u m. parts-differ u.name u.kind) (Different-from_test _ good.parts_differ)
+
+    inside-wires : Different (flat_map (λ u. names_used inners u Wires) block.parts)
+    inside-wires = Different-headed (λ (u : Used). u.name) (λ u. names_used inners u Wires) block.parts
+        (λ u m n a. headed Wires u.name u.kind (plain u m) n a) (λ u m. wires-differ u.name u.kind) (Different-from_test _ good.parts_differ)
+
+    -- all wires of a block, with those that are passed to it
+    pub all-wires : Different (block.wires ++ flat_map (λ u. names_used inners u Wires) block.parts)
+    all-wires = Different-append block.wires _ (Different-from_test block.wires good.wires_differ) inside-wires
+        (λ n a b. true≢false (sym (all-dotted block.parts plain n b) ∙ (Plain-from_test n (list_all-among is_plain_name block.wires good.plain n a)).dotless))
+
+    Differ-block : Differ (names_in block inners)
+    Differ-block = record {
+      parts = inside-parts;
+      wires =
+          let rest = flat_map (λ u. names_used inners u Wires) block.parts in
+          let split = ap (λ ns. ns ++ rest) (sym (take-append-drop block.ports block.wires)) ∙ append_assoc (take block.ports block.wires) (drop block.ports block.wires) rest in
+          Different-right (take block.ports block.wires) (drop block.ports block.wires ++ rest) (subst Different split all-wires);
+    }
+
+pub instances-differ : (types : List Shape) (blocks : List Block) → are_blocks types [] blocks ≡ true → (j : ℕ) → Differ (get_or (values names_in blocks) j no_names)
+instances-differ types blocks good j =
+    values-hold types names_in no_names Differ (record { parts = tt; wires = tt })
+    (λ above block inners g h. Differ-block inners h types above block (GoodBlock-from_test types above block g)) blocks good j

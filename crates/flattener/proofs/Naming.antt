@@ -1,0 +1,238 @@
+-- Paths: a name in an instance, and names of which no two are the same.
+use Rattle.std.proofs.Common.{◌≡◌, ℕ, ◌+◌, ◌≤◌, ◌⊎◌, inl, inr, Bool, true, false, not, List, [], ◌∷◌, ◌++◌, map, length, refl, sym, ap, subst, ◌∙◌, arith}
+use Rattle.std.specs.Prelude.{◌&&◌, ◌||◌, ◌==◌, max, nat_eq, nat_le, if◌then◌else◌}
+use Rattle.std.specs.List.{list_all, list_any, flat_map}
+use Rattle.std.proofs.lemmas.Bool.{leb-true, and_parts, true≢false, ne_eqb, eq-eqb, cases_lt}
+use Rattle.std.proofs.lemmas.List.{append_assoc, append_cancel_left}
+use Rattle.std.proofs.lemmas.List.Folds.{list_any-append}
+use Rattle.text_rules.specs.Names.{Name, is_among, is_name, is_name_byte}
+use Rattle.device_model.specs.Building.{repeated}
+use Rattle.device_model.proofs.Ordered.{Among}
+use Rattle.device_model.proofs.Repeats.{is_among-among, among_from_test}
+use Rattle.component_lang.specs.Designs.{is_plain_name, has_repeated}
+use Rattle.flattener.specs.Flat.{below}
+use Rattle.flattener.specs.Counting.{longest_of}
+use Rattle.flattener.specs.Expanding.{prefix_of, behind}
+
+-- ---- names of blocks
+
+-- what a plain name is
+pub record Plain (name : Name) : Type 0 where
+  pub some : 1 ≤ length name
+  pub few : length name ≤ 64
+  pub dotless : list_any (λ b. b == 46) name ≡ false
+
+not_true : (b : Bool) → not b ≡ true → b ≡ false
+not_true true h = cc
+not_true false h = refl
+
+pub Plain-from_test : (name : Name) → is_plain_name name ≡ true → Plain name
+Plain-from_test name h =
+    let two = and_parts (is_name 64 name) (not (list_any (λ b. b == 46) name)) h in
+    let sizes = and_parts (nat_le 1 (length name) && nat_le (length name) 64) (list_all is_name_byte name) two.0 in
+    let both = and_parts (nat_le 1 (length name)) (nat_le (length name) 64) sizes.0 in
+    record { some = leb-true 1 (length name) both.0; few = leb-true (length name) 64 both.1; dotless = not_true _ two.1 }
+
+-- ---- names below a path
+
+pub below-some : (path name : Name) → 1 ≤ length path → below path name ≡ path ++ 46 ∷ name
+below-some [] name h = absurd (omega arith)
+below-some (b ∷ path) name h = refl
+
+pub behind-prefix : (path name : Name) → behind (prefix_of path) name ≡ below path name
+behind-prefix [] name = refl
+behind-prefix (b ∷ path) name = append_assoc (b ∷ path) (46 ∷ []) name
+
+pub map-behind : (path : Name) (names : List Name) → map (behind (prefix_of path)) names ≡ map (below path) names
+map-behind path [] = refl
+map-behind path (n ∷ names) = λ i. behind-prefix path n i ∷ map-behind path names i
+
+-- a path goes on
+pub below-below : (path name more : Name) → 1 ≤ length name → below (below path name) more ≡ below path (below name more)
+below-below path [] more h = absurd (omega arith)
+below-below [] (c ∷ name) more h = refl
+below-below (b ∷ path) (c ∷ name) more h = append_assoc (b ∷ path) (46 ∷ c ∷ name) (46 ∷ more)
+
+pub length-below : (path name : Name) → 1 ≤ length path → length (below path name) ≡ length path + 1 + length name
+length-below path name h = ap length (below-some path name h) ∙ over path
+  where
+    over : (p : Name) → length (p ++ 46 ∷ name) ≡ length p + 1 + length name
+    over [] = omega arith
+    over (b ∷ p) = let rest = over p in omega arith
+
+pub below-same : (path m n : Name) → below path m ≡ below path n → m ≡ n
+below-same [] m n h = h
+below-same (b ∷ path) m n h = let e = append_cancel_left (b ∷ path) (46 ∷ m) (46 ∷ n) h in cc
+
+-- a name below another has a dot
+pub dot-below : (path name : Name) → 1 ≤ length path → list_any (λ b. b == 46) (below path name) ≡ true
+dot-below path name h =
+    ap (list_any (λ b. b == 46)) (below-some path name h) ∙ list_any-append (λ b. b == 46) path (46 ∷ name) ∙ or_true (list_any (λ b. b == 46) path)
+  where
+    or_true : (b : Bool) → (b || true) ≡ true
+    or_true true = refl
+    or_true false = refl
+
+-- the bytes before the first dot
+abbrev pub head_of : Name → Name
+head_of [] = []
+head_of (b ∷ name) = if b == 46 then [] else b ∷ head_of name
+
+not_first : (b : ℕ) (name : Name) → list_any (λ b. b == 46) (b ∷ name) ≡ false → (nat_eq b 46 ≡ false) × (list_any (λ b. b == 46) name ≡ false)
+not_first b name h = by (nat_eq b 46) (list_any (λ b. b == 46) name) h
+  where
+    by : (x y : Bool) → (x || y) ≡ false → (x ≡ false) × (y ≡ false)
+    by true y e = cc
+    by false y e = (refl, e)
+
+pub head_of-dotless : (name : Name) → list_any (λ b. b == 46) name ≡ false → head_of name ≡ name
+head_of-dotless [] h = refl
+head_of-dotless (b ∷ name) h =
+    let two = not_first b name h in
+    ap (λ (t : Bool). if t then [] else b ∷ head_of name) two.0 ∙ ap (λ (ns : Name). b ∷ ns) (head_of-dotless name two.1)
+
+head_of-dotted : (path name : Name) → list_any (λ b. b == 46) path ≡ false → head_of (path ++ 46 ∷ name) ≡ path
+head_of-dotted [] name h = refl
+head_of-dotted (b ∷ path) name h =
+    let two = not_first b path h in
+    ap (λ (t : Bool). if t then [] else b ∷ head_of (path ++ 46 ∷ name)) two.0 ∙ ap (λ (ns : Name). b ∷ ns) (head_of-dotted path name two.1)
+
+pub head_of-below : (path name : Name) → Plain path → head_of (below path name) ≡ path
+head_of-below path name p = ap head_of (below-some path name p.some) ∙ head_of-dotted path name p.dotless
+
+-- ---- names that differ
+
+abbrev pub Different : List Name → Type 0
+Different [] = Unit {0}
+Different (n ∷ ns) = (Among n ns → ⊥) × Different ns
+
+or_parts : (a b : Bool) → (a || b) ≡ false → (a ≡ false) × (b ≡ false)
+or_parts true b h = cc
+or_parts false b h = (refl, h)
+
+pub Different-from_test : (ns : List Name) → has_repeated ns ≡ false → Different ns
+Different-from_test [] h = tt
+Different-from_test (n ∷ ns) h =
+    let two = or_parts (is_among ns n) (has_repeated ns) h in
+    ((λ m. true≢false (sym (is_among-among n ns m) ∙ two.0)), Different-from_test ns two.1)
+
+not_among : (n : Name) (ns : List Name) → (Among n ns → ⊥) → is_among ns n ≡ false
+not_among n ns h = by (is_among ns n) refl
+  where
+    by : (b : Bool) → is_among ns n ≡ b → is_among ns n ≡ false
+    by true e = absurd (h (among_from_test n ns e))
+    by false e = e
+
+pub repeated-Different : (ns : List Name) → Different ns → repeated ns ≡ []
+repeated-Different [] h = refl
+repeated-Different (n ∷ ns) h = ap (λ (b : Bool). if b then n ∷ repeated ns else repeated ns) (not_among n ns h.0) ∙ repeated-Different ns h.1
+
+pub among_parts : {A : Type 0} (x : A) (xs ys : List A) → Among x (xs ++ ys) → Among x xs ⊎ Among x ys
+among_parts x [] ys m = inr m
+among_parts x (z ∷ xs) ys (inl e) = inl (inl e)
+among_parts x (z ∷ xs) ys (inr m) = elim (among_parts x xs ys m) [ inl a ↦ inl (inr a) | inr a ↦ inr a ]
+
+pub among_left : {A : Type 0} (x : A) (xs ys : List A) → Among x xs → Among x (xs ++ ys)
+among_left x [] ys m = absurd m
+among_left x (z ∷ xs) ys (inl e) = inl e
+among_left x (z ∷ xs) ys (inr m) = inr (among_left x xs ys m)
+
+pub among_right : {A : Type 0} (x : A) (xs ys : List A) → Among x ys → Among x (xs ++ ys)
+among_right x [] ys m = m
+among_right x (z ∷ xs) ys m = inr (among_right x xs ys m)
+
+pub Different-append : (xs ys : List Name) → Different xs → Different ys → ((n : Name) → Among n xs → Among n ys → ⊥) → Different (xs ++ ys)
+Different-append [] ys h g apart = g
+Different-append (x ∷ xs) ys h g apart = (
+  (λ m. elim (among_parts x xs ys m) [ inl a ↦ h.0 a | inr a ↦ apart x (inl refl) a ]),
+  Different-append xs ys h.1 g (λ n a b. apart n (inr a) b),
+)
+
+pub Different-right : (xs ys : List Name) → Different (xs ++ ys) → Different ys
+Different-right [] ys h = h
+Different-right (x ∷ xs) ys h = Different-right xs ys h.1
+
+pub among_below : (path n : Name) (ns : List Name) → Among n (map (below path) ns) → (m : Name) × (n ≡ below path m) × Among m ns
+among_below path n [] m = absurd m
+among_below path n (k ∷ ks) (inl e) = (k, e, inl refl)
+among_below path n (k ∷ ks) (inr m) = let r = among_below path n ks m in (r.0, r.1, inr r.2)
+
+pub Different-below : (path : Name) (ns : List Name) → Different ns → Different (map (below path) ns)
+Different-below path [] h = tt
+Different-below path (n ∷ ns) h = (
+  (λ m. let r = among_below path (below path n) ns m in
+      let e = below-same path n r.0 r.1 in
+      h.0 (subst (λ (k : Name). Among k ns) (sym e) r.2)),
+  Different-below path ns h.1,
+)
+
+-- names whose heads tell which of several lists they stand in
+module _ {A : Type 0} (name : A → Name) (g : A → List Name) where
+  abbrev pub Headed : A → Type 0
+  Headed u = (n : Name) → Among n (g u) → head_of n ≡ name u
+
+  pub among_headed : (us : List A) → ((u : A) → Among u us → Headed u) → (n : Name) → Among n (flat_map g us) → Among (head_of n) (map name us)
+  among_headed [] h n m = absurd m
+  among_headed (u ∷ us) h n m = elim (among_parts n (g u) (flat_map g us) m) [
+    | inl a ↦ inl (h u (inl refl) n a)
+    | inr a ↦ inr (among_headed us (λ v b. h v (inr b)) n a)
+  ]
+
+  pub Different-headed : (us : List A) → ((u : A) → Among u us → Headed u) → ((u : A) → Among u us → Different (g u)) → Different (map name us) → Different (flat_map g us)
+  Different-headed [] h d e = tt
+  Different-headed (u ∷ us) h d e =
+      Different-append (g u) (flat_map g us) (d u (inl refl)) (Different-headed us (λ v b. h v (inr b)) (λ v b. d v (inr b)) e.1)
+      (λ n a b. e.0 (subst (λ (k : Name). Among k (map name us)) (h u (inl refl) n a) (among_headed us (λ v c. h v (inr c)) n b)))
+
+-- ---- the longest of some names
+
+pub longest-append : (xs ys : List Name) → longest_of (xs ++ ys) ≡ max (longest_of xs) (longest_of ys)
+longest-append [] ys = omega arith
+longest-append (x ∷ xs) ys = let rest = longest-append xs ys in omega arith
+
+-- the longest below a name of so many bytes
+abbrev pub lift : ℕ → ℕ → ℕ
+lift name longest = if nat_eq longest 0 then 0 else name + 1 + longest
+
+abbrev pub AllSome : List Name → Type 0
+AllSome [] = Unit {0}
+AllSome (n ∷ ns) = (1 ≤ length n) × AllSome ns
+
+pub AllSome-append : (xs ys : List Name) → AllSome xs → AllSome ys → AllSome (xs ++ ys)
+AllSome-append [] ys h g = g
+AllSome-append (x ∷ xs) ys h g = (h.0, AllSome-append xs ys h.1 g)
+
+pub AllSome-below : (path : Name) (ns : List Name) → 1 ≤ length path → AllSome (map (below path) ns)
+AllSome-below path [] h = tt
+AllSome-below path (n ∷ ns) h = (let e = length-below path n h in omega arith, AllSome-below path ns h)
+
+pub lift-some : (k l : ℕ) → 1 ≤ l → lift k l ≡ k + 1 + l
+lift-some k l h = ap (λ (t : Bool). if t then 0 else k + 1 + l) (ne_eqb l 0 (λ e. omega arith))
+
+pub lift-none : (k l : ℕ) → l ≡ 0 → lift k l ≡ 0
+lift-none k l h = ap (λ (t : Bool). if t then 0 else k + 1 + l) (eq-eqb l 0 h)
+
+lift-more : (k n l : ℕ) → 1 ≤ n → max (k + 1 + n) (lift k l) ≡ lift k (max n l)
+lift-more k n l h = elim (cases_lt 0 l) [
+  | inl p ↦ (let e = lift-some k l (omega arith) in let f = lift-some k (max n l) (omega arith) in omega arith)
+  | inr z ↦ (let e = lift-none k l (omega arith) in let f = lift-some k (max n l) (omega arith) in omega arith)
+]
+
+pub longest-below : (path : Name) (ns : List Name) → 1 ≤ length path → AllSome ns → longest_of (map (below path) ns) ≡ lift (length path) (longest_of ns)
+longest-below path [] h g = refl
+longest-below path (n ∷ ns) h g =
+    ap (λ (k : ℕ). max k (longest_of (map (below path) ns))) (length-below path n h)
+    ∙ ap (λ (k : ℕ). max (length path + 1 + length n) k) (longest-below path ns h g.1)
+    ∙ lift-more (length path) (length n) (longest_of ns) g.0
+
+pub AllSome-right : (xs ys : List Name) → AllSome (xs ++ ys) → AllSome ys
+AllSome-right [] ys h = h
+AllSome-right (x ∷ xs) ys h = AllSome-right xs ys h.1
+
+pub AllSome-left : (xs ys : List Name) → AllSome (xs ++ ys) → AllSome xs
+AllSome-left [] ys h = tt
+AllSome-left (x ∷ xs) ys h = (h.0, AllSome-left xs ys h.1)
+
+pub AllSome-plain : (ns : List Name) → list_all is_plain_name ns ≡ true → AllSome ns
+AllSome-plain [] h = tt
+AllSome-plain (n ∷ ns) h = let two = and_parts (is_plain_name n) (list_all is_plain_name ns) h in ((Plain-from_test n two.0).some, AllSome-plain ns two.1)

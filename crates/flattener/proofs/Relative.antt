@@ -1,0 +1,164 @@
+-- What an instance has, by names that do not say where it stands: the paths in an instance are these names below its path.
+use Rattle.std.proofs.Common.{◌≡◌, ℕ, ◌≤◌, Bool, true, false, List, [], ◌∷◌, ◌++◌, map, length, get_or, drop, refl, sym, ap, ◌∙◌}
+use Rattle.std.specs.Prelude.{◌&&◌, nat_lt, nat_le, not, slice_index_or}
+use Rattle.std.specs.List.{flat_map, list_all}
+use Rattle.std.proofs.lemmas.Bool.{and_parts, leb-true}
+use Rattle.std.proofs.lemmas.List.{map-append}
+use Rattle.text_rules.specs.Names.{Name}
+use Rattle.graph_rules.specs.Graphs.{values}
+use Rattle.component_lang.specs.declared.design.UsedKind.{UsedKind}
+use Rattle.component_lang.specs.declared.design.UsedKind.TheVariants.{Gate, Shape as OfShape, Block as OfBlock}
+use Rattle.component_lang.specs.declared.design.Used.{Used}
+use Rattle.component_lang.specs.declared.design.Shape.{Shape}
+use Rattle.component_lang.specs.declared.design.Block.{Block}
+use Rattle.component_lang.specs.Designs.{is_plain_name, is_used, is_block, are_blocks, has_repeated, used_names, takes_args}
+use Rattle.flattener.specs.Flat.{FlatPart, Content, Instance, nothing, below, content_of, used_content, instance}
+use Rattle.flattener.proofs.Lists.{map-flat_map, flat_map-map, flat_map_same}
+use Rattle.flattener.proofs.Naming.{Plain, Plain-from_test, below-below}
+use Rattle.flattener.proofs.Values.{values-both}
+
+-- which names of an instance
+pub data Which : Type 0 where
+  Parts : Which
+  Wires : Which
+  Instances : Which
+
+abbrev pub names_of : Which → Content → List Name
+names_of Parts content = map (λ (p : FlatPart). p.path) content.parts
+names_of Wires content = content.wires
+names_of Instances content = content.instances
+
+-- the names in an instance, without its path
+abbrev pub Inner : Type 0
+Inner = Which → List Name
+
+abbrev pub no_names : Inner
+no_names which = []
+
+abbrev pub wires_only : List Name → Inner
+wires_only wires Parts = []
+wires_only wires Wires = wires
+wires_only wires Instances = []
+
+abbrev pub own_names : Block → Inner
+own_names block = wires_only (drop block.ports block.wires)
+
+-- a part is a name
+abbrev pub part_named : Name → Inner
+part_named name Parts = name ∷ []
+part_named name Wires = []
+part_named name Instances = []
+
+abbrev pub instance_named : Name → Inner → Inner
+instance_named name inner Parts = map (below name) (inner Parts)
+instance_named name inner Wires = map (below name) (inner Wires)
+instance_named name inner Instances = name ∷ map (below name) (inner Instances)
+
+abbrev pub kind_names : List Inner → Name → UsedKind → Inner
+kind_names above name (Gate kind) = part_named name
+kind_names above name (OfShape place) = part_named name
+kind_names above name (OfBlock place) = instance_named name (slice_index_or above place no_names)
+
+abbrev pub names_used : List Inner → Used → Inner
+names_used above used = kind_names above used.name used.kind
+
+abbrev pub names_in : Block → List Inner → Inner
+names_in block above which = own_names block which ++ flat_map (λ used. names_used above used which) block.parts
+
+-- what is known of a part of a block
+pub record GoodUsed (types : List Shape) (above : List Block) (wires : ℕ) (used : Used) : Type 0 where
+  pub plain : Plain used.name
+  pub takes : takes_args types above used.kind (length used.args) ≡ true
+  pub within : list_all (λ wire. nat_lt wire wires) used.args ≡ true
+
+pub GoodUsed-from_test : (types : List Shape) (above : List Block) (wires : ℕ) (used : Used) → is_used types above wires used ≡ true → GoodUsed types above wires used
+GoodUsed-from_test types above wires used h =
+    let two = and_parts (is_plain_name used.name) (takes_args types above used.kind (length used.args) && list_all (λ wire. nat_lt wire wires) used.args) h in
+    let more = and_parts (takes_args types above used.kind (length used.args)) (list_all (λ wire. nat_lt wire wires) used.args) two.1 in
+    record { plain = Plain-from_test used.name two.0; takes = more.0; within = more.1 }
+
+-- The names in an instance of any path, to which any wires are passed.
+abbrev pub Shows : Inner → Instance → Type 0
+Shows inner made = (which : Which) (path : Name) (passed : List Name) → names_of which (made path passed) ≡ map (below path) (inner which)
+
+Shows-nothing : Shows no_names nothing
+Shows-nothing Parts path passed = refl
+Shows-nothing Wires path passed = refl
+Shows-nothing Instances path passed = refl
+
+below-twice : (path name : Name) (ns : List Name) → 1 ≤ length name → map (below (below path name)) ns ≡ map (below path) (map (below name) ns)
+below-twice path name [] h = refl
+below-twice path name (n ∷ ns) h = λ i. below-below path name n h i ∷ below-twice path name ns h i
+
+module _ (inners : List Inner) (mades : List Instance) (h : (j : ℕ) → Shows (get_or inners j no_names) (get_or mades j nothing)) (path : Name) where
+  kind-shows : (which : Which) (name : Name) (kind : UsedKind) (passed : List Name) → 1 ≤ length name
+      → names_of which (content_of mades kind (below path name) passed) ≡ map (below path) (kind_names inners name kind which)
+  kind-shows Parts name (Gate kind) passed l = refl
+  kind-shows Wires name (Gate kind) passed l = refl
+  kind-shows Instances name (Gate kind) passed l = refl
+  kind-shows Parts name (OfShape place) passed l = refl
+  kind-shows Wires name (OfShape place) passed l = refl
+  kind-shows Instances name (OfShape place) passed l = refl
+  kind-shows Parts name (OfBlock place) passed l = h place Parts (below path name) passed ∙ below-twice path name (get_or inners place no_names Parts) l
+  kind-shows Wires name (OfBlock place) passed l = h place Wires (below path name) passed ∙ below-twice path name (get_or inners place no_names Wires) l
+  kind-shows Instances name (OfBlock place) passed l =
+      ap (λ ns. below path name ∷ ns) (h place Instances (below path name) passed ∙ below-twice path name (get_or inners place no_names Instances) l)
+
+  all-show : (types : List Shape) (above : List Block) (count : ℕ) (which : Which) (wires : List Name) (parts : List Used) → list_all (is_used types above count) parts ≡ true
+      → flat_map (λ used. names_of which (used_content mades path wires used)) parts ≡ map (below path) (flat_map (λ used. names_used inners used which) parts)
+  all-show types above count which wires parts good =
+      flat_map_same (is_used types above count) (λ used. names_of which (used_content mades path wires used)) (λ used. map (below path) (names_used inners used which))
+      (λ used t. kind-shows which used.name used.kind _ (GoodUsed-from_test types above count used t).plain.some) parts good
+      ∙ sym (map-flat_map (below path) (λ used. names_used inners used which) parts)
+
+-- what is known of a block
+pub record GoodBlock (types : List Shape) (above : List Block) (block : Block) : Type 0 where
+  pub plain : list_all is_plain_name block.wires ≡ true
+  pub wires_differ : has_repeated block.wires ≡ false
+  pub ports_first : block.ports ≤ length block.wires
+  pub used : list_all (is_used types above (length block.wires)) block.parts ≡ true
+  pub parts_differ : has_repeated (used_names block.parts) ≡ false
+
+not_true : (b : Bool) → not b ≡ true → b ≡ false
+not_true true h = cc
+not_true false h = refl
+
+pub GoodBlock-from_test : (types : List Shape) (above : List Block) (block : Block) → is_block types above block ≡ true → GoodBlock types above block
+GoodBlock-from_test types above block h =
+    let plain = list_all is_plain_name block.wires in
+    let differ = not (has_repeated block.wires) in
+    let used = list_all (is_used types above (length block.wires)) block.parts in
+    let parts = not (has_repeated (used_names block.parts)) in
+    let one = and_parts (plain && differ) (nat_le block.ports (length block.wires) && (used && parts)) h in
+    let names = and_parts plain differ one.0 in
+    let two = and_parts (nat_le block.ports (length block.wires)) (used && parts) one.1 in
+    let three = and_parts used parts two.1 in
+    record { plain = names.0; wires_differ = not_true _ names.1; ports_first = leb-true block.ports (length block.wires) two.0; used = three.0; parts_differ = not_true _ three.1 }
+
+-- what an instance has is its own wires and what its parts have
+pub names-instance : (which : Which) (block : Block) (mades : List Instance) (path : Name) (passed : List Name)
+    → names_of which (instance block mades path passed)
+    ≡ map (below path) (own_names block which) ++ flat_map (λ used. names_of which (used_content mades path (passed ++ map (below path) (drop block.ports block.wires)) used)) block.parts
+names-instance Parts block mades path passed =
+    let wires = passed ++ map (below path) (drop block.ports block.wires) in
+    map-flat_map (λ (p : FlatPart). p.path) (λ (c : Content). c.parts) (map (used_content mades path wires) block.parts)
+    ∙ flat_map-map (λ (c : Content). map (λ (p : FlatPart). p.path) c.parts) (used_content mades path wires) block.parts
+names-instance Wires block mades path passed =
+    let own = map (below path) (drop block.ports block.wires) in
+    ap (λ ns. own ++ ns) (flat_map-map (λ (c : Content). c.wires) (used_content mades path (passed ++ own)) block.parts)
+names-instance Instances block mades path passed =
+    flat_map-map (λ (c : Content). c.instances) (used_content mades path (passed ++ map (below path) (drop block.ports block.wires))) block.parts
+
+Shows-instance : (types : List Shape) (above : List Block) (block : Block) (inners : List Inner) (mades : List Instance) → is_block types above block ≡ true
+    → ((j : ℕ) → Shows (get_or inners j no_names) (get_or mades j nothing)) → Shows (names_in block inners) (instance block mades)
+Shows-instance types above block inners mades good h which path passed =
+    names-instance which block mades path passed
+    ∙ ap (λ ns. map (below path) (own_names block which) ++ ns)
+    (all-show inners mades h path types above (length block.wires) which _ block.parts (GoodBlock-from_test types above block good).used)
+    ∙ sym (map-append (below path) (own_names block which) (flat_map (λ used. names_used inners used which) block.parts))
+
+-- The paths in an instance are its block's names below its path.
+pub instances-show : (types : List Shape) (blocks : List Block) → are_blocks types [] blocks ≡ true
+    → (j : ℕ) → Shows (get_or (values names_in blocks) j no_names) (get_or (values instance blocks) j nothing)
+instances-show types blocks good j =
+    values-both types names_in instance no_names nothing Shows Shows-nothing (Shows-instance types) blocks good j

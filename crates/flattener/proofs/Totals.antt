@@ -1,0 +1,204 @@
+-- What the top has, and which limit it passes first.
+use Rattle.std.proofs.Common.{◌≡◌, ℕ, zero, suc, ◌+◌, ◌≤◌, inl, inr, Bool, true, false, cond, List, [], ◌∷◌, ◌++◌, map, length, get_or, take, drop, Option, Some, None, Result, Ok, Err, refl, sym, ap, subst, ◌∙◌, arith}
+use Rattle.std.specs.Prelude.{max, nat_lt, nat_le, if◌then◌else◌}
+use Rattle.std.specs.List.{range_with_len}
+use Rattle.std.proofs.lemmas.Bool.{ltb-false, lt-ltb, le-ltb, le-leb, cases_lt, and_from}
+use Rattle.std.proofs.lemmas.List.{append_assoc, take-append-drop, length-map, map-id, length-append, length-take-le}
+use Rattle.text_rules.specs.Names.{Name}
+use Rattle.graph_rules.specs.Graphs.{values}
+use Rattle.device_model.specs.declared.component.Component.{Component}
+use Rattle.device_model.specs.Devices.{Device}
+use Rattle.component_lang.specs.declared.design.Block.{Block}
+use Rattle.component_lang.specs.Designs.{Design, is_design, are_blocks}
+use Rattle.flattener.specs.declared.counting.Counts.{Counts}
+use Rattle.flattener.specs.declared.flattening.FlattenError.{FlattenError}
+use Rattle.flattener.specs.declared.flattening.FlattenError.TheVariants.{TooManyParts, TooManyWires, TooManyBlocks, PathTooLong}
+use Rattle.flattener.specs.Flat.{FlatPart, Content, ports_of, top_ports, top_content, flat_wires, flat_device, longest_path, counted, unless_over, flattened}
+use Rattle.flattener.specs.Counting.{no_counts, longest_of, counts_of_wires, counts_of_block, counts_of_design, refusal}
+use Rattle.flattener.specs.Expanding.{Grows, IsFlat, shown, wire_at, are_within, are_short, paths_of, instance_at, ports_at}
+use Rattle.flattener.proofs.Naming.{AllSome, AllSome-left, AllSome-plain, longest-append}
+use Rattle.flattener.proofs.Relative.{Which, Parts, Wires, Instances, names_of, Inner, no_names, wires_only, names_in, GoodBlock, instances-show}
+use Rattle.flattener.proofs.Counted.{Counted, longest_in, joined, Counted-wires, Counted-added, blocks-counted}
+use Rattle.flattener.proofs.Growing.{no_block, good_block, good_blocks, top_within, ports_there, got, short_all}
+
+-- ---- places from 0 on
+
+pub range_within : (a n m : ℕ) → a + n ≤ m → are_within m (range_with_len a n) ≡ true
+range_within a zero m l = refl
+range_within a (suc n) m l = and_from (nat_lt a m) _ (lt-ltb a m (omega arith)) (range_within (a + 1) n m (omega arith))
+
+wires_from : (front names : List Name) (a : ℕ) → a ≡ length front → map (wire_at (front ++ names)) (range_with_len a (length names)) ≡ names
+wires_from front [] a e = refl
+wires_from front (n ∷ names) a e =
+    let more = append_assoc front (n ∷ []) names in
+    (λ i. first front a e i ∷ map (wire_at (sym more i)) (range_with_len (a + 1) (length names)))
+    ∙ ap (λ ns. n ∷ ns) (wires_from (front ++ n ∷ []) names (a + 1) (let f = length-append front (n ∷ []) in omega arith))
+  where
+    first : (xs : List Name) (k : ℕ) → k ≡ length xs → wire_at (xs ++ n ∷ names) k ≡ n
+    first [] zero g = refl
+    first [] (suc k) g = absurd (omega arith)
+    first (x ∷ xs) zero g = absurd (omega arith)
+    first (x ∷ xs) (suc k) g = first xs k (omega arith)
+
+-- each name stands at its place
+pub wires_all : (names : List Name) → map (wire_at names) (range_with_len 0 (length names)) ≡ names
+wires_all names = wires_from [] names 0 refl
+
+-- ---- limits
+
+pub record Allowed (counts : Counts) : Type 0 where
+  pub parts : counts.parts ≤ 4096
+  pub wires : counts.wires ≤ 16384
+  pub instances : counts.instances ≤ 4096
+  pub longest : counts.longest ≤ 255
+
+passes : (limit n : ℕ) (error : FlattenError) (otherwise : Option FlattenError) → (if nat_lt limit n then Some error else otherwise) ≡ None → (n ≤ limit) × (otherwise ≡ None)
+passes limit n error otherwise h = by (nat_lt limit n) refl h
+  where
+    by : (b : Bool) → nat_lt limit n ≡ b → cond b (Some error) otherwise ≡ None → (n ≤ limit) × (otherwise ≡ None)
+    by true e g = cc
+    by false e g = (ltb-false limit n e, g)
+
+pub Allowed-from_refusal : (counts : Counts) → refusal counts ≡ None → Allowed counts
+Allowed-from_refusal counts h =
+    let a = passes 4096 counts.parts (TooManyParts counts.parts) _ h in
+    let b = passes 16384 counts.wires (TooManyWires counts.wires) _ a.1 in
+    let c = passes 4096 counts.instances (TooManyBlocks counts.instances) _ b.1 in
+    let d = passes 255 counts.longest (PathTooLong counts.longest) _ c.1 in
+    record { parts = a.0; wires = b.0; instances = c.0; longest = d.0 }
+
+abbrev pub answered : Device → Option FlattenError → Result Device FlattenError
+answered device None = Ok device
+answered device (Some error) = Err error
+
+counted_over : (limit n : ℕ) → limit ≤ 16384 → nat_lt limit (counted n) ≡ nat_lt limit n
+counted_over limit n h = elim (cases_lt limit n) [
+  | inl l ↦ lt-ltb limit (counted n) (omega arith) ∙ sym (lt-ltb limit n l)
+  | inr l ↦ le-ltb limit (counted n) (omega arith) ∙ sym (le-ltb limit n l)
+]
+
+one_limit : (device : Device) (limit n m : ℕ) (error : ℕ → FlattenError) (otherwise : Result Device FlattenError) (rest : Option FlattenError) → limit ≤ 16384 → m ≡ counted n
+    → otherwise ≡ answered device rest → unless_over limit n error otherwise ≡ answered device (if nat_lt limit m then Some (error m) else rest)
+one_limit device limit n m error otherwise rest h e g =
+    by (nat_lt limit n) ∙ ap (λ (b : Bool). answered device (if b then Some (error m) else rest)) (sym (ap (nat_lt limit) e ∙ counted_over limit n h))
+  where
+    by : (b : Bool) → cond b (Err (error (counted n))) otherwise ≡ answered device (cond b (Some (error m)) rest)
+    by true = ap (λ (k : ℕ). Err (error k)) (sym e)
+    by false = g
+
+pub limits : (device : Device) (counts : Counts) (parts wires instances longest : ℕ) → counts.parts ≡ counted parts → counts.wires ≡ counted wires → counts.instances ≡ counted instances → counts.longest ≡ counted longest
+    → unless_over 4096 parts TooManyParts (unless_over 16384 wires TooManyWires (unless_over 4096 instances TooManyBlocks (unless_over 255 longest PathTooLong (Ok device))))
+    ≡ answered device (refusal counts)
+limits device counts parts wires instances longest a b c d =
+    one_limit device 4096 parts counts.parts (λ n. TooManyParts n) _ _ (omega arith) a
+    (one_limit device 16384 wires counts.wires (λ n. TooManyWires n) _ _ (omega arith) b
+    (one_limit device 4096 instances counts.instances (λ n. TooManyBlocks n) _ _ (omega arith) c
+    (one_limit device 255 longest counts.longest (λ n. PathTooLong n) (Ok device) None (omega arith) d refl)))
+
+-- ---- short paths
+
+short_from_longest : (names : List Name) → longest_of names ≤ 255 → are_short names ≡ true
+short_from_longest [] h = refl
+short_from_longest (n ∷ names) h = and_from (nat_le (length n) 255) (are_short names) (le-leb (length n) 255 (omega arith)) (short_from_longest names (omega arith))
+
+-- ---- the top
+
+module _ (design : Design) (valid : is_design design ≡ true) where
+  good : are_blocks design.types [] design.blocks ≡ true
+  good = good_blocks design valid
+
+  abbrev pub top_block : Block
+  top_block = get_or design.blocks design.top no_block
+
+  pub top_good : GoodBlock design.types (take design.top design.blocks) (get_or design.blocks design.top no_block)
+  top_good = good_block design.types design.blocks good design.top (top_within design valid)
+
+  pub top_ports-are : top_ports design ≡ take (get_or design.blocks design.top no_block).ports (get_or design.blocks design.top no_block).wires
+  top_ports-are = ap ports_of (got design.blocks design.top (top_within design valid))
+
+  abbrev pub inner : Inner
+  inner = get_or (values names_in design.blocks) design.top no_names
+
+  pub top-shows : (which : Which) → names_of which (top_content design) ≡ inner which
+  top-shows which = instances-show design.types design.blocks good design.top which [] (top_ports design) ∙ map-id (inner which)
+
+  abbrev all : Inner
+  all = joined (wires_only (top_ports design)) inner
+
+  top-counted : Counted (counts_of_design design) all
+  top-counted =
+      let block = get_or design.blocks design.top no_block in
+      let some = AllSome-left (take block.ports block.wires) (drop block.ports block.wires) (subst AllSome (sym (take-append-drop block.ports block.wires)) (AllSome-plain block.wires top_good.plain)) in
+      Counted-added (counts_of_wires (top_ports design)) (get_or (values counts_of_block design.blocks) design.top no_counts) (wires_only (top_ports design)) inner
+      (Counted-wires (top_ports design) (subst AllSome (sym top_ports-are) some)) (blocks-counted design.types design.blocks good design.top)
+
+  pub many_parts : length (top_content design).parts ≡ length (inner Parts)
+  many_parts = sym (length-map (top_content design).parts (λ (p : FlatPart). p.path)) ∙ ap length (top-shows Parts)
+
+  pub wires_are : flat_wires design ≡ top_ports design ++ inner Wires
+  wires_are = ap (λ ns. top_ports design ++ ns) (top-shows Wires)
+
+  longest_is : longest_path design ≡ longest_in all
+  longest_is =
+      (λ i. longest_of (top-shows Parts i ++ (wires_are i ++ top-shows Instances i)))
+      ∙ longest-append (inner Parts) ((top_ports design ++ inner Wires) ++ inner Instances)
+      ∙ ap (max (longest_of (inner Parts))) (longest-append (top_ports design ++ inner Wires) (inner Instances))
+
+  -- The answer is the first limit that the counts pass, or the device.
+  pub flattened-by_counts : flattened design ≡ answered (flat_device design) (refusal (counts_of_design design))
+  flattened-by_counts =
+      limits (flat_device design) (counts_of_design design) (length (top_content design).parts) (length (flat_wires design)) (length (top_content design).instances) (longest_path design)
+      (top-counted.parts ∙ ap counted (sym many_parts)) (top-counted.wires ∙ ap counted (sym (ap length wires_are)))
+      (top-counted.instances ∙ ap counted (sym (ap length (top-shows Instances)))) (top-counted.longest ∙ ap counted (sym longest_is))
+
+  module _ (passed : refusal (counts_of_design design) ≡ None) where
+    allowed : Allowed (counts_of_design design)
+    allowed = Allowed-from_refusal (counts_of_design design) passed
+
+    pub few_parts : length (top_content design).parts ≤ 4096
+    few_parts = let e = top-counted.parts in let f = allowed.parts in let g = many_parts in omega arith
+
+    pub few_wires : length (flat_wires design) ≤ 16384
+    few_wires = let e = top-counted.wires in let f = allowed.wires in let g = ap length wires_are in omega arith
+
+    longest_few : longest_in all ≤ 255
+    longest_few = let e = top-counted.longest in let f = allowed.longest in omega arith
+
+    pub top-short : are_short (paths_of (top_content design)) ≡ true
+    top-short = short_all (top_content design) by
+      where
+        by : (which : Which) → are_short (names_of which (top_content design)) ≡ true
+        by Parts = ap are_short (top-shows Parts) ∙ short_from_longest (inner Parts) (let l = longest_few in omega arith)
+        by Wires = ap are_short (top-shows Wires) ∙ short_from_longest (inner Wires) (let l = longest_few in let e = longest-append (top_ports design) (inner Wires) in omega arith)
+        by Instances = ap are_short (top-shows Instances) ∙ short_from_longest (inner Instances) (let l = longest_few in omega arith)
+
+  -- ---- the call that expands the top
+
+  module _ (passed_places : List ℕ) (are : passed_places ≡ range_with_len 0 (length (top_ports design))) where
+    pub ports_count : length passed_places ≡ ports_at design design.top
+    ports_count =
+        let block = get_or design.blocks design.top no_block in
+        let e = ap length are in
+        let f = length-range 0 (length (top_ports design)) in
+        let g = ap length top_ports-are in
+        let h = length-take-le block.ports block.wires top_good.ports_first in
+        let k = ports_there design.blocks design.top (top_within design valid) in
+        omega arith
+      where
+        length-range : (a n : ℕ) → length (range_with_len a n) ≡ n
+        length-range a zero = refl
+        length-range a (suc n) = ap suc (length-range (a + 1) n)
+
+    pub places_within : are_within (length (top_ports design)) passed_places ≡ true
+    places_within = ap (are_within (length (top_ports design))) are ∙ range_within 0 (length (top_ports design)) (length (top_ports design)) (omega arith)
+
+    pub content_is : (wires : List Name) → wires ≡ top_ports design → instance_at design design.top [] (map (wire_at wires) passed_places) ≡ top_content design
+    content_is wires e = ap (instance_at design design.top []) ((λ i. map (wire_at (e i)) (are i)) ∙ wires_all (top_ports design))
+
+  pub IsFlat-from_Grows : (old : List Component) (ports : List Name) (content : Content) (parts : List Component) (wires : List Name) → old ≡ [] → ports ≡ top_ports design → content ≡ top_content design
+      → Grows old ports content parts wires → IsFlat design parts wires
+  IsFlat-from_Grows old ports content parts wires none e is h = record {
+    wires_are = h.wires_grow ∙ (λ i. e i ++ (is i).wires);
+    parts_are = h.parts_grow ∙ (λ i. map (shown (e i)) (none i) ++ (is i).parts);
+    joined = h.joined;
+  }

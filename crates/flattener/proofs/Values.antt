@@ -1,0 +1,112 @@
+-- Values of blocks, each by the values of the blocks before.
+use Rattle.std.proofs.Common.{◌≡◌, ℕ, zero, suc, ◌+◌, ◌<◌, true, List, [], ◌∷◌, ◌++◌, length, get_or, take, drop, refl, sym, ap, ◌∙◌, arith}
+use Rattle.std.proofs.lemmas.Bool.{and_parts, and_from}
+use Rattle.std.proofs.lemmas.List.{append_assoc, length_push, get_or_push, get_or_append_left, drop_more, take-append-drop, length-take-le}
+use Rattle.graph_rules.specs.Graphs.{values_after, values}
+use Rattle.component_lang.specs.declared.design.Shape.{Shape}
+use Rattle.component_lang.specs.declared.design.Block.{Block}
+use Rattle.component_lang.specs.Designs.{is_block, are_blocks}
+
+module _ {N A : Type 0} (f : N → List A → A) where
+  pub length-values_after : (es : List A) (ns : List N) → length (values_after f es ns) ≡ length es + length ns
+  length-values_after es [] = omega arith
+  length-values_after es (n ∷ ns) = omega (arith, length-values_after (es ++ f n es ∷ []) ns, length_push es (f n es))
+
+  values_after-append : (es : List A) (ms ns : List N) → values_after f es (ms ++ ns) ≡ values_after f (values_after f es ms) ns
+  values_after-append es [] ns = refl
+  values_after-append es (m ∷ ms) ns = values_after-append (es ++ f m es ∷ []) ms ns
+
+  values_after-keeps : (es : List A) (ns : List N) (k : ℕ) (d : A) → k < length es → get_or (values_after f es ns) k d ≡ get_or es k d
+  values_after-keeps es [] k d l = refl
+  values_after-keeps es (n ∷ ns) k d l =
+      values_after-keeps (es ++ f n es ∷ []) ns k d (omega (arith, length_push es (f n es))) ∙ get_or_append_left es (f n es ∷ []) d k l
+
+  module _ (ns : List N) (k : ℕ) (x : N) (l : k < length ns) where
+    before : List A
+    before = values f (take k ns)
+
+    split : values f ns ≡ values_after f (values f (take k ns)) (get_or ns k x ∷ drop (k + 1) ns)
+    split = ap (values f) (sym (take-append-drop k ns)) ∙ values_after-append [] (take k ns) (drop k ns)
+        ∙ ap (values_after f (values f (take k ns))) (drop_more ns k x l)
+
+    length-before : length (values f (take k ns)) ≡ k
+    length-before = length-values_after [] (take k ns) ∙ (let e = length-take-le k ns (omega arith) in omega arith)
+
+    -- a value is by the values before it
+    pub values-at : (d : A) → get_or (values f ns) k d ≡ f (get_or ns k x) (values f (take k ns))
+    values-at d =
+        let es = values f (take k ns) in
+        let y = f (get_or ns k x) es in
+        ap (λ vs. get_or vs k d) split
+        ∙ values_after-keeps (es ++ y ∷ []) (drop (k + 1) ns) k d (omega (arith, length_push es y, length-before))
+        ∙ get_or_push es y d k length-before
+
+    -- and those are the same in the whole list
+    pub values-before : (j : ℕ) (d : A) → j < k → get_or (values f (take k ns)) j d ≡ get_or (values f ns) j d
+    values-before j d m =
+        let es = values f (take k ns) in
+        sym (values_after-keeps es (get_or ns k x ∷ drop (k + 1) ns) j d (omega (arith, length-before))) ∙ ap (λ vs. get_or vs j d) (sym split)
+
+-- what holds of a value where it holds of those before, holds of all
+module _ {A : Type 0} (types : List Shape) (f : Block → List A → A) (d : A) (P : A → Type 0) (start : P d)
+    (step : (above : List Block) (block : Block) (es : List A) → is_block types above block ≡ true → ((j : ℕ) → P (get_or es j d)) → P (f block es)) where
+  pushed : (es : List A) (x : A) → ((j : ℕ) → P (get_or es j d)) → P x → (j : ℕ) → P (get_or (es ++ x ∷ []) j d)
+  pushed [] x h g zero = g
+  pushed [] x h g (suc j) = start
+  pushed (e ∷ es) x h g zero = h 0
+  pushed (e ∷ es) x h g (suc j) = pushed es x (λ i. h (suc i)) g j
+
+  holds_after : (above blocks : List Block) (es : List A) → are_blocks types above blocks ≡ true → ((j : ℕ) → P (get_or es j d)) → (j : ℕ) → P (get_or (values_after f es blocks) j d)
+  holds_after above [] es a h j = h j
+  holds_after above (b ∷ bs) es a h j =
+      let two = and_parts (is_block types above b) (are_blocks types (above ++ b ∷ []) bs) a in
+      holds_after (above ++ b ∷ []) bs (es ++ f b es ∷ []) two.1 (pushed es (f b es) h (step above b es two.0 h)) j
+
+  pub values-hold : (blocks : List Block) → are_blocks types [] blocks ≡ true → (j : ℕ) → P (get_or (values f blocks) j d)
+  values-hold blocks a j = holds_after [] blocks [] a (λ i. start) j
+
+-- the same of two lists of values
+module _ {A B : Type 0} (types : List Shape) (f : Block → List A → A) (g : Block → List B → B) (d : A) (e : B) (R : A → B → Type 0) (start : R d e)
+    (step : (above : List Block) (block : Block) (vs : List A) (bs : List B) → is_block types above block ≡ true → ((j : ℕ) → R (get_or vs j d) (get_or bs j e)) → R (f block vs) (g block bs)) where
+  pushed_both : (vs : List A) (bs : List B) (x : A) (y : B) → length vs ≡ length bs → ((j : ℕ) → R (get_or vs j d) (get_or bs j e)) → R x y
+      → (j : ℕ) → R (get_or (vs ++ x ∷ []) j d) (get_or (bs ++ y ∷ []) j e)
+  pushed_both [] [] x y l h r zero = r
+  pushed_both [] [] x y l h r (suc j) = start
+  pushed_both [] (b ∷ bs) x y l h r j = absurd (omega arith)
+  pushed_both (a ∷ vs) [] x y l h r j = absurd (omega arith)
+  pushed_both (a ∷ vs) (b ∷ bs) x y l h r zero = h 0
+  pushed_both (a ∷ vs) (b ∷ bs) x y l h r (suc j) = pushed_both vs bs x y (omega arith) (λ i. h (suc i)) r j
+
+  both_after : (above blocks : List Block) (vs : List A) (bs : List B) → length vs ≡ length bs → are_blocks types above blocks ≡ true
+      → ((j : ℕ) → R (get_or vs j d) (get_or bs j e)) → (j : ℕ) → R (get_or (values_after f vs blocks) j d) (get_or (values_after g bs blocks) j e)
+  both_after above [] vs bs l a h j = h j
+  both_after above (n ∷ ns) vs bs l a h j =
+      let two = and_parts (is_block types above n) (are_blocks types (above ++ n ∷ []) ns) a in
+      both_after (above ++ n ∷ []) ns (vs ++ f n vs ∷ []) (bs ++ g n bs ∷ []) (omega (arith, length_push vs (f n vs), length_push bs (g n bs))) two.1
+      (pushed_both vs bs (f n vs) (g n bs) l h (step above n vs bs two.0 h)) j
+
+  pub values-both : (blocks : List Block) → are_blocks types [] blocks ≡ true → (j : ℕ) → R (get_or (values f blocks) j d) (get_or (values g blocks) j e)
+  values-both blocks a j = both_after [] blocks [] [] refl a (λ i. start) j
+
+-- each block fits those before it
+pub block_among : (types : List Shape) (above blocks : List Block) (k : ℕ) (d : Block) → are_blocks types above blocks ≡ true → k < length blocks
+    → is_block types (above ++ take k blocks) (get_or blocks k d) ≡ true
+block_among types above [] k d a l = absurd (omega arith)
+block_among types above (b ∷ bs) zero d a l =
+    ap (λ (bs : List Block). is_block types bs b) (append-none above) ∙ (and_parts (is_block types above b) (are_blocks types (above ++ b ∷ []) bs) a).0
+  where
+    append-none : (xs : List Block) → xs ++ [] ≡ xs
+    append-none [] = refl
+    append-none (x ∷ xs) = ap (λ ys. x ∷ ys) (append-none xs)
+block_among types above (b ∷ bs) (suc k) d a l =
+    ap (λ (cs : List Block). is_block types cs (get_or bs k d)) (sym (append_assoc above (b ∷ []) (take k bs)))
+    ∙ block_among types (above ++ b ∷ []) bs k d (and_parts (is_block types above b) (are_blocks types (above ++ b ∷ []) bs) a).1 (omega arith)
+
+-- and so does each front of the blocks
+pub front_fits : (types : List Shape) (above blocks : List Block) (k : ℕ) → are_blocks types above blocks ≡ true → are_blocks types above (take k blocks) ≡ true
+front_fits types above [] zero a = refl
+front_fits types above [] (suc k) a = refl
+front_fits types above (b ∷ bs) zero a = refl
+front_fits types above (b ∷ bs) (suc k) a =
+    let two = and_parts (is_block types above b) (are_blocks types (above ++ b ∷ []) bs) a in
+    and_from (is_block types above b) (are_blocks types (above ++ b ∷ []) (take k bs)) two.0 (front_fits types (above ++ b ∷ []) bs k two.1)

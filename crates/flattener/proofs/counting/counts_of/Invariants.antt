@@ -1,0 +1,8 @@
+use Rattle.std.proofs.Common.{◌≡◌, drop}
+use Rattle.graph_rules.specs.Graphs.{values_after, values}
+use Rattle.flattener.specs.Counting.{counts_of_block}
+use Rattle.flattener.proofs.counting.counts_of.Given as goal
+
+-- what is left decides
+abbrev pub invariant-loop-block : goal.invariant-loop-block
+invariant-loop-block l = values_after counts_of_block l.counts.items (drop l.block-index l.blocks) ≡ values counts_of_block l.blocks

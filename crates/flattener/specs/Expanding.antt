@@ -1,0 +1,65 @@
+-- What parts and wires that are made so far show, and how they grow. A port is a position among the wires.
+use Rattle.std.specs.Prelude.{◌≡◌, ℕ, ◌+◌, ◌-◌, Bool, true, List, [], ◌∷◌, ◌++◌, map, length, nat_lt, nat_le, slice_index, slice_index_or, if◌then◌else◌}
+use Rattle.std.specs.List.{list_all}
+use Rattle.text_rules.specs.Names.{Name}
+use Rattle.graph_rules.specs.Graphs.{values}
+use Rattle.device_model.specs.declared.component.Component.{Component}
+use Rattle.device_model.specs.Devices.{has_wires}
+use Rattle.component_lang.specs.declared.design.Block.{Block}
+use Rattle.component_lang.specs.Designs.{Design}
+use Rattle.flattener.specs.Flat.{FlatPart, Content, Instance, nothing, instance, top_content, flat_wires}
+
+-- the wire at a position
+abbrev pub wire_at : List Name → ℕ → Name
+wire_at wires position = slice_index_or wires position []
+
+-- a part with the wires at its ports
+abbrev pub shown : List Name → Component → FlatPart
+shown wires part = record { path = part.name; kind = part.kind; wires = map (wire_at wires) part.ports }
+
+-- each port is a position of a wire
+abbrev pub are_joined : List Name → List Component → Bool
+are_joined wires parts = list_all (has_wires (length wires)) parts
+
+-- each of these positions has a wire
+abbrev pub are_within : ℕ → List ℕ → Bool
+are_within wires positions = list_all (λ position. nat_lt position wires) positions
+
+-- The position of a block's wire: the passed ones stand somewhere, and its own from `start` on.
+abbrev pub position_of : List ℕ → ℕ → ℕ → ℕ
+position_of passed start wire = if nat_lt wire (length passed) then slice_index passed wire else start + (wire - length passed)
+
+-- an instance of a block of a design
+abbrev pub instance_at : Design → ℕ → Instance
+instance_at design place = slice_index_or (values instance design.blocks) place nothing
+
+-- how many wires are passed to an instance
+abbrev pub ports_at : Design → ℕ → ℕ
+ports_at design place = slice_index (map (λ (block : Block). block.ports) design.blocks) place
+
+abbrev pub paths_of : Content → List Name
+paths_of content = map (λ (part : FlatPart). part.path) content.parts ++ (content.wires ++ content.instances)
+
+-- each path has at most 255 bytes
+abbrev pub are_short : List Name → Bool
+are_short names = list_all (λ (name : Name). nat_le (length name) 255) names
+
+-- what stands before each name in the instance of a path
+abbrev pub prefix_of : Name → Name
+prefix_of [] = []
+prefix_of (b ∷ path) = (b ∷ path) ++ 46 ∷ []
+
+abbrev pub behind : Name → Name → Name
+behind prefix name = prefix ++ name
+
+-- parts and wires, and those with the content of an instance behind them
+pub record Grows (parts : List Component) (wires : List Name) (content : Content) (more_parts : List Component) (more_wires : List Name) : Type 0 where
+  pub wires_grow : more_wires ≡ wires ++ content.wires
+  pub parts_grow : map (shown more_wires) more_parts ≡ map (shown wires) parts ++ content.parts
+  pub joined : are_joined more_wires more_parts ≡ true
+
+-- the parts and wires of a design, each port being a position
+pub record IsFlat (design : Design) (parts : List Component) (wires : List Name) : Type 0 where
+  pub wires_are : wires ≡ flat_wires design
+  pub parts_are : map (shown wires) parts ≡ (top_content design).parts
+  pub joined : are_joined wires parts ≡ true

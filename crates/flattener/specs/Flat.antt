@@ -1,0 +1,118 @@
+-- The device of a design. Its parts, wires and instances of blocks are named by paths.
+use Rattle.std.specs.Prelude.{ℕ, ◌-◌, ◌^◌, min, max, List, [], ◌∷◌, ◌++◌, map, length, take, drop, Option, Some, None, Result, Ok, Err, nat_lt, slice_get, slice_index_or, if◌then◌else◌}
+use Rattle.std.specs.List.{flat_map}
+use Rattle.text_rules.specs.Names.{Name}
+use Rattle.graph_rules.specs.Graphs.{values}
+use Rattle.device_model.specs.declared.component.Kind.{Kind}
+use Rattle.device_model.specs.declared.component.Kind.TheVariants.{Table}
+use Rattle.device_model.specs.declared.component.Component.{Component}
+use Rattle.device_model.specs.Devices.{Device}
+use Rattle.device_model.specs.Building.{place_in, device_of}
+use Rattle.component_lang.specs.declared.design.UsedKind.{UsedKind}
+use Rattle.component_lang.specs.declared.design.UsedKind.TheVariants.{Gate, Shape as OfShape, Block as OfBlock}
+use Rattle.component_lang.specs.declared.design.Used.{Used}
+use Rattle.component_lang.specs.declared.design.Shape.{Shape}
+use Rattle.component_lang.specs.declared.design.Block.{Block}
+use Rattle.component_lang.specs.Designs.{Design}
+use Rattle.flattener.specs.declared.flattening.FlattenError.{FlattenError}
+use Rattle.flattener.specs.declared.flattening.FlattenError.TheVariants.{TooManyParts, TooManyWires, TooManyBlocks, PathTooLong}
+
+-- a part by its path, and the wires at its ports by theirs
+pub record FlatPart : Type 0 where
+  pub path : Name
+  pub kind : Kind
+  pub wires : List Name
+
+-- the parts below an instance, the wires that are not passed to it or to one below it, and the instances below it
+pub record Content : Type 0 where
+  pub parts : List FlatPart
+  pub wires : List Name
+  pub instances : List Name
+
+-- what an instance has, by its path and by the wires that are passed to it
+abbrev pub Instance : Type 0
+Instance = Name → List Name → Content
+
+abbrev pub nothing : Instance
+nothing path passed = record { parts = []; wires = []; instances = [] }
+
+-- a name in the instance of a path: the top's path is empty
+abbrev pub below : Name → Name → Name
+below [] name = name
+below (b ∷ path) name = (b ∷ path) ++ 46 ∷ name
+
+abbrev pub one_part : Name → Kind → List Name → Content
+one_part path kind wires = record { parts = record { path = path; kind = kind; wires = wires } ∷ []; wires = []; instances = [] }
+
+abbrev pub one_instance : Name → Content → Content
+one_instance path inner = record inner { instances = path ∷ inner.instances }
+
+-- what a part of a block is, by the instances of the blocks before
+abbrev pub content_of : List Instance → UsedKind → Instance
+content_of above (Gate kind) path passed = one_part path kind passed
+content_of above (OfShape place) path passed = one_part path (Table place) passed
+content_of above (OfBlock place) path passed = one_instance path (slice_index_or above place nothing path passed)
+
+abbrev pub used_content : List Instance → Name → List Name → Used → Content
+used_content above path wires used =
+    content_of above used.kind (below path used.name) (map (λ wire. slice_index_or wires wire []) used.args)
+
+-- A block's wires are those that are passed to it and then its own.
+abbrev pub instance : Block → List Instance → Instance
+instance block above path passed =
+    let own = map (below path) (drop block.ports block.wires) in
+    let used = map (used_content above path (passed ++ own)) block.parts in
+    record {
+      parts = flat_map (λ (c : Content). c.parts) used;
+      wires = own ++ flat_map (λ (c : Content). c.wires) used;
+      instances = flat_map (λ (c : Content). c.instances) used;
+    }
+
+abbrev pub ports_of : Option Block → List Name
+ports_of None = []
+ports_of (Some block) = take block.ports block.wires
+
+abbrev pub top_ports : Design → List Name
+top_ports design = ports_of (slice_get design.blocks design.top)
+
+-- what the top has
+abbrev pub top_content : Design → Content
+top_content design = slice_index_or (values instance design.blocks) design.top nothing [] (top_ports design)
+
+-- All ports and wires of the top are wires of the device.
+abbrev pub flat_wires : Design → List Name
+flat_wires design = top_ports design ++ (top_content design).wires
+
+abbrev pub component : List Name → FlatPart → Component
+component wires part = record { name = part.path; kind = part.kind; ports = map (place_in wires) part.wires }
+
+abbrev pub flat_parts : Design → List Component
+flat_parts design = map (component (flat_wires design)) (top_content design).parts
+
+abbrev pub flat_device : Design → Device
+flat_device design = device_of (flat_parts design) (flat_wires design) (map (λ (s : Shape). s.table) design.types)
+
+abbrev pub greatest : List ℕ → ℕ
+greatest [] = 0
+greatest (n ∷ ns) = max n (greatest ns)
+
+-- the longest path of a part, a wire or an instance, in bytes
+abbrev pub longest_path : Design → ℕ
+longest_path design = greatest (map (λ (path : Name). length path)
+    (map (λ (p : FlatPart). p.path) (top_content design).parts ++ (flat_wires design ++ (top_content design).instances)))
+
+-- a count stops at the greatest number of 64 bits
+abbrev pub counted : ℕ → ℕ
+counted n = min n (2 ^ 64 - 1)
+
+abbrev pub unless_over : ℕ → ℕ → (ℕ → FlattenError) → Result Device FlattenError → Result Device FlattenError
+unless_over limit count error otherwise = if nat_lt limit count then Err (error (counted count)) else otherwise
+
+-- The device of a design, or the first of these counts that is above its limit.
+abbrev pub flattened : Design → Result Device FlattenError
+flattened design =
+    unless_over 4096 (length (top_content design).parts) TooManyParts
+    (unless_over 16384 (length (flat_wires design)) TooManyWires
+    (unless_over 4096 (length (top_content design).instances) TooManyBlocks
+    (unless_over 255 (longest_path design) PathTooLong
+    (Ok (flat_device design)))))

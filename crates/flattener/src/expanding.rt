@@ -1,0 +1,147 @@
+ghost use Rattle.std.specs.Prelude.{◌≡◌, ◌<◌, ◌≤◌, ◌+◌, ◌++◌, ◌∷◌, [], true, map, length, OnOk, IfOk};
+ghost use Rattle.flattener.specs.Expanding.{Grows, wire_at, are_joined, are_within, position_of, instance_at, ports_at, paths_of, are_short, prefix_of, behind};
+
+use crate::counting::own_wires;
+use component_lang::{Design, UsedKind};
+use device_model::{Component, Kind, Name, Wires};
+use std::alloc::{AllocError, Global};
+
+/// Parts and wires that were made so far. A port is a position among the wires.
+#[derive(Debug, Drop)]
+pub(crate) struct Flat {
+    pub(crate) parts: Vec<Component>,
+    pub(crate) wires: Vec<Name>,
+}
+
+/// Adds what an instance of a block has: its own wires, and then what its parts have, in their order.
+///
+/// Wires are only added, so a position stays that of its wire. The path of an instance has at most 255 bytes, and below the
+/// top two more at least than that of the instance around it, so calls stand at most 129 deep.
+pub(crate) fn expand(
+    alloc: Global,
+    design: &Design,
+    place: usize,
+    path: &[u8],
+    passed: &[u32],
+    flat: &mut Flat,
+) -> Result<(), AllocError>
+    requires place { place < length design.now.blocks }
+    requires ports { length passed.now ≡ ports_at design.now place }
+    requires within { are_within (length flat.old.wires.items) passed.now ≡ true }
+    requires joined { are_joined flat.old.wires.items flat.old.parts.items ≡ true }
+    requires few { let content = instance_at design.now place path.now (map (wire_at flat.old.wires.items) passed.now) in
+        length flat.old.wires.items + length content.wires ≤ 16384 }
+    requires short { let content = instance_at design.now place path.now (map (wire_at flat.old.wires.items) passed.now) in
+        are_short (paths_of content) ≡ true }
+    ensures { let content = instance_at design.now place path.now (map (wire_at flat.old.wires.items) passed.now) in
+        OnOk result (Grows flat.old.parts.items flat.old.wires.items content flat.new.parts.items flat.new.wires.items) }
+{
+    let block = &design.blocks()[place];
+    let start = flat.wires.len() as u32;
+    let mut prefix = prefix_of(alloc, path)?;
+    push_wires(alloc, &mut prefix, own_wires(block), &mut flat.wires)?;
+    let mut ports = Vec::new(alloc);
+    for used in block.parts.as_slice() {
+        let name = with_prefix(alloc, &mut prefix, used.name.as_slice())?;
+        read_positions(used.args.as_slice(), passed, start, &mut ports)?;
+        match used.kind {
+            UsedKind::Gate(kind) => push_part(alloc, name, kind, &ports, &mut flat.parts)?,
+            UsedKind::Shape(table) => {
+                push_part(alloc, name, Kind::Table(table), &ports, &mut flat.parts)?
+            }
+            UsedKind::Block(inner) => {
+                expand(alloc, design, inner as usize, name.as_slice(), &ports, flat)?
+            }
+        }
+    }
+    Ok(())
+}
+
+// What stands before each name in the instance of a path.
+fn prefix_of(alloc: Global, path: &[u8]) -> Result<Vec<u8>, AllocError>
+    ensures { IfOk result (λ prefix. prefix.items ≡ prefix_of path.now) }
+{
+    let mut prefix = Vec::new(alloc);
+    if !path.is_empty() {
+        prefix.extend_from_slice(path)?;
+        prefix.push(b'.')?;
+    }
+    Ok(prefix)
+}
+
+// A name behind a prefix, which is written and taken away again.
+fn with_prefix(alloc: Global, prefix: &mut Vec<u8>, name: &[u8]) -> Result<Name, AllocError>
+    requires some { 1 ≤ length name.now }
+    requires short { length (behind prefix.old.items name.now) ≤ 255 }
+    ensures joined { IfOk result (λ joined. joined ≡ behind prefix.old.items name.now) }
+    ensures same { OnOk result (prefix.new.items ≡ prefix.old.items) }
+{
+    let len = prefix.len();
+    prefix.extend_from_slice(name)?;
+    let joined = Name::new(alloc, prefix)?;
+    prefix.truncate(len);
+    Ok(joined)
+}
+
+fn push_wires(
+    alloc: Global,
+    prefix: &mut Vec<u8>,
+    names: &[Name],
+    wires: &mut Vec<Name>,
+) -> Result<(), AllocError>
+    requires { are_short (map (behind prefix.old.items) names.now) ≡ true }
+    ensures wires { OnOk result
+        (wires.new.items ≡ wires.old.items ++ map (behind prefix.old.items) names.now) }
+    ensures same { OnOk result (prefix.new.items ≡ prefix.old.items) }
+{
+    for name in names {
+        wires.push(with_prefix(alloc, prefix, name.as_slice())?)?;
+    }
+    Ok(())
+}
+
+// Puts the positions of a block's wires in place of what a list held.
+fn read_positions(
+    args: &[u32],
+    passed: &[u32],
+    start: u32,
+    positions: &mut Vec<u32>,
+) -> Result<(), AllocError>
+    requires start { start ≤ 16384 }
+    requires args { are_within (length passed.now + 16384) args.now ≡ true }
+    ensures { OnOk result (positions.new.items ≡ map (position_of passed.now start) args.now) }
+{
+    positions.clear();
+    for wire in args {
+        positions.push(position_of(*wire, passed, start))?;
+    }
+    Ok(())
+}
+
+// The passed wires are the first of a block, and its own stand from `start` on.
+fn position_of(wire: u32, passed: &[u32], start: u32) -> u32
+    requires start { start ≤ 16384 }
+    requires wire { wire < length passed.now + 16384 }
+    ensures { result ≡ position_of passed.now start wire }
+{
+    let wire = wire as usize;
+    match passed.get(wire) {
+        Some(position) => *position,
+        None => start + (wire - passed.len()) as u32,
+    }
+}
+
+fn push_part(
+    alloc: Global,
+    name: Name,
+    kind: Kind,
+    ports: &[u32],
+    parts: &mut Vec<Component>,
+) -> Result<(), AllocError>
+    ensures { OnOk result
+        (parts.new.items ≡ parts.old.items ++ record { name = name; kind = kind; ports = ports.now } ∷ []) }
+{
+    let ports = Wires::new(alloc, ports)?;
+    parts.push(Component { name, kind, ports })?;
+    Ok(())
+}

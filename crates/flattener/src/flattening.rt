@@ -1,0 +1,124 @@
+ghost use Rattle.std.specs.Prelude.{◌≡◌, ◌≢◌, ◌≤◌, map, MatchResult, IfOk, Ok, Err, None};
+ghost use Rattle.std.specs.List.{range_with_len};
+ghost use Rattle.component_lang.specs.declared.design.Shape.{Shape as OneType};
+ghost use Rattle.flattener.specs.Flat.{flattened};
+ghost use Rattle.flattener.specs.Counting.{counts_of_design, refusal};
+ghost use Rattle.flattener.specs.Expanding.{IsFlat};
+ghost use Rattle.flattener.specs.declared.flattening.FlattenError.TheVariants.{Memory};
+
+use crate::counting::{Counts, top_ports};
+use crate::expanding::{Flat, expand};
+use component_lang::{Design, Shape};
+use device_model::{BuildError, Device, Name, Table};
+use std::alloc::{AllocError, Global};
+
+/// Why a design has no flat device. A count stops at the greatest number of 64 bits.
+#[derive(Clone, Copy, Debug, PartialEq, Eq)]
+pub enum FlattenError {
+    /// More than 4,096 parts.
+    TooManyParts { count: u64 },
+    /// More than 16,384 wires.
+    TooManyWires { count: u64 },
+    /// More than 4,096 instances of blocks below the top.
+    TooManyBlocks { count: u64 },
+    /// A path of a part, a wire or an instance has more than 255 bytes; the longest.
+    PathTooLong { length: u64 },
+    /// There was no memory.
+    Memory,
+}
+
+impl From<AllocError> for FlattenError {
+    ghost from_gives = { λ _ e. e ≡ Memory };
+
+    fn from(_: AllocError) -> Self {
+        FlattenError::Memory
+    }
+}
+
+/// Makes the device of a design: each part, wire and instance of a block is named by its path, and each port of an instance
+/// is the wire that is passed to it.
+///
+/// The first reason of `FlattenError` that applies is the answer, in the order in which they stand there. All counts are
+/// taken before anything is made.
+pub fn flatten(alloc: Global, design: &Design) -> Result<Device, FlattenError>
+    ensures { MatchResult result (λ device. Ok device ≡ flattened design.now)
+        (λ e. e ≢ Memory → Err e ≡ flattened design.now) }
+{
+    let counts = Counts::of_design(alloc, design)?;
+    if let Some(error) = counts.refusal() {
+        return Err(error);
+    }
+    let Flat { parts, wires } = flat_of(alloc, design)?;
+    let tables = tables_of(alloc, design.types())?;
+    match Device::build(alloc, parts, wires, tables) {
+        Ok(device) => Ok(device),
+        Err(error) => match error {
+            BuildError::Memory => Err(FlattenError::Memory),
+            // Paths differ and ports fit their parts, as names and arguments do in each block.
+            _ => unreachable!(),
+        },
+    }
+}
+
+// All parts and wires, where no limit is passed.
+fn flat_of(alloc: Global, design: &Design) -> Result<Flat, AllocError>
+    requires { refusal (counts_of_design design.now) ≡ None }
+    ensures { IfOk result (λ flat. IsFlat design.now flat.parts.items flat.wires.items) }
+{
+    let ports = top_ports(design);
+    let mut flat = Flat {
+        parts: Vec::new(alloc),
+        wires: names_of(alloc, ports)?,
+    };
+    let passed = first_places(alloc, ports.len())?;
+    expand(
+        alloc,
+        design,
+        design.top() as usize,
+        &[],
+        &passed,
+        &mut flat,
+    )?;
+    Ok(flat)
+}
+
+fn names_of(alloc: Global, names: &[Name]) -> Result<Vec<Name>, AllocError>
+    ensures { IfOk result (λ copies. copies.items ≡ names.now) }
+{
+    let mut copies = Vec::with_capacity(alloc, names.len())?;
+    for name in names {
+        copies.push(Name::new(alloc, name.as_slice())?)?;
+    }
+    Ok(copies)
+}
+
+// The places from 0 on.
+fn first_places(alloc: Global, count: usize) -> Result<Vec<u32>, AllocError>
+    requires { count ≤ 16384 }
+    ensures { IfOk result (λ places. places.items ≡ range_with_len 0 count) }
+{
+    let mut places = Vec::with_capacity(alloc, count)?;
+    for place in 0..count as u32 {
+        places.push(place)?;
+    }
+    Ok(places)
+}
+
+fn tables_of(alloc: Global, types: &[Shape]) -> Result<Vec<Table>, AllocError>
+    ensures { IfOk result (λ tables. tables.items ≡ map (λ (s : OneType). s.table) types.now) }
+{
+    let mut tables = Vec::with_capacity(alloc, types.len())?;
+    for shape in types {
+        tables.push(copy_of(&shape.table))?;
+    }
+    Ok(tables)
+}
+
+fn copy_of(table: &Table) -> Table
+    ensures { result ≡ table.now }
+{
+    match Table::new(table.ports(), table.ok(), table.bad()) {
+        Some(copy) => copy,
+        None => unreachable!(),
+    }
+}

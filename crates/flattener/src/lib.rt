@@ -1,0 +1,8 @@
+//! The flat device of a design.
+#![tactic(auto)]
+
+mod counting;
+mod expanding;
+mod flattening;
+
+pub use flattening::{FlattenError, flatten};

@@ -73,7 +73,7 @@ impl<'a> OpenBlock<'a> {
         closed: &Closed<'a>,
         name: &'a [u8],
         kind: &[u8],
-        args: Tokens<'_>,
+        args: Tokens<'a>,
     ) -> Result<OpenBlock<'a>, LineError>
         ensures { Gives result (λ block. at (closed_in closed.now) (InBlock (block_in block)))
             (part_line (closed_in closed.now) (block_in self.entry) name.now kind.now (tokens_left args.entry)) }

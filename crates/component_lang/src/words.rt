@@ -55,10 +55,10 @@ pub fn add_names<'a>(names: &mut IndexSet<&'a [u8]>, words: Tokens<'a>) -> Resul
 }
 
 /// The places in a list of the names that follow in a line, if each of them stands there.
-pub fn places_of(
+pub fn places_of<'a>(
     alloc: Global,
-    names: &IndexSet<&[u8]>,
-    words: Tokens<'_>,
+    names: &IndexSet<&'a [u8]>,
+    words: Tokens<'a>,
 ) -> Result<Option<Vec<u32>>, LineError>
     requires { length names.now.keys ≤ 16777216 }
     ensures { Gives result (λ places. option_map (λ v. v.items) places) (places_in (names_in names.now) (tokens_left words.entry)) }
@@ -69,7 +69,7 @@ pub fn places_of(
         if !is_plain_name(word) {
             return Err(LineError::Fault(LangFault::Name));
         }
-        if let Some(place) = (*names).get_index_of(&word) {
+        if let Some(place) = names.get_index_of(&word) {
             places.push(place as u32)?;
         } else {
             are_known = false;

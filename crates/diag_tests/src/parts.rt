@@ -31,16 +31,21 @@ fn reads_a_netlist(rt: HostRuntime) -> Result<(), Fail> {
 
 // What a front of C17 has: nothing, or the line that is cut off, or else the first output whose gate is cut off.
 fn fault_of_front(front: &[u8]) -> Option<BenchError> {
-    let ended = front.iter().filter(|byte| **byte == b'\n').count() as u32;
+    let ended = front.iter().filter(|byte| **byte == b'\n').count();
+    let ended = u32::try_from(ended).unwrap_or(u32::MAX);
     let last = front.rsplit(|byte| *byte == b'\n').next().unwrap_or(front);
     let is_comment = last.starts_with(b"#");
     if !last.is_empty() && !is_comment && !last.ends_with(b")") {
         return Some(BenchError::Bad {
-            line: ended + 1,
+            line: ended.saturating_add(1),
             what: BenchFault::Line,
         });
     }
-    let lines = if last.is_empty() { ended } else { ended + 1 };
+    let lines = if last.is_empty() {
+        ended
+    } else {
+        ended.saturating_add(1)
+    };
     let undriven = [(7, 14), (8, 15)];
     for (line, gate) in undriven {
         if line <= lines && lines < gate {

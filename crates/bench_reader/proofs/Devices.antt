@@ -8,11 +8,11 @@ use Rattle.text_rules.specs.Names.{Name, is_among}
 use Rattle.device_model.specs.declared.component.Kind.{Kind}
 use Rattle.device_model.specs.declared.component.Kind.TheVariants.{And, Or, Nand, Nor, Xor, Xnor, Not, Buff, Table}
 use Rattle.device_model.specs.declared.component.Component.{Component}
-use Rattle.device_model.specs.Order.{placed, in_order}
+use Rattle.device_model.specs.Order.{placed, sorted_distinct}
 use Rattle.device_model.specs.Devices.{takes, takes_ports, has_arity, has_wires}
 use Rattle.device_model.specs.Building.{place_in, renumbered, repeated, built, device_of as built_of}
 use Rattle.device_model.proofs.Naming.{same, below, above, compared}
-use Rattle.device_model.proofs.Ordered.{Among, Rises-in_order, among_in_order, in_order-keeps, in_order-is, placed-below, placed-above}
+use Rattle.device_model.proofs.Ordered.{Among, Rises-sorted_distinct, among_sorted_distinct, sorted_distinct-keeps, sorted_distinct-is, placed-below, placed-above}
 use Rattle.device_model.proofs.Repeats.{is_among-among, among_from_test}
 use Rattle.device_model.proofs.Sorting.{itself}
 use Rattle.bench_reader.specs.Netlists.{Form, Input, Output, Gate, driven_by_gate, used, part_with, part_of, device_of, driven}
@@ -36,20 +36,20 @@ no_repeat n ns h = by (is_among ns n) h
     by true e = cc
     by false e = (refl, e)
 
-pub length-in_order_once : (ns : List Name) → repeated ns ≡ [] → length (in_order itself ns) ≡ length ns
-length-in_order_once [] h = refl
-length-in_order_once (n ∷ ns) h =
+pub length-sorted_distinct_once : (ns : List Name) → repeated ns ≡ [] → length (sorted_distinct itself ns) ≡ length ns
+length-sorted_distinct_once [] h = refl
+length-sorted_distinct_once (n ∷ ns) h =
     let two = no_repeat n ns h in
-    length-placed_new n (in_order itself ns) (λ m. true≢false (sym (is_among-among n ns (among_in_order itself ns n m)) ∙ two.0))
-    ∙ ap suc (length-in_order_once ns two.1)
+    length-placed_new n (sorted_distinct itself ns) (λ m. true≢false (sym (is_among-among n ns (among_sorted_distinct itself ns n m)) ∙ two.0))
+    ∙ ap suc (length-sorted_distinct_once ns two.1)
 
 -- ---- the same members in order
 
 module _ (xs ys : List Name) (same_members : (m : Name) → is_among xs m ≡ is_among ys m) where
-  pub in_order-members : in_order itself xs ≡ in_order itself ys
-  in_order-members = in_order-is itself xs (in_order itself ys) (Rises-in_order itself ys)
-      (λ z m. in_order-keeps itself ys (λ a b k l e. e) z (among_from_test z ys (sym (same_members z) ∙ is_among-among z xs m)))
-      (λ z m. among_from_test z xs (same_members z ∙ is_among-among z ys (among_in_order itself ys z m)))
+  pub sorted_distinct-members : sorted_distinct itself xs ≡ sorted_distinct itself ys
+  sorted_distinct-members = sorted_distinct-is itself xs (sorted_distinct itself ys) (Rises-sorted_distinct itself ys)
+      (λ z m. sorted_distinct-keeps itself ys (λ a b k l e. e) z (among_from_test z ys (sym (same_members z) ∙ is_among-among z xs m)))
+      (λ z m. among_from_test z xs (same_members z ∙ is_among-among z ys (among_sorted_distinct itself ys z m)))
 
 -- ---- what building asks of the parts
 
@@ -93,11 +93,11 @@ module _ (wires : List Name) where
   ports-below (n ∷ ns) h = let two = and_parts (is_among wires n) (list_all (is_among wires) ns) h in and_from _ _ (place_below n wires two.0) (ports-below ns two.1)
 
   ports-renumbered : (ns : List Name) → list_all (is_among wires) ns ≡ true
-      → map (λ port. place_in (in_order itself wires) (get_or wires port [])) (map (place_in wires) ns) ≡ map (place_in (in_order itself wires)) ns
+      → map (λ port. place_in (sorted_distinct itself wires) (get_or wires port [])) (map (place_in wires) ns) ≡ map (place_in (sorted_distinct itself wires)) ns
   ports-renumbered [] h = refl
   ports-renumbered (n ∷ ns) h =
       let two = and_parts (is_among wires n) (list_all (is_among wires) ns) h in
-      let first = ap (place_in (in_order itself wires)) (at_place n wires two.0) in
+      let first = ap (place_in (sorted_distinct itself wires)) (at_place n wires two.0) in
       let rest = ports-renumbered ns two.1 in
       cc
 
@@ -114,12 +114,12 @@ module _ (wires : List Name) where
     gate-wires : list_all (has_wires (length wires)) (part_of wires (Gate o k is)) ≡ true
     gate-wires = ap (λ m. list_all (has_wires (length wires)) (part_with wires o is m)) facts.meant ∙ and_from _ _ (ports-below (is ++ o ∷ []) all) refl
 
-    gate-renumbered : map (renumbered wires) (part_of wires (Gate o k is)) ≡ part_of (in_order itself wires) (Gate o k is)
+    gate-renumbered : map (renumbered wires) (part_of wires (Gate o k is)) ≡ part_of (sorted_distinct itself wires) (Gate o k is)
     gate-renumbered =
         let ports = ports-renumbered (is ++ o ∷ []) all in
         ap (λ m. map (renumbered wires) (part_with wires o is m)) facts.meant
         ∙ ap (λ (ps : List ℕ). record { name = o; kind = facts.gate; ports = ps } ∷ []) ports
-        ∙ ap (part_with (in_order itself wires) o is) (sym facts.meant)
+        ∙ ap (part_with (sorted_distinct itself wires) o is) (sym facts.meant)
 
   -- what of each form makes its part fit
   pub record Fits (form : Form) : Type 0 where
@@ -140,7 +140,7 @@ module _ (wires : List Name) where
   form-wires (Output s) h = refl
   form-wires (Gate o k is) h = gate-wires o k is h.sound (gate_names o k is h)
 
-  form-renumbered : (form : Form) → Fits form → map (renumbered wires) (part_of wires form) ≡ part_of (in_order itself wires) form
+  form-renumbered : (form : Form) → Fits form → map (renumbered wires) (part_of wires form) ≡ part_of (sorted_distinct itself wires) form
   form-renumbered (Input s) h = refl
   form-renumbered (Output s) h = refl
   form-renumbered (Gate o k is) h = gate-renumbered o k is h.sound (gate_names o k is h)
@@ -167,13 +167,13 @@ module _ (wires : List Name) where
   map_more f [] ys = refl
   map_more f (x ∷ xs) ys = ap (λ (zs : List Component). f x ∷ zs) (map_more f xs ys)
 
-  parts-renumbered : (forms : List Form) → AllFit forms → map (renumbered wires) (flat_map (part_of wires) forms) ≡ flat_map (part_of (in_order itself wires)) forms
+  parts-renumbered : (forms : List Form) → AllFit forms → map (renumbered wires) (flat_map (part_of wires) forms) ≡ flat_map (part_of (sorted_distinct itself wires)) forms
   parts-renumbered [] h = refl
   parts-renumbered (f ∷ forms) h =
       let two = first_fits f forms h in
       map_more (renumbered wires) (part_of wires f) (flat_map (part_of wires) forms)
       ∙ ap (λ ps. ps ++ map (renumbered wires) (flat_map (part_of wires) forms)) (form-renumbered f two.0)
-      ∙ ap (λ ps. part_of (in_order itself wires) f ++ ps) (parts-renumbered forms two.1)
+      ∙ ap (λ ps. part_of (sorted_distinct itself wires) f ++ ps) (parts-renumbered forms two.1)
 
   -- Forms without a fault make their device.
   pub device_built : (forms : List Form) → AllFit forms → repeated wires ≡ [] → repeated (flat_map driven_by_gate forms) ≡ []
@@ -183,8 +183,8 @@ module _ (wires : List Name) where
       let parts = flat_map (part_of wires) forms in
       let names = parts-names wires forms h.0 in
       let many : length parts ≡ length (flat_map driven_by_gate forms) = sym (length-map parts (λ (p : Component). p.name)) ∙ ap length names in
-      let order = in_order-members wires (flat_map driven forms) members in
-      let same_parts = ap (in_order (λ (p : Component). p.name)) (parts-renumbered forms h ∙ ap (λ ws. flat_map (part_of ws) forms) order) in
+      let order = sorted_distinct-members wires (flat_map driven forms) members in
+      let same_parts = ap (sorted_distinct (λ (p : Component). p.name)) (parts-renumbered forms h ∙ ap (λ ws. flat_map (part_of ws) forms) order) in
       let same_device : built_of parts wires [] ≡ device_of forms = cc in
       let p : nat_lt 4096 (length parts) ≡ false = ap (nat_lt 4096) many ∙ le-ltb 4096 _ few_parts in
       let w : nat_lt 16384 (length wires) ≡ false = le-ltb 16384 _ few_wires in

@@ -7,4 +7,4 @@ pub mod Saying
 pub mod Parts
 pub mod Devices
 pub mod Whole
-mod Rows
+mod Examples

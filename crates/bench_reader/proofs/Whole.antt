@@ -10,7 +10,7 @@ use Rattle.text_rules.specs.TextLines.{all_lines}
 use Rattle.device_model.specs.declared.component.Component.{Component}
 use Rattle.device_model.specs.declared.building.BuildError.{BuildError}
 use Rattle.device_model.specs.declared.building.BuildError.TheVariants.{TooMany as TooManyParts, TwoParts, TwoWires, Arity, NoWire, Memory as NoMemory}
-use Rattle.device_model.specs.Rows.{Rows}
+use Rattle.device_model.specs.TruthTable.{TruthTable}
 use Rattle.device_model.specs.Devices.{Device}
 use Rattle.device_model.specs.Building.{built}
 use Rattle.device_model.proofs.Repeats.{is_among-among, among_from_test}
@@ -28,7 +28,7 @@ use Rattle.bench_reader.proofs.Drivers.{among_keys, Drives-none}
 use Rattle.bench_reader.proofs.Saying.{first_or, form_at, said-first, said_are_sound}
 use Rattle.bench_reader.proofs.Twice.{Ends, Splits, splits, gates_once}
 use Rattle.bench_reader.proofs.Parts.{gate_facts}
-use Rattle.bench_reader.proofs.Devices.{in_order-members, length-in_order_once, device_built}
+use Rattle.bench_reader.proofs.Devices.{sorted_distinct-members, length-sorted_distinct_once, device_built}
 
 -- ---- signals as names of wires
 
@@ -72,7 +72,7 @@ module _ (forms : List Form) (signals : List Name) (fit : CanBeBuilt forms signa
   pub built-device : built (flat_map (part_of signals) forms) signals [] ≡ Ok (device_of forms)
   built-device = device_built signals forms (fit.sound, gates_here, fit.uses) fit.once fit.gates_once fit.members fit.few_wires fit.few_parts
 
-  module _ (parts : List Component) (wires : List Name) (tables : List Rows) (p : parts ≡ flat_map (part_of signals) forms) (w : wires ≡ signals) (t : tables ≡ []) where
+  module _ (parts : List Component) (wires : List Name) (tables : List TruthTable) (p : parts ≡ flat_map (part_of signals) forms) (w : wires ≡ signals) (t : tables ≡ []) where
     built-of_these : built parts wires tables ≡ Ok (device_of forms)
     built-of_these = ap (λ (ps : List Component). built ps wires tables) p ∙ ap (λ (ws : List Name). built (flat_map (part_of signals) forms) ws tables) w
         ∙ ap (built (flat_map (part_of signals) forms) signals) t ∙ built-device
@@ -195,7 +195,7 @@ module _ (text : List ℕ) where
 
       module _ (used_so : first_undriven (keys_of drivers) forms ≡ None) where
         many : length (wires_of (map form_at forms)) ≡ length (keys_of drivers)
-        many = ap length (sym (in_order-members (keys_of drivers) (flat_map driven (map form_at forms)) members)) ∙ length-in_order_once (keys_of drivers) split.1.once
+        many = ap length (sym (sorted_distinct-members (keys_of drivers) (flat_map driven (map form_at forms)) members)) ∙ length-sorted_distinct_once (keys_of drivers) split.1.once
 
         without_undriven : netlist text ≡ unless_refused (map form_at forms)
             (if is_too_large (map form_at forms) (keys_of drivers) then fault_at TooMany 0 ∷ [] else [])

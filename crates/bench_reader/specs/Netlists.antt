@@ -6,7 +6,7 @@ use Rattle.text_rules.specs.TextLines.{all_lines, uncommented}
 use Rattle.text_rules.specs.Tokens.{tokens}
 use Rattle.device_model.specs.declared.component.Kind.TheVariants.{And, Or, Nand, Nor, Xor, Xnor, Not, Buff}
 use Rattle.device_model.specs.declared.component.Component.{Component}
-use Rattle.device_model.specs.Order.{in_order}
+use Rattle.device_model.specs.Order.{sorted_distinct}
 use Rattle.device_model.specs.Devices.{Device, takes}
 use Rattle.device_model.specs.Building.{place_in}
 use Rattle.bench_reader.specs.declared.kinds.NamedKind.{NamedKind}
@@ -176,7 +176,7 @@ undriven forms =
     map (λ (f : ℕ × Form). f.0) (filter (λ (f : ℕ × Form). not (list_all (is_among there) (used f.1))) forms)
 
 abbrev pub wires_of : List Form → List Name
-wires_of forms = in_order (λ n. n) (flat_map driven forms)
+wires_of forms = sorted_distinct (λ n. n) (flat_map driven forms)
 
 abbrev pub part_with : List Name → Name → List Name → NamedKind → List Component
 part_with wires output inputs (AtOnce kind) =
@@ -192,7 +192,7 @@ part_of wires (Output signal) = []
 abbrev pub device_of : List Form → Device
 device_of forms =
     let wires = wires_of forms in
-    record { parts = in_order (λ (p : Component). p.name) (flat_map (part_of wires) forms); wires = wires; tables = [] }
+    record { parts = sorted_distinct (λ (p : Component). p.name) (flat_map (part_of wires) forms); wires = wires; tables = [] }
 
 -- too many parts or wires, of no line
 abbrev pub too_many : List Form → List Fault

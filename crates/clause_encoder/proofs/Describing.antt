@@ -6,14 +6,14 @@ use Rattle.std.proofs.lemmas.Bool.{ltb-true, and_parts}
 use Rattle.std.proofs.lemmas.List.{append-nil, get_or_append_left, get_or-append_right}
 use Rattle.std.proofs.lemmas.List.Folds.{list_all-append}
 use Rattle.ranking.specs.Bits.{bit_in, lists_of_bits, has_odd_ones, same_bit}
-use Rattle.graph_rules.specs.Graphs.{Assignment, assignment}
+use Rattle.ranking.specs.Assignments.{Assignment, assignment}
 use Rattle.device_model.specs.declared.component.Kind.{Kind}
 use Rattle.device_model.specs.declared.component.Kind.TheVariants.{And, Or, Nand, Nor, Xor, Xnor, Not, Buff, Table}
 use Rattle.device_model.specs.declared.component.Component.{Component}
-use Rattle.device_model.specs.Rows.{Rows}
+use Rattle.device_model.specs.TruthTable.{TruthTable}
 use Rattle.device_model.specs.Devices.{Device, IsDevice, allows, parts_fit, takes_ports, has_arity, has_wires, takes}
 use Rattle.clause_encoder.specs.Clauses.{Clause, var_of, literal, is_true_clause, all_hold, is_clause}
-use Rattle.clause_encoder.specs.Encoding.{and_clauses, row_bits, rows_of, unlike, row_clause, table_side, table_clauses, gate_clauses, raw_clauses, wire_variable, clauses_from, all_clauses, clause_list, tidy, Describes}
+use Rattle.clause_encoder.specs.Encoding.{and_clauses, row_bits, rows_of, blocking_literals, row_clause, blocked_rows, table_clauses, gate_clauses, raw_clauses, wire_variable, clauses_from, all_clauses, clause_list, tidy, Describes}
 use Rattle.clause_encoder.specs.Steps.{parity_clauses}
 use Rattle.clause_encoder.proofs.Literals.{AllIn, AllRaw, AllIn-append, AllRaw-append, AllRaw-map, all_hold-tidy, are_clauses-tidy}
 use Rattle.clause_encoder.proofs.RowBits.{AllPositive}
@@ -52,10 +52,10 @@ AllIn-literals : (vars : ℕ) (b : Bool) (vs : List ℕ) → InRange vars vs →
 AllIn-literals vars b [] h = tt
 AllIn-literals vars b (v ∷ vs) h = AllIn-cons vars b v (map (literal b) vs) h.0 h.1 (AllIn-literals vars b vs h.2)
 
-AllIn-unlike : (vars : ℕ) (vs : List ℕ) (bits : List Bool) → InRange vars vs → AllIn vars (unlike vs bits)
-AllIn-unlike vars [] bits h = tt
-AllIn-unlike vars (v ∷ vs) [] h = tt
-AllIn-unlike vars (v ∷ vs) (b ∷ bits) h = AllIn-cons vars (not b) v (unlike vs bits) h.0 h.1 (AllIn-unlike vars vs bits h.2)
+AllIn-blocking_literals : (vars : ℕ) (vs : List ℕ) (bits : List Bool) → InRange vars vs → AllIn vars (blocking_literals vs bits)
+AllIn-blocking_literals vars [] bits h = tt
+AllIn-blocking_literals vars (v ∷ vs) [] h = tt
+AllIn-blocking_literals vars (v ∷ vs) (b ∷ bits) h = AllIn-cons vars (not b) v (blocking_literals vs bits) h.0 h.1 (AllIn-blocking_literals vars vs bits h.2)
 
 module _ (vars h : ℕ) (hh : 1 ≤ h) (hm : h ≤ vars) where
   AllRaw-and : (y : ℕ) (t s : Bool) (xs : List ℕ) → 1 ≤ y → y ≤ vars → InRange vars xs → AllRaw vars (and_clauses (pos h) (literal t y) (map (literal s) xs))
@@ -71,13 +71,13 @@ module _ (vars h : ℕ) (hh : 1 ≤ h) (hm : h ≤ vars) where
   AllRaw-parity odd xs y hy ym hs = AllRaw-map vars (λ r. row_clause h xs y (row_bits r xs) (same_bit odd (has_odd_ones (row_bits r xs)))) (rows_of xs)
       (λ r. (
         omega arith,
-        AllIn-cons vars false h (unlike xs (row_bits r xs) ++ literal (same_bit odd (has_odd_ones (row_bits r xs))) y ∷ []) hh hm (AllIn-append vars (unlike xs (row_bits r xs)) (literal (same_bit odd (has_odd_ones (row_bits r xs))) y ∷ [])
-            (AllIn-unlike vars xs (row_bits r xs) hs) (AllIn-cons vars (same_bit odd (has_odd_ones (row_bits r xs))) y [] hy ym tt)),
+        AllIn-cons vars false h (blocking_literals xs (row_bits r xs) ++ literal (same_bit odd (has_odd_ones (row_bits r xs))) y ∷ []) hh hm (AllIn-append vars (blocking_literals xs (row_bits r xs)) (literal (same_bit odd (has_odd_ones (row_bits r xs))) y ∷ [])
+            (AllIn-blocking_literals vars xs (row_bits r xs) hs) (AllIn-cons vars (same_bit odd (has_odd_ones (row_bits r xs))) y [] hy ym tt)),
       ))
 
-  AllRaw-side : (ok : Bool) (allowed : ℕ) (ports : List ℕ) → InRange vars ports → AllRaw vars (table_side ok allowed h ports)
-  AllRaw-side ok allowed ports hs = AllRaw-map vars (λ r. literal (not ok) h ∷ unlike ports (row_bits r ports)) _
-      (λ r. (omega arith, AllIn-cons vars (not ok) h (unlike ports (row_bits r ports)) hh hm (AllIn-unlike vars ports (row_bits r ports) hs)))
+  AllRaw-side : (ok : Bool) (allowed : ℕ) (ports : List ℕ) → InRange vars ports → AllRaw vars (blocked_rows ok allowed h ports)
+  AllRaw-side ok allowed ports hs = AllRaw-map vars (λ r. literal (not ok) h ∷ blocking_literals ports (row_bits r ports)) _
+      (λ r. (omega arith, AllIn-cons vars (not ok) h (blocking_literals ports (row_bits r ports)) hh hm (AllIn-blocking_literals vars ports (row_bits r ports) hs)))
 
   AllRaw-gate : (kind : Kind) (xs : List ℕ) (y : ℕ) → 1 ≤ y → y ≤ vars → InRange vars xs → AllRaw vars (gate_clauses kind h xs y)
   AllRaw-gate And xs y hy ym hs = AllRaw-and y true true xs hy ym hs
@@ -97,11 +97,11 @@ module _ (vars h : ℕ) (hh : 1 ≤ h) (hm : h ≤ vars) where
       let output = InRange-at vars ports (length ports - 1) hs within in
       AllRaw-gate kind (take (length ports - 1) ports) (get_or ports (length ports - 1) 0) output.0 output.1 (InRange-take vars (length ports - 1) ports hs)
 
-  AllRaw-raw : (tables : List Rows) (kind : Kind) (ports : List ℕ) → InRange vars ports → takes_ports tables kind (length ports) ≡ true → AllRaw vars (raw_clauses tables kind h ports)
+  AllRaw-raw : (tables : List TruthTable) (kind : Kind) (ports : List ℕ) → InRange vars ports → takes_ports tables kind (length ports) ≡ true → AllRaw vars (raw_clauses tables kind h ports)
   AllRaw-raw tables (Table t) ports hs e = by_rows (slice_get tables t) where
-    by_rows : (rows : Option Rows) → AllRaw vars (table_clauses rows h ports)
+    by_rows : (rows : Option TruthTable) → AllRaw vars (table_clauses rows h ports)
     by_rows None = tt
-    by_rows (Some rows) = AllRaw-append vars (table_side true rows.ok h ports) (table_side false rows.bad h ports) (AllRaw-side true rows.ok ports hs) (AllRaw-side false rows.bad ports hs)
+    by_rows (Some rows) = AllRaw-append vars (blocked_rows true rows.ok h ports) (blocked_rows false rows.bad h ports) (AllRaw-side true rows.ok ports hs) (AllRaw-side false rows.bad ports hs)
   AllRaw-raw tables And ports hs e = AllRaw-ports And ports hs e
   AllRaw-raw tables Or ports hs e = AllRaw-ports Or ports hs e
   AllRaw-raw tables Nand ports hs e = AllRaw-ports Nand ports hs e

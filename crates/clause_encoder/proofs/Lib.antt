@@ -5,4 +5,4 @@ pub mod Meaning
 pub mod Describing
 pub mod Writing
 pub mod Counting
-mod Rows
+mod Examples

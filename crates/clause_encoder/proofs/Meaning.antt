@@ -6,16 +6,16 @@ use Rattle.std.proofs.lemmas.Bool.{eqb-true, leb-true, and_parts, false≢true}
 use Rattle.std.proofs.lemmas.List.{length-map, take-map, get_or-map, length-take-le}
 use Rattle.std.proofs.lemmas.List.Folds.{list_all-append, list_any-append, list_all-map}
 use Rattle.ranking.specs.Bits.{same_bit, bit_in, row_number, has_odd_ones}
-use Rattle.graph_rules.specs.Graphs.{Assignment}
+use Rattle.ranking.specs.Assignments.{Assignment}
 use Rattle.device_model.specs.declared.component.Kind.{Kind}
 use Rattle.device_model.specs.declared.component.Kind.TheVariants.{And, Or, Nand, Nor, Xor, Xnor, Not, Buff, Table}
-use Rattle.device_model.specs.Rows.{Rows}
+use Rattle.device_model.specs.TruthTable.{TruthTable}
 use Rattle.device_model.specs.Devices.{is_set, first_bit, gate_value, gate_allows, table_allows, any_table_allows, allows, takes, takes_ports, rows_take}
 use Rattle.clause_encoder.specs.Clauses.{Clause, literal, is_true_clause, all_hold}
-use Rattle.clause_encoder.specs.Encoding.{and_clauses, row_bits, rows_of, unlike, row_clause, table_side, table_clauses, gate_clauses, raw_clauses}
+use Rattle.clause_encoder.specs.Encoding.{and_clauses, row_bits, rows_of, blocking_literals, row_clause, blocked_rows, table_clauses, gate_clauses, raw_clauses}
 use Rattle.clause_encoder.specs.Steps.{parity_clauses}
 use Rattle.clause_encoder.proofs.Literals.{lit, lit-literal, neg-literal}
-use Rattle.clause_encoder.proofs.RowBits.{AllPositive, row_bits-number, row_number-below, unlike-row, all-rows, all-filtered}
+use Rattle.clause_encoder.proofs.RowBits.{AllPositive, row_bits-number, row_number-below, blocking_literals-row, all-rows, all-filtered}
 
 or_false : (b : Bool) → (b || false) ≡ b
 or_false true = refl
@@ -140,8 +140,8 @@ parity-holds a odd h xs y hh hy hs = list_all-map (is_true_clause a) clause_of (
       clause_of r = row_clause h xs y (row_bits r xs) (value_of r)
 
       at_row : (r : ℕ) → r < 2 ^ length xs → is_true_clause a (clause_of r) ≡ (not (r == row) || (not (a h) || same_bit (value_of r) (a y)))
-      at_row r lt = ap (λ b. lit a (literal false h) || b) (list_any-append (lit a) (unlike xs (row_bits r xs)) (literal (value_of r) y ∷ []))
-          ∙ (λ i. lit-literal a false h hh i || (unlike-row a xs r hs lt i || (lit-literal a (value_of r) y hy i || false)))
+      at_row r lt = ap (λ b. lit a (literal false h) || b) (list_any-append (lit a) (blocking_literals xs (row_bits r xs)) (literal (value_of r) y ∷ []))
+          ∙ (λ i. lit-literal a false h hh i || (blocking_literals-row a xs r hs lt i || (lit-literal a (value_of r) y hy i || false)))
           ∙ later (a h) (not (r == row)) (same_bit (value_of r) (a y))
 
 -- ---- the rows of a table
@@ -154,7 +154,7 @@ allowed-later false true false = refl
 allowed-later false false differs = sym (or_false differs)
 
 side-holds : (a : Assignment) (ok : Bool) (allowed h : ℕ) (ports : List ℕ) → 1 ≤ h → AllPositive ports
-    → all_hold a (table_side ok allowed h ports) ≡ (is_set allowed (row_number (map a ports)) || same_bit (not ok) (a h))
+    → all_hold a (blocked_rows ok allowed h ports) ≡ (is_set allowed (row_number (map a ports)) || same_bit (not ok) (a h))
 side-holds a ok allowed h ports hh hs = all-filtered (is_true_clause a) clause_of (λ r. not (is_set allowed r)) (rows_of ports)
     ∙ all-rows (λ r. not (not (is_set allowed r)) || is_true_clause a (clause_of r)) (λ r. is_set allowed r || same_bit (not ok) (a h)) ports row
     (row_number-below (map a ports) (length ports) (length-map ports a)) at_row where
@@ -162,15 +162,15 @@ side-holds a ok allowed h ports hh hs = all-filtered (is_true_clause a) clause_o
       row = row_number (map a ports)
 
       clause_of : ℕ → Clause
-      clause_of r = literal (not ok) h ∷ unlike ports (row_bits r ports)
+      clause_of r = literal (not ok) h ∷ blocking_literals ports (row_bits r ports)
 
       at_row : (r : ℕ) → r < 2 ^ length ports → (not (not (is_set allowed r)) || is_true_clause a (clause_of r)) ≡ (not (r == row) || (is_set allowed r || same_bit (not ok) (a h)))
-      at_row r lt = (λ i. not (not (is_set allowed r)) || (lit-literal a (not ok) h hh i || unlike-row a ports r hs lt i))
+      at_row r lt = (λ i. not (not (is_set allowed r)) || (lit-literal a (not ok) h hh i || blocking_literals-row a ports r hs lt i))
           ∙ allowed-later (is_set allowed r) (same_bit (not ok) (a h)) (not (r == row))
 
-table-holds : (a : Assignment) (rows : Rows) (h : ℕ) (ports : List ℕ) → 1 ≤ h → AllPositive ports
+table-holds : (a : Assignment) (rows : TruthTable) (h : ℕ) (ports : List ℕ) → 1 ≤ h → AllPositive ports
     → all_hold a (table_clauses (Some rows) h ports) ≡ table_allows rows (a h) (map a ports)
-table-holds a rows h ports hh hs = list_all-append (is_true_clause a) (table_side true rows.ok h ports) (table_side false rows.bad h ports)
+table-holds a rows h ports hh hs = list_all-append (is_true_clause a) (blocked_rows true rows.ok h ports) (blocked_rows false rows.bad h ports)
     ∙ (λ i. side-holds a true rows.ok h ports hh hs i && side-holds a false rows.bad h ports hh hs i)
     ∙ by_mode (a h) where
       by_mode : (ok : Bool) → ((is_set rows.ok (row_number (map a ports)) || not ok) && (is_set rows.bad (row_number (map a ports)) || ok)) ≡ table_allows rows ok (map a ports)
@@ -242,10 +242,10 @@ ports-hold a kind h ports hh hs e =
       output : a (get_or ports inputs 0) ≡ bit_in (map a ports) inputs
       output = sym (get_or-map a ports inputs 0 false within)
 
-pub raw-holds : (a : Assignment) (tables : List Rows) (kind : Kind) (h : ℕ) (ports : List ℕ) → 1 ≤ h → AllPositive ports → takes_ports tables kind (length ports) ≡ true
+pub raw-holds : (a : Assignment) (tables : List TruthTable) (kind : Kind) (h : ℕ) (ports : List ℕ) → 1 ≤ h → AllPositive ports → takes_ports tables kind (length ports) ≡ true
     → all_hold a (raw_clauses tables kind h ports) ≡ allows tables kind (a h) (map a ports)
 raw-holds a tables (Table t) h ports hh hs e = by_rows (slice_get tables t) e where
-  by_rows : (rows : Option Rows) → rows_take rows (length ports) ≡ true → all_hold a (table_clauses rows h ports) ≡ any_table_allows rows (a h) (map a ports)
+  by_rows : (rows : Option TruthTable) → rows_take rows (length ports) ≡ true → all_hold a (table_clauses rows h ports) ≡ any_table_allows rows (a h) (map a ports)
   by_rows None e = absurd (false≢true e)
   by_rows (Some rows) e = table-holds a rows h ports hh hs
 raw-holds a tables And h ports hh hs e = ports-hold a And h ports hh hs e

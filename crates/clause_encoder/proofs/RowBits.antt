@@ -11,9 +11,9 @@ use Rattle.std.proofs.lemmas.List.Filters.{length-filter_both}
 use Rattle.std.proofs.lemmas.List.FromFn.{length-range_with_len}
 use Rattle.std.proofs.lemmas.Bool.{cases_eq, eq-eqb, ne_eqb}
 use Rattle.ranking.specs.Bits.{same_bit, number_of_bit, row_number, has_odd_ones}
-use Rattle.graph_rules.specs.Graphs.{Assignment}
+use Rattle.ranking.specs.Assignments.{Assignment}
 use Rattle.device_model.specs.Devices.{is_set}
-use Rattle.clause_encoder.specs.Encoding.{row_bits, rows_of, unlike}
+use Rattle.clause_encoder.specs.Encoding.{row_bits, rows_of, blocking_literals}
 use Rattle.clause_encoder.proofs.Literals.{lit, lit-literal}
 
 -- each variable is above 0
@@ -75,11 +75,11 @@ differs false r n = by_test (r % 2 == 1) refl where
   by_test false e = grind (arith, nat_tests)
 
 -- The literals that are false in a row are all false where the variables have that row.
-pub unlike-row : (a : Assignment) (vs : List ℕ) (r : ℕ) → AllPositive vs → r < 2 ^ length vs
-    → list_any (lit a) (unlike vs (row_bits r vs)) ≡ not (r == row_number (map a vs))
-unlike-row a [] r h lt = grind (arith, nat_tests)
-unlike-row a (v ∷ vs) r h lt = ap (λ bits. list_any (lit a) (unlike (v ∷ vs) bits)) (row_bits-cons r v vs)
-    ∙ (λ i. lit-literal a (not (is_set r 0)) v h.0 i || unlike-row a vs (r / 2) h.1 (half-below r (length vs) lt) i)
+pub blocking_literals-row : (a : Assignment) (vs : List ℕ) (r : ℕ) → AllPositive vs → r < 2 ^ length vs
+    → list_any (lit a) (blocking_literals vs (row_bits r vs)) ≡ not (r == row_number (map a vs))
+blocking_literals-row a [] r h lt = grind (arith, nat_tests)
+blocking_literals-row a (v ∷ vs) r h lt = ap (λ bits. list_any (lit a) (blocking_literals (v ∷ vs) bits)) (row_bits-cons r v vs)
+    ∙ (λ i. lit-literal a (not (is_set r 0)) v h.0 i || blocking_literals-row a vs (r / 2) h.1 (half-below r (length vs) lt) i)
     ∙ ap (λ b. same_bit (not b) (a v) || not (r / 2 == row_number (map a vs))) (is_set-zero r)
     ∙ differs (a v) r (row_number (map a vs))
 

@@ -8,11 +8,11 @@ use Rattle.std.proofs.lemmas.Bool.{eqb-true, leb-true, ltb-true, and_parts, fals
 use Rattle.std.proofs.lemmas.Bool.Decides.{nat_tests}
 use Rattle.std.proofs.lemmas.Int.{to_z-of_z, fits_signed_from_abs}
 use Rattle.ranking.specs.Bits.{same_bit, has_odd_ones}
-use Rattle.device_model.specs.Rows.{Rows, has_few_ports, is_table}
+use Rattle.device_model.specs.TruthTable.{TruthTable, has_few_ports, is_table}
 use Rattle.device_model.specs.declared.component.Component.{Component}
 use Rattle.device_model.specs.Devices.{Device, IsDevice, has_wires, is_set, rows_take}
 use Rattle.clause_encoder.specs.Clauses.{Clause, literal}
-use Rattle.clause_encoder.specs.Encoding.{tidy, and_clauses, row_bits, row_clause, unlike, raw_clauses, clauses_from, wire_variable}
+use Rattle.clause_encoder.specs.Encoding.{tidy, and_clauses, row_bits, row_clause, blocking_literals, raw_clauses, clauses_from, wire_variable}
 use Rattle.clause_encoder.proofs.Literals.{tidy-append}
 use Rattle.clause_encoder.proofs.RowBits.{row_bits-cons, is_set-zero, odd-row}
 use Rattle.clause_encoder.proofs.Meaning.{and_clauses-literals}
@@ -89,15 +89,15 @@ and-all h y t s xs i now next start last past e inv f =
 
 -- the literal of one variable more
 pub bit-written : (vs : List ℕ) (i rest : ℕ) (now next start : List ℤ) (l : ℤ) → i < length vs → l ≡ literal (rest % 2 == 0) (get_or vs i 0)
-    → next ≡ now ++ l ∷ [] → now ++ unlike (drop i vs) (row_bits rest (drop i vs)) ≡ start
-    → next ++ unlike (drop (i + 1) vs) (row_bits (rest / 2) (drop (i + 1) vs)) ≡ start
+    → next ≡ now ++ l ∷ [] → now ++ blocking_literals (drop i vs) (row_bits rest (drop i vs)) ≡ start
+    → next ++ blocking_literals (drop (i + 1) vs) (row_bits (rest / 2) (drop (i + 1) vs)) ≡ start
 bit-written vs i rest now next start l lt e f inv =
     ap (λ ls. ls ++ more) f ∙ append_assoc now (l ∷ []) more ∙ (λ j. now ++ (same j ∷ more))
-    ∙ (λ j. now ++ unlike (get_or vs i 0 ∷ drop (i + 1) vs) (sym (row_bits-cons rest (get_or vs i 0) (drop (i + 1) vs)) j))
-    ∙ (λ j. now ++ unlike (sym (drop_more vs i 0 lt) j) (row_bits rest (sym (drop_more vs i 0 lt) j)))
+    ∙ (λ j. now ++ blocking_literals (get_or vs i 0 ∷ drop (i + 1) vs) (sym (row_bits-cons rest (get_or vs i 0) (drop (i + 1) vs)) j))
+    ∙ (λ j. now ++ blocking_literals (sym (drop_more vs i 0 lt) j) (row_bits rest (sym (drop_more vs i 0 lt) j)))
     ∙ inv where
       more : List ℤ
-      more = unlike (drop (i + 1) vs) (row_bits (rest / 2) (drop (i + 1) vs))
+      more = blocking_literals (drop (i + 1) vs) (row_bits (rest / 2) (drop (i + 1) vs))
 
       other : (r : ℕ) → (r % 2 == 0) ≡ not (r % 2 == 1)
       other r = grind (arith, nat_tests)
@@ -114,7 +114,7 @@ shifted_far n h = let most : 2 ^ n ≤ 2 ^ 8 = pow_mono h in omega arith
 
 pub parity-more : (odd : Bool) (h : ℕ) (xs : List ℕ) (y r n : ℕ) (now next start : List Clause) (clause front : Clause) (first last : ℤ) (value : Bool)
     → n ≡ 2 ^ length xs → r < n → first ≡ literal false h → last ≡ literal value y → value ≡ same_bit odd (count_ones r % 2 == 1)
-    → front ≡ first ∷ unlike xs (row_bits r xs) → clause ≡ front ++ last ∷ [] → next ≡ now ++ tidy (clause ∷ [])
+    → front ≡ first ∷ blocking_literals xs (row_bits r xs) → clause ≡ front ++ last ∷ [] → next ≡ now ++ tidy (clause ∷ [])
     → now ++ tidy (map (λ r. row_clause h xs y (row_bits r xs) (same_bit odd (has_odd_ones (row_bits r xs)))) (range_with_len r (2 ^ length xs - r))) ≡ start
     → next ++ tidy (map (λ r. row_clause h xs y (row_bits r xs) (same_bit odd (has_odd_ones (row_bits r xs)))) (range_with_len (r + 1) (2 ^ length xs - (r + 1)))) ≡ start
 parity-more odd h xs y r n now next start clause front first last value long lt a b v f g e inv =
@@ -124,16 +124,16 @@ parity-more odd h xs y r n now next start clause front first last value long lt 
       value_is = v ∙ ap (same_bit odd) (odd-row xs r (omega (arith, long, lt)))
 
       whole : clause ≡ row_clause h xs y (row_bits r xs) (same_bit odd (has_odd_ones (row_bits r xs)))
-      whole = g ∙ (λ j. f j ++ (b ∙ ap (λ b. literal b y) value_is) j ∷ []) ∙ (λ j. (a j ∷ unlike xs (row_bits r xs)) ++ literal (same_bit odd (has_odd_ones (row_bits r xs))) y ∷ [])
+      whole = g ∙ (λ j. f j ++ (b ∙ ap (λ b. literal b y) value_is) j ∷ []) ∙ (λ j. (a j ∷ blocking_literals xs (row_bits r xs)) ++ literal (same_bit odd (has_odd_ones (row_bits r xs))) y ∷ [])
 
 -- ---- tables
 
-pub record IsTable (rows : Rows) : Type 0 where
+pub record IsTable (rows : TruthTable) : Type 0 where
   pub few : rows.ports ≤ 6
   pub ok : rows.ok < 2 ^ (2 ^ rows.ports)
   pub bad : rows.bad < 2 ^ (2 ^ rows.ports)
 
-pub IsTable-from : (rows : Rows) → is_table rows ≡ true → IsTable rows
+pub IsTable-from : (rows : TruthTable) → is_table rows ≡ true → IsTable rows
 IsTable-from rows e =
     let both = and_parts (has_few_ports rows.ports) (nat_lt rows.ok (2 ^ (2 ^ rows.ports)) && nat_lt rows.bad (2 ^ (2 ^ rows.ports))) e in
     let ports = and_parts (nat_le 1 rows.ports) (nat_le rows.ports 6) both.0 in
@@ -145,17 +145,17 @@ IsTable-from rows e =
     }
 
 -- the table of a part that has one
-pub taken : (tables : List Rows) (t ports : ℕ) (rows : Rows) → rows_take (slice_get tables t) ports ≡ true → rows ≡ get_or tables t rows
+pub taken : (tables : List TruthTable) (t ports : ℕ) (rows : TruthTable) → rows_take (slice_get tables t) ports ≡ true → rows ≡ get_or tables t rows
     → (slice_get tables t ≡ Some rows) × (ports ≡ rows.ports)
 taken [] zero ports rows e f = absurd (false≢true e)
 taken [] (suc t) ports rows e f = absurd (false≢true e)
-taken (r ∷ tables) zero ports rows e f = (ap Some (sym f), omega (arith, eqb-true r.ports ports e, ap (λ (r : Rows). r.ports) f))
+taken (r ∷ tables) zero ports rows e f = (ap Some (sym f), omega (arith, eqb-true r.ports ports e, ap (λ (r : TruthTable). r.ports) f))
 taken (r ∷ tables) (suc t) ports rows e f = taken tables t ports rows e f
 
 -- ---- parts
 
 -- the clauses of one part more
-pub part-written : (device : Device) (place : ℕ) (parts : List Component) (part : Component) (tables : List Rows) (h : ℕ) (ports wires : List ℕ) (now next start : List Clause)
+pub part-written : (device : Device) (place : ℕ) (parts : List Component) (part : Component) (tables : List TruthTable) (h : ℕ) (ports wires : List ℕ) (now next start : List Clause)
     → parts ≡ device.parts → place < length parts → part ≡ get_or parts place part → tables ≡ device.tables → h ≡ place + 1
     → ports ≡ map (λ wire. length parts + wire + 1) wires → wires ≡ part.ports
     → next ≡ now ++ tidy (raw_clauses tables part.kind h ports)

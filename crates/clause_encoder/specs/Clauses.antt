@@ -2,7 +2,7 @@
 use Rattle.std.specs.Prelude.{ℕ, ◌+◌, ◌^◌, Bool, true, false, ◌&&◌, List, [], ◌∷◌, length, ℤ, pos, negsuc, neg_ℤ, nat_lt, nat_le}
 use Rattle.std.specs.List.{list_any, list_all}
 use Rattle.ranking.specs.Bits.{same_bit}
-use Rattle.graph_rules.specs.Graphs.{Assignment}
+use Rattle.ranking.specs.Assignments.{Assignment}
 
 -- a literal is a variable, or below 0 where it is negated
 abbrev pub var_of : ℤ → ℕ

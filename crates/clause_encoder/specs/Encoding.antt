@@ -2,11 +2,11 @@
 use Rattle.std.specs.Prelude.{◌≡◌, ℕ, ◌+◌, ◌-◌, ◌^◌, Bool, true, false, not, ◌&&◌, ◌||◌, List, [], ◌∷◌, ◌++◌, map, length, take, Option, Some, None, ℤ, pos, neg_ℤ, Result, Ok, Err, ◌==◌, nat_lt, slice_index_or, slice_get, if◌then◌else◌}
 use Rattle.std.specs.List.{filter, list_any, range_with_len}
 use Rattle.ranking.specs.Bits.{has_odd_ones, same_bit, lists_of_bits}
-use Rattle.graph_rules.specs.Graphs.{assignment}
+use Rattle.ranking.specs.Assignments.{assignment}
 use Rattle.device_model.specs.declared.component.Kind.{Kind}
 use Rattle.device_model.specs.declared.component.Kind.TheVariants.{And, Or, Nand, Nor, Xor, Xnor, Not, Buff, Table}
 use Rattle.device_model.specs.declared.component.Component.{Component}
-use Rattle.device_model.specs.Rows.{Rows}
+use Rattle.device_model.specs.TruthTable.{TruthTable}
 use Rattle.device_model.specs.Devices.{Device, is_set, fits}
 use Rattle.clause_encoder.specs.declared.encoding.EncodeError.{EncodeError}
 use Rattle.clause_encoder.specs.declared.encoding.EncodeError.TheVariants.{TooManyClauses}
@@ -30,13 +30,13 @@ sorted [] = []
 sorted (a ∷ clause) = with_literal a (sorted clause)
 
 -- both literals of a variable
-abbrev pub has_opposites : Clause → Bool
-has_opposites [] = false
-has_opposites (a ∷ clause) = list_any (same_literal (neg_ℤ a)) clause || has_opposites clause
+abbrev pub is_tautology : Clause → Bool
+is_tautology [] = false
+is_tautology (a ∷ clause) = list_any (same_literal (neg_ℤ a)) clause || is_tautology clause
 
 -- Each clause is sorted, and one with both literals of a variable is left out.
 abbrev pub tidy : List Clause → List Clause
-tidy clauses = map sorted (filter (λ c. not (has_opposites c)) clauses)
+tidy clauses = map sorted (filter (λ c. not (is_tautology c)) clauses)
 
 -- ---- the clauses of a part, by the variables of its health and of its ports
 
@@ -53,14 +53,14 @@ abbrev pub rows_of : List ℕ → List ℕ
 rows_of vs = range_with_len 0 (2 ^ length vs)
 
 -- the literals that are false in a row
-abbrev pub unlike : List ℕ → List Bool → Clause
-unlike [] bits = []
-unlike (v ∷ vs) [] = []
-unlike (v ∷ vs) (b ∷ bits) = literal (not b) v ∷ unlike vs bits
+abbrev pub blocking_literals : List ℕ → List Bool → Clause
+blocking_literals [] bits = []
+blocking_literals (v ∷ vs) [] = []
+blocking_literals (v ∷ vs) (b ∷ bits) = literal (not b) v ∷ blocking_literals vs bits
 
 -- where the part is ok and its inputs have this row, the output has this bit
 abbrev pub row_clause : ℕ → List ℕ → ℕ → List Bool → Bool → Clause
-row_clause h xs y row value = literal false h ∷ (unlike xs row ++ literal value y ∷ [])
+row_clause h xs y row value = literal false h ∷ (blocking_literals xs row ++ literal value y ∷ [])
 
 abbrev pub xor_clauses : ℕ → List ℕ → ℕ → List Clause
 xor_clauses h xs y = map (λ r. row_clause h xs y (row_bits r xs) (has_odd_ones (row_bits r xs))) (rows_of xs)
@@ -69,13 +69,13 @@ abbrev pub xnor_clauses : ℕ → List ℕ → ℕ → List Clause
 xnor_clauses h xs y = map (λ r. row_clause h xs y (row_bits r xs) (not (has_odd_ones (row_bits r xs)))) (rows_of xs)
 
 -- In this mode the ports have none of the rows that are not in the set.
-abbrev pub table_side : Bool → ℕ → ℕ → List ℕ → List Clause
-table_side ok allowed h ports =
-    map (λ r. literal (not ok) h ∷ unlike ports (row_bits r ports)) (filter (λ r. not (is_set allowed r)) (rows_of ports))
+abbrev pub blocked_rows : Bool → ℕ → ℕ → List ℕ → List Clause
+blocked_rows ok allowed h ports =
+    map (λ r. literal (not ok) h ∷ blocking_literals ports (row_bits r ports)) (filter (λ r. not (is_set allowed r)) (rows_of ports))
 
-abbrev pub table_clauses : Option Rows → ℕ → List ℕ → List Clause
+abbrev pub table_clauses : Option TruthTable → ℕ → List ℕ → List Clause
 table_clauses None h ports = []
-table_clauses (Some rows) h ports = table_side true rows.ok h ports ++ table_side false rows.bad h ports
+table_clauses (Some rows) h ports = blocked_rows true rows.ok h ports ++ blocked_rows false rows.bad h ports
 
 -- the clauses of a gate by the variables of its health, of its inputs and of its output
 abbrev pub gate_clauses : Kind → ℕ → List ℕ → ℕ → List Clause
@@ -90,7 +90,7 @@ gate_clauses Xnor h xs y = xnor_clauses h xs y
 gate_clauses (Table t) h xs y = []
 
 -- The last port of a gate is its output.
-abbrev pub raw_clauses : List Rows → Kind → ℕ → List ℕ → List Clause
+abbrev pub raw_clauses : List TruthTable → Kind → ℕ → List ℕ → List Clause
 raw_clauses tables (Table t) h ports = table_clauses (slice_get tables t) h ports
 raw_clauses tables kind h ports =
     let inputs = length ports - 1 in gate_clauses kind h (take inputs ports) (slice_index_or ports inputs 0)

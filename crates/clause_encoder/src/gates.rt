@@ -3,7 +3,7 @@ ghost use Rattle.ranking.specs.Bits.{same_bit};
 ghost use Rattle.device_model.specs.Devices.{is_set, takes, takes_ports};
 ghost use Rattle.clause_encoder.specs.Clauses.{literal};
 ghost use Rattle.clause_encoder.specs.Steps.{parity_clauses};
-ghost use Rattle.clause_encoder.specs.Encoding.{tidy, and_clauses, row_bits, unlike, table_side, table_clauses, gate_clauses, raw_clauses};
+ghost use Rattle.clause_encoder.specs.Encoding.{tidy, and_clauses, row_bits, blocking_literals, blocked_rows, table_clauses, gate_clauses, raw_clauses};
 
 use crate::writer::Writer;
 use device_model::{Kind, Table};
@@ -165,7 +165,7 @@ fn push_side(
     requires health { health < 2 ^ 29 }
     requires ports { All (λ v. v < 2 ^ 29) ports.now }
     ensures { OnOk result
-        (writer.new ≡ writer.old ++ tidy (table_side ok allowed health ports.now)) }
+        (writer.new ≡ writer.old ++ tidy (blocked_rows ok allowed health ports.now)) }
 {
     let other = literal(!ok, health);
     let mut clause = Vec::with_capacity(alloc, ports.len() + 1)?;
@@ -189,7 +189,7 @@ fn is_set(rows: u64, row: u32) -> bool
 fn set_row(clause: &mut Vec<i32>, first: i32, variables: &[u32], row: u32) -> Result<(), AllocError>
     requires { All (λ v. v < 2 ^ 29) variables.now }
     ensures { OnOk result
-        (clause.new.items ≡ first ∷ unlike variables.now (row_bits row variables.now)) }
+        (clause.new.items ≡ first ∷ blocking_literals variables.now (row_bits row variables.now)) }
 {
     clause.clear();
     clause.push(first)?;

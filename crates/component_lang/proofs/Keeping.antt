@@ -9,7 +9,7 @@ use Rattle.text_rules.specs.Names.{Name, same_name, is_among}
 use Rattle.text_rules.specs.TextLines.{uncommented}
 use Rattle.text_rules.specs.Tokens.{words}
 use Rattle.text_rules.proofs.TokenLemmas.{length-tokens}
-use Rattle.device_model.specs.Rows.{has_few_ports}
+use Rattle.device_model.specs.TruthTable.{has_few_ports}
 use Rattle.device_model.specs.Building.{place_in}
 use Rattle.component_lang.specs.declared.design.UsedKind.{UsedKind}
 use Rattle.component_lang.specs.declared.design.UsedKind.TheVariants.{Gate, Shape as OfShape, Block as OfBlock}

@@ -1,4 +1,4 @@
-mod Rows
+mod Examples
 pub mod RowSets
 pub mod NameLists
 pub mod Named

@@ -8,7 +8,7 @@ use Rattle.std.proofs.lemmas.List.{length-map}
 use Rattle.text_rules.specs.Names.{Name, same_name, is_among}
 use Rattle.text_rules.specs.Tokens.{Uncut, tokens_left}
 use Rattle.text_rules.proofs.NameLemmas.{equal_if_same}
-use Rattle.device_model.specs.Rows.{has_few_ports}
+use Rattle.device_model.specs.TruthTable.{has_few_ports}
 use Rattle.device_model.specs.Building.{place_in}
 use Rattle.component_lang.specs.declared.design.UsedKind.{UsedKind}
 use Rattle.component_lang.specs.declared.design.Block.{Block}

@@ -1,7 +1,7 @@
 -- What holds of a reader between two lines.
 use Rattle.std.specs.Prelude.{ℕ, ◌+◌, Bool, true, not, ◌&&◌, [], length, is_some, nat_lt}
 use Rattle.text_rules.specs.Names.{Name}
-use Rattle.device_model.specs.Rows.{is_table}
+use Rattle.device_model.specs.TruthTable.{is_table}
 use Rattle.component_lang.specs.declared.design.Block.{Block}
 use Rattle.component_lang.specs.Designs.{is_plain_name, is_block, are_blocks}
 use Rattle.component_lang.specs.Reading.{Draft, Reader, Place, Outside, InType, InBlock, Behind, kind_named, shape_of}

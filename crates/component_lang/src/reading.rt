@@ -1,7 +1,7 @@
 ghost use Rattle.std.specs.Prelude.{◌≡◌, ◌≤◌, length, IfOk, IfErr, Ok};
 ghost use Rattle.std.specs.Prelude.{◌+◌, ◌<◌, ◌∷◌, true};
 ghost use Rattle.text_rules.specs.Tokens.{tokens_left};
-ghost use Rattle.device_model.specs.Rows.{has_few_ports};
+ghost use Rattle.device_model.specs.TruthTable.{has_few_ports};
 ghost use Rattle.component_lang.specs.Reading.{InType, Behind, at, type_line, top_line, outside, in_type, in_block, after_line, design};
 ghost use Rattle.component_lang.specs.Meanings.{Gives};
 ghost use Rattle.component_lang.specs.Views.{closed_in, draft_in, block_in};

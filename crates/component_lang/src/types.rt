@@ -1,5 +1,5 @@
 ghost use Rattle.std.specs.Prelude.{◌≡◌, ◌≤◌, ◌<◌, ℕ, true, Some, None, Ok, if◌then◌else◌};
-ghost use Rattle.device_model.specs.Rows.{is_table};
+ghost use Rattle.device_model.specs.TruthTable.{is_table};
 ghost use Rattle.component_lang.specs.Designs.{is_plain_name};
 ghost use Rattle.component_lang.specs.Reading.{Reader, InType, at, is_row, row_in, with_row, shape_of, ok_line, bad_line};
 ghost use Rattle.component_lang.specs.Meanings.{Gives};

@@ -10,37 +10,37 @@ use Rattle.text_rules.specs.Names.{Name, same_name, is_among, names_rise}
 use Rattle.device_model.specs.declared.component.Component.{Component}
 use Rattle.device_model.specs.declared.building.BuildError.{BuildError}
 use Rattle.device_model.specs.declared.building.BuildError.TheVariants.{TooMany, TwoParts, TwoWires, Arity, NoWire}
-use Rattle.device_model.specs.Rows.{Rows}
-use Rattle.device_model.specs.Order.{in_order}
+use Rattle.device_model.specs.TruthTable.{TruthTable}
+use Rattle.device_model.specs.Order.{sorted_distinct}
 use Rattle.device_model.specs.Devices.{Device, IsDevice, part_names, has_arity, has_wires}
 use Rattle.device_model.specs.Building.{repeated, place_in, unless_name, unless_place, device_of, built}
 use Rattle.device_model.proofs.Naming.{same_from_test}
-use Rattle.device_model.proofs.Ordered.{Among, Rises-in_order, among_in_order, in_order-has, in_order-is}
+use Rattle.device_model.proofs.Ordered.{Among, Rises-sorted_distinct, among_sorted_distinct, sorted_distinct-has, sorted_distinct-is}
 use Rattle.device_model.proofs.Sorting.{itself, among_permutation, names_rise-Rises, Rises-from_names_rise, Rises-map}
 use Rattle.device_model.proofs.Repeats.{is_among-among, among_from_test, count, twice_from_repeated, once_in_rising, none_among}
 use Rattle.device_model.proofs.Making.{position_or_len-among, IsDevice-device_of, list_all-from_position}
 use Rattle.device_model.proofs.Placing.{place_in-rising}
 
 -- items in order rise by name
-pub names_rise-in_order : {A : Type 0} (name : A → Name) (xs : List A) → names_rise (map name (in_order name xs)) ≡ true
-names_rise-in_order name xs = names_rise-Rises (map name (in_order name xs)) (Rises-map name (in_order name xs) (Rises-in_order name xs))
+pub names_rise-sorted_distinct : {A : Type 0} (name : A → Name) (xs : List A) → names_rise (map name (sorted_distinct name xs)) ≡ true
+names_rise-sorted_distinct name xs = names_rise-Rises (map name (sorted_distinct name xs)) (Rises-map name (sorted_distinct name xs) (Rises-sorted_distinct name xs))
 
 -- and so do names
-pub names_rise-in_order_itself : (names : List Name) → names_rise (in_order itself names) ≡ true
-names_rise-in_order_itself names = names_rise-Rises (in_order itself names) (Rises-in_order itself names)
+pub names_rise-sorted_distinct_itself : (names : List Name) → names_rise (sorted_distinct itself names) ≡ true
+names_rise-sorted_distinct_itself names = names_rise-Rises (sorted_distinct itself names) (Rises-sorted_distinct itself names)
 
 -- names in order are the names of the list
-pub Among-in_order : (names : List Name) (n : Name) → Among n names → Among n (in_order itself names)
-Among-in_order names n m = let r = in_order-has itself names n m in subst (λ (k : Name). Among k (in_order itself names)) r.2 r.1
+pub Among-sorted_distinct : (names : List Name) (n : Name) → Among n names → Among n (sorted_distinct itself names)
+Among-sorted_distinct names n m = let r = sorted_distinct-has itself names n m in subst (λ (k : Name). Among k (sorted_distinct itself names)) r.2 r.1
 
-pub Among-from_in_order : (names : List Name) (n : Name) → Among n (in_order itself names) → Among n names
-Among-from_in_order names n m = among_in_order itself names n m
+pub Among-from_sorted_distinct : (names : List Name) (n : Name) → Among n (sorted_distinct itself names) → Among n names
+Among-from_sorted_distinct names n m = among_sorted_distinct itself names n m
 
 -- the order depends on which names there are, and not on how often or in which order they stand
-pub in_order-same_names : (xs ys : List Name) → ((n : Name) → Among n xs → Among n ys) → ((n : Name) → Among n ys → Among n xs) → in_order itself xs ≡ in_order itself ys
-in_order-same_names xs ys to back =
-    in_order-is itself xs (in_order itself ys) (Rises-in_order itself ys)
-    (λ n m. Among-in_order ys n (to n m)) (λ n m. back n (Among-from_in_order ys n m))
+pub sorted_distinct-same_names : (xs ys : List Name) → ((n : Name) → Among n xs → Among n ys) → ((n : Name) → Among n ys → Among n xs) → sorted_distinct itself xs ≡ sorted_distinct itself ys
+sorted_distinct-same_names xs ys to back =
+    sorted_distinct-is itself xs (sorted_distinct itself ys) (Rises-sorted_distinct itself ys)
+    (λ n m. Among-sorted_distinct ys n (to n m)) (λ n m. back n (Among-from_sorted_distinct ys n m))
 
 same_tests : (a b : Bool) → (a ≡ true → b ≡ true) → (b ≡ true → a ≡ true) → a ≡ b
 same_tests true b to back = sym (to refl)
@@ -48,26 +48,26 @@ same_tests false true to back = back refl
 same_tests false false to back = refl
 
 -- the same, by the test
-pub in_order-same_tests : (xs ys : List Name) → ((n : Name) → is_among xs n ≡ is_among ys n) → in_order itself xs ≡ in_order itself ys
-in_order-same_tests xs ys same_test =
-    in_order-same_names xs ys
+pub sorted_distinct-same_tests : (xs ys : List Name) → ((n : Name) → is_among xs n ≡ is_among ys n) → sorted_distinct itself xs ≡ sorted_distinct itself ys
+sorted_distinct-same_tests xs ys same_test =
+    sorted_distinct-same_names xs ys
     (λ n m. among_from_test n ys (sym (same_test n) ∙ is_among-among n xs m))
     (λ n m. among_from_test n xs (same_test n ∙ is_among-among n ys m))
 
-pub is_among-in_order : (names : List Name) (n : Name) → is_among (in_order itself names) n ≡ is_among names n
-is_among-in_order names n = same_tests _ _
-    (λ h. is_among-among n names (Among-from_in_order names n (among_from_test n (in_order itself names) h)))
-    (λ h. is_among-among n (in_order itself names) (Among-in_order names n (among_from_test n names h)))
+pub is_among-sorted_distinct : (names : List Name) (n : Name) → is_among (sorted_distinct itself names) n ≡ is_among names n
+is_among-sorted_distinct names n = same_tests _ _
+    (λ h. is_among-among n names (Among-from_sorted_distinct names n (among_from_test n (sorted_distinct itself names) h)))
+    (λ h. is_among-among n (sorted_distinct itself names) (Among-sorted_distinct names n (among_from_test n names h)))
 
-pub in_order-permutation : (xs ys : List Name) → IsPermutation xs ys → in_order itself xs ≡ in_order itself ys
-in_order-permutation xs ys moved = in_order-same_names xs ys (λ n m. among_permutation xs ys moved n m) (λ n m. among_permutation ys xs (IsPermutation-sym xs ys moved) n m)
+pub sorted_distinct-permutation : (xs ys : List Name) → IsPermutation xs ys → sorted_distinct itself xs ≡ sorted_distinct itself ys
+sorted_distinct-permutation xs ys moved = sorted_distinct-same_names xs ys (λ n m. among_permutation xs ys moved n m) (λ n m. among_permutation ys xs (IsPermutation-sym xs ys moved) n m)
 
 -- names that rise are in order
-pub in_order-rising : (names : List Name) → names_rise names ≡ true → in_order itself names ≡ names
-in_order-rising names h = in_order-is itself names names (Rises-from_names_rise names h) (λ n m. m) (λ n m. m)
+pub sorted_distinct-rising : (names : List Name) → names_rise names ≡ true → sorted_distinct itself names ≡ names
+sorted_distinct-rising names h = sorted_distinct-is itself names names (Rises-from_names_rise names h) (λ n m. m) (λ n m. m)
 
-pub in_order-again : (names : List Name) → in_order itself (in_order itself names) ≡ in_order itself names
-in_order-again names = in_order-rising (in_order itself names) (names_rise-in_order_itself names)
+pub sorted_distinct-again : (names : List Name) → sorted_distinct itself (sorted_distinct itself names) ≡ sorted_distinct itself names
+sorted_distinct-again names = sorted_distinct-rising (sorted_distinct itself names) (names_rise-sorted_distinct_itself names)
 
 -- ---- a list to which a name is added where it is not there yet
 
@@ -97,16 +97,16 @@ Among-from_insert_key ks k n m = by (is_among ks k) refl
     by false e = among_push ks k n (subst (λ (b : Bool). Among n (if b then ks else ks ++ k ∷ [])) e m)
 
 -- the order of a set's names after one more is that of the list with that name
-pub in_order-insert_key : (ks xs : List Name) (k : Name) → in_order itself ks ≡ in_order itself xs → in_order itself (insert_key same_name ks k) ≡ in_order itself (xs ++ k ∷ [])
-in_order-insert_key ks xs k h =
-    in_order-same_names (insert_key same_name ks k) (xs ++ k ∷ [])
+pub sorted_distinct-insert_key : (ks xs : List Name) (k : Name) → sorted_distinct itself ks ≡ sorted_distinct itself xs → sorted_distinct itself (insert_key same_name ks k) ≡ sorted_distinct itself (xs ++ k ∷ [])
+sorted_distinct-insert_key ks xs k h =
+    sorted_distinct-same_names (insert_key same_name ks k) (xs ++ k ∷ [])
     (λ n m. push_among xs k n (elim (Among-from_insert_key ks k n m) [
       | inl e ↦ inl e
-      | inr l ↦ inr (Among-from_in_order xs n (subst (Among n) h (Among-in_order ks n l)))
+      | inr l ↦ inr (Among-from_sorted_distinct xs n (subst (Among n) h (Among-sorted_distinct ks n l)))
     ]))
     (λ n m. Among-insert_key ks k n (elim (among_push xs k n m) [
       | inl e ↦ inl e
-      | inr l ↦ inr (Among-from_in_order ks n (subst (Among n) (sym h) (Among-in_order xs n l)))
+      | inr l ↦ inr (Among-from_sorted_distinct ks n (subst (Among n) (sym h) (Among-sorted_distinct xs n l)))
     ]))
 
 count-push : (m : Name) (ks : List Name) (k : Name) → count m (ks ++ k ∷ []) ≡ count m (k ∷ ks)
@@ -125,8 +125,8 @@ repeated-names_rise ns h = repeated-once ns (once_in_rising ns (Rises-from_names
 -- ---- places
 
 -- the place of a name of the list is within the list in order
-pub place_in-below : (names : List Name) (n : Name) → Among n names → place_in (in_order itself names) n < length (in_order itself names)
-place_in-below names n m = position_or_len-among (in_order itself names) n (Among-in_order names n m)
+pub place_in-below : (names : List Name) (n : Name) → Among n names → place_in (sorted_distinct itself names) n < length (sorted_distinct itself names)
+place_in-below names n m = position_or_len-among (sorted_distinct itself names) n (Among-sorted_distinct names n m)
 
 -- a name of a rising list stands at no other place
 pub place_in-names_rise : (names : List Name) (k : ℕ) → names_rise names ≡ true → k < length names → place_in names (get_or names k []) ≡ k
@@ -139,10 +139,10 @@ get_or-place_in names n m =
 
 -- Ports that are places of names in a list become the places of the same names in order.
 pub ports-named : (wires names : List Name) → ((n : Name) → Among n names → Among n wires)
-    → map (λ port. place_in (in_order itself wires) (get_or wires port [])) (map (place_in wires) names) ≡ map (place_in (in_order itself wires)) names
+    → map (λ port. place_in (sorted_distinct itself wires) (get_or wires port [])) (map (place_in wires) names) ≡ map (place_in (sorted_distinct itself wires)) names
 ports-named wires [] there = refl
 ports-named wires (n ∷ names) there =
-    let first = ap (place_in (in_order itself wires)) (get_or-place_in wires n (there n (inl refl))) in
+    let first = ap (place_in (sorted_distinct itself wires)) (get_or-place_in wires n (there n (inl refl))) in
     let rest = ports-named wires names (λ k m. there k (inr m)) in
     cc
 
@@ -157,7 +157,7 @@ unless_place-ok error None otherwise d h = (refl, h)
 unless_place-ok error (Some place) otherwise d h = cc
 
 -- what is built where nothing is refused, which is a device
-pub record IsBuilt (parts : List Component) (wires : List Name) (tables : List Rows) (d : Device) : Type 0 where
+pub record IsBuilt (parts : List Component) (wires : List Name) (tables : List TruthTable) (d : Device) : Type 0 where
   pub made : d ≡ device_of parts wires tables
   pub valid : IsDevice d
 
@@ -165,12 +165,12 @@ refused_or : (b : Bool) (e : BuildError) (otherwise : Result Device BuildError) 
 refused_or true e otherwise d h = cc
 refused_or false e otherwise d h = (refl, h)
 
-pub IsBuilt-from_built : (parts : List Component) (wires : List Name) (tables : List Rows) (d : Device) → built parts wires tables ≡ Ok d → IsBuilt parts wires tables d
+pub IsBuilt-from_built : (parts : List Component) (wires : List Name) (tables : List TruthTable) (d : Device) → built parts wires tables ≡ Ok d → IsBuilt parts wires tables d
 IsBuilt-from_built parts wires tables d h =
     let one = refused_or (nat_lt 4096 (length parts)) (TooMany (length parts)) _ d h in
     let two = refused_or (nat_lt 16384 (length wires)) (TooMany (length wires)) _ d one.1 in
-    let three = unless_name-ok (λ n. TwoParts n) (in_order itself (repeated (part_names parts))) _ d two.1 in
-    let four = unless_name-ok (λ n. TwoWires n) (in_order itself (repeated wires)) _ d three in
+    let three = unless_name-ok (λ n. TwoParts n) (sorted_distinct itself (repeated (part_names parts))) _ d two.1 in
+    let four = unless_name-ok (λ n. TwoWires n) (sorted_distinct itself (repeated wires)) _ d three in
     let five = unless_place-ok (λ n. Arity n) (position (λ part. not (has_arity tables part)) parts) _ d four in
     let six = unless_place-ok (λ n. NoWire n) (position (λ part. not (has_wires (length wires) part)) parts) _ d five.1 in
     let same_device : device_of parts wires tables ≡ d = cc six.1 in

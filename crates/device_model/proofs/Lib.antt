@@ -8,4 +8,4 @@ pub mod Tables
 pub mod Making
 mod Placing
 pub mod Answering
-mod Rows
+mod Examples

@@ -7,12 +7,12 @@ use Rattle.std.proofs.lemmas.List.{length-map}
 use Rattle.std.proofs.lemmas.List.Sums.{fails_before_first}
 use Rattle.text_rules.specs.Names.{Name, same_name}
 use Rattle.device_model.specs.declared.component.Component.{Component}
-use Rattle.device_model.specs.Rows.{Rows}
-use Rattle.device_model.specs.Order.{placed, in_order}
+use Rattle.device_model.specs.TruthTable.{TruthTable}
+use Rattle.device_model.specs.Order.{placed, sorted_distinct}
 use Rattle.device_model.specs.Devices.{IsDevice, part_names, takes_ports, has_arity, has_wires}
 use Rattle.device_model.specs.Building.{place_in, renumbered, device_of}
 use Rattle.device_model.proofs.Naming.{same, below, above, compared, same_name-same}
-use Rattle.device_model.proofs.Ordered.{Among, Rises-in_order, among_in_order, in_order-has, placed-same, placed-below, placed-above}
+use Rattle.device_model.proofs.Ordered.{Among, Rises-sorted_distinct, among_sorted_distinct, sorted_distinct-has, placed-same, placed-below, placed-above}
 use Rattle.device_model.proofs.Sorting.{itself, Contains-from_among, Rises-map, names_rise-Rises}
 use Rattle.device_model.proofs.Tables.{among_get_or}
 
@@ -65,9 +65,9 @@ module _ {A : Type 0} (name : A → Name) where
     | above l ↦ subst (λ (zs : List A). length zs ≤ 1 + length (y ∷ ys)) (sym (placed-above name x y ys l)) (omega (arith, length-placed x ys))
   ]
 
-  pub length-in_order : (xs : List A) → length (in_order name xs) ≤ length xs
-  length-in_order [] = omega arith
-  length-in_order (x ∷ xs) = omega (arith, length-placed x (in_order name xs), length-in_order xs)
+  pub length-sorted_distinct : (xs : List A) → length (sorted_distinct name xs) ≤ length xs
+  length-sorted_distinct [] = omega arith
+  length-sorted_distinct (x ∷ xs) = omega (arith, length-placed x (sorted_distinct name xs), length-sorted_distinct xs)
 
   module _ (f : A → A) (keeps : (x : A) → name (f x) ≡ name x) where
     placed-map : (x : A) (ys : List A) → placed name (f x) (map f ys) ≡ map f (placed name x ys)
@@ -79,12 +79,12 @@ module _ {A : Type 0} (name : A → Name) where
     ]
 
     -- a map that keeps the names keeps the order
-    pub in_order-map : (xs : List A) → in_order name (map f xs) ≡ map f (in_order name xs)
-    in_order-map [] = refl
-    in_order-map (x ∷ xs) = ap (placed name (f x)) (in_order-map xs) ∙ placed-map x (in_order name xs)
+    pub sorted_distinct-map : (xs : List A) → sorted_distinct name (map f xs) ≡ map f (sorted_distinct name xs)
+    sorted_distinct-map [] = refl
+    sorted_distinct-map (x ∷ xs) = ap (placed name (f x)) (sorted_distinct-map xs) ∙ placed-map x (sorted_distinct name xs)
 
-  pub list_all-in_order : (p : A → Bool) (xs : List A) → list_all p xs ≡ true → list_all p (in_order name xs) ≡ true
-  list_all-in_order p xs h = list_all-from_among p (in_order name xs) (λ x m. list_all-among p xs h x (among_in_order name xs x m))
+  pub list_all-sorted_distinct : (p : A → Bool) (xs : List A) → list_all p xs ≡ true → list_all p (sorted_distinct name xs) ≡ true
+  list_all-sorted_distinct p xs h = list_all-from_among p (sorted_distinct name xs) (λ x m. list_all-among p xs h x (among_sorted_distinct name xs x m))
 
 -- ---- places of names
 
@@ -98,10 +98,10 @@ position_or_len-among (x ∷ ns) n (inr m) = by (same_name n x) (position_or_len
     by false h = omega arith
 
 -- each port of a part that has its wires is the place of a wire
-place_in-fits : (wires : List Name) (port : ℕ) → port < length wires → place_in (in_order itself wires) (get_or wires port []) < length (in_order itself wires)
+place_in-fits : (wires : List Name) (port : ℕ) → port < length wires → place_in (sorted_distinct itself wires) (get_or wires port []) < length (sorted_distinct itself wires)
 place_in-fits wires port l =
-    let r = in_order-has itself wires (get_or wires port []) (among_get_or wires port [] l) in
-    position_or_len-among (in_order itself wires) (get_or wires port []) (subst (λ (n : Name). Among n (in_order itself wires)) r.2 r.1)
+    let r = sorted_distinct-has itself wires (get_or wires port []) (among_get_or wires port [] l) in
+    position_or_len-among (sorted_distinct itself wires) (get_or wires port []) (subst (λ (n : Name). Among n (sorted_distinct itself wires)) r.2 r.1)
 
 test_less : (a b : ℕ) → nat_lt a b ≡ true → a < b
 test_less a b h = ltb-true a b h
@@ -109,18 +109,18 @@ test_less a b h = ltb-true a b h
 less_test : (a b : ℕ) → a < b → nat_lt a b ≡ true
 less_test a b h = lt-ltb a b h
 
-renumbered-has_wires : (wires : List Name) (part : Component) → has_wires (length wires) part ≡ true → has_wires (length (in_order itself wires)) (renumbered wires part) ≡ true
+renumbered-has_wires : (wires : List Name) (part : Component) → has_wires (length wires) part ≡ true → has_wires (length (sorted_distinct itself wires)) (renumbered wires part) ≡ true
 renumbered-has_wires wires part h = over part.ports h
   where
     over : (ports : List ℕ) → list_all (λ port. nat_lt port (length wires)) ports ≡ true
-        → list_all (λ port. nat_lt port (length (in_order itself wires))) (map (λ port. place_in (in_order itself wires) (get_or wires port [])) ports) ≡ true
+        → list_all (λ port. nat_lt port (length (sorted_distinct itself wires))) (map (λ port. place_in (sorted_distinct itself wires) (get_or wires port [])) ports) ≡ true
     over [] g = refl
     over (p ∷ ps) g =
         let two = parts_of (nat_lt p (length wires)) (list_all (λ port. nat_lt port (length wires)) ps) g in
         both _ _ (less_test _ _ (place_in-fits wires p (test_less p (length wires) two.0))) (over ps two.1)
 
-renumbered-has_arity : (tables : List Rows) (wires : List Name) (part : Component) → has_arity tables (renumbered wires part) ≡ has_arity tables part
-renumbered-has_arity tables wires part = ap (takes_ports tables part.kind) (length-map part.ports (λ port. place_in (in_order itself wires) (get_or wires port [])))
+renumbered-has_arity : (tables : List TruthTable) (wires : List Name) (part : Component) → has_arity tables (renumbered wires part) ≡ has_arity tables part
+renumbered-has_arity tables wires part = ap (takes_ports tables part.kind) (length-map part.ports (λ port. place_in (sorted_distinct itself wires) (get_or wires port [])))
 
 list_all-mapped : {A B : Type 0} (p : B → Bool) (f : A → B) (xs : List A) → list_all (λ x. p (f x)) xs ≡ true → list_all p (map f xs) ≡ true
 list_all-mapped p f [] h = refl
@@ -130,17 +130,17 @@ abbrev pub component_name : Component → Name
 component_name part = part.name
 
 -- what parts and wires of the right arity and number make is a device
-pub IsDevice-device_of : (parts : List Component) (wires : List Name) (tables : List Rows) → length parts ≤ 4096 → length wires ≤ 16384
+pub IsDevice-device_of : (parts : List Component) (wires : List Name) (tables : List TruthTable) → length parts ≤ 4096 → length wires ≤ 16384
     → list_all (has_arity tables) parts ≡ true → list_all (has_wires (length wires)) parts ≡ true → IsDevice (device_of parts wires tables)
 IsDevice-device_of parts wires tables few_parts few_wires arities joined =
     let made = map (renumbered wires) parts in
     record {
-      parts_rise = names_rise-Rises (part_names (in_order component_name made)) (Rises-map component_name (in_order component_name made) (Rises-in_order component_name made));
-      wires_rise = names_rise-Rises (in_order itself wires) (Rises-in_order itself wires);
-      arities = list_all-in_order component_name (has_arity tables) made (list_all-mapped (has_arity tables) (renumbered wires) parts
+      parts_rise = names_rise-Rises (part_names (sorted_distinct component_name made)) (Rises-map component_name (sorted_distinct component_name made) (Rises-sorted_distinct component_name made));
+      wires_rise = names_rise-Rises (sorted_distinct itself wires) (Rises-sorted_distinct itself wires);
+      arities = list_all-sorted_distinct component_name (has_arity tables) made (list_all-mapped (has_arity tables) (renumbered wires) parts
           (list_all-from_among _ parts (λ p m. renumbered-has_arity tables wires p ∙ list_all-among (has_arity tables) parts arities p m)));
-      joined = list_all-in_order component_name (has_wires (length (in_order itself wires))) made (list_all-mapped _ (renumbered wires) parts
+      joined = list_all-sorted_distinct component_name (has_wires (length (sorted_distinct itself wires))) made (list_all-mapped _ (renumbered wires) parts
           (list_all-from_among _ parts (λ p m. renumbered-has_wires wires p (list_all-among (has_wires (length wires)) parts joined p m))));
-      few_parts = omega (arith, length-in_order component_name made, length-map parts (renumbered wires));
-      few_wires = omega (arith, length-in_order itself wires);
+      few_parts = omega (arith, length-sorted_distinct component_name made, length-map parts (renumbered wires));
+      few_wires = omega (arith, length-sorted_distinct itself wires);
     }

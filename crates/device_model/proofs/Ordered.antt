@@ -1,7 +1,7 @@
--- Lists of items by rising name, and that `in_order` makes the only one that has the same items.
+-- Lists of items by rising name, and that `sorted_distinct` makes the only one that has the same items.
 use Rattle.std.proofs.Common.{◌≡◌, ◌⊎◌, inl, inr, List, [], ◌∷◌, refl, sym, ap, subst, ◌∙◌}
 use Rattle.text_rules.specs.Names.{Name}
-use Rattle.device_model.specs.Order.{placed, in_order}
+use Rattle.device_model.specs.Order.{placed, sorted_distinct}
 use Rattle.device_model.proofs.Naming.{Below, Below-trans, Below-irreflexive, Below-asymmetric, same, below, above, compared, same_name-same, same_name-below, same_name-above, name_below-Below, name_below-above}
 
 abbrev pub Among : {A : Type 0} → A → List A → Type 0
@@ -57,9 +57,9 @@ module _ {A : Type 0} (name : A → Name) where
     | above l ↦ subst Rises (sym (placed-above x y ys l)) (BelowAll-placed (name y) x ys l h.0, Rises-placed x ys h.1)
   ]
 
-  pub Rises-in_order : (xs : List A) → Rises (in_order name xs)
-  Rises-in_order [] = tt
-  Rises-in_order (x ∷ xs) = Rises-placed x (in_order name xs) (Rises-in_order xs)
+  pub Rises-sorted_distinct : (xs : List A) → Rises (sorted_distinct name xs)
+  Rises-sorted_distinct [] = tt
+  Rises-sorted_distinct (x ∷ xs) = Rises-placed x (sorted_distinct name xs) (Rises-sorted_distinct xs)
 
   among_placed : (x : A) (ys : List A) (z : A) → Among z (placed name x ys) → (z ≡ x) ⊎ Among z ys
   among_placed x [] z m = m
@@ -93,24 +93,24 @@ module _ {A : Type 0} (name : A → Name) where
   ]
 
   -- what stands in order was there
-  pub among_in_order : (xs : List A) (z : A) → Among z (in_order name xs) → Among z xs
-  among_in_order [] z m = m
-  among_in_order (x ∷ xs) z m = elim (among_placed x (in_order name xs) z m) [ inl e ↦ inl e | inr n ↦ inr (among_in_order xs z n) ]
+  pub among_sorted_distinct : (xs : List A) (z : A) → Among z (sorted_distinct name xs) → Among z xs
+  among_sorted_distinct [] z m = m
+  among_sorted_distinct (x ∷ xs) z m = elim (among_placed x (sorted_distinct name xs) z m) [ inl e ↦ inl e | inr n ↦ inr (among_sorted_distinct xs z n) ]
 
   -- and each name of what was there stands in order
-  pub in_order-has : (xs : List A) (x : A) → Among x xs → Named (name x) (in_order name xs)
-  in_order-has [] x m = absurd m
-  in_order-has (y ∷ ys) x (inl e) = subst (λ (z : A). Named (name z) (in_order name (y ∷ ys))) (sym e) (placed-has y (in_order name ys))
-  in_order-has (y ∷ ys) x (inr m) = let r = in_order-has ys x m in (r.0, placed-keeps y (in_order name ys) r.0 r.1, r.2)
+  pub sorted_distinct-has : (xs : List A) (x : A) → Among x xs → Named (name x) (sorted_distinct name xs)
+  sorted_distinct-has [] x m = absurd m
+  sorted_distinct-has (y ∷ ys) x (inl e) = subst (λ (z : A). Named (name z) (sorted_distinct name (y ∷ ys))) (sym e) (placed-has y (sorted_distinct name ys))
+  sorted_distinct-has (y ∷ ys) x (inr m) = let r = sorted_distinct-has ys x m in (r.0, placed-keeps y (sorted_distinct name ys) r.0 r.1, r.2)
 
   -- items of one name are the same
   abbrev pub NamesTell : List A → Type 0
   NamesTell xs = (x y : A) → Among x xs → Among y xs → name x ≡ name y → x ≡ y
 
-  pub in_order-keeps : (xs : List A) → NamesTell xs → (x : A) → Among x xs → Among x (in_order name xs)
-  in_order-keeps xs tell x m =
-      let r = in_order-has xs x m in
-      subst (λ (z : A). Among z (in_order name xs)) (tell r.0 x (among_in_order xs r.0 r.1) m r.2) r.1
+  pub sorted_distinct-keeps : (xs : List A) → NamesTell xs → (x : A) → Among x xs → Among x (sorted_distinct name xs)
+  sorted_distinct-keeps xs tell x m =
+      let r = sorted_distinct-has xs x m in
+      subst (λ (z : A). Among z (sorted_distinct name xs)) (tell r.0 x (among_sorted_distinct xs r.0 r.1) m r.2) r.1
 
   pub NamesTell-rising : (ys : List A) → Rises ys → NamesTell ys
   NamesTell-rising [] r x y m n e = absurd m
@@ -147,10 +147,10 @@ module _ {A : Type 0} (name : A → Name) where
       let rest = Rises-unique xs ys r.1 s.1 (tail_within x xs y ys r e to) (tail_within y ys x xs s (sym e) back) in
       cc
 
-  -- the rising list of the same items is what `in_order` makes
-  pub in_order-is : (xs ys : List A) → Rises ys → Within xs ys → Within ys xs → in_order name xs ≡ ys
-  in_order-is xs ys r to back =
+  -- the rising list of the same items is what `sorted_distinct` makes
+  pub sorted_distinct-is : (xs ys : List A) → Rises ys → Within xs ys → Within ys xs → sorted_distinct name xs ≡ ys
+  sorted_distinct-is xs ys r to back =
       let tell : NamesTell xs = λ x y m n e. NamesTell-rising ys r x y (to x m) (to y n) e in
-      Rises-unique (in_order name xs) ys (Rises-in_order xs) r
-      (λ z m. to z (among_in_order xs z m))
-      (λ z m. in_order-keeps xs tell z (back z m))
+      Rises-unique (sorted_distinct name xs) ys (Rises-sorted_distinct xs) r
+      (λ z m. to z (among_sorted_distinct xs z m))
+      (λ z m. sorted_distinct-keeps xs tell z (back z m))

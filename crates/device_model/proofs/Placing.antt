@@ -9,16 +9,16 @@ use Rattle.std.proofs.lemmas.List.{get_or-map, length-map}
 use Rattle.std.proofs.lemmas.List.Sorted.{length_permutation, IsPermutation-sym}
 use Rattle.text_rules.specs.Names.{Name, same_name}
 use Rattle.device_model.specs.declared.component.Component.{Component}
-use Rattle.device_model.specs.Order.{in_order}
-use Rattle.device_model.specs.Rows.{Rows}
+use Rattle.device_model.specs.Order.{sorted_distinct}
+use Rattle.device_model.specs.TruthTable.{TruthTable}
 use Rattle.device_model.specs.Devices.{Device, has_wires}
 use Rattle.device_model.specs.Building.{place_in, renumbered, device_of}
 use Rattle.device_model.specs.Sorting.{numbered_from, with_places}
 use Rattle.device_model.proofs.Naming.{Below, Below-irreflexive, same_name-same, same_name-above}
-use Rattle.device_model.proofs.Ordered.{Among, Below-among, Rises, Rises-in_order}
+use Rattle.device_model.proofs.Ordered.{Among, Below-among, Rises, Rises-sorted_distinct}
 use Rattle.device_model.proofs.Sorting.{itself, Contains-from_among, among_permutation, Rises-unmap}
 use Rattle.device_model.proofs.Tables.{among_get_or}
-use Rattle.device_model.proofs.Making.{list_all-among, component_name, in_order-map, list_all-in_order}
+use Rattle.device_model.proofs.Making.{list_all-among, component_name, sorted_distinct-map, list_all-sorted_distinct}
 
 -- a numbered name stands at its number
 numbered-tells : (p : ℕ) (ns : List Name) (w : Name × ℕ) → Among w (numbered_from p ns) → (i : ℕ) × (i < length ns) × (w.1 ≡ p + i) × (w.0 ≡ get_or ns i [])
@@ -56,12 +56,12 @@ abbrev pub wire_name : Name × ℕ → Name
 wire_name w = w.0
 
 -- what is known of sorted wires beside their positions
-module _ (wires : List Name) (ss : List (Name × ℕ)) (moved : IsPermutation (numbered_from 0 wires) ss) (named : map wire_name ss ≡ in_order itself wires) where
+module _ (wires : List Name) (ss : List (Name × ℕ)) (moved : IsPermutation (numbered_from 0 wires) ss) (named : map wire_name ss ≡ sorted_distinct itself wires) where
   pub length-wires : length ss ≡ length wires
   length-wires = length_permutation (numbered_from 0 wires) ss moved ∙ length-numbered_from 0 wires
 
   rising : Rises wire_name ss
-  rising = Rises-unmap wire_name ss (subst (Rises itself) (sym named) (Rises-in_order itself wires))
+  rising = Rises-unmap wire_name ss (subst (Rises itself) (sym named) (Rises-sorted_distinct itself wires))
 
   tells : (w : Name × ℕ) → Among w ss → (w.1 < length wires) × (w.0 ≡ get_or wires w.1 [])
   tells w m =
@@ -83,7 +83,7 @@ module _ (wires : List Name) (ss : List (Name × ℕ)) (moved : IsPermutation (n
 
   module _ (places : List ℕ) (filled : (k : ℕ) (w : Name × ℕ) → k < length ss → slice_index places (get_or ss k w).1 ≡ k) where
     -- a position's place is that of its wire's name in order
-    place_of_position : (port : ℕ) → port < length wires → slice_index places port ≡ place_in (in_order itself wires) (get_or wires port [])
+    place_of_position : (port : ℕ) → port < length wires → slice_index places port ≡ place_in (sorted_distinct itself wires) (get_or wires port [])
     place_of_position port l =
         let name = get_or wires port [] in
         let w : Name × ℕ = (name, port) in
@@ -92,13 +92,13 @@ module _ (wires : List Name) (ss : List (Name × ℕ)) (moved : IsPermutation (n
         let at_place : slice_index places port ≡ k = sym (ap (λ (v : Name × ℕ). slice_index places v.1) r.2) ∙ filled k w r.1 in
         let name_there : get_or (map wire_name ss) k [] ≡ name = get_or-map wire_name ss k w [] r.1 ∙ ap wire_name r.2 in
         let within : k < length (map wire_name ss) = omega (arith, r.1, length-map ss wire_name) in
-        let up : Rises itself (map wire_name ss) = subst (Rises itself) (sym named) (Rises-in_order itself wires) in
+        let up : Rises itself (map wire_name ss) = subst (Rises itself) (sym named) (Rises-sorted_distinct itself wires) in
         at_place ∙ sym (place_in-rising (map wire_name ss) k up within)
         ∙ ap (λ (n : Name). position_or_len (same_name n) (map wire_name ss)) name_there
         ∙ ap (λ (ns : List Name). position_or_len (same_name name) ns) named
 
     ports_placed : (ports : List ℕ) → ((p : ℕ) → Among p ports → p < length wires)
-        → map (slice_index places) ports ≡ map (λ port. place_in (in_order itself wires) (get_or wires port [])) ports
+        → map (slice_index places) ports ≡ map (λ port. place_in (sorted_distinct itself wires) (get_or wires port [])) ports
     ports_placed [] h = refl
     ports_placed (p ∷ ps) h =
         let first = place_of_position p (h p (inl refl)) in
@@ -118,19 +118,19 @@ module _ (wires : List Name) (ss : List (Name × ℕ)) (moved : IsPermutation (n
         cc
 
     -- the parts in order, with the places, are the renumbered parts in order
-    pub parts_in_order : (parts : List Component) → list_all (has_wires (length wires)) parts ≡ true
-        → map (with_places places) (in_order component_name parts) ≡ in_order component_name (map (renumbered wires) parts)
-    parts_in_order parts h =
-        let joined = list_all-in_order component_name (has_wires (length wires)) parts h in
-        parts_placed (in_order component_name parts) (λ p m. list_all-among (has_wires (length wires)) (in_order component_name parts) joined p m)
-        ∙ sym (in_order-map component_name (renumbered wires) (λ p. refl) parts)
+    pub parts_sorted_distinct : (parts : List Component) → list_all (has_wires (length wires)) parts ≡ true
+        → map (with_places places) (sorted_distinct component_name parts) ≡ sorted_distinct component_name (map (renumbered wires) parts)
+    parts_sorted_distinct parts h =
+        let joined = list_all-sorted_distinct component_name (has_wires (length wires)) parts h in
+        parts_placed (sorted_distinct component_name parts) (λ p m. list_all-among (has_wires (length wires)) (sorted_distinct component_name parts) joined p m)
+        ∙ sym (sorted_distinct-map component_name (renumbered wires) (λ p. refl) parts)
 
 -- the ports of parts in order fit the sorted wires
-pub ports_fit : (parts : List Component) (n m : ℕ) → m ≡ n → list_all (has_wires n) parts ≡ true → All (λ p. All (λ port. port < m) p.ports) (in_order component_name parts)
+pub ports_fit : (parts : List Component) (n m : ℕ) → m ≡ n → list_all (has_wires n) parts ≡ true → All (λ p. All (λ port. port < m) p.ports) (sorted_distinct component_name parts)
 ports_fit parts n m e h k d l i f b =
-    let p = get_or (in_order component_name parts) k d in
-    let joined = list_all-in_order component_name (has_wires n) parts h in
-    let one = list_all-among (has_wires n) (in_order component_name parts) joined p (among_get_or (in_order component_name parts) k d l) in
+    let p = get_or (sorted_distinct component_name parts) k d in
+    let joined = list_all-sorted_distinct component_name (has_wires n) parts h in
+    let one = list_all-among (has_wires n) (sorted_distinct component_name parts) joined p (among_get_or (sorted_distinct component_name parts) k d l) in
     let port = get_or p.ports i f in
     omega (arith, ltb-true port n (list_all-among (λ q. nat_lt q n) p.ports one port (among_get_or p.ports i f b)))
 
@@ -139,13 +139,13 @@ pub written_back : {A : Type 0} (n : ℕ) (xs zs : List A) → n ≡ length xs �
 written_back n xs zs e = ap (λ (k : ℕ). take k (xs ++ zs)) e ∙ take-append_seam xs zs
 
 -- the device that the last steps put together is that of the parts and wires as they were given
-pub assembled : (parts : List Component) (wires : List Name) (tables : List Rows) (new : List Component) (names : List Name) (ss : List (Name × ℕ)) (places : List ℕ)
-    → IsPermutation (numbered_from 0 wires) ss → map wire_name ss ≡ in_order itself wires
+pub assembled : (parts : List Component) (wires : List Name) (tables : List TruthTable) (new : List Component) (names : List Name) (ss : List (Name × ℕ)) (places : List ℕ)
+    → IsPermutation (numbered_from 0 wires) ss → map wire_name ss ≡ sorted_distinct itself wires
     → ((k : ℕ) (w : Name × ℕ) → k < length ss → slice_index places (get_or ss k w).1 ≡ k)
     → list_all (has_wires (length wires)) parts ≡ true
-    → new ≡ map (with_places places) (in_order component_name parts) → names ≡ map wire_name ss
+    → new ≡ map (with_places places) (sorted_distinct component_name parts) → names ≡ map wire_name ss
     → ◌≡◌ {A = Device} (record { parts = new; wires = names; tables = tables }) (device_of parts wires tables)
 assembled parts wires tables new names ss places moved named filled joined is_new is_names =
-    let p = is_new ∙ parts_in_order wires ss moved named places filled parts joined in
+    let p = is_new ∙ parts_sorted_distinct wires ss moved named places filled parts joined in
     let w = is_names ∙ named in
     λ j. record { parts = p j; wires = w j; tables = tables }

@@ -7,11 +7,11 @@ use Rattle.std.proofs.lemmas.List.Sorted.{sum_by-IsPermutation}
 use Rattle.std.proofs.lemmas.List.Sums.{sum_by-cons}
 use Rattle.text_rules.specs.Names.{Name, same_name, is_among}
 use Rattle.device_model.specs.declared.building.BuildError.{BuildError}
-use Rattle.device_model.specs.Order.{in_order}
+use Rattle.device_model.specs.Order.{sorted_distinct}
 use Rattle.device_model.specs.Devices.{Device}
 use Rattle.device_model.specs.Building.{repeated, unless_name}
 use Rattle.device_model.proofs.Naming.{Below, Below-trans, Below-irreflexive, same, below, above, compared, same_name-same, same_name-other, same_from_test}
-use Rattle.device_model.proofs.Ordered.{Among, BelowAll, Below-among, Rises, Rises-in_order, among_in_order, in_order-has}
+use Rattle.device_model.proofs.Ordered.{Among, BelowAll, Below-among, Rises, Rises-sorted_distinct, among_sorted_distinct, sorted_distinct-has}
 use Rattle.device_model.proofs.Sorting.{itself, AtMost, AtMostAll, AtMost-among, Ascends}
 
 -- how often a name stands in a list
@@ -185,15 +185,15 @@ pub repeated-rising : (xs ys : List Name) → IsPermutation xs ys → Rises itse
 repeated-rising xs ys p h = none_among (repeated xs) (λ m k. omega (arith, twice_from_repeated xs m k, count-permutation m xs ys p, once_in_rising ys h m))
 
 -- the first name in order is the least
-in_order-first : (ns : List Name) (n : Name) → Among n ns → ((m : Name) → Among m ns → AtMost n m) → (rest : List Name) × (in_order itself ns ≡ n ∷ rest)
-in_order-first ns n there least = by (in_order itself ns) refl
+sorted_distinct-first : (ns : List Name) (n : Name) → Among n ns → ((m : Name) → Among m ns → AtMost n m) → (rest : List Name) × (sorted_distinct itself ns ≡ n ∷ rest)
+sorted_distinct-first ns n there least = by (sorted_distinct itself ns) refl
   where
-    by : (os : List Name) → in_order itself ns ≡ os → (rest : List Name) × (in_order itself ns ≡ n ∷ rest)
-    by [] e = let r = in_order-has itself ns n there in absurd (subst (Among r.0) e r.1)
+    by : (os : List Name) → sorted_distinct itself ns ≡ os → (rest : List Name) × (sorted_distinct itself ns ≡ n ∷ rest)
+    by [] e = let r = sorted_distinct-has itself ns n there in absurd (subst (Among r.0) e r.1)
     by (o ∷ os) e =
-        let r = in_order-has itself ns n there in
-        let up : Rises itself (o ∷ os) = subst (Rises itself) e (Rises-in_order itself ns) in
-        let from : AtMost n o = least o (among_in_order itself ns o (subst (Among o) (sym e) (inl refl))) in
+        let r = sorted_distinct-has itself ns n there in
+        let up : Rises itself (o ∷ os) = subst (Rises itself) e (Rises-sorted_distinct itself ns) in
+        let from : AtMost n o = least o (among_sorted_distinct itself ns o (subst (Among o) (sym e) (inl refl))) in
         let to : Among n (o ∷ os) = subst (λ (k : Name). Among k (o ∷ os)) r.2 (subst (Among r.0) e r.1) in (
           os,
           elim to [
@@ -207,9 +207,9 @@ in_order-first ns n there least = by (in_order itself ns) refl
 
 -- the reason that two neighbours of one name are, wherever the names were given
 pub unless_name-repeated : (xs ys : List Name) (i : ℕ) → IsPermutation xs ys → IsLeastTwice ys (get_or ys i [])
-    → (error : Name → BuildError) (otherwise : Result Device BuildError) → unless_name error (in_order itself (repeated xs)) otherwise ≡ Err (error (get_or ys i []))
+    → (error : Name → BuildError) (otherwise : Result Device BuildError) → unless_name error (sorted_distinct itself (repeated xs)) otherwise ≡ Err (error (get_or ys i []))
 unless_name-repeated xs ys i p h error otherwise =
     let n = get_or ys i [] in
-    let r = in_order-first (repeated xs) n (repeated_from_twice xs n (omega (arith, count-permutation n xs ys p, h.twice)))
+    let r = sorted_distinct-first (repeated xs) n (repeated_from_twice xs n (omega (arith, count-permutation n xs ys p, h.twice)))
     (λ m k. h.least m (omega (arith, twice_from_repeated xs m k, count-permutation m xs ys p))) in
     rw r.1 refl

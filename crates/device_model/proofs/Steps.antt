@@ -7,11 +7,11 @@ use Rattle.std.proofs.lemmas.Bool.{cases_eq}
 use Rattle.std.proofs.lemmas.List.Sorted.{IsPermutation-sym}
 use Rattle.text_rules.specs.Names.{Name, same_name}
 use Rattle.device_model.specs.declared.building.BuildError.{BuildError}
-use Rattle.device_model.specs.Order.{in_order}
+use Rattle.device_model.specs.Order.{sorted_distinct}
 use Rattle.device_model.specs.Building.{repeated}
 use Rattle.device_model.specs.Sorting.{numbered_from, NeighboursDiffer, IsFirstRepeat, IsTwice}
 use Rattle.device_model.proofs.Naming.{same_from_test, same_name-same}
-use Rattle.device_model.proofs.Ordered.{Rises, in_order-is}
+use Rattle.device_model.proofs.Ordered.{Rises, sorted_distinct-is}
 use Rattle.device_model.proofs.Sorting.{itself, Ascends, among_permutation}
 use Rattle.device_model.proofs.Repeats.{first_repeat_is_least, unless_name-repeated, Rises-from_neighbours, repeated-rising}
 
@@ -66,9 +66,9 @@ module _ (ns ms : List Name) (moved : IsPermutation ns ms) (up : Ascends itself 
       let least = first_repeat_is_least ms i up (omega (arith, h.1)) e (λ k l g. h.2 k (omega arith) (subst (λ (j : ℕ). get_or ms k [] ≡ get_or ms j []) (sym (add-one k)) g)) in
       λ otherwise. unless_name-repeated ns ms i moved least error otherwise ∙ ap (λ (n : Name). Err (error n)) e
 
-pub in_order-sorted : {A : Type 0} (name : A → Name) (xs ys : List A) → IsPermutation xs ys → Rises name ys → ys ≡ in_order name xs
-in_order-sorted name xs ys moved h =
-    sym (in_order-is name xs ys h (λ z. among_permutation xs ys moved z) (λ z. among_permutation ys xs (IsPermutation-sym xs ys moved) z))
+pub sorted_distinct-sorted : {A : Type 0} (name : A → Name) (xs ys : List A) → IsPermutation xs ys → Rises name ys → ys ≡ sorted_distinct name xs
+sorted_distinct-sorted name xs ys moved h =
+    sym (sorted_distinct-is name xs ys h (λ z. among_permutation xs ys moved z) (λ z. among_permutation ys xs (IsPermutation-sym xs ys moved) z))
 
 -- one more place in the table of places
 pub places_more : (places : List ℕ) (wires : List (Name × ℕ)) (i : ℕ) (v : Name × ℕ) → i < length wires → v ≡ get_or wires i v → length places ≡ length wires

@@ -5,8 +5,8 @@ use Rattle.text_rules.specs.Names.{Name, same_name, is_among}
 use Rattle.device_model.specs.declared.component.Component.{Component}
 use Rattle.device_model.specs.declared.building.BuildError.{BuildError}
 use Rattle.device_model.specs.declared.building.BuildError.TheVariants.{TooMany, TwoParts, TwoWires, Arity, NoWire}
-use Rattle.device_model.specs.Rows.{Rows}
-use Rattle.device_model.specs.Order.{in_order}
+use Rattle.device_model.specs.TruthTable.{TruthTable}
+use Rattle.device_model.specs.Order.{sorted_distinct}
 use Rattle.device_model.specs.Devices.{Device, part_names, has_arity, has_wires}
 
 -- where a name stands
@@ -16,12 +16,12 @@ place_in names name = position_or_len (same_name name) names
 -- a part whose ports are places among the wires as they were given, among the wires in order
 abbrev pub renumbered : List Name → Component → Component
 renumbered wires part =
-    record part { ports = map (λ port. place_in (in_order (λ n. n) wires) (slice_index_or wires port [])) part.ports }
+    record part { ports = map (λ port. place_in (sorted_distinct (λ n. n) wires) (slice_index_or wires port [])) part.ports }
 
-abbrev pub device_of : List Component → List Name → List Rows → Device
+abbrev pub device_of : List Component → List Name → List TruthTable → Device
 device_of parts wires tables = record {
-  parts = in_order (λ (part : Component). part.name) (map (renumbered wires) parts);
-  wires = in_order (λ n. n) wires;
+  parts = sorted_distinct (λ (part : Component). part.name) (map (renumbered wires) parts);
+  wires = sorted_distinct (λ n. n) wires;
   tables = tables;
 }
 
@@ -41,12 +41,12 @@ unless_place error (Some place) otherwise = Err (error place)
 
 -- The first of these reasons, in this order: too many parts, too many wires, the least name of two parts, that of two
 -- wires, the first part whose number of ports its kind does not take, the first with a port at no wire.
-abbrev pub built : List Component → List Name → List Rows → Result Device BuildError
+abbrev pub built : List Component → List Name → List TruthTable → Result Device BuildError
 built parts wires tables =
     if nat_lt 4096 (length parts) then Err (TooMany (length parts))
     else if nat_lt 16384 (length wires) then Err (TooMany (length wires))
-    else unless_name TwoParts (in_order (λ n. n) (repeated (part_names parts)))
-    (unless_name TwoWires (in_order (λ n. n) (repeated wires))
+    else unless_name TwoParts (sorted_distinct (λ n. n) (repeated (part_names parts)))
+    (unless_name TwoWires (sorted_distinct (λ n. n) (repeated wires))
     (unless_place Arity (position (λ part. not (has_arity tables part)) parts)
     (unless_place NoWire (position (λ part. not (has_wires (length wires) part)) parts)
     (Ok (device_of parts wires tables)))))

@@ -8,13 +8,13 @@ use Rattle.ranking.specs.Ranking.{plain_costs}
 use Rattle.device_model.specs.declared.component.Kind.{Kind}
 use Rattle.device_model.specs.declared.component.Kind.TheVariants.{And, Or, Nand, Nor, Xor, Xnor, Not, Buff, Table}
 use Rattle.device_model.specs.declared.component.Component.{Component}
-use Rattle.device_model.specs.Rows.{Rows}
+use Rattle.device_model.specs.TruthTable.{TruthTable}
 
 -- Parts and wires are each in the order of their names. A port of a part is the place of a wire.
 pub record Device : Type 0 where
   pub parts : List Component
   pub wires : List Name
-  pub tables : List Rows
+  pub tables : List TruthTable
 
 abbrev pub part_names : List Component → List Name
 part_names parts = map (λ (part : Component). part.name) parts
@@ -60,17 +60,17 @@ gate_allows kind true row =
 abbrev pub is_set : ℕ → ℕ → Bool
 is_set rows row = bit_at rows row == 1
 
-abbrev pub table_allows : Rows → Bool → List Bool → Bool
+abbrev pub table_allows : TruthTable → Bool → List Bool → Bool
 table_allows rows true row = is_set rows.ok (row_number row)
 table_allows rows false row = is_set rows.bad (row_number row)
 
 -- a part of no table allows nothing
-abbrev pub any_table_allows : Option Rows → Bool → List Bool → Bool
+abbrev pub any_table_allows : Option TruthTable → Bool → List Bool → Bool
 any_table_allows None ok row = false
 any_table_allows (Some rows) ok row = table_allows rows ok row
 
 -- whether a part of this kind, ok or faulty, allows the bits of its ports
-abbrev pub allows : List Rows → Kind → Bool → List Bool → Bool
+abbrev pub allows : List TruthTable → Kind → Bool → List Bool → Bool
 allows tables (Table t) ok row = any_table_allows (slice_get tables t) ok row
 allows tables And ok row = gate_allows And ok row
 allows tables Or ok row = gate_allows Or ok row
@@ -81,11 +81,11 @@ allows tables Xnor ok row = gate_allows Xnor ok row
 allows tables Not ok row = gate_allows Not ok row
 allows tables Buff ok row = gate_allows Buff ok row
 
-abbrev pub part_allows : List Rows → Component → Bool → List Bool → Bool
+abbrev pub part_allows : List TruthTable → Component → Bool → List Bool → Bool
 part_allows tables part ok wires = allows tables part.kind ok (map (bit_in wires) part.ports)
 
 -- each part allows the bits of its wires
-abbrev pub parts_fit : List Rows → List Component → List Bool → List Bool → Bool
+abbrev pub parts_fit : List TruthTable → List Component → List Bool → List Bool → Bool
 parts_fit tables [] state wires = true
 parts_fit tables (part ∷ parts) [] wires = false
 parts_fit tables (part ∷ parts) (ok ∷ state) wires = part_allows tables part ok wires && parts_fit tables parts state wires
@@ -97,12 +97,12 @@ fits device state wires = parts_fit device.tables device.parts state wires
 abbrev pub part_costs : Device → List ℕ
 part_costs device = plain_costs (length device.parts)
 
-abbrev pub rows_take : Option Rows → ℕ → Bool
+abbrev pub rows_take : Option TruthTable → ℕ → Bool
 rows_take None ports = false
 rows_take (Some rows) ports = rows.ports == ports
 
 -- whether a kind takes so many ports, of which a gate's last is its output
-abbrev pub takes_ports : List Rows → Kind → ℕ → Bool
+abbrev pub takes_ports : List TruthTable → Kind → ℕ → Bool
 takes_ports tables (Table t) ports = rows_take (slice_get tables t) ports
 takes_ports tables And ports = takes And (ports - 1)
 takes_ports tables Or ports = takes Or (ports - 1)
@@ -113,7 +113,7 @@ takes_ports tables Xnor ports = takes Xnor (ports - 1)
 takes_ports tables Not ports = takes Not (ports - 1)
 takes_ports tables Buff ports = takes Buff (ports - 1)
 
-abbrev pub has_arity : List Rows → Component → Bool
+abbrev pub has_arity : List TruthTable → Component → Bool
 has_arity tables part = takes_ports tables part.kind (length part.ports)
 
 -- each port is the place of one of so many wires

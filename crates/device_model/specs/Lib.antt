@@ -1,4 +1,4 @@
-pub mod Rows
+pub mod TruthTable
 pub mod Order
 pub mod Devices
 pub mod Diagnosis

@@ -11,6 +11,6 @@ placed name x (y ∷ ys) =
     else y ∷ placed name x ys
 
 -- the items by rising name, one of each
-abbrev pub in_order : {A : Type 0} → (A → Name) → List A → List A
-in_order name [] = []
-in_order name (x ∷ xs) = placed name x (in_order name xs)
+abbrev pub sorted_distinct : {A : Type 0} → (A → Name) → List A → List A
+sorted_distinct name [] = []
+sorted_distinct name (x ∷ xs) = placed name x (sorted_distinct name xs)

@@ -3,7 +3,7 @@ use Rattle.std.specs.Prelude.{◌≡◌, ◌≢◌, ℕ, ◌+◌, ◌<◌, ◌�
 use Rattle.text_rules.specs.Names.{Name}
 use Rattle.device_model.specs.declared.component.Component.{Component}
 use Rattle.device_model.specs.declared.building.BuildError.{BuildError}
-use Rattle.device_model.specs.Order.{in_order}
+use Rattle.device_model.specs.Order.{sorted_distinct}
 use Rattle.device_model.specs.Devices.{Device}
 use Rattle.device_model.specs.Building.{repeated, unless_name}
 
@@ -30,4 +30,4 @@ IsFirstRepeat names (Some place) =
 -- this error is the answer for the least name that stands twice
 abbrev pub IsTwice : (Name → BuildError) → List Name → BuildError → Type 0
 IsTwice error names e =
-    (otherwise : Result Device BuildError) → unless_name error (in_order (λ n. n) (repeated names)) otherwise ≡ Err e
+    (otherwise : Result Device BuildError) → unless_name error (sorted_distinct (λ n. n) (repeated names)) otherwise ≡ Err e

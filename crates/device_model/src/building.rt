@@ -2,7 +2,7 @@ ghost use Rattle.std.specs.Prelude.{◌≡◌, ◌≢◌, ℕ, ◌<◌, ◌≤�
 ghost use Rattle.std.specs.List.{AllPairs};
 ghost use Rattle.std.specs.List.Sorted.{IsPermutation};
 ghost use Rattle.text_rules.specs.Names.{Name as Bytes};
-ghost use Rattle.device_model.specs.Order.{in_order};
+ghost use Rattle.device_model.specs.Order.{sorted_distinct};
 ghost use Rattle.device_model.specs.Devices.{IsDevice, part_names, takes_ports, has_arity, has_wires};
 ghost use Rattle.device_model.specs.Building.{built, repeated};
 ghost use Rattle.device_model.specs.Sorting.{numbered_from, with_places, IsFirstRepeat, IsTwice};
@@ -128,7 +128,7 @@ impl Device {
 
 // The parts by rising name, or the least name of two parts.
 fn sorted_parts(parts: Vec<Component>) -> Result<Vec<Component>, BuildError>
-    ensures sorted { IfOk result (λ s. s.items ≡ in_order (λ p. p.name) parts.items) }
+    ensures sorted { IfOk result (λ s. s.items ≡ sorted_distinct (λ p. p.name) parts.items) }
     ensures same { IfOk result (λ s. IsPermutation parts.items s.items) }
     ensures distinct { OnOk result (repeated (part_names parts.items) ≡ []) }
     ensures twice { IfErr result
@@ -147,7 +147,7 @@ fn sorted_parts(parts: Vec<Component>) -> Result<Vec<Component>, BuildError>
 fn sorted_wires(alloc: Global, wires: Vec<Name>) -> Result<Vec<(Name, u32)>, BuildError>
     requires { length wires.items ≤ 16384 }
     ensures sorted { IfOk result
-        (λ s. map (λ w. w.0) s.items ≡ in_order (λ n. n) wires.items) }
+        (λ s. map (λ w. w.0) s.items ≡ sorted_distinct (λ n. n) wires.items) }
     ensures same { IfOk result (λ s. IsPermutation (numbered_from 0 wires.items) s.items) }
     ensures distinct { OnOk result (repeated wires.items ≡ []) }
     ensures twice { IfErr result (λ e. e ≢ Memory → IsTwice TwoWires wires.items e) }

@@ -1,5 +1,5 @@
 ghost use Rattle.std.specs.Prelude.{◌≡◌, ◌<◌, length, map, slice_index, All, IfOk, Some, None, true, if◌then◌else◌};
-ghost use Rattle.device_model.specs.Rows.{set_of_all, is_table};
+ghost use Rattle.device_model.specs.TruthTable.{set_of_all, is_table};
 ghost use Rattle.device_model.specs.Devices.{takes};
 
 use crate::names::Name;
@@ -94,9 +94,9 @@ pub struct Table {
 
 impl Model for Table {
     ghost use Rattle.std.specs.Prelude.{◌≡◌, true};
-    ghost use Rattle.device_model.specs.Rows.{Rows, is_table};
+    ghost use Rattle.device_model.specs.TruthTable.{TruthTable, is_table};
 
-    ghost Value = { Rows };
+    ghost Value = { TruthTable };
 
     ghost view = { λ t. record { ports = t.ports; ok = t.ok; bad = t.bad } };
 

@@ -5,10 +5,10 @@ use Rattle.std.specs.List.{list_all, flat_map}
 use Rattle.std.proofs.lemmas.Bool.{and_parts, and_from}
 use Rattle.std.proofs.lemmas.List.{length-map}
 use Rattle.text_rules.specs.Names.{Name}
-use Rattle.graph_rules.specs.Graphs.{values}
+use Rattle.ranking.specs.Values.{values}
 use Rattle.device_model.specs.declared.component.Kind.{Kind}
 use Rattle.device_model.specs.declared.component.Kind.TheVariants.{And, Or, Nand, Nor, Xor, Xnor, Not, Buff, Table}
-use Rattle.device_model.specs.Rows.{Rows}
+use Rattle.device_model.specs.TruthTable.{TruthTable}
 use Rattle.device_model.specs.Devices.{takes, takes_ports, rows_take}
 use Rattle.component_lang.specs.declared.design.UsedKind.{UsedKind}
 use Rattle.component_lang.specs.declared.design.UsedKind.TheVariants.{Gate, Shape as OfShape, Block as OfBlock}
@@ -21,13 +21,13 @@ use Rattle.flattener.proofs.Lists.{all_both}
 use Rattle.flattener.proofs.Relative.{GoodUsed-from_test, GoodBlock-from_test}
 use Rattle.flattener.proofs.Values.{values-hold}
 
-abbrev pub tables_of : List Shape → List Rows
+abbrev pub tables_of : List Shape → List TruthTable
 tables_of types = map (λ (s : Shape). s.table) types
 
-abbrev pub is_fed : List Rows → FlatPart → Bool
+abbrev pub is_fed : List TruthTable → FlatPart → Bool
 is_fed tables part = takes_ports tables part.kind (length part.wires)
 
-gate_fed : (tables : List Rows) (kind : Kind) (n : ℕ) → takes kind (n - 1) ≡ true → takes_ports tables kind n ≡ true
+gate_fed : (tables : List TruthTable) (kind : Kind) (n : ℕ) → takes kind (n - 1) ≡ true → takes_ports tables kind n ≡ true
 gate_fed tables (Table t) n h = cc
 gate_fed tables And n h = h
 gate_fed tables Or n h = h

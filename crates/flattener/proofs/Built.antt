@@ -5,12 +5,12 @@ use Rattle.std.specs.List.{list_all, position_or_len, flat_map}
 use Rattle.std.proofs.lemmas.Bool.{and_parts, and_from, le-ltb, ltb-true}
 use Rattle.std.proofs.lemmas.List.{length-map, append_assoc, take-append-drop}
 use Rattle.text_rules.specs.Names.{Name}
-use Rattle.graph_rules.specs.Graphs.{values}
+use Rattle.ranking.specs.Values.{values}
 use Rattle.device_model.specs.declared.component.Component.{Component}
 use Rattle.device_model.specs.declared.building.BuildError.{BuildError}
 use Rattle.device_model.specs.declared.building.BuildError.TheVariants.{TooMany, TwoParts, TwoWires, Arity, NoWire}
-use Rattle.device_model.specs.Rows.{Rows}
-use Rattle.device_model.specs.Order.{in_order}
+use Rattle.device_model.specs.TruthTable.{TruthTable}
+use Rattle.device_model.specs.Order.{sorted_distinct}
 use Rattle.device_model.specs.Devices.{Device, part_names, takes_ports, has_arity, has_wires}
 use Rattle.device_model.specs.Building.{place_in, renumbered, device_of, repeated, unless_name, unless_place, built}
 use Rattle.device_model.proofs.Ordered.{Among}
@@ -23,7 +23,8 @@ use Rattle.flattener.specs.Flat.{FlatPart, top_ports, top_content, component, fl
 use Rattle.flattener.specs.Counting.{counts_of_design, refusal}
 use Rattle.flattener.specs.Expanding.{IsFlat, shown, wire_at, are_joined}
 use Rattle.flattener.proofs.Lists.{map-map, map_same}
-use Rattle.flattener.proofs.Values.{values-at, front_fits}
+use Rattle.ranking.proofs.Values.{values-at}
+use Rattle.flattener.proofs.Values.{front_fits}
 use Rattle.flattener.proofs.Naming.{repeated-Different}
 use Rattle.flattener.proofs.Relative.{Parts, Wires, no_names, names_in, names_used}
 use Rattle.flattener.proofs.Differing.{instances-differ, all-wires}
@@ -55,7 +56,7 @@ module _ (wires : List Name) where
 
   part-renumbered : (part : Component) → has_wires (length wires) part ≡ true → renumbered wires part ≡ renumbered wires (component wires (shown wires part))
   part-renumbered part h =
-      let place = place_in (in_order itself wires) in
+      let place = place_in (sorted_distinct itself wires) in
       let named = ports-named wires (map (wire_at wires) part.ports) (among_wires part.ports h) in
       ap (λ (ps : List ℕ). record part { ports = ps }) (sym (map-map place (wire_at wires) part.ports) ∙ sym named)
 
@@ -66,16 +67,16 @@ module _ (wires : List Name) where
       ∙ sym (map-map (renumbered wires) (λ part. component wires (shown wires part)) parts)
       ∙ ap (map (renumbered wires)) (sym (map-map (component wires) (shown wires) parts) ∙ ap (map (component wires)) e)
 
-ports_fed : (tables : List Rows) (wires : List Name) (parts : List Component) → list_all (is_fed tables) (map (shown wires) parts) ≡ true → list_all (has_arity tables) parts ≡ true
+ports_fed : (tables : List TruthTable) (wires : List Name) (parts : List Component) → list_all (is_fed tables) (map (shown wires) parts) ≡ true → list_all (has_arity tables) parts ≡ true
 ports_fed tables wires [] h = refl
 ports_fed tables wires (p ∷ ps) h =
     let two = and_parts (is_fed tables (shown wires p)) (list_all (is_fed tables) (map (shown wires) ps)) h in
     and_from (has_arity tables p) (list_all (has_arity tables) ps) (ap (takes_ports tables p.kind) (sym (length-map p.ports (wire_at wires))) ∙ two.0) (ports_fed tables wires ps two.1)
 
 unrefused : (a b : Bool) (parts wires : List Name) (arity joined : Option ℕ) (e f : BuildError) (d g : Device) → a ≡ false → b ≡ false → parts ≡ [] → wires ≡ [] → arity ≡ None → joined ≡ None → d ≡ g
-    → (if a then Err e else if b then Err f else unless_name TwoParts (in_order itself parts) (unless_name TwoWires (in_order itself wires) (unless_place Arity arity (unless_place NoWire joined (Ok d))))) ≡ Ok g
+    → (if a then Err e else if b then Err f else unless_name TwoParts (sorted_distinct itself parts) (unless_name TwoWires (sorted_distinct itself wires) (unless_place Arity arity (unless_place NoWire joined (Ok d))))) ≡ Ok g
 unrefused a b parts wires arity joined e f d g h1 h2 h3 h4 h5 h6 h7 =
-    λ i. if h1 i then Err e else if h2 i then Err f else unless_name (λ n. TwoParts n) (in_order itself (h3 i)) (unless_name (λ n. TwoWires n) (in_order itself (h4 i)) (unless_place (λ n. Arity n) (h5 i) (unless_place (λ n. NoWire n) (h6 i) (Ok (h7 i)))))
+    λ i. if h1 i then Err e else if h2 i then Err f else unless_name (λ n. TwoParts n) (sorted_distinct itself (h3 i)) (unless_name (λ n. TwoWires n) (sorted_distinct itself (h4 i)) (unless_place (λ n. Arity n) (h5 i) (unless_place (λ n. NoWire n) (h6 i) (Ok (h7 i)))))
 
 module _ (design : Design) (valid : is_design design ≡ true) (passed : refusal (counts_of_design design) ≡ None) (parts : List Component) (wires : List Name) (flat : IsFlat design parts wires) where
   names_are : part_names parts ≡ get_or (values names_in design.blocks) design.top no_names Parts
@@ -108,7 +109,7 @@ module _ (design : Design) (valid : is_design design ≡ true) (passed : refusal
 
   same_device : device_of parts wires (tables_of design.types) ≡ flat_device design
   same_device =
-      ap (λ (ps : List Component). record { parts = in_order (λ (part : Component). part.name) ps; wires = in_order itself wires; tables = tables_of design.types })
+      ap (λ (ps : List Component). record { parts = sorted_distinct (λ (part : Component). part.name) ps; wires = sorted_distinct itself wires; tables = tables_of design.types })
       (parts-renumbered wires parts (top_content design).parts flat.parts_are flat.joined)
       ∙ ap (λ (ws : List Name). device_of (map (component ws) (top_content design).parts) ws (tables_of design.types)) flat.wires_are
 
@@ -120,7 +121,7 @@ module _ (design : Design) (valid : is_design design ≡ true) (passed : refusal
       (le-ltb 4096 (length parts) many_parts) (le-ltb 16384 (length wires) many_wires) parts_once wires_once
       (none_fails (has_arity (tables_of design.types)) parts arities) (none_fails (has_wires (length wires)) parts flat.joined) same_device
 
-  module _ (tables : List Rows) (are : tables ≡ tables_of design.types) where
+  module _ (tables : List TruthTable) (are : tables ≡ tables_of design.types) where
     built-here : built parts wires tables ≡ Ok (flat_device design)
     built-here = ap (built parts wires) are ∙ built-flat
 

@@ -5,7 +5,7 @@ use Rattle.std.specs.List.{flat_map, list_all}
 use Rattle.std.proofs.lemmas.Bool.{and_parts, eq-eqb, ne_eqb, cases_lt}
 use Rattle.std.proofs.lemmas.List.{append_assoc, append-nil, take-append-drop, length-append, length-map}
 use Rattle.text_rules.specs.Names.{Name}
-use Rattle.graph_rules.specs.Graphs.{values}
+use Rattle.ranking.specs.Values.{values}
 use Rattle.component_lang.specs.declared.design.UsedKind.{UsedKind}
 use Rattle.component_lang.specs.declared.design.UsedKind.TheVariants.{Gate, Shape as OfShape, Block as OfBlock}
 use Rattle.component_lang.specs.declared.design.Used.{Used}
@@ -13,7 +13,7 @@ use Rattle.component_lang.specs.declared.design.Shape.{Shape}
 use Rattle.component_lang.specs.declared.design.Block.{Block}
 use Rattle.component_lang.specs.Designs.{is_used, is_block, are_blocks}
 use Rattle.flattener.specs.declared.counting.Counts.{Counts}
-use Rattle.flattener.specs.Flat.{below, counted}
+use Rattle.flattener.specs.Flat.{below, saturated}
 use Rattle.flattener.specs.Counting.{no_counts, longest_of, counts_of_wires, added, counts_of_part, below_name, counts_of_instance, counts_of_kind, counts_of_used, counts_of_block}
 use Rattle.flattener.proofs.Naming.{Plain, AllSome, AllSome-append, AllSome-below, AllSome-right, AllSome-plain, lift, lift-some, lift-none, longest-append, longest-below}
 use Rattle.flattener.proofs.Relative.{Which, Parts, Wires, Instances, Inner, no_names, wires_only, own_names, part_named, instance_named, kind_names, names_used, names_in, GoodUsed-from_test, GoodBlock-from_test}
@@ -26,10 +26,10 @@ abbrev pub joined : Inner → Inner → Inner
 joined a b which = a which ++ b which
 
 pub record Counted (counts : Counts) (inner : Inner) : Type 0 where
-  pub parts : counts.parts ≡ counted (length (inner Parts))
-  pub wires : counts.wires ≡ counted (length (inner Wires))
-  pub instances : counts.instances ≡ counted (length (inner Instances))
-  pub longest : counts.longest ≡ counted (longest_in inner)
+  pub parts : counts.parts ≡ saturated (length (inner Parts))
+  pub wires : counts.wires ≡ saturated (length (inner Wires))
+  pub instances : counts.instances ≡ saturated (length (inner Instances))
+  pub longest : counts.longest ≡ saturated (longest_in inner)
   pub some : (which : Which) → AllSome (inner which)
 
 pub Counted-none : Counted no_counts no_names
@@ -40,7 +40,7 @@ Counted-wires wires h = record {
   parts = refl;
   wires = refl;
   instances = refl;
-  longest = (let e : max 0 (max (longest_of wires) 0) ≡ longest_of wires = omega arith in sym (ap counted e));
+  longest = (let e : max 0 (max (longest_of wires) 0) ≡ longest_of wires = omega arith in sym (ap saturated e));
   some = some_of;
 }
   where
@@ -49,25 +49,25 @@ Counted-wires wires h = record {
     some_of Wires = h
     some_of Instances = tt
 
-sum_counted : (a b c : ℕ) → c ≡ a + b → counted (counted a + counted b) ≡ counted c
-sum_counted a b c e = omega arith
+sum_saturated : (a b c : ℕ) → c ≡ a + b → saturated (saturated a + saturated b) ≡ saturated c
+sum_saturated a b c e = omega arith
 
-length_counted : (a b : ℕ) (xs ys : List Name) → a ≡ counted (length xs) → b ≡ counted (length ys) → counted (a + b) ≡ counted (length (xs ++ ys))
-length_counted a b xs ys e f = (λ i. counted (e i + f i)) ∙ sum_counted (length xs) (length ys) (length (xs ++ ys)) (length-append xs ys)
+length_saturated : (a b : ℕ) (xs ys : List Name) → a ≡ saturated (length xs) → b ≡ saturated (length ys) → saturated (a + b) ≡ saturated (length (xs ++ ys))
+length_saturated a b xs ys e f = (λ i. saturated (e i + f i)) ∙ sum_saturated (length xs) (length ys) (length (xs ++ ys)) (length-append xs ys)
 
-max_counted : (a b : ℕ) → max (counted a) (counted b) ≡ counted (max a b)
-max_counted a b = omega arith
+max_saturated : (a b : ℕ) → max (saturated a) (saturated b) ≡ saturated (max a b)
+max_saturated a b = omega arith
 
 max_regroup : (a b c d e f : ℕ) → max (max a (max b c)) (max d (max e f)) ≡ max (max a d) (max (max b e) (max c f))
 max_regroup a b c d e f = omega arith
 
 pub Counted-added : (a b : Counts) (r s : Inner) → Counted a r → Counted b s → Counted (added a b) (joined r s)
 Counted-added a b r s h g = record {
-  parts = length_counted a.parts b.parts (r Parts) (s Parts) h.parts g.parts;
-  wires = length_counted a.wires b.wires (r Wires) (s Wires) h.wires g.wires;
-  instances = length_counted a.instances b.instances (r Instances) (s Instances) h.instances g.instances;
-  longest = (λ i. max (h.longest i) (g.longest i)) ∙ max_counted (longest_in r) (longest_in s)
-      ∙ ap counted (max_regroup (longest_of (r Parts)) (longest_of (r Wires)) (longest_of (r Instances)) (longest_of (s Parts)) (longest_of (s Wires)) (longest_of (s Instances))
+  parts = length_saturated a.parts b.parts (r Parts) (s Parts) h.parts g.parts;
+  wires = length_saturated a.wires b.wires (r Wires) (s Wires) h.wires g.wires;
+  instances = length_saturated a.instances b.instances (r Instances) (s Instances) h.instances g.instances;
+  longest = (λ i. max (h.longest i) (g.longest i)) ∙ max_saturated (longest_in r) (longest_in s)
+      ∙ ap saturated (max_regroup (longest_of (r Parts)) (longest_of (r Wires)) (longest_of (r Instances)) (longest_of (s Parts)) (longest_of (s Wires)) (longest_of (s Instances))
       ∙ (λ i. max (sym (longest-append (r Parts) (s Parts)) i) (max (sym (longest-append (r Wires) (s Wires)) i) (sym (longest-append (r Instances) (s Instances)) i))));
   some = λ which. AllSome-append (r which) (s which) (h.some which) (g.some which);
 }
@@ -81,7 +81,7 @@ Counted-part name p = record {
   some = some_of;
 }
   where
-    few : (n : ℕ) → n ≤ 64 → n ≡ counted (max (max n 0) (max 0 0))
+    few : (n : ℕ) → n ≤ 64 → n ≡ saturated (max (max n 0) (max 0 0))
     few n h = omega arith
 
     some_of : (which : Which) → AllSome (part_named name which)
@@ -101,10 +101,10 @@ lift-max n a b = elim (cases_lt 0 a) [
   ]
 ]
 
-below_counted : (n c l : ℕ) → n ≤ 64 → c ≡ counted l → below_name n c ≡ counted (max n (lift n l))
-below_counted n c l h e = elim (cases_lt 0 l) [
-  | inl p ↦ ap (λ (t : Bool). if t then n else counted (n + 1 + c)) (ne_eqb c 0 (λ z. omega arith)) ∙ (let f = lift-some n l (omega arith) in omega arith)
-  | inr z ↦ ap (λ (t : Bool). if t then n else counted (n + 1 + c)) (eq-eqb c 0 (omega arith)) ∙ (let f = lift-none n l (omega arith) in omega arith)
+below_saturated : (n c l : ℕ) → n ≤ 64 → c ≡ saturated l → below_name n c ≡ saturated (max n (lift n l))
+below_saturated n c l h e = elim (cases_lt 0 l) [
+  | inl p ↦ ap (λ (t : Bool). if t then n else saturated (n + 1 + c)) (ne_eqb c 0 (λ z. omega arith)) ∙ (let f = lift-some n l (omega arith) in omega arith)
+  | inr z ↦ ap (λ (t : Bool). if t then n else saturated (n + 1 + c)) (eq-eqb c 0 (omega arith)) ∙ (let f = lift-none n l (omega arith) in omega arith)
 ]
 
 max_four : (n a b c : ℕ) → max n (max a (max b c)) ≡ max a (max b (max n c))
@@ -112,10 +112,10 @@ max_four n a b c = omega arith
 
 Counted-instance : (name : Name) (c : Counts) (inner : Inner) → Plain name → Counted c inner → Counted (counts_of_instance name c) (instance_named name inner)
 Counted-instance name c inner p h = record {
-  parts = h.parts ∙ ap counted (sym (length-map (inner Parts) (below name)));
-  wires = h.wires ∙ ap counted (sym (length-map (inner Wires) (below name)));
+  parts = h.parts ∙ ap saturated (sym (length-map (inner Parts) (below name)));
+  wires = h.wires ∙ ap saturated (sym (length-map (inner Wires) (below name)));
   instances = (let e = length-map (inner Instances) (below name) in let f = h.instances in omega arith);
-  longest = below_counted (length name) c.longest (longest_in inner) p.few h.longest ∙ ap counted over;
+  longest = below_saturated (length name) c.longest (longest_in inner) p.few h.longest ∙ ap saturated over;
   some = some_of;
 }
   where
@@ -160,7 +160,7 @@ module _ (counts : List Counts) (inners : List Inner) (h : (j : ℕ) → Counted
       let some = AllSome-right (take block.ports block.wires) own (subst AllSome (sym (take-append-drop block.ports block.wires)) (AllSome-plain block.wires b.plain)) in
       Counted-all types above (length block.wires) block.parts (counts_of_wires own) (own_names block) b.used (Counted-wires own some)
 
-pub blocks-counted : (types : List Shape) (blocks : List Block) → are_blocks types [] blocks ≡ true
+pub blocks-saturated : (types : List Shape) (blocks : List Block) → are_blocks types [] blocks ≡ true
     → (j : ℕ) → Counted (get_or (values counts_of_block blocks) j no_counts) (get_or (values names_in blocks) j no_names)
-blocks-counted types blocks good j =
+blocks-saturated types blocks good j =
     values-both types counts_of_block names_in no_counts no_names Counted Counted-none (λ above block cs inners g h. Counted-block cs inners h types above block g) blocks good j

@@ -7,7 +7,7 @@ use Rattle.std.proofs.lemmas.List.{append_assoc, append-nil, map-append, length-
 use Rattle.std.proofs.lemmas.List.Concat.{flat_map-append}
 use Rattle.std.proofs.lemmas.Option.{slice_get_past}
 use Rattle.text_rules.specs.Names.{Name}
-use Rattle.graph_rules.specs.Graphs.{values}
+use Rattle.ranking.specs.Values.{values}
 use Rattle.device_model.specs.declared.component.Kind.{Kind}
 use Rattle.device_model.specs.declared.component.Kind.TheVariants.{Table}
 use Rattle.device_model.specs.declared.component.Component.{Component}
@@ -22,7 +22,8 @@ use Rattle.flattener.specs.Flat.{FlatPart, Content, Instance, nothing, below, on
 use Rattle.flattener.specs.Expanding.{Grows, wire_at, shown, are_joined, are_within, position_of, are_short, paths_of, prefix_of, behind}
 use Rattle.flattener.proofs.Lists.{all_at, all_parts, all_both, map_same, map-map}
 use Rattle.flattener.proofs.Naming.{map-behind}
-use Rattle.flattener.proofs.Values.{values-at, values-before, block_among}
+use Rattle.ranking.proofs.Values.{values-at, values-before}
+use Rattle.flattener.proofs.Values.{block_among}
 use Rattle.flattener.proofs.Relative.{Which, Parts, Wires, Instances, own_names, names_of, names-instance, GoodUsed, GoodUsed-from_test, GoodBlock, GoodBlock-from_test}
 
 abbrev pub no_block : Block

@@ -8,4 +8,4 @@ pub mod Growing
 pub mod Totals
 pub mod Arities
 pub mod Built
-mod Rows
+mod Examples

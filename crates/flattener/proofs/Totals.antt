@@ -5,7 +5,7 @@ use Rattle.std.specs.List.{range_with_len}
 use Rattle.std.proofs.lemmas.Bool.{ltb-false, lt-ltb, le-ltb, le-leb, cases_lt, and_from}
 use Rattle.std.proofs.lemmas.List.{append_assoc, take-append-drop, length-map, map-id, length-append, length-take-le}
 use Rattle.text_rules.specs.Names.{Name}
-use Rattle.graph_rules.specs.Graphs.{values}
+use Rattle.ranking.specs.Values.{values}
 use Rattle.device_model.specs.declared.component.Component.{Component}
 use Rattle.device_model.specs.Devices.{Device}
 use Rattle.component_lang.specs.declared.design.Block.{Block}
@@ -13,12 +13,12 @@ use Rattle.component_lang.specs.Designs.{Design, is_design, are_blocks}
 use Rattle.flattener.specs.declared.counting.Counts.{Counts}
 use Rattle.flattener.specs.declared.flattening.FlattenError.{FlattenError}
 use Rattle.flattener.specs.declared.flattening.FlattenError.TheVariants.{TooManyParts, TooManyWires, TooManyBlocks, PathTooLong}
-use Rattle.flattener.specs.Flat.{FlatPart, Content, ports_of, top_ports, top_content, flat_wires, flat_device, longest_path, counted, unless_over, flattened}
+use Rattle.flattener.specs.Flat.{FlatPart, Content, ports_of, top_ports, top_content, flat_wires, flat_device, longest_path, saturated, unless_over, flattened}
 use Rattle.flattener.specs.Counting.{no_counts, longest_of, counts_of_wires, counts_of_block, counts_of_design, refusal}
 use Rattle.flattener.specs.Expanding.{Grows, IsFlat, shown, wire_at, are_within, are_short, paths_of, instance_at, ports_at}
 use Rattle.flattener.proofs.Naming.{AllSome, AllSome-left, AllSome-plain, longest-append}
 use Rattle.flattener.proofs.Relative.{Which, Parts, Wires, Instances, names_of, Inner, no_names, wires_only, names_in, GoodBlock, instances-show}
-use Rattle.flattener.proofs.Counted.{Counted, longest_in, joined, Counted-wires, Counted-added, blocks-counted}
+use Rattle.flattener.proofs.Counted.{Counted, longest_in, joined, Counted-wires, Counted-added, blocks-saturated}
 use Rattle.flattener.proofs.Growing.{no_block, good_block, good_blocks, top_within, ports_there, got, short_all}
 
 -- ---- places from 0 on
@@ -71,22 +71,22 @@ abbrev pub answered : Device → Option FlattenError → Result Device FlattenEr
 answered device None = Ok device
 answered device (Some error) = Err error
 
-counted_over : (limit n : ℕ) → limit ≤ 16384 → nat_lt limit (counted n) ≡ nat_lt limit n
-counted_over limit n h = elim (cases_lt limit n) [
-  | inl l ↦ lt-ltb limit (counted n) (omega arith) ∙ sym (lt-ltb limit n l)
-  | inr l ↦ le-ltb limit (counted n) (omega arith) ∙ sym (le-ltb limit n l)
+saturated_over : (limit n : ℕ) → limit ≤ 16384 → nat_lt limit (saturated n) ≡ nat_lt limit n
+saturated_over limit n h = elim (cases_lt limit n) [
+  | inl l ↦ lt-ltb limit (saturated n) (omega arith) ∙ sym (lt-ltb limit n l)
+  | inr l ↦ le-ltb limit (saturated n) (omega arith) ∙ sym (le-ltb limit n l)
 ]
 
-one_limit : (device : Device) (limit n m : ℕ) (error : ℕ → FlattenError) (otherwise : Result Device FlattenError) (rest : Option FlattenError) → limit ≤ 16384 → m ≡ counted n
+one_limit : (device : Device) (limit n m : ℕ) (error : ℕ → FlattenError) (otherwise : Result Device FlattenError) (rest : Option FlattenError) → limit ≤ 16384 → m ≡ saturated n
     → otherwise ≡ answered device rest → unless_over limit n error otherwise ≡ answered device (if nat_lt limit m then Some (error m) else rest)
 one_limit device limit n m error otherwise rest h e g =
-    by (nat_lt limit n) ∙ ap (λ (b : Bool). answered device (if b then Some (error m) else rest)) (sym (ap (nat_lt limit) e ∙ counted_over limit n h))
+    by (nat_lt limit n) ∙ ap (λ (b : Bool). answered device (if b then Some (error m) else rest)) (sym (ap (nat_lt limit) e ∙ saturated_over limit n h))
   where
-    by : (b : Bool) → cond b (Err (error (counted n))) otherwise ≡ answered device (cond b (Some (error m)) rest)
+    by : (b : Bool) → cond b (Err (error (saturated n))) otherwise ≡ answered device (cond b (Some (error m)) rest)
     by true = ap (λ (k : ℕ). Err (error k)) (sym e)
     by false = g
 
-pub limits : (device : Device) (counts : Counts) (parts wires instances longest : ℕ) → counts.parts ≡ counted parts → counts.wires ≡ counted wires → counts.instances ≡ counted instances → counts.longest ≡ counted longest
+pub limits : (device : Device) (counts : Counts) (parts wires instances longest : ℕ) → counts.parts ≡ saturated parts → counts.wires ≡ saturated wires → counts.instances ≡ saturated instances → counts.longest ≡ saturated longest
     → unless_over 4096 parts TooManyParts (unless_over 16384 wires TooManyWires (unless_over 4096 instances TooManyBlocks (unless_over 255 longest PathTooLong (Ok device))))
     ≡ answered device (refusal counts)
 limits device counts parts wires instances longest a b c d =
@@ -125,12 +125,12 @@ module _ (design : Design) (valid : is_design design ≡ true) where
   abbrev all : Inner
   all = joined (wires_only (top_ports design)) inner
 
-  top-counted : Counted (counts_of_design design) all
+  top-saturated : Counted (counts_of_design design) all
   top-counted =
       let block = get_or design.blocks design.top no_block in
       let some = AllSome-left (take block.ports block.wires) (drop block.ports block.wires) (subst AllSome (sym (take-append-drop block.ports block.wires)) (AllSome-plain block.wires top_good.plain)) in
       Counted-added (counts_of_wires (top_ports design)) (get_or (values counts_of_block design.blocks) design.top no_counts) (wires_only (top_ports design)) inner
-      (Counted-wires (top_ports design) (subst AllSome (sym top_ports-are) some)) (blocks-counted design.types design.blocks good design.top)
+      (Counted-wires (top_ports design) (subst AllSome (sym top_ports-are) some)) (blocks-saturated design.types design.blocks good design.top)
 
   pub many_parts : length (top_content design).parts ≡ length (inner Parts)
   many_parts = sym (length-map (top_content design).parts (λ (p : FlatPart). p.path)) ∙ ap length (top-shows Parts)
@@ -148,8 +148,8 @@ module _ (design : Design) (valid : is_design design ≡ true) where
   pub flattened-by_counts : flattened design ≡ answered (flat_device design) (refusal (counts_of_design design))
   flattened-by_counts =
       limits (flat_device design) (counts_of_design design) (length (top_content design).parts) (length (flat_wires design)) (length (top_content design).instances) (longest_path design)
-      (top-counted.parts ∙ ap counted (sym many_parts)) (top-counted.wires ∙ ap counted (sym (ap length wires_are)))
-      (top-counted.instances ∙ ap counted (sym (ap length (top-shows Instances)))) (top-counted.longest ∙ ap counted (sym longest_is))
+      (top-counted.parts ∙ ap saturated (sym many_parts)) (top-counted.wires ∙ ap saturated (sym (ap length wires_are)))
+      (top-counted.instances ∙ ap saturated (sym (ap length (top-shows Instances)))) (top-counted.longest ∙ ap saturated (sym longest_is))
 
   module _ (passed : refusal (counts_of_design design) ≡ None) where
     allowed : Allowed (counts_of_design design)

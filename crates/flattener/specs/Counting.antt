@@ -2,7 +2,7 @@
 -- number of 64 bits.
 use Rattle.std.specs.Prelude.{ℕ, ◌+◌, max, List, map, length, drop, Option, Some, None, fold, nat_lt, nat_eq, slice_index_or, if◌then◌else◌}
 use Rattle.text_rules.specs.Names.{Name}
-use Rattle.graph_rules.specs.Graphs.{values}
+use Rattle.ranking.specs.Values.{values}
 use Rattle.component_lang.specs.declared.design.UsedKind.{UsedKind}
 use Rattle.component_lang.specs.declared.design.UsedKind.TheVariants.{Gate, Shape as OfShape, Block as OfBlock}
 use Rattle.component_lang.specs.declared.design.Used.{Used}
@@ -11,7 +11,7 @@ use Rattle.component_lang.specs.Designs.{Design}
 use Rattle.flattener.specs.declared.counting.Counts.{Counts}
 use Rattle.flattener.specs.declared.flattening.FlattenError.{FlattenError}
 use Rattle.flattener.specs.declared.flattening.FlattenError.TheVariants.{TooManyParts, TooManyWires, TooManyBlocks, PathTooLong}
-use Rattle.flattener.specs.Flat.{counted, greatest, top_ports}
+use Rattle.flattener.specs.Flat.{saturated, greatest, top_ports}
 
 abbrev pub no_counts : Counts
 no_counts = record { parts = 0; wires = 0; instances = 0; longest = 0 }
@@ -22,13 +22,13 @@ longest_of names = greatest (map (λ (name : Name). length name) names)
 
 -- the counts of wires alone
 abbrev pub counts_of_wires : List Name → Counts
-counts_of_wires wires = record { parts = 0; wires = counted (length wires); instances = 0; longest = counted (longest_of wires) }
+counts_of_wires wires = record { parts = 0; wires = saturated (length wires); instances = 0; longest = saturated (longest_of wires) }
 
 abbrev pub added : Counts → Counts → Counts
 added a b = record {
-  parts = counted (a.parts + b.parts);
-  wires = counted (a.wires + b.wires);
-  instances = counted (a.instances + b.instances);
+  parts = saturated (a.parts + b.parts);
+  wires = saturated (a.wires + b.wires);
+  instances = saturated (a.instances + b.instances);
   longest = max a.longest b.longest;
 }
 
@@ -37,13 +37,13 @@ counts_of_part name = record { parts = 1; wires = 0; instances = 0; longest = le
 
 -- the longest path below a name of so many bytes, where the longest below has so many, or has none
 abbrev pub below_name : ℕ → ℕ → ℕ
-below_name name longest = if nat_eq longest 0 then name else counted (name + 1 + longest)
+below_name name longest = if nat_eq longest 0 then name else saturated (name + 1 + longest)
 
 abbrev pub counts_of_instance : Name → Counts → Counts
 counts_of_instance name inner = record {
   parts = inner.parts;
   wires = inner.wires;
-  instances = counted (inner.instances + 1);
+  instances = saturated (inner.instances + 1);
   longest = below_name (length name) inner.longest;
 }
 

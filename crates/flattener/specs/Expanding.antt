@@ -2,7 +2,7 @@
 use Rattle.std.specs.Prelude.{◌≡◌, ℕ, ◌+◌, ◌-◌, Bool, true, List, [], ◌∷◌, ◌++◌, map, length, nat_lt, nat_le, slice_index, slice_index_or, if◌then◌else◌}
 use Rattle.std.specs.List.{list_all}
 use Rattle.text_rules.specs.Names.{Name}
-use Rattle.graph_rules.specs.Graphs.{values}
+use Rattle.ranking.specs.Values.{values}
 use Rattle.device_model.specs.declared.component.Component.{Component}
 use Rattle.device_model.specs.Devices.{has_wires}
 use Rattle.component_lang.specs.declared.design.Block.{Block}

@@ -2,7 +2,7 @@
 use Rattle.std.specs.Prelude.{ℕ, ◌-◌, ◌^◌, min, max, List, [], ◌∷◌, ◌++◌, map, length, take, drop, Option, Some, None, Result, Ok, Err, nat_lt, slice_get, slice_index_or, if◌then◌else◌}
 use Rattle.std.specs.List.{flat_map}
 use Rattle.text_rules.specs.Names.{Name}
-use Rattle.graph_rules.specs.Graphs.{values}
+use Rattle.ranking.specs.Values.{values}
 use Rattle.device_model.specs.declared.component.Kind.{Kind}
 use Rattle.device_model.specs.declared.component.Kind.TheVariants.{Table}
 use Rattle.device_model.specs.declared.component.Component.{Component}
@@ -102,11 +102,11 @@ longest_path design = greatest (map (λ (path : Name). length path)
     (map (λ (p : FlatPart). p.path) (top_content design).parts ++ (flat_wires design ++ (top_content design).instances)))
 
 -- a count stops at the greatest number of 64 bits
-abbrev pub counted : ℕ → ℕ
-counted n = min n (2 ^ 64 - 1)
+abbrev pub saturated : ℕ → ℕ
+saturated n = min n (2 ^ 64 - 1)
 
 abbrev pub unless_over : ℕ → ℕ → (ℕ → FlattenError) → Result Device FlattenError → Result Device FlattenError
-unless_over limit count error otherwise = if nat_lt limit count then Err (error (counted count)) else otherwise
+unless_over limit count error otherwise = if nat_lt limit count then Err (error (saturated count)) else otherwise
 
 -- The device of a design, or the first of these counts that is above its limit.
 abbrev pub flattened : Design → Result Device FlattenError

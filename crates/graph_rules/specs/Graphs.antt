@@ -2,6 +2,8 @@
 use Rattle.std.specs.Prelude.{◌≡◌, ℕ, ◌-◌, Bool, true, false, not, List, [], ◌∷◌, ◌++◌, map, length, ◌==◌}
 use Rattle.std.specs.List.{list_all, list_any, AllByRecursion}
 use Rattle.ranking.specs.Bits.{bit_in, same_bit}
+use Rattle.ranking.specs.Assignments.{Assignment, assignment}
+use Rattle.ranking.specs.Values.{values}
 use Rattle.graph_rules.specs.declared.NodeKind.{NodeKind}
 use Rattle.graph_rules.specs.declared.NodeKind.TheVariants.{Literal, And, Or}
 
@@ -19,18 +21,6 @@ pub record Node : Type 0 where
 pub record Graph : Type 0 where
   pub nodes : List Node
   pub vars : ℕ
-
--- a value for each node, from the values of the nodes before it
-abbrev pub values_after : {N A : Type 0} → (N → List A → A) → List A → List N → List A
-values_after value earlier [] = earlier
-values_after value earlier (node ∷ nodes) = values_after value (earlier ++ value node earlier ∷ []) nodes
-
-abbrev pub values : {N A : Type 0} → (N → List A → A) → List N → List A
-values value nodes = values_after value [] nodes
-
--- an assignment gives each variable a bit
-abbrev pub Assignment : Type 0
-Assignment = ℕ → Bool
 
 -- a literal by the assignment, an and when all its kids are true, an or when one is
 abbrev pub truth_by : Assignment → NodeKind → List Bool → Bool
@@ -65,10 +55,6 @@ apart_at mentioned Or kids = true
 abbrev pub Decomposable : List Node → Type 0
 Decomposable nodes =
     (v : ℕ) → AllByRecursion (λ node. apart_at (mentions nodes v) node.what node.kids ≡ true) nodes
-
--- variable 1 has the first bit
-abbrev pub assignment : List Bool → Assignment
-assignment bits v = bit_in bits (v - 1)
 
 -- the last node under bits for the variables
 abbrev pub holds : Graph → List Bool → Bool

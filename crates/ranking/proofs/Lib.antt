@@ -1,2 +1,3 @@
 pub mod Drops
-mod Rows
+mod Examples
+pub mod Values

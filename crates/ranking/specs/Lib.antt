@@ -1,3 +1,5 @@
 pub mod Bits
 pub mod Cases
 pub mod Ranking
+pub mod Assignments
+pub mod Values

@@ -1,4 +1,4 @@
 pub mod LineLemmas
 pub mod AskedLemmas
 mod WordLemmas
-mod Rows
+mod Examples

@@ -3,4 +3,4 @@ pub mod Lines
 pub mod Feeding
 pub mod Texts
 pub mod Answering
-mod Rows
+mod Examples

@@ -3,4 +3,4 @@ pub mod LineLemmas
 pub mod TokenLemmas
 pub mod NameLemmas
 mod NumberLemmas
-mod Rows
+mod Examples

@@ -6,7 +6,7 @@ mod numbers;
 mod text_lines;
 mod tokens;
 
-pub use names::{is_mark, is_name, is_name_byte};
+pub use names::{SHORT_NAME_LIMIT, is_mark, is_name, is_short_name};
 pub use numbers::plain_number;
 pub use text_lines::{Lines, uncommented};
 pub use tokens::{Tokens, is_blank};

@@ -2,11 +2,11 @@ use Rattle.std.proofs.Common.{◌≡◌, ◌-◌, ◌^◌, ◌++◌, ◌∷◌, 
 use Rattle.std.specs.List.{range_with_len, filter}
 use Rattle.device_model.specs.Devices.{is_set}
 use Rattle.clause_encoder.specs.Clauses.{literal}
-use Rattle.clause_encoder.specs.Encoding.{tidy, row_bits, unlike, table_side}
+use Rattle.clause_encoder.specs.Encoding.{tidy, row_bits, blocking_literals, blocked_rows}
 use Rattle.clause_encoder.proofs.gates.push_side.Given as goal
 
 -- what was written and what the rows that are left give
 abbrev pub invariant-loop-row : goal.invariant-loop-row
 invariant-loop-row l =
-    l.writer ++ tidy (map (λ r. literal (not l.ok) l.health ∷ unlike l.ports (row_bits r l.ports)) (filter (λ r. not (is_set l.allowed r)) (range_with_len l.row (2 ^ length l.ports - l.row))))
-    ≡ l.fn.writer ++ tidy (table_side l.ok l.allowed l.health l.ports)
+    l.writer ++ tidy (map (λ r. literal (not l.ok) l.health ∷ blocking_literals l.ports (row_bits r l.ports)) (filter (λ r. not (is_set l.allowed r)) (range_with_len l.row (2 ^ length l.ports - l.row))))
+    ≡ l.fn.writer ++ tidy (blocked_rows l.ok l.allowed l.health l.ports)

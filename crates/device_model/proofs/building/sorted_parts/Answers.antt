@@ -11,7 +11,7 @@ use Rattle.device_model.specs.declared.component.Component.{Component}
 use Rattle.device_model.specs.Devices.{part_names}
 use Rattle.device_model.specs.Sorting.{NeighboursDiffer, IsFirstRepeat, IsTwice}
 use Rattle.device_model.proofs.Sorting.{Ascends, Ascends-from_sort, Ascends-map, Rises-unmap}
-use Rattle.device_model.proofs.Steps.{Rises-sorted, repeated-sorted, IsTwice-sorted, in_order-sorted}
+use Rattle.device_model.proofs.Steps.{Rises-sorted, repeated-sorted, IsTwice-sorted, sorted_distinct-sorted}
 use Rattle.device_model.proofs.building.sorted_parts.Goals as goal
 
 abbrev name_of : Component → Name
@@ -34,7 +34,7 @@ returns-clause-sorted c =
     let up : Ascends name_of ys = Ascends-from_sort name_of ys (c.in_ok-sort_by.ensures.sorted (λ p q. is_lt (slice_cmp nat_cmp p.name q.name)) (ranks_by nat_list_cmp_total name_of) (answers_always _ _ _ (λ f a r g h. search rules))) in
     let moved : IsPermutation (part_names c.args.parts.items) (part_names ys) = IsPermutation-map name_of c.args.parts.items ys c.in_ok-sort_by.ensures.permutation in
     let differ : NeighboursDiffer (part_names ys) (length (part_names ys)) = subst (λ xs. NeighboursDiffer (part_names xs) (length (part_names xs))) c.deref.ensures.value c.in_default.ensures in
-    in_order-sorted name_of c.args.parts.items ys c.in_ok-sort_by.ensures.permutation
+    sorted_distinct-sorted name_of c.args.parts.items ys c.in_ok-sort_by.ensures.permutation
     (Rises-unmap name_of ys (Rises-sorted (part_names c.args.parts.items) (part_names ys) moved (Ascends-map name_of ys up) differ))
 
 pub returns-clause-distinct : goal.returns-clause-distinct

@@ -9,7 +9,7 @@ use Rattle.text_rules.specs.Names.{Name}
 use Rattle.device_model.specs.declared.building.BuildError.TheVariants.{TwoWires}
 use Rattle.device_model.specs.Sorting.{numbered_from, NeighboursDiffer, IsFirstRepeat, IsTwice}
 use Rattle.device_model.proofs.Sorting.{itself, Ascends, Ascends-from_sort, Ascends-map}
-use Rattle.device_model.proofs.Steps.{Rises-sorted, repeated-sorted, IsTwice-sorted, in_order-sorted, map-numbered_from}
+use Rattle.device_model.proofs.Steps.{Rises-sorted, repeated-sorted, IsTwice-sorted, sorted_distinct-sorted, map-numbered_from}
 use Rattle.device_model.proofs.building.sorted_wires.Goals as goal
 
 abbrev name_of : Name × ℕ → Name
@@ -39,7 +39,7 @@ returns-clause-sorted c =
     let up : Ascends name_of ys = Ascends-from_sort name_of ys (c.in_ok-sort_by.ensures.sorted (λ v w. is_lt (slice_cmp nat_cmp v.0 w.0)) (ranks_by nat_list_cmp_total name_of) (answers_always _ _ _ (λ f a r g h. search rules))) in
     let moved = moved_names c.args.wires.items c.in_ok-wires.wires.items ys c.in_ok-wires.ensures c.in_ok-sort_by.ensures.permutation in
     let differ : NeighboursDiffer (names_of ys) (length (names_of ys)) = subst (λ xs. NeighboursDiffer (names_of xs) (length (names_of xs))) c.deref.ensures.value c.in_default.ensures in
-    in_order-sorted itself c.args.wires.items (names_of ys) moved (Rises-sorted c.args.wires.items (names_of ys) moved (Ascends-map name_of ys up) differ)
+    sorted_distinct-sorted itself c.args.wires.items (names_of ys) moved (Rises-sorted c.args.wires.items (names_of ys) moved (Ascends-map name_of ys up) differ)
 
 pub returns-clause-distinct : goal.returns-clause-distinct
 returns-clause-distinct c =

@@ -1,5 +1,5 @@
 use Rattle.std.proofs.Common.{◌≡◌, drop}
-use Rattle.graph_rules.specs.Graphs.{values_after, values}
+use Rattle.ranking.specs.Values.{values_after, values}
 use Rattle.flattener.specs.Counting.{counts_of_block}
 use Rattle.flattener.proofs.counting.counts_of.Given as goal
 

@@ -3,7 +3,7 @@ use Rattle.std.proofs.Common.{◌≡◌, ◌<◌, length, map, Some, None, Ok, s
 use Rattle.std.specs.List.{All}
 use Rattle.std.specs.List.Sorted.{IsPermutation}
 use Rattle.std.proofs.lemmas.List.{length-map}
-use Rattle.device_model.specs.Order.{in_order}
+use Rattle.device_model.specs.Order.{sorted_distinct}
 use Rattle.device_model.specs.Devices.{Device, IsDevice}
 use Rattle.device_model.specs.Sorting.{numbered_from, with_places}
 use Rattle.device_model.proofs.Making.{IsDevice-device_of, component_name}
@@ -45,7 +45,7 @@ places_of-requires-clause-distinct c =
 pub renumber_all-requires : goal.renumber_all-requires
 renumber_all-requires c =
     let joined = all_joined _ c.args.wires.items _ c.args.parts.items (omega arith) c.deref-3.ensures.value c.in_default-joined.ensures.first in
-    let sorted : c.deref_mut.result.now ≡ in_order component_name c.args.parts.items = c.deref_mut.ensures.value ∙ c.in_ok-parts.ensures.sorted in
+    let sorted : c.deref_mut.result.now ≡ sorted_distinct component_name c.args.parts.items = c.deref_mut.ensures.value ∙ c.in_ok-parts.ensures.sorted in
     let same_length = length-wires c.args.wires.items c.in_ok-wires.wires.items c.in_ok-wires.ensures.same c.in_ok-wires.ensures.sorted in
     let many : length c.deref-5.result.now ≡ length c.args.wires.items =
     ap length c.deref-5.ensures.value ∙ c.in_ok-places.ensures.len ∙ ap length c.deref-4.ensures.value ∙ same_length in
@@ -57,7 +57,7 @@ of_sorted-requires c =
     let joined = all_joined _ c.args.wires.items _ c.args.parts.items (omega arith) c.deref-3.ensures.value c.in_default-joined.ensures.first in
     let arities = all_arities _ c.args.tables.items _ c.args.parts.items c.deref.ensures.value c.deref-2.ensures.value c.in_default.ensures.first in
     let many = ap length c.renumber_all.ensures ∙ length-map c.deref_mut.result.now (with_places c.deref-5.result.now) in
-    let sorted : c.deref_mut.result.now ≡ in_order component_name c.args.parts.items = c.deref_mut.ensures.value ∙ c.in_ok-parts.ensures.sorted in
+    let sorted : c.deref_mut.result.now ≡ sorted_distinct component_name c.args.parts.items = c.deref_mut.ensures.value ∙ c.in_ok-parts.ensures.sorted in
     subst IsDevice (sym (assembled c.args.parts.items c.args.wires.items c.args.tables.items _ c.in_ok-wires-2.wires.items c.deref-4.result.now c.in_ok-places.places.items
     (subst (IsPermutation (numbered_from 0 c.args.wires.items)) (sym c.deref-4.ensures.value) c.in_ok-wires.ensures.same)
     (ap (map wire_name) c.deref-4.ensures.value ∙ c.in_ok-wires.ensures.sorted)
@@ -70,7 +70,7 @@ pub returns-clause-built : goal.returns-clause-built
 returns-clause-built c =
     let joined = all_joined _ c.args.wires.items _ c.args.parts.items (omega arith) c.deref-3.ensures.value c.in_default-joined.ensures.first in
     let many = ap length c.renumber_all.ensures ∙ length-map c.deref_mut.result.now (with_places c.deref-5.result.now) in
-    let sorted : c.deref_mut.result.now ≡ in_order component_name c.args.parts.items = c.deref_mut.ensures.value ∙ c.in_ok-parts.ensures.sorted in
+    let sorted : c.deref_mut.result.now ≡ sorted_distinct component_name c.args.parts.items = c.deref_mut.ensures.value ∙ c.in_ok-parts.ensures.sorted in
     let made = assembled c.args.parts.items c.args.wires.items c.args.tables.items _ c.in_ok-wires-2.wires.items c.deref-4.result.now c.in_ok-places.places.items
     (subst (IsPermutation (numbered_from 0 c.args.wires.items)) (sym c.deref-4.ensures.value) c.in_ok-wires.ensures.same)
     (ap (map wire_name) c.deref-4.ensures.value ∙ c.in_ok-wires.ensures.sorted)

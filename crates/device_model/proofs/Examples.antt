@@ -7,7 +7,7 @@ use Rattle.device_model.specs.declared.component.Component.{Component}
 use Rattle.device_model.specs.declared.component.Kind.{Kind}
 use Rattle.device_model.specs.declared.component.Kind.TheVariants.{Nand, Xor, Xnor, Buff, Table}
 use Rattle.device_model.specs.declared.building.BuildError.TheVariants.{TooMany, TwoParts, TwoWires, Arity, NoWire}
-use Rattle.device_model.specs.Rows.{Rows}
+use Rattle.device_model.specs.TruthTable.{TruthTable}
 use Rattle.device_model.specs.Devices.{Device, gate_value, allows, takes}
 use Rattle.device_model.specs.Diagnosis.{device_least, device_diagnoses}
 use Rattle.device_model.specs.Building.{built}
@@ -85,7 +85,7 @@ xor_takes_no_nine : takes Xor 9 ≡ false
 xor_takes_no_nine = refl
 
 -- ok allows 00 and 11, bad allows 00 and 10
-abbrev tables : List Rows
+abbrev tables : List TruthTable
 tables = record { ports = 2; ok = 9; bad = 3 } ∷ []
 
 abbrev table_rows : Bool → List Bool

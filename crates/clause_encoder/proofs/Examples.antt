@@ -3,7 +3,7 @@ use Rattle.std.proofs.Common.{◌≡◌, ℕ, List, [], ◌∷◌, ◌++◌, ℤ
 use Rattle.std.specs.Prelude.{codes}
 use Rattle.device_model.specs.declared.component.Kind.{Kind}
 use Rattle.device_model.specs.declared.component.Kind.TheVariants.{And, Or, Nand, Xor, Not, Table}
-use Rattle.device_model.specs.Rows.{Rows}
+use Rattle.device_model.specs.TruthTable.{TruthTable}
 use Rattle.device_model.specs.Devices.{Device}
 use Rattle.clause_encoder.specs.Clauses.{ClauseList}
 use Rattle.clause_encoder.specs.Encoding.{clause_list, encoded, raw_count, tidy}
@@ -16,7 +16,7 @@ abbrev n : ℕ → ℤ
 n v = neg_ℤ (pos v)
 
 -- a device of one part y, over these wires
-abbrev one_part : Kind → List ℕ → List (List ℕ) → List Rows → Device
+abbrev one_part : Kind → List ℕ → List (List ℕ) → List TruthTable → Device
 one_part kind ports wires tables = record { parts = record { name = codes "y"; kind = kind; ports = ports } ∷ []; wires = wires; tables = tables }
 
 -- y is a gate of the wire a
@@ -64,8 +64,8 @@ table_count : raw_count tabled ≡ 5
 table_count = refl
 
 -- by variable, a literal once
-in_order : tidy ((n 4 ∷ p 2 ∷ n 4 ∷ p 3 ∷ []) ∷ []) ≡ (p 2 ∷ p 3 ∷ n 4 ∷ []) ∷ []
-in_order = refl
+sorted_distinct : tidy ((n 4 ∷ p 2 ∷ n 4 ∷ p 3 ∷ []) ∷ []) ≡ (p 2 ∷ p 3 ∷ n 4 ∷ []) ∷ []
+sorted_distinct = refl
 
 always_true : tidy ((p 2 ∷ n 3 ∷ n 2 ∷ []) ∷ []) ≡ []
 always_true = refl

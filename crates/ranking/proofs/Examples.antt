@@ -18,8 +18,8 @@ second = true ∷ false ∷ []
 abbrev none : List Bool
 none = true ∷ true ∷ []
 
-in_order : states 2 ≡ both ∷ first ∷ second ∷ none ∷ []
-in_order = refl
+sorted_distinct : states 2 ≡ both ∷ first ∷ second ∷ none ∷ []
+sorted_distinct = refl
 
 no_part : states 0 ≡ [] ∷ []
 no_part = refl

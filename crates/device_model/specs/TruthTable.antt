@@ -2,7 +2,7 @@
 use Rattle.std.specs.Prelude.{ℕ, ◌-◌, ◌^◌, Bool, ◌&&◌, Option, Some, None, nat_le, nat_lt, if◌then◌else◌}
 
 -- The numbers of the rows that a part allows are the bits that are set: where it is ok, and where it is faulty.
-pub record Rows : Type 0 where
+pub record TruthTable : Type 0 where
   pub ports : ℕ
   pub ok : ℕ
   pub bad : ℕ
@@ -15,5 +15,5 @@ abbrev pub set_of_all : ℕ → Option ℕ
 set_of_all ports = if has_few_ports ports then Some (2 ^ (2 ^ ports) - 1) else None
 
 -- 1 to 6 ports, and no row but those of so many ports
-abbrev pub is_table : Rows → Bool
+abbrev pub is_table : TruthTable → Bool
 is_table rows = has_few_ports rows.ports && (nat_lt rows.ok (2 ^ (2 ^ rows.ports)) && nat_lt rows.bad (2 ^ (2 ^ rows.ports)))

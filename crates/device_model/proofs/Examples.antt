@@ -9,7 +9,8 @@ use Rattle.device_model.specs.declared.component.Kind.TheVariants.{Nand, Xor, Xn
 use Rattle.device_model.specs.declared.building.BuildError.TheVariants.{TooMany, TwoParts, TwoWires, Arity, NoWire}
 use Rattle.device_model.specs.TruthTable.{TruthTable}
 use Rattle.device_model.specs.Devices.{Device, gate_value, allows, takes}
-use Rattle.device_model.specs.Diagnosis.{device_least, device_diagnoses}
+use Rattle.ranking.specs.Systems.{least_cost, all_diagnoses}
+use Rattle.device_model.specs.Diagnosis.{device_system}
 use Rattle.device_model.specs.Building.{built}
 
 abbrev gate : List ℕ → Kind → List ℕ → Component
@@ -28,10 +29,10 @@ buffers = record {
 abbrev buffers_case : Case
 buffers_case = record { seen = Some false ∷ None ∷ Some true ∷ []; held = None ∷ None ∷ [] }
 
-buffers_least : device_least buffers buffers_case ≡ Some 1
+buffers_least : least_cost (device_system buffers) buffers_case ≡ Some 1
 buffers_least = refl
 
-buffers_diagnoses : device_diagnoses buffers buffers_case ≡ (false ∷ true ∷ []) ∷ (true ∷ false ∷ []) ∷ []
+buffers_diagnoses : all_diagnoses (device_system buffers) buffers_case ≡ (false ∷ true ∷ []) ∷ (true ∷ false ∷ []) ∷ []
 buffers_diagnoses = refl
 
 -- ---- the benchmark C17, its wires in byte order
@@ -58,16 +59,16 @@ zeros_with out22 out23 = record {
   held = None ∷ None ∷ None ∷ None ∷ None ∷ None ∷ [];
 }
 
-c17_one_output_least : device_least c17 (zeros_with true false) ≡ Some 1
+c17_one_output_least : least_cost (device_system c17) (zeros_with true false) ≡ Some 1
 c17_one_output_least = refl
 
 -- 10, or 22
-c17_one_output : device_diagnoses c17 (zeros_with true false)
+c17_one_output : all_diagnoses (device_system c17) (zeros_with true false)
     ≡ (false ∷ true ∷ true ∷ true ∷ true ∷ true ∷ []) ∷ (true ∷ true ∷ true ∷ true ∷ false ∷ true ∷ []) ∷ []
 c17_one_output = refl
 
 -- 16
-c17_both_outputs : device_diagnoses c17 (zeros_with true true) ≡ (true ∷ true ∷ false ∷ true ∷ true ∷ true ∷ []) ∷ []
+c17_both_outputs : all_diagnoses (device_system c17) (zeros_with true true) ≡ (true ∷ true ∷ false ∷ true ∷ true ∷ true ∷ []) ∷ []
 c17_both_outputs = refl
 
 -- ---- gates and tables

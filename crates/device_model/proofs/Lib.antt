@@ -9,3 +9,4 @@ pub mod Making
 mod Placing
 pub mod Answering
 mod Examples
+pub mod Joining

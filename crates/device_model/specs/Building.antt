@@ -2,9 +2,11 @@
 use Rattle.std.specs.Prelude.{ℕ, not, List, [], ◌∷◌, map, length, Option, Some, None, Result, Ok, Err, slice_index_or, nat_lt, position, if◌then◌else◌}
 use Rattle.std.specs.List.{position_or_len}
 use Rattle.text_rules.specs.Names.{Name, same_name, is_among}
+use Rattle.device_model.specs.declared.component.Kind.{Kind}
 use Rattle.device_model.specs.declared.component.Component.{Component}
 use Rattle.device_model.specs.declared.building.BuildError.{BuildError}
-use Rattle.device_model.specs.declared.building.BuildError.TheVariants.{TooMany, TwoParts, TwoWires, Arity, NoWire}
+use Rattle.device_model.specs.declared.building.BuildError.TheVariants.{TooMany, TwoParts, TwoWires, Arity, NoWire, Memory}
+use Rattle.device_model.specs.declared.limits.TheConstants.{PART_LIMIT, WIRE_LIMIT}
 use Rattle.device_model.specs.TruthTable.{TruthTable}
 use Rattle.device_model.specs.Order.{sorted_distinct}
 use Rattle.device_model.specs.Devices.{Device, part_names, has_arity, has_wires}
@@ -25,10 +27,31 @@ device_of parts wires tables = record {
   tables = tables;
 }
 
+-- a part with the names of the wires at its ports
+pub record NamedPart : Type 0 where
+  pub name : Name
+  pub kind : Kind
+  pub wires : List Name
+
+-- its ports are the places of these wires
+abbrev pub joined : List Name → NamedPart → Component
+joined wires part = record { name = part.name; kind = part.kind; ports = map (place_in wires) part.wires }
+
+-- the device of parts over named wires
+abbrev pub device_over : List NamedPart → List Name → List TruthTable → Device
+device_over parts wires tables =
+    let sorted = sorted_distinct (λ n. n) wires in
+    record { parts = sorted_distinct (λ (part : Component). part.name) (map (joined sorted) parts); wires = sorted; tables = tables }
+
 -- the names that stand again behind themselves
 abbrev pub repeated : List Name → List Name
 repeated [] = []
 repeated (name ∷ names) = if is_among names name then name ∷ repeated names else repeated names
+
+-- an error is a reason, but for want of memory
+abbrev pub reason : BuildError → Option BuildError
+reason Memory = None
+reason error = Some error
 
 -- the first of some reasons, or the device
 abbrev pub unless_name : (Name → BuildError) → List Name → Result Device BuildError → Result Device BuildError
@@ -43,8 +66,8 @@ unless_place error (Some place) otherwise = Err (error place)
 -- wires, the first part whose number of ports its kind does not take, the first with a port at no wire.
 abbrev pub built : List Component → List Name → List TruthTable → Result Device BuildError
 built parts wires tables =
-    if nat_lt 4096 (length parts) then Err (TooMany (length parts))
-    else if nat_lt 16384 (length wires) then Err (TooMany (length wires))
+    if nat_lt PART_LIMIT (length parts) then Err (TooMany (length parts))
+    else if nat_lt WIRE_LIMIT (length wires) then Err (TooMany (length wires))
     else unless_name TwoParts (sorted_distinct (λ n. n) (repeated (part_names parts)))
     (unless_name TwoWires (sorted_distinct (λ n. n) (repeated wires))
     (unless_place Arity (position (λ part. not (has_arity tables part)) parts)

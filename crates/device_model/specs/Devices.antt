@@ -8,6 +8,7 @@ use Rattle.ranking.specs.Ranking.{plain_costs}
 use Rattle.device_model.specs.declared.component.Kind.{Kind}
 use Rattle.device_model.specs.declared.component.Kind.TheVariants.{And, Or, Nand, Nor, Xor, Xnor, Not, Buff, Table}
 use Rattle.device_model.specs.declared.component.Component.{Component}
+use Rattle.device_model.specs.declared.limits.TheConstants.{PART_LIMIT, WIRE_LIMIT}
 use Rattle.device_model.specs.TruthTable.{TruthTable}
 
 -- Parts and wires are each in the order of their names. A port of a part is the place of a wire.
@@ -23,17 +24,18 @@ part_names parts = map (λ (part : Component). part.name) parts
 abbrev pub place_of : Name → List Name → Option ℕ
 place_of name names = position (same_name name) names
 
+-- the most inputs of a gate; a table has ports and no inputs
+abbrev pub most_inputs : Kind → ℕ
+most_inputs Not = 1
+most_inputs Buff = 1
+most_inputs Xor = 8
+most_inputs Xnor = 8
+most_inputs (Table t) = 0
+most_inputs gate = 16
+
 -- whether a gate takes so many inputs
 abbrev pub takes : Kind → ℕ → Bool
-takes Not inputs = inputs == 1
-takes Buff inputs = inputs == 1
-takes Xor inputs = nat_le 1 inputs && nat_le inputs 8
-takes Xnor inputs = nat_le 1 inputs && nat_le inputs 8
-takes And inputs = nat_le 1 inputs && nat_le inputs 16
-takes Or inputs = nat_le 1 inputs && nat_le inputs 16
-takes Nand inputs = nat_le 1 inputs && nat_le inputs 16
-takes Nor inputs = nat_le 1 inputs && nat_le inputs 16
-takes (Table t) inputs = false
+takes kind inputs = nat_le 1 inputs && nat_le inputs (most_inputs kind)
 
 abbrev pub first_bit : List Bool → Bool
 first_bit [] = false
@@ -72,14 +74,7 @@ any_table_allows (Some rows) ok row = table_allows rows ok row
 -- whether a part of this kind, ok or faulty, allows the bits of its ports
 abbrev pub allows : List TruthTable → Kind → Bool → List Bool → Bool
 allows tables (Table t) ok row = any_table_allows (slice_get tables t) ok row
-allows tables And ok row = gate_allows And ok row
-allows tables Or ok row = gate_allows Or ok row
-allows tables Nand ok row = gate_allows Nand ok row
-allows tables Nor ok row = gate_allows Nor ok row
-allows tables Xor ok row = gate_allows Xor ok row
-allows tables Xnor ok row = gate_allows Xnor ok row
-allows tables Not ok row = gate_allows Not ok row
-allows tables Buff ok row = gate_allows Buff ok row
+allows tables gate ok row = gate_allows gate ok row
 
 abbrev pub part_allows : List TruthTable → Component → Bool → List Bool → Bool
 part_allows tables part ok wires = allows tables part.kind ok (map (bit_in wires) part.ports)
@@ -104,14 +99,7 @@ rows_take (Some rows) ports = rows.ports == ports
 -- whether a kind takes so many ports, of which a gate's last is its output
 abbrev pub takes_ports : List TruthTable → Kind → ℕ → Bool
 takes_ports tables (Table t) ports = rows_take (slice_get tables t) ports
-takes_ports tables And ports = takes And (ports - 1)
-takes_ports tables Or ports = takes Or (ports - 1)
-takes_ports tables Nand ports = takes Nand (ports - 1)
-takes_ports tables Nor ports = takes Nor (ports - 1)
-takes_ports tables Xor ports = takes Xor (ports - 1)
-takes_ports tables Xnor ports = takes Xnor (ports - 1)
-takes_ports tables Not ports = takes Not (ports - 1)
-takes_ports tables Buff ports = takes Buff (ports - 1)
+takes_ports tables gate ports = takes gate (ports - 1)
 
 abbrev pub has_arity : List TruthTable → Component → Bool
 has_arity tables part = takes_ports tables part.kind (length part.ports)
@@ -126,5 +114,5 @@ pub record IsDevice (device : Device) : Type 0 where
   pub wires_rise : names_rise device.wires ≡ true
   pub arities : list_all (has_arity device.tables) device.parts ≡ true
   pub joined : list_all (has_wires (length device.wires)) device.parts ≡ true
-  pub few_parts : length device.parts ≤ 4096
-  pub few_wires : length device.wires ≤ 16384
+  pub few_parts : length device.parts ≤ PART_LIMIT
+  pub few_wires : length device.wires ≤ WIRE_LIMIT

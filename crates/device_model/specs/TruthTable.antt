@@ -1,5 +1,6 @@
--- The rows of a table.
+-- The rows that a part of a type allows.
 use Rattle.std.specs.Prelude.{ℕ, ◌-◌, ◌^◌, Bool, ◌&&◌, Option, Some, None, nat_le, nat_lt, if◌then◌else◌}
+use Rattle.device_model.specs.declared.limits.TheConstants.{TYPE_PORT_LIMIT}
 
 -- The numbers of the rows that a part allows are the bits that are set: where it is ok, and where it is faulty.
 pub record TruthTable : Type 0 where
@@ -8,7 +9,7 @@ pub record TruthTable : Type 0 where
   pub bad : ℕ
 
 abbrev pub has_few_ports : ℕ → Bool
-has_few_ports ports = nat_le 1 ports && nat_le ports 6
+has_few_ports ports = nat_le 1 ports && nat_le ports TYPE_PORT_LIMIT
 
 -- So many ports have 2 ^ ports rows, and this number has a bit for each.
 abbrev pub set_of_all : ℕ → Option ℕ

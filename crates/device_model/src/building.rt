@@ -4,19 +4,16 @@ ghost use Rattle.std.specs.List.Sorted.{IsPermutation};
 ghost use Rattle.text_rules.specs.Names.{Name as Bytes};
 ghost use Rattle.device_model.specs.Order.{sorted_distinct};
 ghost use Rattle.device_model.specs.Devices.{IsDevice, part_names, takes_ports, has_arity, has_wires};
-ghost use Rattle.device_model.specs.Building.{built, repeated};
+ghost use Rattle.text_rules.specs.Expected.{Fulfils};
+ghost use Rattle.device_model.specs.Building.{built, reason, repeated};
 ghost use Rattle.device_model.specs.Sorting.{numbered_from, with_places, IsFirstRepeat, IsTwice};
 ghost use Rattle.device_model.specs.declared.building.BuildError.TheVariants.{TwoParts, TwoWires, Memory};
 
 use crate::component::{Component, Kind, Table};
 use crate::device::Device;
+use crate::limits::{PART_LIMIT, WIRE_LIMIT};
 use crate::names::Name;
 use std::alloc::{AllocError, Global};
-
-/// The most parts and the most wires of a device.
-const PART_LIMIT: usize = 4096;
-
-const WIRE_LIMIT: usize = 16384;
 
 /// Why parts and wires make no device. A position is a place in the given list of parts, counted from 0.
 #[derive(Debug, Drop)]
@@ -95,8 +92,7 @@ impl Device {
         wires: Vec<Name>,
         tables: Vec<Table>,
     ) -> Result<Device, BuildError>
-        ensures built { MatchResult result (λ device. Ok device ≡ built parts.items wires.items tables.items)
-            (λ e. e ≢ Memory → Err e ≡ built parts.items wires.items tables.items) }
+        ensures built { Fulfils (λ device. device) reason (built parts.items wires.items tables.items) result }
         ensures valid { IfOk result (λ device. IsDevice device) }
     {
         if parts.len() > PART_LIMIT {
@@ -145,7 +141,7 @@ fn sorted_parts(parts: Vec<Component>) -> Result<Vec<Component>, BuildError>
 
 // The wires by rising name, each beside its position among the given ones, or the least name of two wires.
 fn sorted_wires(alloc: Global, wires: Vec<Name>) -> Result<Vec<(Name, u32)>, BuildError>
-    requires { length wires.items ≤ 16384 }
+    requires { length wires.items ≤ WIRE_LIMIT }
     ensures sorted { IfOk result
         (λ s. map (λ w. w.0) s.items ≡ sorted_distinct (λ n. n) wires.items) }
     ensures same { IfOk result (λ s. IsPermutation (numbered_from 0 wires.items) s.items) }
@@ -186,7 +182,7 @@ fn repeated_wire(wires: &[(Name, u32)]) -> Option<usize>
 
 // Each wire beside its position.
 fn numbered(alloc: Global, wires: Vec<Name>) -> Result<Vec<(Name, u32)>, AllocError>
-    requires { length wires.items ≤ 16384 }
+    requires { length wires.items ≤ WIRE_LIMIT }
     ensures { IfOk result (λ pairs. pairs.items ≡ numbered_from 0 wires.items) }
 {
     let mut numbered = Vec::with_capacity(alloc, wires.len())?;
@@ -200,7 +196,7 @@ fn numbered(alloc: Global, wires: Vec<Name>) -> Result<Vec<(Name, u32)>, AllocEr
 
 // For each position the place among the sorted wires.
 fn places_of(alloc: Global, wires: &[(Name, u32)]) -> Result<Vec<u32>, AllocError>
-    requires few { length wires.now ≤ 16384 }
+    requires few { length wires.now ≤ WIRE_LIMIT }
     requires within { All (λ w. w.1 < length wires.now) wires.now }
     requires distinct { AllPairs (λ v w. v.1 ≢ w.1) wires.now }
     ensures len { IfOk result (λ places. length places.items ≡ length wires.now) }

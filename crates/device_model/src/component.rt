@@ -1,6 +1,6 @@
 ghost use Rattle.std.specs.Prelude.{◌≡◌, ◌<◌, length, map, slice_index, All, IfOk, Some, None, true, if◌then◌else◌};
 ghost use Rattle.device_model.specs.TruthTable.{set_of_all, is_table};
-ghost use Rattle.device_model.specs.Devices.{takes};
+ghost use Rattle.device_model.specs.Devices.{most_inputs, takes};
 
 use crate::names::Name;
 use std::alloc::{AllocError, Global};
@@ -67,11 +67,17 @@ impl Kind {
     pub fn takes(self, inputs: usize) -> bool
         ensures { result ≡ takes self inputs }
     {
+        1 <= inputs && inputs <= self.most_inputs()
+    }
+
+    fn most_inputs(self) -> usize
+        ensures { result ≡ most_inputs self }
+    {
         match self {
-            Kind::Not | Kind::Buff => inputs == 1,
-            Kind::Xor | Kind::Xnor => 1 <= inputs && inputs <= 8,
-            Kind::And | Kind::Or | Kind::Nand | Kind::Nor => 1 <= inputs && inputs <= 16,
-            Kind::Table(_) => false,
+            Kind::Not | Kind::Buff => 1,
+            Kind::Xor | Kind::Xnor => 8,
+            Kind::And | Kind::Or | Kind::Nand | Kind::Nor => 16,
+            Kind::Table(_) => 0,
         }
     }
 }
@@ -85,7 +91,7 @@ pub struct Component {
 }
 
 /// The rows that the parts of a type allow: bit r of `ok` and of `bad` stands for the row whose port i has bit i of r.
-#[derive(Debug, Drop)]
+#[derive(Clone, Copy, Debug)]
 pub struct Table {
     ports: u8,
     ok: u64,
@@ -99,6 +105,8 @@ impl Model for Table {
     ghost Value = { TruthTable };
 
     ghost view = { λ t. record { ports = t.ports; ok = t.ok; bad = t.bad } };
+
+    ghost inverse = { λ t. record { ports = t.ports; ok = t.ok; bad = t.bad } };
 
     ghost invariant = { λ t. is_table (record { ports = t.ports; ok = t.ok; bad = t.bad }) ≡ true };
 }

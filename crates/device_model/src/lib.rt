@@ -4,6 +4,7 @@
 mod building;
 mod component;
 mod device;
+mod limits;
 mod names;
 #[cfg(test)]
 mod tests;
@@ -11,4 +12,5 @@ mod tests;
 pub use building::BuildError;
 pub use component::{Component, Kind, Table, Wires};
 pub use device::Device;
+pub use limits::{NAME_LIMIT, PART_LIMIT, TYPE_PORT_LIMIT, WIRE_LIMIT};
 pub use names::{Name, Names};

@@ -7,6 +7,7 @@ ghost use Rattle.std.proofs.lemmas.Cmp.{nat_list_cmp_total};
 ghost use Rattle.std.proofs.Common.{rules};
 ghost use Rattle.std.specs.Cmp.Rules.{comparing};
 
+use crate::limits::NAME_LIMIT;
 use std::alloc::{AllocError, Global};
 use std::cmp::Ordering;
 use std::marker::Model;
@@ -19,19 +20,20 @@ pub struct Name {
 
 impl Model for Name {
     ghost use Rattle.std.specs.Prelude.{ℕ, ◌≤◌, List, length};
+    ghost use Rattle.device_model.specs.declared.limits.TheConstants.{NAME_LIMIT};
 
     ghost Value = { List ℕ };
 
     ghost view = { λ n. n.bytes.items };
 
-    ghost invariant = { λ n. (1 ≤ length n.bytes.items) × (length n.bytes.items ≤ 255) };
+    ghost invariant = { λ n. (1 ≤ length n.bytes.items) × (length n.bytes.items ≤ NAME_LIMIT) };
 }
 
 impl Name {
     /// Copies the bytes of a name.
     pub fn new(alloc: Global, bytes: &[u8]) -> Result<Name, AllocError>
         requires some { 1 ≤ length bytes.now }
-        requires few { length bytes.now ≤ 255 }
+        requires few { length bytes.now ≤ NAME_LIMIT }
         ensures { IfOk result (λ name. name ≡ bytes.now) }
     {
         let bytes = Vec::from_slice(alloc, bytes)?;
@@ -41,7 +43,7 @@ impl Name {
     pub fn as_slice(&self) -> &[u8]
         ensures bytes { result.now ≡ self.now }
         ensures some { 1 ≤ length self.now }
-        ensures few { length self.now ≤ 255 }
+        ensures few { length self.now ≤ NAME_LIMIT }
     {
         self.bytes.as_slice()
     }

@@ -4,7 +4,7 @@ use Rattle.std.specs.Prelude.{decimal}
 use Rattle.std.specs.Io.KnownBytes.{Appends}
 use Rattle.text_rules.specs.Tokens.{spaced}
 use Rattle.device_model.specs.Devices.{Device}
-use Rattle.session_core.specs.Systems.{device_system}
+use Rattle.device_model.specs.Diagnosis.{device_system}
 use Rattle.session_core.specs.Items.{Item}
 use Rattle.session_core.specs.Sessions.{run}
 use Rattle.session_core.specs.FirstPath.{first_line, first_replies}

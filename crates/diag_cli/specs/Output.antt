@@ -13,7 +13,7 @@ use Rattle.component_lang.specs.Faults.{fault_number as design_number, fault_nam
 use Rattle.flattener.specs.declared.flattening.FlattenError.{FlattenError}
 use Rattle.flattener.specs.declared.flattening.FlattenError.TheVariants.{TooManyParts, TooManyWires, TooManyBlocks, PathTooLong, Memory}
 use Rattle.flattener.specs.Flat.{flattened}
-use Rattle.session_core.specs.Systems.{device_system}
+use Rattle.device_model.specs.Diagnosis.{device_system}
 use Rattle.session_core.specs.Items.{Item, Plain, line}
 use Rattle.session_core.specs.FirstPath.{first_replies}
 use Rattle.session_core.specs.Spelling.{Writes}

@@ -2,7 +2,8 @@ ghost use Rattle.std.specs.Prelude.{◌≡◌, ◌+◌, ◌≤◌, ◌&&◌, [],
 ghost use Rattle.std.specs.List.{list_any};
 ghost use Rattle.ranking.specs.Cases.{agrees};
 ghost use Rattle.device_model.specs.Devices.{fits};
-ghost use Rattle.device_model.specs.Diagnosis.{is_consistent, device_least, device_diagnoses};
+ghost use Rattle.ranking.specs.Systems.{least_cost, all_diagnoses};
+ghost use Rattle.device_model.specs.Diagnosis.{is_consistent, device_system};
 ghost use Rattle.plain_minimum.specs.Fronts.{lists_alike_below};
 ghost use Rattle.plain_minimum.specs.Kept.{is_fewer, kept_of};
 
@@ -27,9 +28,9 @@ pub fn first_diagnosis(
 ) -> Option<usize>
     requires few { length device.now.parts + length device.now.wires ≤ SIZE_LIMIT }
     requires best { length best.old ≡ length device.now.parts }
-    ensures least { result ≡ device_least device.now (record { seen = seen.now; held = held.now }) }
+    ensures least { result ≡ least_cost (device_system device.now) (record { seen = seen.now; held = held.now }) }
     ensures first { IfSome result (λ _.
-        slice_get (device_diagnoses device.now (record { seen = seen.now; held = held.now })) 0
+        slice_get (all_diagnoses (device_system device.now) (record { seen = seen.now; held = held.now })) 0
         ≡ Some best.new) }
     ensures none { IfNone result (best.new ≡ best.old) }
 {

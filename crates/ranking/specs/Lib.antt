@@ -3,3 +3,4 @@ pub mod Cases
 pub mod Ranking
 pub mod Assignments
 pub mod Values
+pub mod Systems

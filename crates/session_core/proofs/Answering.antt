@@ -17,7 +17,8 @@ use Rattle.script_lang.specs.declared.line.Line as parsed
 use Rattle.script_lang.specs.declared.line.Line.TheVariants as said
 use Rattle.script_lang.specs.Meaning.{meaning}
 use denote.Ref.{Bor}
-use Rattle.session_core.specs.Systems.{System, device_system, least_cost, all_diagnoses}
+use Rattle.ranking.specs.Systems.{System, least_cost, all_diagnoses}
+use Rattle.device_model.specs.Diagnosis.{device_system}
 use Rattle.session_core.specs.Items.{line}
 use Rattle.session_core.specs.Sessions.{Entry, Table, Declined, outcome, answered, entry_of, with_seen, at_place, becomes, min_line}
 use Rattle.session_core.specs.FirstPath.{first_step, not_yet, if_built, unless_declined}

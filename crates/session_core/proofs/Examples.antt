@@ -6,7 +6,7 @@ use Rattle.device_model.specs.declared.component.Component.{Component}
 use Rattle.device_model.specs.declared.component.Kind.{Kind}
 use Rattle.device_model.specs.declared.component.Kind.TheVariants.{Nand, Buff, Table}
 use Rattle.device_model.specs.Devices.{Device}
-use Rattle.session_core.specs.Systems.{device_system}
+use Rattle.device_model.specs.Diagnosis.{device_system}
 use Rattle.session_core.specs.Items.{Item, Plain, Projected, line}
 use Rattle.session_core.specs.Sessions.{replies}
 use Rattle.session_core.specs.FirstPath.{first_replies}

@@ -6,7 +6,7 @@ use Rattle.std.proofs.lemmas.List.{take-take}
 use Rattle.text_rules.specs.TextLines.{cut, with_byte, whole_lines}
 use Rattle.script_lang.specs.Script.{line_of}
 use Rattle.script_lang.proofs.LineLemmas.{line_of-too_long}
-use Rattle.session_core.specs.Systems.{System}
+use Rattle.ranking.specs.Systems.{System}
 use Rattle.session_core.specs.FirstPath.{first_step, first_line}
 use Rattle.session_core.specs.Gathering.{ended_from, rest_from, IsCut}
 

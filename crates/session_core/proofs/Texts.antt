@@ -15,7 +15,8 @@ use Rattle.device_model.specs.Devices.{Device, part_names, part_costs}
 use Rattle.device_model.specs.Diagnosis.{is_consistent, consistent_states, device_least, device_diagnoses}
 use Rattle.device_model.specs.declared.component.Component.{Component}
 use Rattle.ranking.specs.Ranking.{passing}
-use Rattle.session_core.specs.Systems.{System, device_system, least_cost, all_diagnoses}
+use Rattle.ranking.specs.Systems.{System, least_cost, all_diagnoses}
+use Rattle.device_model.specs.Diagnosis.{device_system}
 use Rattle.session_core.specs.Items.{line}
 use Rattle.session_core.specs.Sessions.{faulty_names, min_line}
 use Rattle.session_core.specs.Services.{spaced_before, case_of}

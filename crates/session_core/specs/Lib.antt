@@ -1,4 +1,3 @@
-pub mod Systems
 pub mod Items
 pub mod Sessions
 pub mod FirstPath

@@ -11,7 +11,7 @@ use Rattle.ranking.specs.Cases.{Case, empty_case}
 use Rattle.ranking.specs.Ranking.{rest}
 use Rattle.device_model.specs.Devices.{place_of}
 use Rattle.script_lang.specs.Script.{Line, Blank, Refused, Ask, Request, Start, Stop, See, Unsee, Hold, Unhold, Min, Next, Several, After, Probe, Probes, Blame, Dnnf, line_of, refusal_text}
-use Rattle.session_core.specs.Systems.{System, least_cost, all_diagnoses}
+use Rattle.ranking.specs.Systems.{System, least_cost, all_diagnoses}
 use Rattle.session_core.specs.Items.{Item, Projected, line}
 
 -- what a session knows, and the state after which it goes on

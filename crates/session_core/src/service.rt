@@ -1,6 +1,6 @@
 ghost use Rattle.std.specs.Prelude.{◌≡◌, ◌≤◌, ◌+◌, [], length, IfOk};
 ghost use Rattle.diag_edge.specs.Edge.{HasCause};
-ghost use Rattle.session_core.specs.Systems.{device_system};
+ghost use Rattle.device_model.specs.Diagnosis.{device_system};
 ghost use Rattle.session_core.specs.FirstPath.{first_line};
 ghost use Rattle.session_core.specs.Spelling.{Replies};
 

@@ -2,7 +2,7 @@ ghost use Rattle.std.specs.Prelude.{◌≡◌, ◌+◌, ◌-◌, ◌^◌, ◌<�
 ghost use Rattle.std.specs.Io.KnownBytes.{Consumes, IsAtEnd};
 ghost use Rattle.text_rules.specs.TextLines.{last_line};
 ghost use Rattle.diag_edge.specs.Edge.{HasCause, RoseExactly};
-ghost use Rattle.session_core.specs.Systems.{device_system};
+ghost use Rattle.device_model.specs.Diagnosis.{device_system};
 ghost use Rattle.session_core.specs.FirstPath.{first_line};
 ghost use Rattle.session_core.specs.Serving.{Answers, BreaksOff, Served};
 ghost use Rattle.session_core.specs.Gathering.{Fed, ended_from};

@@ -1,5 +1,5 @@
 use Rattle.std.proofs.Common.{◌∙◌}
-use Rattle.session_core.specs.Systems.{device_system}
+use Rattle.device_model.specs.Diagnosis.{device_system}
 use Rattle.session_core.proofs.Lines.{first_line_is_cut}
 use Rattle.session_core.proofs.Feeding.{fed_step, breaks_step}
 use Rattle.session_core.proofs.serving.feed.Goals as goal

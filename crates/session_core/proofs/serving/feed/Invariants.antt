@@ -1,5 +1,5 @@
 use Rattle.std.proofs.Common.{◌≡◌, take}
-use Rattle.session_core.specs.Systems.{device_system}
+use Rattle.device_model.specs.Diagnosis.{device_system}
 use Rattle.session_core.specs.FirstPath.{first_line}
 use Rattle.session_core.specs.Gathering.{Fed}
 use Rattle.session_core.proofs.serving.feed.Given as goal

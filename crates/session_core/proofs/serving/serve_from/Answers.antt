@@ -2,7 +2,7 @@ use Rattle.std.proofs.Common.{arith, ◌≡◌, ◌∙◌, ◌++◌, take, drop,
 use Rattle.std.proofs.lemmas.Grind.{common_steps}
 use Rattle.session_core.specs.Gathering.{Fed, ended_from}
 use Rattle.session_core.specs.Serving.{BreaksOff}
-use Rattle.session_core.specs.Systems.{device_system}
+use Rattle.device_model.specs.Diagnosis.{device_system}
 use Rattle.session_core.specs.FirstPath.{first_line}
 use Rattle.diag_edge.proofs.Growing.{consumes_more, consumes_end}
 use Rattle.session_core.proofs.Lines.{first_line_is_cut}

@@ -1,6 +1,6 @@
 use Rattle.std.proofs.Common.{◌≡◌, ◌+◌, ◌-◌, ◌≤◌, ℕ, List, [], length}
 use Rattle.std.specs.Io.KnownBytes.{Consumes}
-use Rattle.session_core.specs.Systems.{device_system}
+use Rattle.device_model.specs.Diagnosis.{device_system}
 use Rattle.session_core.specs.FirstPath.{first_line}
 use Rattle.session_core.specs.Gathering.{Fed}
 use Rattle.session_core.proofs.serving.serve_from.Given as goal

@@ -13,16 +13,16 @@ use Rattle.device_model.proofs.device.Device.build.Goals as goal
 
 pub returns-in-Some-clause-built : goal.returns-in-Some-clause-built
 returns-in-Some-clause-built c =
-    λ _. sym (built-arity c.args.parts.items c.args.wires.items c.args.tables.items (omega arith) (omega arith)
+    built-arity c.args.parts.items c.args.wires.items c.args.tables.items (omega arith) (omega arith)
     c.in_ok-parts.ensures.distinct c.in_ok-wires.ensures.distinct c.in-Some.part
-    (arity_at (Some c.in-Some.part) _ _ _ _ c.deref.ensures.value c.deref-2.ensures.value c.in-Some.ensures.first))
+    (arity_at (Some c.in-Some.part) _ _ _ _ c.deref.ensures.value c.deref-2.ensures.value c.in-Some.ensures.first)
 
 pub returns-in-Some-joined-clause-built : goal.returns-in-Some-joined-clause-built
 returns-in-Some-joined-clause-built c =
-    λ _. sym (built-no_wire c.args.parts.items c.args.wires.items c.args.tables.items (omega arith) (omega arith)
+    built-no_wire c.args.parts.items c.args.wires.items c.args.tables.items (omega arith) (omega arith)
     c.in_ok-parts.ensures.distinct c.in_ok-wires.ensures.distinct
     (arity_at None _ _ _ _ c.deref.ensures.value c.deref-2.ensures.value c.in_default.ensures.first) c.in-Some-joined.part
-    (wire_at (Some c.in-Some-joined.part) _ _ _ _ (omega arith) c.deref-3.ensures.value c.in-Some-joined.ensures.first))
+    (wire_at (Some c.in-Some-joined.part) _ _ _ _ (omega arith) c.deref-3.ensures.value c.in-Some-joined.ensures.first)
 
 pub places_of-requires-clause-few : goal.places_of-requires-clause-few
 places_of-requires-clause-few c =
@@ -77,8 +77,8 @@ returns-clause-built c =
     c.in_ok-places.ensures.places joined
     (written_back c.in_ok-parts.parts.len c.renumber_all.new.parts _ (omega arith) ∙ c.renumber_all.ensures ∙ (λ j. map (with_places (c.deref-5.ensures.value j)) (sorted j)))
     (c.in_ok-wires-2.ensures ∙ ap (map wire_name) (sym c.deref-4.ensures.value)) in
-    ap (λ (d : Device). Ok d) (c.in_ok-of_sorted.ensures ∙ made)
-    ∙ sym (built-device c.args.parts.items c.args.wires.items c.args.tables.items (omega arith) (omega arith)
+    built-device c.args.parts.items c.args.wires.items c.args.tables.items (omega arith) (omega arith)
     c.in_ok-parts.ensures.distinct c.in_ok-wires.ensures.distinct
     (arity_at None _ _ _ _ c.deref.ensures.value c.deref-2.ensures.value c.in_default.ensures.first)
-    (wire_at None _ _ _ _ (omega arith) c.deref-3.ensures.value c.in_default-joined.ensures.first))
+    (wire_at None _ _ _ _ (omega arith) c.deref-3.ensures.value c.in_default-joined.ensures.first)
+    ∙ ap (λ (d : Device). Ok d) (sym (c.in_ok-of_sorted.ensures ∙ made))

@@ -1,5 +1,5 @@
 use Rattle.std.proofs.Common.{◌∙◌, ap, subst}
-use Rattle.session_core.specs.Systems.{device_system}
+use Rattle.device_model.specs.Diagnosis.{device_system}
 use Rattle.session_core.specs.FirstPath.{first_line}
 use Rattle.session_core.specs.Spelling.{Replies}
 use Rattle.session_core.proofs.service.Service.line.Goals as goal

@@ -2,7 +2,7 @@ use Rattle.std.proofs.Common.{◌∙◌, sym, ap, subst, refl}
 use Rattle.std.proofs.lemmas.Bool.{and_parts}
 use Rattle.script_lang.specs.Asked.{is_well_asked}
 use Rattle.script_lang.proofs.AskedLemmas.{well_asked}
-use Rattle.session_core.specs.Systems.{device_system}
+use Rattle.device_model.specs.Diagnosis.{device_system}
 use Rattle.session_core.specs.FirstPath.{first_step}
 use Rattle.session_core.specs.Spelling.{Replies, Writes}
 use Rattle.session_core.proofs.Spellings.{writes_none}

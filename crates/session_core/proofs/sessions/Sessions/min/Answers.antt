@@ -1,6 +1,7 @@
 use Rattle.std.proofs.Common.{◌≡◌, ◌∙◌, ◌∷◌, [], sym, ap, subst, true, length, List, Option, Bool}
 use Rattle.script_lang.specs.Script.{Ask, Min}
-use Rattle.session_core.specs.Systems.{device_system, least_cost, all_diagnoses}
+use Rattle.ranking.specs.Systems.{least_cost, all_diagnoses}
+use Rattle.device_model.specs.Diagnosis.{device_system}
 use Rattle.session_core.specs.Sessions.{min_line}
 use Rattle.session_core.specs.FirstPath.{first_step}
 use Rattle.session_core.specs.Spelling.{Replies}

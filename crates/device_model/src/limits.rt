@@ -1,0 +1,13 @@
+//! How large devices may be.
+
+/// The most parts of a device.
+pub const PART_LIMIT: usize = 4096;
+
+/// The most wires of a device.
+pub const WIRE_LIMIT: usize = 16384;
+
+/// The longest name of a part or a wire, in bytes.
+pub const NAME_LIMIT: usize = 255;
+
+/// The most ports of a part of a type.
+pub const TYPE_PORT_LIMIT: u8 = 6;

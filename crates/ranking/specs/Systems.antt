@@ -1,0 +1,18 @@
+-- What sessions are asked over. Everything that a session is told follows from a system.
+use Rattle.std.specs.Prelude.{ℕ, Bool, List, Option}
+use Rattle.ranking.specs.Cases.{Case}
+use Rattle.ranking.specs.Ranking.{least, diagnoses}
+
+-- the names of parts and wires, what the failure of each part costs, and the health states that agree with a case
+pub record System : Type 0 where
+  pub parts : List (List ℕ)
+  pub wires : List (List ℕ)
+  pub costs : List ℕ
+  pub consistent : Case → List (List Bool)
+
+-- the least cost of a state that agrees with a case, and the states that have it
+abbrev pub least_cost : System → Case → Option ℕ
+least_cost system known = least system.costs (system.consistent known)
+
+abbrev pub all_diagnoses : System → Case → List (List Bool)
+all_diagnoses system known = diagnoses system.costs (system.consistent known)

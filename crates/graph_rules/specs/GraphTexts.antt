@@ -1,6 +1,7 @@
 -- Graphs in `.nnf` text: the graph that a text gives, or the first reason why it gives none.
 use Rattle.std.specs.Prelude.{ℕ, zero, suc, ◌-◌, ◌^◌, Bool, true, false, not, ◌&&◌, List, [], ◌∷◌, ◌++◌, map, length, Option, Some, None, codes, ◌==◌, nat_lt, nat_le, if◌then◌else◌, sum_by}
 use Rattle.std.specs.List.{list_all, filter, filter_map, enumerate_from}
+use Rattle.std.specs.Option.{option_map}
 use Rattle.text_rules.specs.Names.{same_name}
 use Rattle.text_rules.specs.TextLines.{all_lines}
 use Rattle.text_rules.specs.Tokens.{words}
@@ -15,10 +16,6 @@ small_number word = number_in 10 0 (2 ^ 32 - 1) word
 
 abbrev pub great_number : List ℕ → Option ℕ
 great_number word = number_in 20 0 (2 ^ 64 - 1) word
-
-abbrev pub with_first : {A : Type 0} → A → Option (List A) → Option (List A)
-with_first x None = None
-with_first x (Some xs) = Some (x ∷ xs)
 
 -- what the first line says: numbers of nodes, edges and variables
 pub record Header : Type 0 where
@@ -38,7 +35,7 @@ header_of ws = None
 
 abbrev pub number_before : Option ℕ → Option (List ℕ) → Option (List ℕ)
 number_before None ns = None
-number_before (Some n) ns = with_first n ns
+number_before (Some n) ns = option_map (λ rest. n ∷ rest) ns
 
 -- the words as numbers, if each is one
 abbrev pub numbers : List (List ℕ) → Option (List ℕ)

@@ -2,7 +2,7 @@
 #![tactic(auto)]
 
 /// What a node of a graph is. An And without children is true, an Or without children is false.
-#[derive(Clone, Copy, Debug, PartialEq, Eq)]
+#[derive(Clone, Copy, Debug, PartialEq, Eq, Hash)]
 pub enum NodeKind {
     Literal { var: u32, positive: bool },
     And,

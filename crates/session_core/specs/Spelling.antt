@@ -2,20 +2,11 @@
 use Rattle.std.specs.Prelude.{◌≡◌, ◌⊎◌, ℕ, Bool, true, false, not, ◌&&◌, List, [], ◌∷◌, ◌++◌, length, ◌==◌, Option, Result, MatchResult}
 use Rattle.std.specs.List.{list_any, list_all}
 use Rattle.std.specs.Io.KnownBytes.{Appends}
-use Rattle.text_rules.specs.TextLines.{cut}
-use Rattle.text_rules.specs.Tokens.{words}
+use Rattle.text_rules.specs.Tokens.{is_neat}
 use Rattle.ranking.specs.Ranking.{is_before}
 use Rattle.graph_rules.specs.Graphs.{Decomposable, holds}
 use Rattle.graph_rules.specs.GraphTexts.{Parsed, Read, Refused, parsed}
 use Rattle.session_core.specs.Items.{Item, Plain, Projected}
-
-abbrev pub is_filled : List (List ℕ) → Bool
-is_filled [] = false
-is_filled (word ∷ ws) = true
-
--- no line is blank, and the last one ends with a line feed
-abbrev pub is_neat : List ℕ → Bool
-is_neat text = (length (cut text).unfinished == 0) && list_all (λ line. is_filled (words line)) (cut text).whole
 
 abbrev pub same_state : List Bool → List Bool → Bool
 same_state h k = (length h == length k) && (not (is_before h k) && not (is_before k h))

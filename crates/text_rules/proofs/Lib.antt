@@ -2,5 +2,6 @@ pub mod PartLemmas
 pub mod LineLemmas
 pub mod TokenLemmas
 pub mod NameLemmas
-mod NumberLemmas
+pub mod NumberLemmas
+pub mod SpacedLines
 mod Examples

@@ -7,6 +7,6 @@ mod text_lines;
 mod tokens;
 
 pub use names::{SHORT_NAME_LIMIT, is_mark, is_name, is_short_name};
-pub use numbers::plain_number;
-pub use text_lines::{Lines, uncommented};
+pub use numbers::{number, plain_number};
+pub use text_lines::{Lines, TEXT_LIMIT, uncommented};
 pub use tokens::{Tokens, is_blank};

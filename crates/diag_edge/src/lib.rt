@@ -8,6 +8,7 @@
 #![tactic(auto)]
 
 mod calls;
+mod chunk;
 mod copying;
 mod loading;
 mod mem_shelf;
@@ -18,6 +19,7 @@ mod outside;
 mod tests;
 pub mod writing;
 
+pub use chunk::{Chunk, put_line};
 pub use loading::{LoadError, load};
 pub use mem_shelf::MemShelf;
 pub use mem_sink::MemSink;

@@ -14,11 +14,11 @@ rest_from line [] = line
 rest_from line (byte ∷ bytes) = if byte == 10 then rest_from [] bytes else rest_from (line ++ byte ∷ []) bytes
 
 -- of a line no more counts than one byte past the longest
-pub record IsCut (one : Table → List ℕ → Step) : Type 0 where
-  pub same : (table : Table) (line : List ℕ) → one table (take 1048577 line) ≡ one table line
+pub record IsCut (step : Table → List ℕ → Step) : Type 0 where
+  pub same : (table : Table) (line : List ℕ) → step table (take 1048577 line) ≡ step table line
 
 -- Bytes were taken after the beginning of a line: the lines that they end were answered, and the beginning of a line
 -- stands again.
-pub record Fed (one : Table → List ℕ → Step) (old new : Table) (line rest bytes : List ℕ) (before after : Option (List ℕ)) : Type 0 where
-  pub answered : Answers one old new (ended_from line bytes) before after
+pub record Fed (step : Table → List ℕ → Step) (old new : Table) (line rest bytes : List ℕ) (before after : Option (List ℕ)) : Type 0 where
+  pub answered : Answers step old new (ended_from line bytes) before after
   pub begun : take 1048577 rest ≡ take 1048577 (rest_from line bytes)

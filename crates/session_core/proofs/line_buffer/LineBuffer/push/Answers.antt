@@ -1,6 +1,6 @@
 use Rattle.std.proofs.Common.{arith, ◌≡◌, ◌<◌, sym, length}
 use Rattle.session_core.proofs.Lines.{push_room, push_full}
-use Rattle.session_core.proofs.gathered.Gathered.push.Goals as goal
+use Rattle.session_core.proofs.line_buffer.LineBuffer.push.Goals as goal
 
 pub returns-then-len-lt-ROOM : goal.returns-then-len-lt-ROOM
 returns-then-len-lt-ROOM c =

@@ -1,18 +1,19 @@
 ghost use Rattle.std.specs.Prelude.{◌≡◌, ◌≤◌, [], ◌∷◌, ◌++◌, take, length, IfOk};
 
+use script_lang::LINE_LIMIT;
 use std::alloc::{AllocError, Global};
 use std::marker::Model;
 
 /// One byte more than the longest line has.
-const ROOM: usize = 1048577;
+const ROOM: usize = LINE_LIMIT + 1;
 
 /// The beginning of a line, up to one byte past the longest line. What is past that is dropped.
 #[derive(Drop)]
-pub struct Gathered {
+pub struct LineBuffer {
     bytes: Vec<u8>,
 }
 
-impl Model for Gathered {
+impl Model for LineBuffer {
     ghost use Rattle.std.specs.Prelude.{ℕ, List, ◌≤◌, vec_len, vec_capacity};
 
     ghost Value = { List ℕ };
@@ -22,13 +23,13 @@ impl Model for Gathered {
     ghost invariant = { λ g. (vec_len g.bytes ≤ 1048577) × (1048577 ≤ vec_capacity g.bytes) };
 }
 
-impl Gathered {
+impl LineBuffer {
     /// No byte yet, with memory for the longest line.
     pub fn new(alloc: Global) -> Result<Self, AllocError>
         ensures { IfOk result (λ gathered. gathered ≡ []) }
     {
         let bytes = Vec::with_capacity(alloc, ROOM)?;
-        Ok(Gathered { bytes })
+        Ok(LineBuffer { bytes })
     }
 
     /// Adds a byte, or drops it where the line is past the longest.

@@ -113,6 +113,17 @@ impl Chunk {
         Ok(())
     }
 
+    /// Adds words, each behind a space, and a line feed.
+    #[tactic(auto, using(crate::proofs::Added::adds_on))]
+    pub fn end_line<O: Sink>(&mut self, out: &mut O, words: &[&[u8]]) -> Result<(), WriteFailed>
+        ensures bytes { Adds (O.got out.old) (O.got out.new) self.old self.new result
+            (flat_map (λ word. 32 ∷ word.now) words.now ++ 10 ∷ []) }
+        ensures cause { HasCause (O.faults out.old) (O.faults out.new) result }
+    {
+        self.add_words(out, words)?;
+        self.add(out, b"\n")
+    }
+
     // Puts what is gathered, where so many bytes have no room beside it.
     fn make_room<O: Sink>(&mut self, out: &mut O, needed: usize) -> Result<(), WriteFailed>
         requires { needed ≤ 4096 }
@@ -190,15 +201,5 @@ fn add_first<O: Sink>(
     ensures cause { HasCause (O.faults out.old) (O.faults out.new) result }
 {
     chunk.add(out, first)?;
-    add_rest(chunk, out, rest)
-}
-
-#[tactic(auto, using(crate::proofs::Added::adds_on))]
-fn add_rest<O: Sink>(chunk: &mut Chunk, out: &mut O, rest: &[&[u8]]) -> Result<(), WriteFailed>
-    ensures bytes { Adds (O.got out.old) (O.got out.new) chunk.old chunk.new result
-        (flat_map (λ word. 32 ∷ word.now) rest.now ++ 10 ∷ []) }
-    ensures cause { HasCause (O.faults out.old) (O.faults out.new) result }
-{
-    chunk.add_words(out, rest)?;
-    chunk.add(out, b"\n")
+    chunk.end_line(out, rest)
 }

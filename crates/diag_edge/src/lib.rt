@@ -1,8 +1,8 @@
 //! What a program meets outside: a source of bytes, a shelf of named files, and a sink.
 //!
 //! The traits are `Source`, `Shelf` and `Sink`. `load` reads a whole file from a shelf, and
-//! `writing` has small writers to a sink. `MemSource`, `MemShelf` and `MemSink` are ends in
-//! memory, whose bytes and failures the caller chooses.
+//! `put_line` writes a line of words; longer texts are gathered in a `Chunk`. `MemSource`,
+//! `MemShelf` and `MemSink` are ends in memory, whose bytes and failures the caller chooses.
 //!
 //! Counts of faults and of calls are u64 and stop at the greatest one.
 #![tactic(auto)]
@@ -17,7 +17,6 @@ mod mem_source;
 mod outside;
 #[cfg(test)]
 mod tests;
-pub mod writing;
 
 pub use chunk::{Chunk, put_line};
 pub use loading::{LoadError, load};

@@ -1,0 +1,12 @@
+pub mod Lists
+pub mod Places
+pub mod Branching
+pub mod WordBits
+pub mod Walking
+pub mod Ordering
+pub mod Spanning
+pub mod Turning
+pub mod Counting
+pub mod Holding
+pub mod Laws
+pub mod Examples

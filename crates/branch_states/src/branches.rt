@@ -1,0 +1,134 @@
+ghost use Rattle.std.specs.Prelude.{◌≡◌, ◌<◌, ◌≤◌, ◌+◌, ◌-◌, ◌/◌, true, not, List, Bool, length, slice_index, IfOk};
+ghost use Rattle.std.specs.Bool.{OnTrue};
+ghost use Rattle.clause_encoder.specs.Clauses.{is_clause_list};
+ghost use Rattle.branch_states.specs.Branches.{order, size, is_dead, branch, state_of, IsLiving};
+
+use crate::order::find_order;
+use crate::spans::find_walks;
+use crate::walks::Walks;
+use clause_encoder::Cnf;
+use std::alloc::{AllocError, Global};
+use std::marker::Model;
+
+/// A clause list and a level of it: at level i the first i variables of the order have bits.
+#[derive(Drop)]
+pub struct Branches<'a> {
+    cnf: &'a Cnf,
+    variables: Vec<u32>,
+    // what happens to clauses at the next variable, at each level
+    walks: Walks,
+    level: u32,
+}
+
+impl<'a> Model for Branches<'a> {
+    ghost use Rattle.branch_states.specs.Branches.{Standing};
+    ghost use Rattle.branch_states.specs.inner.Steps.{IsKept};
+
+    ghost Value = { Standing };
+
+    ghost view = { λ b. record { cnf = b.cnf.now; level = b.level } };
+
+    ghost invariant = { λ b. IsKept b.cnf.now b.level b.variables.items b.walks };
+}
+
+impl<'a> Branches<'a> {
+    /// The order of a clause list's variables; level 0.
+    pub fn of(alloc: Global, cnf: &'a Cnf) -> Result<Branches<'a>, AllocError>
+        ensures { IfOk result (λ b. b ≡ record { cnf = cnf.now; level = 0 }) }
+    {
+        let order = find_order(alloc, cnf)?;
+        let walks = find_walks(alloc, cnf, &order.variables, &order.places)?;
+        Ok(Branches {
+            cnf,
+            variables: order.variables,
+            walks,
+            level: 0,
+        })
+    }
+
+    /// The number of variables in the order.
+    pub fn len(&self) -> u32
+        ensures len { result ≡ length (order self.now.cnf.clauses) }
+        ensures few { result ≤ self.now.cnf.vars }
+        ensures valid { is_clause_list self.now.cnf ≡ true }
+    {
+        self.variables.len() as u32
+    }
+
+    /// The present level.
+    pub fn level(&self) -> u32
+        ensures level { result ≡ self.now.level }
+        ensures within { self.now.level ≤ length (order self.now.cnf.clauses) }
+    {
+        self.level
+    }
+
+    /// The variable that gets a bit next.
+    pub fn var(&self) -> u32
+        requires { self.now.level < length (order self.now.cnf.clauses) }
+        ensures { result ≡ slice_index (order self.now.cnf.clauses) self.now.level }
+    {
+        self.variables[self.level as usize]
+    }
+
+    /// How many words of 64 bits a state of the present level has.
+    pub fn words(&self) -> u32
+        ensures words { result ≡ size self.now.cnf.clauses self.now.level }
+        ensures few { result ≤ 4097 }
+    {
+        words_for(self.walks.opened(self.level))
+    }
+
+    /// How many a state of the next level has.
+    pub fn after(&self) -> u32
+        requires { self.now.level < length (order self.now.cnf.clauses) }
+        ensures words { result ≡ size self.now.cnf.clauses (self.now.level + 1) }
+        ensures few { result ≤ 4097 }
+    {
+        words_for(self.walks.opened(self.level + 1))
+    }
+
+    /// Goes to the next level.
+    pub fn down(&mut self)
+        requires { self.old.level < length (order self.old.cnf.clauses) }
+        ensures { self.new ≡ record self.old { level = self.old.level + 1 } }
+    {
+        self.level += 1;
+    }
+
+    /// Goes back one level.
+    pub fn up(&mut self)
+        requires { 0 < self.old.level }
+        ensures { self.new ≡ record self.old { level = self.old.level - 1 } }
+    {
+        self.level -= 1;
+    }
+
+    /// What is left when the next variable has a bit: `next` becomes the state of that list, unless the list is dead.
+    ///
+    /// The state is that of a living list of the present level. Where the list that is left is dead, `next` may be anything.
+    pub fn step(&self, state: &[u64], bit: bool, next: &mut [u64]) -> bool
+        requires level { self.now.level < length (order self.now.cnf.clauses) }
+        requires state { length state.now ≡ size self.now.cnf.clauses self.now.level }
+        requires next { length next.old ≡ size self.now.cnf.clauses (self.now.level + 1) }
+        ensures living { (list : List Bool) → IsLiving self.now.cnf.clauses self.now.level list
+            → state.now ≡ state_of self.now.cnf.clauses self.now.level list
+            → result ≡ not (is_dead self.now.cnf.clauses (self.now.level + 1)
+            (branch self.now.cnf.clauses self.now.level list bit)) }
+        ensures next { (list : List Bool) → IsLiving self.now.cnf.clauses self.now.level list
+            → state.now ≡ state_of self.now.cnf.clauses self.now.level list
+            → OnTrue result (next.new ≡ state_of self.now.cnf.clauses (self.now.level + 1)
+            (branch self.now.cnf.clauses self.now.level list bit)) }
+    {
+        self.walks.step(self.level, bit, state, next)
+    }
+}
+
+// How many words hold so many bits.
+fn words_for(bits: u32) -> u32
+    requires { bits ≤ 262144 }
+    ensures words { result ≡ bits / 64 + 1 }
+    ensures few { result ≤ 4097 }
+{
+    bits / 64 + 1
+}

@@ -1,0 +1,15 @@
+//! What is left of clauses when their variables get bits one after the other: the states that a compiler goes through, and how many there are.
+#![tactic(auto)]
+
+mod bits;
+mod branches;
+mod measuring;
+mod order;
+mod spans;
+#[cfg(test)]
+mod tests;
+mod walk;
+mod walks;
+
+pub use branches::Branches;
+pub use measuring::{BUDGET_LIMIT, MeasureError, measure};

@@ -157,13 +157,13 @@ outside-block reader word name words ports e b =
     by [] = refl
     by (p ∷ ps) = refl
 
-pub in_type-ok : (reader : Reader) (open_type : OpenType) (word row : Name) (words : List Name) → words ≡ row ∷ [] → same_name word (codes "ok") ≡ true
+pub in_type-ok : (reader : Reader) (open_type : OpenType) (word row : Name) (words left : List Name) → words ≡ row ∷ left → left ≡ [] → same_name word (codes "ok") ≡ true
     → in_type reader open_type (word ∷ words) ≡ ok_line reader open_type row
-in_type-ok reader open_type word row words e b = rw (e, equal_if_same word (codes "ok") b) refl
+in_type-ok reader open_type word row words left e none b = rw (e, none, equal_if_same word (codes "ok") b) refl
 
-pub in_type-bad : (reader : Reader) (open_type : OpenType) (word row : Name) (words : List Name) → words ≡ row ∷ [] → same_name word (codes "bad") ≡ true
+pub in_type-bad : (reader : Reader) (open_type : OpenType) (word row : Name) (words left : List Name) → words ≡ row ∷ left → left ≡ [] → same_name word (codes "bad") ≡ true
     → in_type reader open_type (word ∷ words) ≡ bad_line reader open_type row
-in_type-bad reader open_type word row words e b = rw (e, equal_if_same word (codes "bad") b) refl
+in_type-bad reader open_type word row words left e none b = rw (e, none, equal_if_same word (codes "bad") b) refl
 
 pub in_block-wire : (reader : Reader) (block : Block) (word name : Name) (words others : List Name) → words ≡ name ∷ others → same_name word (codes "wire") ≡ true
     → in_block reader block (word ∷ words) ≡ wire_line reader block (name ∷ others)

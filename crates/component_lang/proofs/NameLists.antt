@@ -2,9 +2,10 @@
 use Rattle.std.proofs.Common.{◌≡◌, ℕ, suc, ◌+◌, ◌≤◌, Bool, true, false, cond, not, List, [], ◌∷◌, ◌++◌, map, length, Option, Some, None, Result, Ok, Err, Bor, refl, sym, ap, ◌∙◌, append_assoc, append-nil, length-append, arith}
 use Rattle.std.specs.Prelude.{◌&&◌, ◌||◌, position, nat_lt, if◌then◌else◌}
 use Rattle.std.specs.List.{list_any, list_all, position_or_len}
-use Rattle.std.proofs.lemmas.Bool.{and_parts, leb-true, lt-ltb}
+use Rattle.std.proofs.lemmas.Bool.{lt-ltb}
 use Rattle.std.proofs.lemmas.Bool.Decides.{nat_tests, same_from_decides}
 use Rattle.std.proofs.lemmas.List.{map-append}
+use Rattle.std.proofs.Math.Bool.{and-false, and_assoc}
 use Rattle.std.proofs.lemmas.List.Folds.{list_any-append}
 use Rattle.indexmap.specs.IndexSet.{insert_key}
 use Rattle.text_rules.specs.Names.{Name, same_name, is_among}
@@ -14,7 +15,7 @@ use Rattle.component_lang.specs.declared.fault.LangFault.{LangFault}
 use Rattle.component_lang.specs.declared.fault.LangFault.TheVariants.{Name as NoName, Twice}
 use Rattle.device_model.specs.Building.{repeated}
 use Rattle.device_model.proofs.Tables.{list_any-map}
-use Rattle.component_lang.specs.Designs.{is_plain_name, are_none, are_distinct}
+use Rattle.component_lang.specs.Designs.{is_plain_name, is_empty, are_distinct}
 use Rattle.component_lang.specs.DesignLines.{are_new, places_in}
 use Rattle.component_lang.specs.inner.Words.{with_name, places_among}
 
@@ -42,7 +43,7 @@ same_name-sym a b = same_from_decides (same_name a b) (same_name b a) (same_name
 pub are_distinct-cons : (n : Name) (names : List Name) → are_distinct (n ∷ names) ≡ (not (is_among names n) && are_distinct names)
 are_distinct-cons n names = by (is_among names n)
   where
-    by : (b : Bool) → are_none (if b then n ∷ repeated names else repeated names) ≡ (not b && are_distinct names)
+    by : (b : Bool) → is_empty (if b then n ∷ repeated names else repeated names) ≡ (not b && are_distinct names)
     by true = refl
     by false = refl
 
@@ -74,14 +75,10 @@ are_new-first above n names =
     rest false true false = refl
     rest false false c = refl
 
-    no : (b : Bool) → (b && false) ≡ false
-    no true = refl
-    no false = refl
-
     by : (b : Bool) → is_among above n ≡ b
         → ((not (is_among names n) && are_distinct names) && not (b || list_any (is_among above) names))
         ≡ (not b && are_new (if b then above else above ++ n ∷ []) names)
-    by true e = no (not (is_among names n) && are_distinct names)
+    by true e = and-false (not (is_among names n) && are_distinct names)
     by false e =
         rest (is_among names n) (are_distinct names) (list_any (is_among above) names)
         ∙ ap (λ b. are_distinct names && not b) (sym (any_after above n names))
@@ -119,10 +116,6 @@ more_names-first new above n names added is_new h = by (is_plain_name n) h
     kept true false e w g = sym (append_assoc above (n ∷ []) names)
     kept false b e w g = cc
 
-    assoc : (a b c : Bool) → (a && (b && c)) ≡ ((a && b) && c)
-    assoc true b c = refl
-    assoc false b c = refl
-
     by : (p : Bool) → if_plain p (Ok (one n)) ≡ Ok (added, is_new)
         → if_plain (p && list_all is_plain_name names) (if_new (new && are_new above (n ∷ names)) (above ++ n ∷ names)) ≡ more_names (new && is_new) added names
     by true g =
@@ -132,7 +125,7 @@ more_names-first new above n names added is_new h = by (is_plain_name n) h
         ap (λ t. if_plain (list_all is_plain_name names) (if_new (new && t) (above ++ n ∷ names))) (are_new-first above n names)
         ∙ ap (if_plain (list_all is_plain_name names)) (twice (new && (not (is_among above n) && are_new (insert_key same_name above n) names)) (above ++ n ∷ names) (insert_key same_name above n ++ names)
         (kept new (is_among above n) refl (are_new (insert_key same_name above n) names)))
-        ∙ ap (λ t. if_plain (list_all is_plain_name names) (if_new t (insert_key same_name above n ++ names))) (assoc new (not (is_among above n)) (are_new (insert_key same_name above n) names))
+        ∙ ap (λ t. if_plain (list_all is_plain_name names) (if_new t (insert_key same_name above n ++ names))) (sym (and_assoc new (not (is_among above n)) (are_new (insert_key same_name above n) names)))
         ∙ ap (λ (xs : List Name). more_names (new && not (is_among above n)) xs names) a
         ∙ ap (λ (t : Bool). more_names (new && t) added names) b
     by false g = cc

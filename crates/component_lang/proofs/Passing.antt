@@ -1,5 +1,5 @@
 -- Faults that a callee gave, handed on.
-use Rattle.std.proofs.Common.{◌≡◌, Bool, true, false, not, is_some, Option, Some, None, List, [], ◌∷◌, Result, Ok, Err, refl, ap, ◌∙◌}
+use Rattle.std.proofs.Common.{◌≡◌, Bool, true, false, not, is_some, Option, Some, None, List, [], ◌∷◌, Result, Ok, Err, refl, sym, ap, subst, ◌∙◌}
 use Rattle.std.specs.Prelude.{◌&&◌, if◌then◌else◌}
 use Rattle.std.specs.List.{list_any, list_all}
 use Rattle.text_rules.specs.Expected.{IsExpectedFault}
@@ -16,6 +16,10 @@ pub fault-passed : {B D : Type 0} (o : Option LangFault) (one : Result B LangFau
     → IsExpectedFault o one → ((what : LangFault) → one ≡ Err what → whole ≡ Err what) → IsExpectedFault o whole
 fault-passed (Some what) one whole h more = more what h
 fault-passed None one whole h more = tt
+
+-- a fault of what is expected under another name
+pub fault-same : {B : Type 0} (o : Option LangFault) (one whole : Result B LangFault) → IsExpectedFault o one → whole ≡ one → IsExpectedFault o whole
+fault-same o one whole h e = subst (IsExpectedFault o) (sym e) h
 
 any_among_none : (names : List Name) → list_any (is_among []) names ≡ false
 any_among_none [] = refl

@@ -3,7 +3,7 @@ use Rattle.std.proofs.Common.{◌≡◌, ℕ, zero, suc, ◌+◌, ◌*◌, ◌%�
 use Rattle.std.specs.Prelude.{◌==◌, ◌||◌, if◌then◌else◌}
 use Rattle.std.specs.List.{list_all}
 use Rattle.std.proofs.Math.Pow.{pow_mono}
-use Rattle.std.proofs.lemmas.List.{length-map, take_more}
+use Rattle.std.proofs.lemmas.List.{length-map, length-take-le, map-append, take_more}
 use Rattle.std.proofs.lemmas.List.Folds.{list_all_more}
 use Rattle.std.specs.Int.{bit_at}
 use Rattle.std.specs.Int.Bits.{or_add_and}
@@ -51,18 +51,9 @@ is_one b = b == 49
 abbrev pub is_bit : ℕ → Bool
 is_bit b = (b == 48) || (b == 49)
 
-map-push : (word : List ℕ) (b : ℕ) → map is_one (word ++ b ∷ []) ≡ map is_one word ++ is_one b ∷ []
-map-push [] b = refl
-map-push (x ∷ word) b = ap (λ bs. is_one x ∷ bs) (map-push word b)
-
-length-front : (word : List ℕ) (i : ℕ) → i < length word → length (take i word) ≡ i
-length-front [] i l = absurd (omega arith)
-length-front (x ∷ word) zero l = refl
-length-front (x ∷ word) (suc i) l = ap suc (length-front word i (omega arith))
-
 row_in-push : (word : List ℕ) (b : ℕ) → row_in (word ++ b ∷ []) ≡ row_in word + number_of_bit (is_one b) * 2 ^ length word
 row_in-push word b =
-    ap row_number (map-push word b) ∙ row_number-push (map is_one word) (is_one b)
+    ap row_number (map-append is_one word (b ∷ [])) ∙ row_number-push (map is_one word) (is_one b)
     ∙ ap (λ n. row_in word + number_of_bit (is_one b) * 2 ^ n) (length-map word is_one)
 
 pub row_in-fits : (word : List ℕ) → row_in word < 2 ^ length word
@@ -71,7 +62,7 @@ row_in-fits word = let fits = row_number-fits (map is_one word) in let same = le
 row_in-more : (word : List ℕ) (i b : ℕ) → i < length word → get_or word i 0 ≡ b → row_in (take (i + 1) word) ≡ row_in (take i word) + number_of_bit (is_one b) * 2 ^ i
 row_in-more word i b l e =
     ap row_in (take_more word i 0 l) ∙ row_in-push (take i word) (get_or word i 0)
-    ∙ ap (λ n. row_in (take i word) + number_of_bit (is_one (get_or word i 0)) * 2 ^ n) (length-front word i l)
+    ∙ ap (λ n. row_in (take i word) + number_of_bit (is_one (get_or word i 0)) * 2 ^ n) (length-take-le i word (omega arith))
     ∙ ap (λ n. row_in (take i word) + number_of_bit (is_one n) * 2 ^ i) e
 
 pub row-zero : (word : List ℕ) (i row : ℕ) → i < length word → get_or word i 0 ≡ 48 → row ≡ row_in (take i word) → row ≡ row_in (take (i + 1) word)
@@ -87,7 +78,7 @@ bits-more word i b l e is before = list_all_more is_bit word i 0 l ∙ and_from 
 pub row-room : (word : List ℕ) (i row : ℕ) → i < length word → i < 6 → row ≡ row_in (take i word) → row + 1 * 2 ^ i % 18446744073709551616 < 64
 row-room word i row l few h =
     let fits = row_in-fits (take i word) in
-    let size = length-front word i l in
+    let size = length-take-le i word (omega arith) in
     let within : i ≤ 5 = omega arith in
     let most : 2 ^ i ≤ 2 ^ 5 = pow_mono {i = i} {j = 5} within in
     let same = ap (λ n. 2 ^ n) size in

@@ -21,6 +21,7 @@ abbrev pub tested : List (Bool × LangFault) → Reader → Result Reader LangFa
 tested [] reader = Ok reader
 tested (t ∷ tests) reader = if t.0 then tested tests reader else Err t.1
 
+-- a reader whose next line stands in another section
 abbrev pub at : Reader → Section → Reader
 at reader section = record reader { section = section }
 
@@ -30,11 +31,13 @@ at reader section = record reader { section = section }
 abbrev pub is_new : Reader → Name → List Name → Bool
 is_new reader name ports = not (is_some (kind_named reader name)) && are_distinct ports
 
+-- `type NAME PORT ..`
 abbrev pub type_line : Reader → Name → List Name → Result Reader LangFault
 type_line reader name ports =
     tested ((list_all is_plain_name (name ∷ ports), NoName) ∷ (is_new reader name ports, Twice) ∷ (has_few_ports (length ports), Ports) ∷ [])
     (at reader (InType (record { name = name; ports = length ports; ok = 0; bad = None })))
 
+-- `block NAME PORT ..`
 abbrev pub block_line : Reader → Name → List Name → Result Reader LangFault
 block_line reader name ports =
     tested ((list_all is_plain_name (name ∷ ports), NoName) ∷ (is_new reader name ports, Twice) ∷ [])
@@ -47,9 +50,11 @@ top_of_kind reader (Some (OfShape place)) = Err Unknown
 top_of_kind reader (Some (Gate kind)) = Err Unknown
 top_of_kind reader None = Err Unknown
 
+-- `top NAME`
 abbrev pub top_line : Reader → Name → Result Reader LangFault
 top_line reader name = if is_plain_name name then top_of_kind reader (kind_named reader name) else Err NoName
 
+-- a line by its words
 abbrev pub outside : Reader → List (List ℕ) → Result Reader LangFault
 outside reader (word ∷ name ∷ []) =
     if same_name word (codes "top") then top_line reader name
@@ -64,16 +69,19 @@ outside reader line = Err NotHere
 
 -- ---- in a type
 
+-- `ok ROW`
 abbrev pub ok_line : Reader → OpenType → List ℕ → Result Reader LangFault
 ok_line reader open_type row =
     tested ((is_row open_type.ports row, Row) ∷ [])
     (at reader (InType (record open_type { ok = with_row open_type.ok (row_in row) })))
 
+-- `bad ROW`
 abbrev pub bad_line : Reader → OpenType → List ℕ → Result Reader LangFault
 bad_line reader open_type row =
     tested ((is_row open_type.ports row, Row) ∷ [])
     (at reader (InType (record open_type { bad = Some (with_row (unwrap_or open_type.bad 0) (row_in row)) })))
 
+-- a line by its words, of which `end` closes the type
 abbrev pub in_type : Reader → OpenType → List (List ℕ) → Result Reader LangFault
 in_type reader open_type (word ∷ []) =
     if same_name word (codes "end") then Ok (record reader { types = reader.types ++ shape_of open_type ∷ []; section = Outside })
@@ -90,6 +98,7 @@ in_type reader open_type line = Err NotHere
 abbrev pub are_new : List Name → List Name → Bool
 are_new above names = are_distinct names && not (list_any (is_among above) names)
 
+-- `wire NAME ..`
 abbrev pub wire_line : Reader → Block → List Name → Result Reader LangFault
 wire_line reader block names =
     tested ((list_all is_plain_name names, NoName) ∷ (are_new block.wires names, Twice) ∷ [])
@@ -106,10 +115,12 @@ part_of reader name (Some kind) None = Err Unknown
 part_of reader name (Some kind) (Some places) =
     if takes_args reader.types reader.blocks kind (length places) then Ok (record { name = name; kind = kind; args = places }) else Err Ports
 
+-- a block with one part more
 abbrev pub with_part : Reader → Block → Result Used LangFault → Result Reader LangFault
 with_part reader block (Ok part) = Ok (at reader (InBlock (record block { parts = block.parts ++ part ∷ [] })))
 with_part reader block (Err what) = Err what
 
+-- `part NAME KIND WIRE ..`
 abbrev pub part_line : Reader → Block → Name → Name → List Name → Result Reader LangFault
 part_line reader block name kind args =
     if list_all is_plain_name (name ∷ kind ∷ args) then
@@ -117,6 +128,7 @@ part_line reader block name kind args =
     else with_part reader block (part_of reader name (kind_named reader kind) (places_in block.wires args)))
     else Err NoName
 
+-- a line by its words, of which `end` closes the block
 abbrev pub in_block : Reader → Block → List (List ℕ) → Result Reader LangFault
 in_block reader block (word ∷ []) =
     if same_name word (codes "end") then Ok (record reader { blocks = reader.blocks ++ block ∷ []; section = Outside })
@@ -131,6 +143,7 @@ in_block reader block line = Err NotHere
 
 -- ---- any line
 
+-- nothing may follow the top
 abbrev pub at_section : Reader → Section → List (List ℕ) → Result Reader LangFault
 at_section reader Outside line = outside reader line
 at_section reader (InType open_type) line = in_type reader open_type line
@@ -142,5 +155,6 @@ abbrev pub after_words : Reader → List (List ℕ) → Result Reader LangFault
 after_words reader [] = Ok reader
 after_words reader (w ∷ ws) = at_section reader reader.section (w ∷ ws)
 
+-- what was read after a line
 abbrev pub after_line : Reader → List ℕ → Result Reader LangFault
 after_line reader line = after_words reader (words (uncommented line))

@@ -20,26 +20,30 @@ pub record Design : Type 0 where
 abbrev pub is_plain_name : Name → Bool
 is_plain_name word = is_short_name word && not (list_any (λ b. b == 46) word)
 
-abbrev pub are_none : List Name → Bool
-are_none [] = true
-are_none (name ∷ names) = false
+-- a list without names
+abbrev pub is_empty : List Name → Bool
+is_empty [] = true
+is_empty (name ∷ names) = false
 
 -- no name stands twice
 abbrev pub are_distinct : List Name → Bool
-are_distinct names = are_none (repeated names)
+are_distinct names = is_empty (repeated names)
 
+-- the names of parts
 abbrev pub used_names : List Used → List Name
 used_names parts = map (λ (u : Used). u.name) parts
 
--- whether a kind takes so many arguments, of which a gate's last is its output
+-- a type takes as many arguments as it has ports
 abbrev pub shape_takes : Option Shape → ℕ → Bool
 shape_takes None args = false
 shape_takes (Some shape) args = shape.table.ports == args
 
+-- and so does a block
 abbrev pub block_takes : Option Block → ℕ → Bool
 block_takes None args = false
 block_takes (Some block) args = block.ports == args
 
+-- whether a kind takes so many arguments, of which a gate's last is its output
 abbrev pub takes_args : List Shape → List Block → UsedKind → ℕ → Bool
 takes_args types blocks (Gate kind) args = takes kind (args - 1)
 takes_args types blocks (OfShape place) args = shape_takes (slice_get types place) args
@@ -63,5 +67,6 @@ abbrev pub are_blocks : List Shape → List Block → List Block → Bool
 are_blocks types above [] = true
 are_blocks types above (block ∷ blocks) = is_block types above block && are_blocks types (above ++ block ∷ []) blocks
 
+-- what holds of every design
 abbrev pub is_design : Design → Bool
 is_design design = are_blocks design.types [] design.blocks && nat_lt design.top (length design.blocks)

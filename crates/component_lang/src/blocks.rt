@@ -30,7 +30,7 @@ pub struct OpenBlock<'a> {
     ghost few: { length wires.keys ≤ TEXT_LIMIT },
 }
 
-// The places of a part's arguments, if each is a wire. The name of the part, that of its kind and they have to be names.
+// The places of a part's arguments, if each of them is a wire. First they, the part and its kind all have to be names.
 fn part_places<'a>(
     alloc: Global,
     wires: &IndexSet<&'a [u8]>,
@@ -59,7 +59,12 @@ impl<'a> OpenBlock<'a> {
     /// A block without parts, whose wires are its ports.
     pub fn new(alloc: Global, name: &'a [u8], ports: IndexSet<&'a [u8]>) -> Self
         requires { length ports.keys ≤ TEXT_LIMIT }
-        ensures { block_in result ≡ record { name = name.now; ports = length (names_in ports.entry); wires = names_in ports.entry; parts = [] } }
+        ensures { block_in result ≡ record {
+          name = name.now;
+          ports = length (names_in ports.entry);
+          wires = names_in ports.entry;
+          parts = [];
+        } }
     {
         OpenBlock {
             name,
@@ -105,8 +110,8 @@ impl<'a> OpenBlock<'a> {
         if !self.part_names.insert(name)? {
             return Err(LineError::Fault(LangFault::Twice));
         }
-        self.parts
-            .push(library.part_of(alloc, name, kind, places)?)?;
+        let part = library.part_of(alloc, name, kind, places)?;
+        self.parts.push(part)?;
         Ok(self)
     }
 

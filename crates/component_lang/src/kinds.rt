@@ -119,7 +119,8 @@ impl<'a> Library<'a> {
     ) -> Result<Used, LineError>
         requires { is_plain_name name.now ≡ true }
         ensures { Fulfils (λ part. part) fault_told
-            (part_of (library_in self.now) name.now (kind_named (library_in self.now) kind.now) (option_map (λ v. v.items) places)) result }
+            (part_of (library_in self.now) name.now (kind_named (library_in self.now) kind.now)
+            (option_map (λ v. v.items) places)) result }
     {
         let Some(kind) = self.kind_named(kind) else {
             return Err(LineError::Fault(LangFault::Unknown));

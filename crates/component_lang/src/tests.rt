@@ -17,7 +17,7 @@ fn fault_of(rt: &impl Abort, alloc: Global, text: &str) -> Result<(u32, LangFaul
 
 const PAIR: &str = "type T p q # two ports\nok 00\nok 11\nbad 01\nend\n
 type U p\nok 1\nend\nblock M a b\nwire c\npart u NOT a c\npart v T c b\nend
-block N x\npart m M x x\npart w U x\nend\ntop N\n# behind\n";
+block N x\npart m M x x\npart w U x\nend\ntop N\n# after\n";
 
 #[test]
 fn reads_types_and_blocks(rt: HostRuntime) -> Result<(), Fail> {

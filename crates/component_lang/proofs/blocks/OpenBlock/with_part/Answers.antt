@@ -26,12 +26,12 @@ returns-then-not-branch c =
     let taken = inserted-among c.args.self.part_names.keys c.args.name (used_names c.args.self.parts.items) {old = true} c.args.self.parts_named c.in_ok-insert.ensures.added c.if-not-branch.true in
     part-named (library_in c.args.library.now) (block_in c.args.self) c.args.name.now c.args.kind.now (tokens_left c.args.args) true _ c.in_ok-places.ensures taken
 
-pub returns-in_err-part_of : goal.returns-in_err-part_of
-returns-in_err-part_of c =
-    let p = err_from_is_err_and c.from_residual-in_err-part_of.result c.from_residual-in_err-part_of.ensures.1 in
+pub returns-in_err-part : goal.returns-in_err-part
+returns-in_err-part c =
+    let p = err_from_is_err_and c.from_residual-in_err-part.result c.from_residual-in_err-part.ensures.1 in
     let reader = library_in c.args.library.now in
     let new = inserted-among c.args.self.part_names.keys c.args.name (used_names c.args.self.parts.items) {old = false} c.args.self.parts_named c.in_ok-insert.ensures.added c.if-not-branch.false in
-    rw (p.1, p.2) (fault-passed _ _ (part_line reader (block_in c.args.self) c.args.name.now c.args.kind.now (tokens_left c.args.args)) c.in_err-part_of.ensures
+    rw (p.1, p.2) (fault-passed _ _ (part_line reader (block_in c.args.self) c.args.name.now c.args.kind.now (tokens_left c.args.args)) c.in_err-part.ensures
     (λ what h. part-named reader (block_in c.args.self) c.args.name.now c.args.kind.now (tokens_left c.args.args) false _ c.in_ok-places.ensures new
     ∙ ap (with_part reader (block_in c.args.self)) h))
 
@@ -40,14 +40,14 @@ invariant_of-self-clause-parts_named c =
     let new = inserted-among c.args.self.part_names.keys c.args.name (used_names c.args.self.parts.items) {old = false} c.args.self.parts_named c.in_ok-insert.ensures.added c.if-not-branch.false in
     let reader = library_in c.args.library.now in
     let places = option_map (λ (v : Vec ℕ Global). v.items) c.in_ok-places.places in
-    let named = part_of-name reader c.args.name.now (kind_named reader c.args.kind.now) places c.in_ok-part_of.field-0 c.in_ok-part_of.ensures in
+    let named = part_of-name reader c.args.name.now (kind_named reader c.args.kind.now) places c.in_ok-part.part c.in_ok-part.ensures in
     keys-more (λ (u : Used). u.name) c.args.self.part_names.keys c.insert.new.self.keys c.args.name c.args.self.parts.items c.push.new.self.items
-    c.in_ok-part_of.field-0 c.args.self.parts_named c.in_ok-insert.ensures.keys new named c.in_ok-push.ensures.items
+    c.in_ok-part.part c.args.self.parts_named c.in_ok-insert.ensures.keys new named c.in_ok-push.ensures.items
 
 pub returns : goal.returns
 returns c =
     let reader = library_in c.args.library.now in
     let new = inserted-among c.args.self.part_names.keys c.args.name (used_names c.args.self.parts.items) {old = false} c.args.self.parts_named c.in_ok-insert.ensures.added c.if-not-branch.false in
     part-named reader (block_in c.args.self) c.args.name.now c.args.kind.now (tokens_left c.args.args) false _ c.in_ok-places.ensures new
-    ∙ ap (with_part reader (block_in c.args.self)) c.in_ok-part_of.ensures
+    ∙ ap (with_part reader (block_in c.args.self)) c.in_ok-part.ensures
     ∙ ap (λ ps. Ok (at reader (InBlock (record (block_in c.args.self) { parts = ps })))) (sym c.in_ok-push.ensures.items)

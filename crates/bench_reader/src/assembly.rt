@@ -59,13 +59,10 @@ fn part_of(
 {
     let Statement::Gate {
         output,
-        kind,
+        kind: NamedKind::Combinational(kind),
         inputs,
     } = *statement
     else {
-        return Ok(None);
-    };
-    let NamedKind::Combinational(kind) = kind else {
         return Ok(None);
     };
     let name = Name::new(alloc, output)?;

@@ -29,6 +29,7 @@ pub enum Statement<'a> {
 }
 
 /// The inputs of a gate: what stands in its line behind the output, the equals sign, the kind and the opening bracket.
+/// The line is cut again wherever they are read, so that a line takes no memory of its own.
 #[derive(Clone, Copy)]
 pub struct Inputs<'a> {
     line: &'a [u8],

@@ -14,7 +14,7 @@ use Rattle.component_lang.specs.declared.design.Block.{Block}
 use Rattle.component_lang.specs.Designs.{is_used, is_block, are_blocks}
 use Rattle.flattener.specs.declared.counting.Counts.{Counts}
 use Rattle.flattener.specs.Flat.{below, saturated}
-use Rattle.flattener.specs.Counting.{no_counts, longest_of, counts_of_wires, added, counts_of_part, below_name, counts_of_instance, counts_of_kind, counts_of_used, counts_of_block}
+use Rattle.flattener.specs.inner.Counting.{no_counts, longest_of, counts_of_wires, added, counts_of_part, below_name, counts_of_instance, counts_of_kind, counts_of_used, counts_of_block}
 use Rattle.flattener.proofs.Naming.{Plain, AllSome, AllSome-append, AllSome-below, AllSome-right, AllSome-plain, lift, lift-some, lift-none, longest-append, longest-below}
 use Rattle.flattener.proofs.Relative.{Which, Parts, Wires, Instances, Inner, no_names, wires_only, own_names, part_named, instance_named, kind_names, names_used, names_in, GoodUsed-from_test, GoodBlock-from_test}
 use Rattle.flattener.proofs.Values.{values-both}
@@ -160,7 +160,7 @@ module _ (counts : List Counts) (inners : List Inner) (h : (j : ℕ) → Counted
       let some = AllSome-right (take block.ports block.wires) own (subst AllSome (sym (take-append-drop block.ports block.wires)) (AllSome-plain block.wires b.plain)) in
       Counted-all types above (length block.wires) block.parts (counts_of_wires own) (own_names block) b.used (Counted-wires own some)
 
-pub blocks-saturated : (types : List Shape) (blocks : List Block) → are_blocks types [] blocks ≡ true
+pub blocks-counted : (types : List Shape) (blocks : List Block) → are_blocks types [] blocks ≡ true
     → (j : ℕ) → Counted (get_or (values counts_of_block blocks) j no_counts) (get_or (values names_in blocks) j no_names)
-blocks-saturated types blocks good j =
+blocks-counted types blocks good j =
     values-both types counts_of_block names_in no_counts no_names Counted Counted-none (λ above block cs inners g h. Counted-block cs inners h types above block g) blocks good j

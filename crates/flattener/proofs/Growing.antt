@@ -6,33 +6,31 @@ use Rattle.std.proofs.lemmas.Bool.{and_parts, and_from, ltb-true, lt-ltb, le-ltb
 use Rattle.std.proofs.lemmas.List.{append_assoc, append-nil, map-append, length-append, length-map, length-drop, take-append-drop, drop_more, take_more, take_all, get_or_default, get_or_append_left, get_or-append-add, get_or-append_right, get_or-map, get_or-take, length-take-le}
 use Rattle.std.proofs.lemmas.List.Concat.{flat_map-append}
 use Rattle.std.proofs.lemmas.Option.{slice_get_past}
+use Rattle.std.proofs.lemmas.Simd.{map-map}
 use Rattle.text_rules.specs.Names.{Name}
 use Rattle.ranking.specs.Values.{values}
+use Rattle.ranking.proofs.Values.{values-at, values-before}
 use Rattle.device_model.specs.declared.component.Kind.{Kind}
 use Rattle.device_model.specs.declared.component.Kind.TheVariants.{Table}
 use Rattle.device_model.specs.declared.component.Component.{Component}
+use Rattle.device_model.specs.declared.limits.TheConstants.{WIRE_LIMIT, NAME_LIMIT}
 use Rattle.device_model.specs.Devices.{has_wires}
+use Rattle.device_model.specs.Building.{NamedPart}
 use Rattle.component_lang.specs.declared.design.UsedKind.{UsedKind}
 use Rattle.component_lang.specs.declared.design.UsedKind.TheVariants.{Gate, Shape as OfShape, Block as OfBlock}
 use Rattle.component_lang.specs.declared.design.Used.{Used}
 use Rattle.component_lang.specs.declared.design.Shape.{Shape}
 use Rattle.component_lang.specs.declared.design.Block.{Block}
 use Rattle.component_lang.specs.Designs.{Design, is_design, are_blocks, block_takes, is_used, takes_args}
-use Rattle.flattener.specs.Flat.{FlatPart, Content, Instance, nothing, below, one_part, content_of, used_content, instance}
-use Rattle.flattener.specs.Expanding.{Grows, wire_at, shown, are_joined, are_within, position_of, are_short, paths_of, prefix_of, behind}
-use Rattle.flattener.proofs.Lists.{all_at, all_parts, all_both, map_same, map-map}
+use Rattle.flattener.specs.Flat.{Content, Instance, nothing, below, one_part, kind_content, used_content, instance}
+use Rattle.flattener.specs.inner.Expanding.{CanExpand, Grows, wire_at, shown, are_joined, are_within, position_of, instance_at, are_short, paths_of, prefix_of, behind}
+use Rattle.flattener.proofs.Lists.{all_at, all_parts, all_both, map_same}
 use Rattle.flattener.proofs.Naming.{map-behind}
-use Rattle.ranking.proofs.Values.{values-at, values-before}
 use Rattle.flattener.proofs.Values.{block_among}
 use Rattle.flattener.proofs.Relative.{Which, Parts, Wires, Instances, own_names, names_of, names-instance, GoodUsed, GoodUsed-from_test, GoodBlock, GoodBlock-from_test}
 
 abbrev pub no_block : Block
 no_block = record { name = []; ports = 0; wires = []; parts = [] }
-
--- what an instance has of its first parts
-abbrev pub so_far : List Block → ℕ → ℕ → Instance
-so_far blocks place count =
-    let block = get_or blocks place no_block in instance (record block { parts = take count block.parts }) (values instance blocks)
 
 -- ---- wires are only added
 
@@ -48,7 +46,7 @@ wires_stay wires more ps h = map_same (λ p. nat_lt p (length wires)) (wire_at (
 shown_stay : (wires more : List Name) (parts : List Component) → are_joined wires parts ≡ true → map (shown (wires ++ more)) parts ≡ map (shown wires) parts
 shown_stay wires more parts h =
     map_same (has_wires (length wires)) (shown (wires ++ more)) (shown wires)
-    (λ part t. ap (λ (ws : List Name). record { path = part.name; kind = part.kind; wires = ws }) (wires_stay wires more part.ports t)) parts h
+    (λ part t. ap (λ (ws : List Name). record { name = part.name; kind = part.kind; wires = ws }) (wires_stay wires more part.ports t)) parts h
 
 joined_stay : (wires more : List Name) (parts : List Component) → are_joined wires parts ≡ true → are_joined (wires ++ more) parts ≡ true
 joined_stay wires more [] h = refl
@@ -133,7 +131,7 @@ module _ (old own more : List Name) (passed : List ℕ) (within : are_within (le
 -- ---- short paths
 
 abbrev pub is_short : Name → Bool
-is_short name = nat_le (length name) 255
+is_short name = nat_le (length name) NAME_LIMIT
 
 pub short_each : (c : Content) → are_short (paths_of c) ≡ true → (which : Which) → are_short (names_of which c) ≡ true
 short_each c h which = by which
@@ -153,12 +151,12 @@ pub short_all : (c : Content) → ((which : Which) → are_short (names_of which
 short_all c h = all_both is_short (names_of Parts c) (c.wires ++ c.instances) (h Parts) (all_both is_short c.wires c.instances (h Wires) (h Instances))
 
 -- the path of a part of a block is one of its paths
-name_short : (above : List Instance) (kind : UsedKind) (path : Name) (passed : List Name) → ((which : Which) → are_short (names_of which (content_of above kind path passed)) ≡ true) → length path ≤ 255
-name_short above (Gate kind) path passed h = leb-true (length path) 255 (and_parts (is_short path) true (h Parts)).0
-name_short above (OfShape shape) path passed h = leb-true (length path) 255 (and_parts (is_short path) true (h Parts)).0
-name_short above (OfBlock inner) path passed h = leb-true (length path) 255 (and_parts (is_short path) (are_short (get_or above inner nothing path passed).instances) (h Instances)).0
+name_short : (above : List Instance) (kind : UsedKind) (path : Name) (passed : List Name) → ((which : Which) → are_short (names_of which (kind_content above kind path passed)) ≡ true) → length path ≤ NAME_LIMIT
+name_short above (Gate kind) path passed h = leb-true (length path) NAME_LIMIT (and_parts (is_short path) true (h Parts)).0
+name_short above (OfShape shape) path passed h = leb-true (length path) NAME_LIMIT (and_parts (is_short path) true (h Parts)).0
+name_short above (OfBlock inner) path passed h = leb-true (length path) NAME_LIMIT (and_parts (is_short path) (are_short (get_or above inner nothing path passed).instances) (h Instances)).0
 
-short_inside : (above : List Instance) (inner : ℕ) (path : Name) (passed : List Name) → ((which : Which) → are_short (names_of which (content_of above (OfBlock inner) path passed)) ≡ true)
+short_inside : (above : List Instance) (inner : ℕ) (path : Name) (passed : List Name) → ((which : Which) → are_short (names_of which (kind_content above (OfBlock inner) path passed)) ≡ true)
     → are_short (paths_of (get_or above inner nothing path passed)) ≡ true
 short_inside above inner path passed h =
     short_all (get_or above inner nothing path passed) by
@@ -181,25 +179,23 @@ no_block_takes args h = cc
 pub ports_there : (blocks : List Block) (place : ℕ) → place < length blocks → slice_index (map (λ (b : Block). b.ports) blocks) place ≡ (get_or blocks place no_block).ports
 ports_there blocks place l = get_or-map (λ (b : Block). b.ports) blocks place no_block 0 l
 
-module _ (types : List Shape) (blocks : List Block) (good : are_blocks types [] blocks ≡ true) (place : ℕ) (within : place < length blocks) where
-  abbrev pub block_there : Block
-  block_there = get_or blocks place no_block
+-- a block before another, which has so many ports
+pub record IsBefore (blocks : List Block) (place inner ports : ℕ) : Type 0 where
+  pub before : inner < place
+  pub takes : ports ≡ (get_or blocks inner no_block).ports
 
+module _ (types : List Shape) (blocks : List Block) (good : are_blocks types [] blocks ≡ true) (place : ℕ) (within : place < length blocks) where
   pub good_block : GoodBlock types (take place blocks) (get_or blocks place no_block)
   good_block = GoodBlock-from_test types (take place blocks) (get_or blocks place no_block) (block_among types [] blocks place no_block good within)
 
-  pub record Before (inner args : ℕ) : Type 0 where
-    pub before : inner < place
-    pub ports : args ≡ (get_or blocks inner no_block).ports
-
-  pub before : (inner args : ℕ) → block_takes (slice_get (take place blocks) inner) args ≡ true → Before inner args
+  pub before : (inner args : ℕ) → block_takes (slice_get (take place blocks) inner) args ≡ true → IsBefore blocks place inner args
   before inner args h = elim (cases_lt inner place) [
     | inl l ↦ (
         let long = length-take-le place blocks (omega arith) in
         let at = got (take place blocks) inner (omega arith) in
         let there = get_or-take place blocks inner no_block l in
         let same = ap (λ o. block_takes o args) (at ∙ ap (λ (b : Block). Some b) there) in
-        record { before = l; ports = sym (eqb-true (get_or blocks inner no_block).ports args (sym same ∙ h)) })
+        record { before = l; takes = sym (eqb-true (get_or blocks inner no_block).ports args (sym same ∙ h)) })
     | inr m ↦ (
         let long = length-take-le place blocks (omega arith) in
         let past = slice_get_past (take place blocks) inner (omega arith) in
@@ -208,7 +204,7 @@ module _ (types : List Shape) (blocks : List Block) (good : are_blocks types [] 
 
   -- a block is made of the blocks before it, and so of all
   kind-fixed : (kind : UsedKind) (args : ℕ) (path : Name) (passed : List Name) → takes_args types (take place blocks) kind args ≡ true
-      → content_of (values instance (take place blocks)) kind path passed ≡ content_of (values instance blocks) kind path passed
+      → kind_content (values instance (take place blocks)) kind path passed ≡ kind_content (values instance blocks) kind path passed
   kind-fixed (Gate kind) args path passed h = refl
   kind-fixed (OfShape shape) args path passed h = refl
   kind-fixed (OfBlock inner) args path passed h =
@@ -237,224 +233,7 @@ module _ (types : List Shape) (blocks : List Block) (good : are_blocks types [] 
         instances = flat_map (λ (c : Content). c.instances) (same i);
       })
 
-  -- ---- an instance that is being expanded
-
-  module _ (path : Name) (old : List Name) (passed : List ℕ) where
-    abbrev pub names : List Name
-    names = map (wire_at old) passed
-
-    abbrev pub own : List Name
-    own = map (below path) (drop (get_or blocks place no_block).ports (get_or blocks place no_block).wires)
-
-    abbrev pub content : Used → Content
-    content = used_content (values instance blocks) path (names ++ own)
-
-    abbrev pub whole : Content
-    whole = instance (get_or blocks place no_block) (values instance blocks) path names
-
-    -- what a part adds to the parts before it
-    module _ (i : ℕ) (used : Used) (l : i < length (get_or blocks place no_block).parts) (there : used ≡ get_or (get_or blocks place no_block).parts i used) where
-      abbrev done : List Used
-      done = take i (get_or blocks place no_block).parts
-
-      abbrev left : List Used
-      left = drop (i + 1) (get_or blocks place no_block).parts
-
-      one_more : take (i + 1) (get_or blocks place no_block).parts ≡ done ++ used ∷ []
-      one_more = take_more (get_or blocks place no_block).parts i used l ∙ ap (λ (u : Used). done ++ u ∷ []) (sym there)
-
-      cut : (get_or blocks place no_block).parts ≡ done ++ (used ∷ left)
-      cut = sym (take-append-drop i (get_or blocks place no_block).parts) ∙ ap (λ us. done ++ us) (drop_more (get_or blocks place no_block).parts i used l ∙ ap (λ (u : Used). u ∷ left) (sym there))
-
-      more : {A : Type 0} (f : Content → List A) → flat_map f (map content (take (i + 1) (get_or blocks place no_block).parts)) ≡ flat_map f (map content done) ++ f (content used)
-      more f = ap (λ us. flat_map f (map content us)) one_more ∙ ap (flat_map f) (map-append content done (used ∷ [])) ∙ flat_map-append f (map content done) (content used ∷ [])
-          ∙ ap (λ xs. flat_map f (map content done) ++ xs) (append-nil (f (content used)))
-
-      pub parts-more : (so_far blocks place (i + 1) path names).parts ≡ (so_far blocks place i path names).parts ++ (content used).parts
-      parts-more = more (λ (c : Content). c.parts)
-
-      pub wires-more : (so_far blocks place (i + 1) path names).wires ≡ (so_far blocks place i path names).wires ++ (content used).wires
-      wires-more = ap (λ ns. own ++ ns) (more (λ (c : Content). c.wires)) ∙ sym (append_assoc own (flat_map (λ (c : Content). c.wires) (map content done)) (content used).wires)
-
-      rest : {A : Type 0} (f : Content → List A) → flat_map f (map content (get_or blocks place no_block).parts) ≡ (flat_map f (map content done) ++ f (content used)) ++ flat_map f (map content left)
-      rest f = ap (λ us. flat_map f (map content us)) cut ∙ ap (flat_map f) (map-append content done (used ∷ left)) ∙ flat_map-append f (map content done) (content used ∷ map content left)
-          ∙ sym (append_assoc (flat_map f (map content done)) (f (content used)) (flat_map f (map content left)))
-
-      -- the wires of the parts up to this one are some of all
-      pub few-wires : length (so_far blocks place i path names).wires + length (content used).wires ≤ length whole.wires
-      few-wires =
-          let f = λ (c : Content). c.wires in
-          let a = flat_map f (map content done) in
-          let b = (content used).wires in
-          let c = flat_map f (map content left) in
-          let e = ap length (ap (λ ns. own ++ ns) (rest f)) ∙ length-append own ((a ++ b) ++ c) in
-          let g = length-append (a ++ b) c in
-          let h = length-append a b in
-          let k = length-append own a in
-          omega arith
-
-      -- its paths are short where all are
-      pub short-used : (which : Which) → are_short (names_of which whole) ≡ true → are_short (names_of which (content used)) ≡ true
-      short-used which h =
-          let g = λ (u : Used). names_of which (content u) in
-          let block = get_or blocks place no_block in
-          let split = names-instance which block (values instance blocks) path names in
-          let outer = map (below path) (own_names block which) in
-          let all = ap are_short (sym split) ∙ h in
-          let inner = (all_parts is_short outer (flat_map g block.parts) all).1 in
-          let pieces = ap (flat_map g) cut ∙ flat_map-append g done (used ∷ left) in
-          let two = (all_parts is_short (flat_map g done) (flat_map g (used ∷ left)) (ap are_short (sym pieces) ∙ inner)).1 in
-          (all_parts is_short (g used) (flat_map g left) two).0
-
-      good_used : GoodUsed types (take place blocks) (length (get_or blocks place no_block).wires) used
-      good_used = GoodUsed-from_test types (take place blocks) (length (get_or blocks place no_block).wires) used
-          (ap (is_used types (take place blocks) (length (get_or blocks place no_block).wires)) there
-          ∙ all_at (is_used types (take place blocks) (length (get_or blocks place no_block).wires)) (get_or blocks place no_block).parts i used l good_block.used)
-
-      module _ (within_old : are_within (length old) passed ≡ true) (ports : length passed ≡ (get_or blocks place no_block).ports)
-          (few : length old + length whole.wires ≤ 16384) (short : are_short (paths_of whole) ≡ true) where
-        own_many : length passed + length own ≡ length (get_or blocks place no_block).wires
-        own_many =
-            let block = get_or blocks place no_block in
-            let e = length-map (drop block.ports block.wires) (below path) in
-            let f = length-drop block.ports block.wires in
-            let g = good_block.ports_first in
-            omega arith
-
-        own_few : length own ≤ 16384
-        own_few =
-            let e = length-append own (flat_map (λ (c : Content). c.wires) (map content (get_or blocks place no_block).parts)) in
-            omega arith
-
-        args_good : are_within (length passed + length own) used.args ≡ true
-        args_good = ap (λ n. are_within n used.args) own_many ∙ good_used.within
-
-        pub args_few : are_within (length passed + 16384) used.args ≡ true
-        args_few = within_more (length passed + length own) (length passed + 16384) used.args (let e = own_few in omega arith) args_good
-
-        pub path_short : length (below path used.name) ≤ 255
-        path_short = name_short (values instance blocks) used.kind (below path used.name) (map (wire_at (names ++ own)) used.args)
-            (λ which. short-used which (short_each whole short which))
-
-        module _ (old_parts parts : List Component) (wires : List Name) (grown : Grows old_parts old (so_far blocks place i path names) parts wires) where
-          pub ports_named : map (wire_at wires) (map (position_of passed (length old)) used.args) ≡ map (wire_at (names ++ own)) used.args
-          ports_named =
-              ap (λ (ws : List Name). map (wire_at ws) (map (position_of passed (length old)) used.args)) grown.wires_grow
-              ∙ positions-named old own (flat_map (λ (c : Content). c.wires) (map content done)) passed within_old used.args args_good
-
-          pub ports_within : are_within (length wires) (map (position_of passed (length old)) used.args) ≡ true
-          ports_within =
-              ap (λ (ws : List Name). are_within (length ws) (map (position_of passed (length old)) used.args)) grown.wires_grow
-              ∙ positions-within old own (flat_map (λ (c : Content). c.wires) (map content done)) passed within_old used.args args_good
-
-          pub few_used : length wires + length (content used).wires ≤ 16384
-          few_used =
-              let e = ap length grown.wires_grow in
-              let f = length-append old (so_far blocks place i path names).wires in
-              let g = few-wires in
-              omega arith
-
-          -- behind a gate or a part of a type
-          part_grows : (kind : Kind) (more_parts : List Component) → content used ≡ one_part (below path used.name) kind (map (wire_at (names ++ own)) used.args)
-              → more_parts ≡ parts ++ record { name = below path used.name; kind = kind; ports = map (position_of passed (length old)) used.args } ∷ []
-              → Grows old_parts old (so_far blocks place (i + 1) path names) more_parts wires
-          part_grows kind more_parts e is =
-              let ports_now = map (position_of passed (length old)) used.args in
-              let c = one_part (below path used.name) kind (map (wire_at wires) ports_now) in
-              let same : content used ≡ c = e ∙ ap (one_part (below path used.name) kind) (sym ports_named) in
-              let last = Grows-part parts wires (below path used.name) kind ports_now grown.joined ports_within in
-              let P : List Component → Type 0 = λ ps. Grows old_parts old (so_far blocks place (i + 1) path names) ps wires in
-              subst P (sym is) (Grows-more old_parts old (so_far blocks place i path names) parts wires c _ wires (so_far blocks place (i + 1) path names) grown last
-              (wires-more ∙ ap (λ (d : Content). (so_far blocks place i path names).wires ++ d.wires) same)
-              (parts-more ∙ ap (λ (d : Content). (so_far blocks place i path names).parts ++ d.parts) same))
-
-          as_kind : (kind : UsedKind) → used.kind ≡ kind → content used ≡ content_of (values instance blocks) kind (below path used.name) (map (wire_at (names ++ own)) used.args)
-          as_kind kind e = ap (λ (k : UsedKind). content_of (values instance blocks) k (below path used.name) (map (wire_at (names ++ own)) used.args)) e
-
-          pub gate_grows : (kind : Kind) (more_parts : List Component) → used.kind ≡ Gate kind
-              → more_parts ≡ parts ++ record { name = below path used.name; kind = kind; ports = map (position_of passed (length old)) used.args } ∷ []
-              → Grows old_parts old (so_far blocks place (i + 1) path names) more_parts wires
-          gate_grows kind more_parts e is = part_grows kind more_parts (as_kind (Gate kind) e) is
-
-          pub type_grows : (shape : ℕ) (more_parts : List Component) → used.kind ≡ OfShape shape
-              → more_parts ≡ parts ++ record { name = below path used.name; kind = Table shape; ports = map (position_of passed (length old)) used.args } ∷ []
-              → Grows old_parts old (so_far blocks place (i + 1) path names) more_parts wires
-          type_grows shape more_parts e is = part_grows (Table shape) more_parts (as_kind (OfShape shape) e) is
-
-          -- behind an instance of a block
-          module _ (inner : ℕ) (kind_is : used.kind ≡ OfBlock inner) where
-            pub inner_content : Content
-            inner_content = get_or (values instance blocks) inner nothing (below path used.name) (map (wire_at (names ++ own)) used.args)
-
-            as_content : content used ≡ content_of (values instance blocks) (OfBlock inner) (below path used.name) (map (wire_at (names ++ own)) used.args)
-            as_content = as_kind (OfBlock inner) kind_is
-
-            pub inner_before : Before inner (length used.args)
-            inner_before = before inner (length used.args) (ap (λ (k : UsedKind). takes_args types (take place blocks) k (length used.args)) (sym kind_is) ∙ good_used.takes)
-
-            pub inner_within : inner < length blocks
-            inner_within = let b = inner_before.before in omega arith
-
-            module _ (ports_now : List ℕ) (ports_are : ports_now ≡ map (position_of passed (length old)) used.args) where
-              inner_is : get_or (values instance blocks) inner nothing (below path used.name) (map (wire_at wires) ports_now)
-                  ≡ get_or (values instance blocks) inner nothing (below path used.name) (map (wire_at (names ++ own)) used.args)
-              inner_is = ap (get_or (values instance blocks) inner nothing (below path used.name)) (ap (map (wire_at wires)) ports_are ∙ ports_named)
-
-              pub inner_ports : length ports_now ≡ slice_index (map (λ (b : Block). b.ports) blocks) inner
-              inner_ports = ap length ports_are ∙ length-map used.args (position_of passed (length old)) ∙ inner_before.ports ∙ sym (ports_there blocks inner inner_within)
-
-              pub ports_inside : are_within (length wires) ports_now ≡ true
-              ports_inside = ap (are_within (length wires)) ports_are ∙ ports_within
-
-              pub few_inner : length wires + length (get_or (values instance blocks) inner nothing (below path used.name) (map (wire_at wires) ports_now)).wires ≤ 16384
-              few_inner =
-                  let e = ap (λ (c : Content). length c.wires) inner_is in
-                  let f = ap (λ (c : Content). length c.wires) as_content in
-                  let g = few_used in
-                  omega arith
-
-              pub short_inner : are_short (paths_of (get_or (values instance blocks) inner nothing (below path used.name) (map (wire_at wires) ports_now))) ≡ true
-              short_inner =
-                  ap (λ (c : Content). are_short (paths_of c)) inner_is
-                  ∙ short_inside (values instance blocks) inner (below path used.name) (map (wire_at (names ++ own)) used.args)
-                  (λ which. ap (λ (c : Content). are_short (names_of which c)) (sym as_content) ∙ short-used which (short_each whole short which))
-
-              pub instance_grows : (more_parts : List Component) (more_wires : List Name)
-                  → Grows parts wires (get_or (values instance blocks) inner nothing (below path used.name) (map (wire_at wires) ports_now)) more_parts more_wires
-                  → Grows old_parts old (so_far blocks place (i + 1) path names) more_parts more_wires
-              instance_grows more_parts more_wires h =
-                  let c = get_or (values instance blocks) inner nothing (below path used.name) (map (wire_at wires) ports_now) in
-                  Grows-more old_parts old (so_far blocks place i path names) parts wires c more_parts more_wires (so_far blocks place (i + 1) path names) grown h
-                  (wires-more ∙ ap (λ (ns : List Name). (so_far blocks place i path names).wires ++ ns) (ap (λ (d : Content). d.wires) as_content ∙ ap (λ (d : Content). d.wires) (sym inner_is)))
-                  (parts-more ∙ ap (λ (ns : List FlatPart). (so_far blocks place i path names).parts ++ ns) (ap (λ (d : Content). d.parts) as_content ∙ ap (λ (d : Content). d.parts) (sym inner_is)))
-
-    -- before the parts
-    pub own_short : are_short (paths_of whole) ≡ true → are_short own ≡ true
-    own_short h = (all_parts is_short own (flat_map (λ (c : Content). c.wires) (map content (get_or blocks place no_block).parts)) (short_each whole h Wires)).0
-
-    pub start_grows : (parts : List Component) (wires added : List Name) → are_joined old parts ≡ true → wires ≡ old ++ added → added ≡ own → Grows parts old (so_far blocks place 0 path names) parts wires
-    start_grows parts wires added h g f =
-        let e = g ∙ ap (λ ns. old ++ ns) f in
-        let P : List Name → Type 0 = λ ws. Grows parts old (so_far blocks place 0 path names) parts ws in
-        subst P (sym e) (record {
-          wires_grow = ap (λ ns. old ++ ns) (sym (append-nil own));
-          parts_grow = shown_stay old own parts h ∙ sym (append-nil (map (shown old) parts));
-          joined = joined_stay old own parts h;
-        })
-
-    -- and behind all of them
-    pub all_grow : (old_parts parts : List Component) (wires : List Name) (i : ℕ) → length (get_or blocks place no_block).parts ≤ i
-        → Grows old_parts old (so_far blocks place i path names) parts wires → Grows old_parts old (get_or (values instance blocks) place nothing path names) parts wires
-    all_grow old_parts parts wires i l h =
-        let block = get_or blocks place no_block in
-        let e : so_far blocks place i path names ≡ whole = ap (λ (us : List Used). instance (record block { parts = us }) (values instance blocks) path names) (take_all i block.parts l) in
-        let P : Content → Type 0 = λ c. Grows old_parts old c parts wires in
-        subst P (e ∙ sym (fixed path names)) h
-
--- ---- what the code reads
-
-pub at_block : (blocks bs : List Block) (place : ℕ) (block : Block) → block ≡ get_or bs place block → bs ≡ blocks → place < length blocks → block ≡ get_or blocks place no_block
-at_block blocks bs place block h e l = h ∙ ap (λ (cs : List Block). get_or cs place block) e ∙ get_or_default blocks place block no_block l
+-- ---- an instance that is being expanded
 
 pub good_blocks : (design : Design) → is_design design ≡ true → are_blocks design.types [] design.blocks ≡ true
 good_blocks design h = (and_parts (are_blocks design.types [] design.blocks) (nat_lt design.top (length design.blocks)) h).0
@@ -462,32 +241,267 @@ good_blocks design h = (and_parts (are_blocks design.types [] design.blocks) (na
 pub top_within : (design : Design) → is_design design ≡ true → design.top < length design.blocks
 top_within design h = ltb-true design.top (length design.blocks) (and_parts (are_blocks design.types [] design.blocks) (nat_lt design.top (length design.blocks)) h).1
 
--- what stands before an instance is expanded
-pub record Asked (blocks : List Block) (place : ℕ) (path : Name) (old : List Name) (passed : List ℕ) : Type 0 where
-  pub ports : length passed ≡ (get_or blocks place no_block).ports
-  pub few : length old + length (instance (get_or blocks place no_block) (values instance blocks) path (map (wire_at old) passed)).wires ≤ 16384
-  pub short : are_short (paths_of (instance (get_or blocks place no_block) (values instance blocks) path (map (wire_at old) passed))) ≡ true
+abbrev pub block_at : Design → ℕ → Block
+block_at design place = get_or design.blocks place no_block
 
-pub asked : (types : List Shape) (blocks : List Block) (good : are_blocks types [] blocks ≡ true) (place : ℕ) (within : place < length blocks) (path : Name) (old : List Name) (passed : List ℕ)
-    → length passed ≡ slice_index (map (λ (b : Block). b.ports) blocks) place
-    → length old + length (get_or (values instance blocks) place nothing path (map (wire_at old) passed)).wires ≤ 16384
-    → are_short (paths_of (get_or (values instance blocks) place nothing path (map (wire_at old) passed))) ≡ true
-    → Asked blocks place path old passed
-asked types blocks good place within path old passed ports few short =
-    let e = fixed types blocks good place within path (map (wire_at old) passed) in
-    record {
-      ports = ports ∙ ports_there blocks place within;
-      few = (let f = ap (λ (c : Content). length c.wires) e in omega arith);
-      short = ap (λ (c : Content). are_short (paths_of c)) (sym e) ∙ short;
-    }
+-- what an instance has of its first parts
+abbrev pub so_far : Design → ℕ → ℕ → Instance
+so_far design place count =
+    let block = block_at design place in instance (record block { parts = take count block.parts }) (values instance design.blocks)
 
-pub at_used : (blocks : List Block) (place : ℕ) (block : Block) (items : List Used) (i : ℕ) (used : Used) → block ≡ get_or blocks place no_block → items ≡ block.parts
-    → used ≡ get_or items i used → used ≡ get_or (get_or blocks place no_block).parts i used
-at_used blocks place block items i used b e h = h ∙ ap (λ (us : List Used). get_or us i used) (e ∙ ap (λ (b : Block). b.parts) b)
+-- the part at a place of a block's list
+pub record IsPart (design : Design) (place i : ℕ) (used : Used) : Type 0 where
+  pub inside : i < length (block_at design place).parts
+  pub is : used ≡ get_or (block_at design place).parts i used
 
-pub many_used : (blocks : List Block) (place : ℕ) (block : Block) (items : List Used) → block ≡ get_or blocks place no_block → items ≡ block.parts
-    → length items ≡ length (get_or blocks place no_block).parts
-many_used blocks place block items b e = ap length (e ∙ ap (λ (b : Block). b.parts) b)
+module _ {design : Design} {place : ℕ} {path : Name} {passed : List ℕ} {old : List Name} (can : CanExpand design place path passed old) where
+  good : are_blocks design.types [] design.blocks ≡ true
+  good = good_blocks design can.valid
+
+  good_here : GoodBlock design.types (take place design.blocks) (block_at design place)
+  good_here = good_block design.types design.blocks good place can.there
+
+  abbrev names : List Name
+  names = map (wire_at old) passed
+
+  abbrev own : List Name
+  own = map (below path) (drop (block_at design place).ports (block_at design place).wires)
+
+  abbrev content : Used → Content
+  content = used_content (values instance design.blocks) path (names ++ own)
+
+  abbrev whole : Content
+  whole = instance (block_at design place) (values instance design.blocks) path names
+
+  whole_is : instance_at design place path names ≡ whole
+  whole_is = fixed design.types design.blocks good place can.there path names
+
+  ports_first : length passed ≡ (block_at design place).ports
+  ports_first = can.ports ∙ ports_there design.blocks place can.there
+
+  few_whole : length old + length whole.wires ≤ WIRE_LIMIT
+  few_whole = let e = ap (λ (c : Content). length c.wires) whole_is in let f = can.few in omega arith
+
+  short_whole : are_short (paths_of whole) ≡ true
+  short_whole = ap (λ (c : Content). are_short (paths_of c)) (sym whole_is) ∙ can.short
+
+  own_many : length passed + length own ≡ length (block_at design place).wires
+  own_many =
+      let block = block_at design place in
+      let e = length-map (drop block.ports block.wires) (below path) in
+      let f = length-drop block.ports block.wires in
+      let g = good_here.ports_first in
+      let h = ports_first in
+      omega arith
+
+  own_few : length own ≤ WIRE_LIMIT
+  own_few =
+      let e = length-append own (flat_map (λ (c : Content). c.wires) (map content (block_at design place).parts)) in
+      let f = few_whole in
+      omega arith
+
+  -- ---- what the code reads
+
+  pub block_read : {blocks : List Block} {block : Block} → blocks ≡ design.blocks → block ≡ get_or blocks place block → block ≡ block_at design place
+  block_read {blocks = blocks} {block = block} e h =
+      h ∙ ap (λ (cs : List Block). get_or cs place block) e ∙ get_or_default design.blocks place block no_block can.there
+
+  pub part_read : {block : Block} {items : List Used} {i : ℕ} {used : Used} → block ≡ block_at design place → items ≡ block.parts → i < length items → used ≡ get_or items i used
+      → IsPart design place i used
+  part_read {block = block} {items = items} {i = i} {used = used} b e l h =
+      let same : items ≡ (block_at design place).parts = e ∙ ap (λ (b : Block). b.parts) b in
+      record {
+        inside = (let many = ap length same in omega arith);
+        is = h ∙ ap (λ (us : List Used). get_or us i used) same;
+      }
+
+  -- ---- before the parts
+
+  pub own_short : are_short own ≡ true
+  own_short = (all_parts is_short own (flat_map (λ (c : Content). c.wires) (map content (block_at design place).parts)) (short_each whole short_whole Wires)).0
+
+  pub start_grows : (parts : List Component) (wires added : List Name) → are_joined old parts ≡ true → wires ≡ old ++ added → added ≡ own → Grows parts old (so_far design place 0 path names) parts wires
+  start_grows parts wires added h g f =
+      let e = g ∙ ap (λ ns. old ++ ns) f in
+      let P : List Name → Type 0 = λ ws. Grows parts old (so_far design place 0 path names) parts ws in
+      subst P (sym e) (record {
+        wires_grow = ap (λ ns. old ++ ns) (sym (append-nil own));
+        parts_grow = shown_stay old own parts h ∙ sym (append-nil (map (shown old) parts));
+        joined = joined_stay old own parts h;
+      })
+
+  -- ---- behind all of them
+
+  pub all_grow : (old_parts parts : List Component) (wires : List Name) (i : ℕ) → length (block_at design place).parts ≤ i
+      → Grows old_parts old (so_far design place i path names) parts wires → Grows old_parts old (instance_at design place path names) parts wires
+  all_grow old_parts parts wires i l h =
+      let block = block_at design place in
+      let e : so_far design place i path names ≡ whole = ap (λ (us : List Used). instance (record block { parts = us }) (values instance design.blocks) path names) (take_all i block.parts l) in
+      let P : Content → Type 0 = λ c. Grows old_parts old c parts wires in
+      subst P (e ∙ sym whole_is) h
+
+  -- ---- what a part adds to the parts before it
+
+  module _ {i : ℕ} {used : Used} (part : IsPart design place i used) where
+    abbrev done : List Used
+    done = take i (block_at design place).parts
+
+    abbrev left : List Used
+    left = drop (i + 1) (block_at design place).parts
+
+    one_more : take (i + 1) (block_at design place).parts ≡ done ++ used ∷ []
+    one_more = take_more (block_at design place).parts i used part.inside ∙ ap (λ (u : Used). done ++ u ∷ []) (sym part.is)
+
+    cut : (block_at design place).parts ≡ done ++ (used ∷ left)
+    cut = sym (take-append-drop i (block_at design place).parts) ∙ ap (λ us. done ++ us) (drop_more (block_at design place).parts i used part.inside ∙ ap (λ (u : Used). u ∷ left) (sym part.is))
+
+    more : {A : Type 0} (f : Content → List A) → flat_map f (map content (take (i + 1) (block_at design place).parts)) ≡ flat_map f (map content done) ++ f (content used)
+    more f = ap (λ us. flat_map f (map content us)) one_more ∙ ap (flat_map f) (map-append content done (used ∷ [])) ∙ flat_map-append f (map content done) (content used ∷ [])
+        ∙ ap (λ xs. flat_map f (map content done) ++ xs) (append-nil (f (content used)))
+
+    pub parts-more : (so_far design place (i + 1) path names).parts ≡ (so_far design place i path names).parts ++ (content used).parts
+    parts-more = more (λ (c : Content). c.parts)
+
+    pub wires-more : (so_far design place (i + 1) path names).wires ≡ (so_far design place i path names).wires ++ (content used).wires
+    wires-more = ap (λ ns. own ++ ns) (more (λ (c : Content). c.wires)) ∙ sym (append_assoc own (flat_map (λ (c : Content). c.wires) (map content done)) (content used).wires)
+
+    rest : {A : Type 0} (f : Content → List A) → flat_map f (map content (block_at design place).parts) ≡ (flat_map f (map content done) ++ f (content used)) ++ flat_map f (map content left)
+    rest f = ap (λ us. flat_map f (map content us)) cut ∙ ap (flat_map f) (map-append content done (used ∷ left)) ∙ flat_map-append f (map content done) (content used ∷ map content left)
+        ∙ sym (append_assoc (flat_map f (map content done)) (f (content used)) (flat_map f (map content left)))
+
+    -- the wires of the parts up to this one are some of all
+    pub few-wires : length (so_far design place i path names).wires + length (content used).wires ≤ length whole.wires
+    few-wires =
+        let f = λ (c : Content). c.wires in
+        let a = flat_map f (map content done) in
+        let b = (content used).wires in
+        let c = flat_map f (map content left) in
+        let e = ap length (ap (λ ns. own ++ ns) (rest f)) ∙ length-append own ((a ++ b) ++ c) in
+        let g = length-append (a ++ b) c in
+        let h = length-append a b in
+        let k = length-append own a in
+        omega arith
+
+    -- its paths are short where all are
+    pub short-used : (which : Which) → are_short (names_of which whole) ≡ true → are_short (names_of which (content used)) ≡ true
+    short-used which h =
+        let g = λ (u : Used). names_of which (content u) in
+        let block = block_at design place in
+        let split = names-instance which block (values instance design.blocks) path names in
+        let outer = map (below path) (own_names block which) in
+        let all = ap are_short (sym split) ∙ h in
+        let inner = (all_parts is_short outer (flat_map g block.parts) all).1 in
+        let pieces = ap (flat_map g) cut ∙ flat_map-append g done (used ∷ left) in
+        let two = (all_parts is_short (flat_map g done) (flat_map g (used ∷ left)) (ap are_short (sym pieces) ∙ inner)).1 in
+        (all_parts is_short (g used) (flat_map g left) two).0
+
+    good_used : GoodUsed design.types (take place design.blocks) (length (block_at design place).wires) used
+    good_used = GoodUsed-from_test design.types (take place design.blocks) (length (block_at design place).wires) used
+        (ap (is_used design.types (take place design.blocks) (length (block_at design place).wires)) part.is
+        ∙ all_at (is_used design.types (take place design.blocks) (length (block_at design place).wires)) (block_at design place).parts i used part.inside good_here.used)
+
+    args_good : are_within (length passed + length own) used.args ≡ true
+    args_good = ap (λ n. are_within n used.args) own_many ∙ good_used.within
+
+    pub args_few : are_within (length passed + WIRE_LIMIT) used.args ≡ true
+    args_few = within_more (length passed + length own) (length passed + WIRE_LIMIT) used.args (let e = own_few in omega arith) args_good
+
+    pub path_short : length (below path used.name) ≤ NAME_LIMIT
+    path_short = name_short (values instance design.blocks) used.kind (below path used.name) (map (wire_at (names ++ own)) used.args)
+        (λ which. short-used which (short_each whole short_whole which))
+
+    module _ {old_parts parts : List Component} {wires : List Name} (grown : Grows old_parts old (so_far design place i path names) parts wires) where
+      pub ports_named : map (wire_at wires) (map (position_of passed (length old)) used.args) ≡ map (wire_at (names ++ own)) used.args
+      ports_named =
+          ap (λ (ws : List Name). map (wire_at ws) (map (position_of passed (length old)) used.args)) grown.wires_grow
+          ∙ positions-named old own (flat_map (λ (c : Content). c.wires) (map content done)) passed can.within used.args args_good
+
+      pub ports_within : are_within (length wires) (map (position_of passed (length old)) used.args) ≡ true
+      ports_within =
+          ap (λ (ws : List Name). are_within (length ws) (map (position_of passed (length old)) used.args)) grown.wires_grow
+          ∙ positions-within old own (flat_map (λ (c : Content). c.wires) (map content done)) passed can.within used.args args_good
+
+      pub few_used : length wires + length (content used).wires ≤ WIRE_LIMIT
+      few_used =
+          let e = ap length grown.wires_grow in
+          let f = length-append old (so_far design place i path names).wires in
+          let g = few-wires in
+          let h = few_whole in
+          omega arith
+
+      -- behind a gate or a part of a type
+      part_grows : (kind : Kind) (more_parts : List Component) → content used ≡ one_part (below path used.name) kind (map (wire_at (names ++ own)) used.args)
+          → more_parts ≡ parts ++ record { name = below path used.name; kind = kind; ports = map (position_of passed (length old)) used.args } ∷ []
+          → Grows old_parts old (so_far design place (i + 1) path names) more_parts wires
+      part_grows kind more_parts e is =
+          let ports_now = map (position_of passed (length old)) used.args in
+          let c = one_part (below path used.name) kind (map (wire_at wires) ports_now) in
+          let same : content used ≡ c = e ∙ ap (one_part (below path used.name) kind) (sym ports_named) in
+          let last = Grows-part parts wires (below path used.name) kind ports_now grown.joined ports_within in
+          let P : List Component → Type 0 = λ ps. Grows old_parts old (so_far design place (i + 1) path names) ps wires in
+          subst P (sym is) (Grows-more old_parts old (so_far design place i path names) parts wires c _ wires (so_far design place (i + 1) path names) grown last
+          (wires-more ∙ ap (λ (d : Content). (so_far design place i path names).wires ++ d.wires) same)
+          (parts-more ∙ ap (λ (d : Content). (so_far design place i path names).parts ++ d.parts) same))
+
+      as_kind : (kind : UsedKind) → used.kind ≡ kind → content used ≡ kind_content (values instance design.blocks) kind (below path used.name) (map (wire_at (names ++ own)) used.args)
+      as_kind kind e = ap (λ (k : UsedKind). kind_content (values instance design.blocks) k (below path used.name) (map (wire_at (names ++ own)) used.args)) e
+
+      pub gate_grows : (kind : Kind) (more_parts : List Component) → used.kind ≡ Gate kind
+          → more_parts ≡ parts ++ record { name = below path used.name; kind = kind; ports = map (position_of passed (length old)) used.args } ∷ []
+          → Grows old_parts old (so_far design place (i + 1) path names) more_parts wires
+      gate_grows kind more_parts e is = part_grows kind more_parts (as_kind (Gate kind) e) is
+
+      pub type_grows : (shape : ℕ) (more_parts : List Component) → used.kind ≡ OfShape shape
+          → more_parts ≡ parts ++ record { name = below path used.name; kind = Table shape; ports = map (position_of passed (length old)) used.args } ∷ []
+          → Grows old_parts old (so_far design place (i + 1) path names) more_parts wires
+      type_grows shape more_parts e is = part_grows (Table shape) more_parts (as_kind (OfShape shape) e) is
+
+      -- behind an instance of a block
+      module _ {inner : ℕ} (kind_is : used.kind ≡ OfBlock inner) {path_now : Name} (path_is : path_now ≡ below path used.name)
+          {ports_now : List ℕ} (ports_are : ports_now ≡ map (position_of passed (length old)) used.args) where
+        inner_before : IsBefore design.blocks place inner (length used.args)
+        inner_before = before design.types design.blocks good place can.there inner (length used.args)
+            (ap (λ (k : UsedKind). takes_args design.types (take place design.blocks) k (length used.args)) (sym kind_is) ∙ good_used.takes)
+
+        inner_there : inner < length design.blocks
+        inner_there = let b = inner_before.before in let c = can.there in omega arith
+
+        -- what it has is the same wherever its wires stand
+        inner_is : instance_at design inner path_now (map (wire_at wires) ports_now) ≡ instance_at design inner (below path used.name) (map (wire_at (names ++ own)) used.args)
+        inner_is = λ k. instance_at design inner (path_is k) ((ap (map (wire_at wires)) ports_are ∙ ports_named) k)
+
+        as_content : content used ≡ kind_content (values instance design.blocks) (OfBlock inner) (below path used.name) (map (wire_at (names ++ own)) used.args)
+        as_content = as_kind (OfBlock inner) kind_is
+
+        pub before_here : inner < place
+        before_here = inner_before.before
+
+        -- so it can be expanded in its turn
+        pub CanExpand-inner : CanExpand design inner path_now ports_now wires
+        CanExpand-inner = record {
+          valid = can.valid;
+          there = inner_there;
+          ports = ap length ports_are ∙ length-map used.args (position_of passed (length old)) ∙ inner_before.takes ∙ sym (ports_there design.blocks inner inner_there);
+          within = ap (are_within (length wires)) ports_are ∙ ports_within;
+          few =
+              let e = ap (λ (c : Content). length c.wires) inner_is in
+              let f = ap (λ (c : Content). length c.wires) as_content in
+              let g = few_used in
+              omega arith;
+          short =
+              ap (λ (c : Content). are_short (paths_of c)) inner_is
+              ∙ short_inside (values instance design.blocks) inner (below path used.name) (map (wire_at (names ++ own)) used.args)
+              (λ which. ap (λ (c : Content). are_short (names_of which c)) (sym as_content) ∙ short-used which (short_each whole short_whole which));
+        }
+
+        pub instance_grows : {more_parts : List Component} {more_wires : List Name}
+            → Grows parts wires (instance_at design inner path_now (map (wire_at wires) ports_now)) more_parts more_wires
+            → Grows old_parts old (so_far design place (i + 1) path names) more_parts more_wires
+        instance_grows {more_parts = more_parts} {more_wires = more_wires} h =
+            let c = instance_at design inner path_now (map (wire_at wires) ports_now) in
+            Grows-more old_parts old (so_far design place i path names) parts wires c more_parts more_wires (so_far design place (i + 1) path names) grown h
+            (wires-more ∙ ap (λ (ns : List Name). (so_far design place i path names).wires ++ ns) (ap (λ (d : Content). d.wires) as_content ∙ ap (λ (d : Content). d.wires) (sym inner_is)))
+            (parts-more ∙ ap (λ (ns : List NamedPart). (so_far design place i path names).parts ++ ns) (ap (λ (d : Content). d.parts) as_content ∙ ap (λ (d : Content). d.parts) (sym inner_is)))
 
 -- the wires of an instance behind what was there, as the code writes them
 pub own_behind : (block there : Block) (path prefix : Name) (ns : List Name) → block ≡ there → prefix ≡ prefix_of path → ns ≡ drop block.ports block.wires

@@ -1,21 +1,13 @@
 -- Lists: tests of each item, items that differ, and names that are short.
-use Rattle.std.proofs.Common.{◌≡◌, ℕ, zero, suc, ◌+◌, ◌<◌, ◌≤◌, Bool, true, List, [], ◌∷◌, ◌++◌, map, length, get_or, refl, sym, ap, ◌∙◌, arith}
+use Rattle.std.proofs.Common.{◌≡◌, ℕ, zero, suc, ◌<◌, ◌≤◌, Bool, true, List, [], ◌∷◌, ◌++◌, map, length, get_or, refl, sym, ap, ◌∙◌, arith}
 use Rattle.std.specs.Prelude.{nat_le}
-use Rattle.std.specs.List.{list_all, flat_map, range_with_len}
+use Rattle.std.specs.List.{list_all, flat_map}
 use Rattle.std.proofs.lemmas.Bool.{leb-true, and_parts, and_from}
 use Rattle.std.proofs.lemmas.List.{map-append, length-map, get_or-map}
 use Rattle.std.proofs.lemmas.List.Folds.{list_all-append}
 use Rattle.text_rules.specs.Names.{Name}
-use Rattle.flattener.specs.Expanding.{are_short}
-
-pub range_from : (a n : ℕ) → range_with_len a (suc n) ≡ range_with_len a n ++ (a + n) ∷ []
-range_from a zero = let e : a ≡ a + 0 = omega arith in ap (λ (k : ℕ). k ∷ []) e
-range_from a (suc n) = let e : (a + 1) + n ≡ a + suc n = omega arith in
-    ap (λ ks. a ∷ ks) (range_from (a + 1) n) ∙ ap (λ (k : ℕ). a ∷ (range_with_len (a + 1) n ++ k ∷ [])) e
-
-pub range_more : (n : ℕ) → range_with_len 0 (n + 1) ≡ range_with_len 0 n ++ n ∷ []
-range_more n = let e : n + 1 ≡ suc n = omega arith in let z : 0 + n ≡ n = omega arith in
-    ap (range_with_len 0) e ∙ range_from 0 n ∙ ap (λ (k : ℕ). range_with_len 0 n ++ k ∷ []) z
+use Rattle.device_model.specs.declared.limits.TheConstants.{NAME_LIMIT}
+use Rattle.flattener.specs.inner.Expanding.{are_short}
 
 -- a test of each item, at a place
 pub all_at : {A : Type 0} (p : A → Bool) (xs : List A) (k : ℕ) (d : A) → k < length xs → list_all p xs ≡ true → p (get_or xs k d) ≡ true
@@ -29,10 +21,6 @@ all_parts p xs ys h = and_parts (list_all p xs) (list_all p ys) (sym (list_all-a
 pub all_both : {A : Type 0} (p : A → Bool) (xs ys : List A) → list_all p xs ≡ true → list_all p ys ≡ true → list_all p (xs ++ ys) ≡ true
 all_both p xs ys h g = list_all-append p xs ys ∙ and_from (list_all p xs) (list_all p ys) h g
 
-pub map-map : {A B C : Type 0} (f : B → C) (g : A → B) (xs : List A) → map f (map g xs) ≡ map (λ x. f (g x)) xs
-map-map f g [] = refl
-map-map f g (x ∷ xs) = λ i. f (g x) ∷ map-map f g xs i
-
 -- two functions that agree on the items that pass a test
 pub map_same : {A B : Type 0} (p : A → Bool) (f g : A → B) → ((x : A) → p x ≡ true → f x ≡ g x) → (xs : List A) → list_all p xs ≡ true → map f xs ≡ map g xs
 map_same p f g h [] a = refl
@@ -42,17 +30,13 @@ pub map-flat_map : {A B C : Type 0} (f : B → C) (g : A → List B) (xs : List 
 map-flat_map f g [] = refl
 map-flat_map f g (x ∷ xs) = map-append f (g x) (flat_map g xs) ∙ ap (λ ys. map f (g x) ++ ys) (map-flat_map f g xs)
 
-pub flat_map-map : {A B C : Type 0} (g : B → List C) (f : A → B) (xs : List A) → flat_map g (map f xs) ≡ flat_map (λ x. g (f x)) xs
-flat_map-map g f [] = refl
-flat_map-map g f (x ∷ xs) = ap (λ ys. g (f x) ++ ys) (flat_map-map g f xs)
-
 pub flat_map_same : {A B : Type 0} (p : A → Bool) (f g : A → List B) → ((x : A) → p x ≡ true → f x ≡ g x) → (xs : List A) → list_all p xs ≡ true → flat_map f xs ≡ flat_map g xs
 flat_map_same p f g h [] a = refl
 flat_map_same p f g h (x ∷ xs) a = let two = and_parts (p x) (list_all p xs) a in λ i. h x two.0 i ++ flat_map_same p f g h xs two.1 i
 
 -- a name among short ones is short
-pub short_at : (f : Name → Name) (names : List Name) (k : ℕ) (d n : Name) → k < length names → are_short (map f names) ≡ true → d ≡ get_or names k d → n ≡ d → length (f n) ≤ 255
+pub short_at : (f : Name → Name) (names : List Name) (k : ℕ) (d n : Name) → k < length names → are_short (map f names) ≡ true → d ≡ get_or names k d → n ≡ d → length (f n) ≤ NAME_LIMIT
 short_at f names k d n l h e g =
-    let t = all_at (λ (name : Name). nat_le (length name) 255) (map f names) k (f d) (omega (arith, length-map names f)) h in
+    let t = all_at (λ (name : Name). nat_le (length name) NAME_LIMIT) (map f names) k (f d) (omega (arith, length-map names f)) h in
     let there : get_or (map f names) k (f d) ≡ f n = get_or-map f names k d (f d) l ∙ ap f (sym e ∙ sym g) in
-    leb-true (length (f n)) 255 (ap (λ (name : Name). nat_le (length name) 255) (sym there) ∙ t)
+    leb-true (length (f n)) NAME_LIMIT (ap (λ (name : Name). nat_le (length name) NAME_LIMIT) (sym there) ∙ t)

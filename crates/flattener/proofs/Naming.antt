@@ -1,18 +1,18 @@
 -- Paths: a name in an instance, and names of which no two are the same.
 use Rattle.std.proofs.Common.{◌≡◌, ℕ, ◌+◌, ◌≤◌, ◌⊎◌, inl, inr, Bool, true, false, not, List, [], ◌∷◌, ◌++◌, map, length, refl, sym, ap, subst, ◌∙◌, arith}
-use Rattle.std.specs.Prelude.{◌&&◌, ◌||◌, ◌==◌, max, nat_eq, nat_le, if◌then◌else◌}
+use Rattle.std.specs.Prelude.{◌&&◌, ◌==◌, max, nat_eq, nat_le, if◌then◌else◌}
 use Rattle.std.specs.List.{list_all, list_any, flat_map}
-use Rattle.std.proofs.lemmas.Bool.{leb-true, and_parts, true≢false, ne_eqb, eq-eqb, cases_lt}
+use Rattle.std.proofs.lemmas.Bool.{leb-true, and_parts, or_parts, or_right, not-true, true≢false, ne_eqb, eq-eqb, cases_lt}
 use Rattle.std.proofs.lemmas.List.{append_assoc, append_cancel_left}
 use Rattle.std.proofs.lemmas.List.Folds.{list_any-append}
-use Rattle.text_rules.specs.Names.{Name, is_among, is_name, is_name_byte}
+use Rattle.text_rules.specs.Names.{Name, is_among, is_short_name, is_name_byte}
 use Rattle.device_model.specs.Building.{repeated}
 use Rattle.device_model.proofs.Ordered.{Among}
 use Rattle.device_model.proofs.Repeats.{is_among-among, among_from_test}
-use Rattle.component_lang.specs.Designs.{is_plain_name, has_repeated}
+use Rattle.component_lang.specs.Designs.{is_plain_name, is_empty, are_distinct}
 use Rattle.flattener.specs.Flat.{below}
-use Rattle.flattener.specs.Counting.{longest_of}
-use Rattle.flattener.specs.Expanding.{prefix_of, behind}
+use Rattle.flattener.specs.inner.Counting.{longest_of}
+use Rattle.flattener.specs.inner.Expanding.{prefix_of, behind}
 
 -- ---- names of blocks
 
@@ -22,16 +22,12 @@ pub record Plain (name : Name) : Type 0 where
   pub few : length name ≤ 64
   pub dotless : list_any (λ b. b == 46) name ≡ false
 
-not_true : (b : Bool) → not b ≡ true → b ≡ false
-not_true true h = cc
-not_true false h = refl
-
 pub Plain-from_test : (name : Name) → is_plain_name name ≡ true → Plain name
 Plain-from_test name h =
-    let two = and_parts (is_name 64 name) (not (list_any (λ b. b == 46) name)) h in
+    let two = and_parts (is_short_name name) (not (list_any (λ b. b == 46) name)) h in
     let sizes = and_parts (nat_le 1 (length name) && nat_le (length name) 64) (list_all is_name_byte name) two.0 in
     let both = and_parts (nat_le 1 (length name)) (nat_le (length name) 64) sizes.0 in
-    record { some = leb-true 1 (length name) both.0; few = leb-true (length name) 64 both.1; dotless = not_true _ two.1 }
+    record { some = leb-true 1 (length name) both.0; few = leb-true (length name) 64 both.1; dotless = not-true _ two.1 }
 
 -- ---- names below a path
 
@@ -67,11 +63,7 @@ below-same (b ∷ path) m n h = let e = append_cancel_left (b ∷ path) (46 ∷ 
 -- a name below another has a dot
 pub dot-below : (path name : Name) → 1 ≤ length path → list_any (λ b. b == 46) (below path name) ≡ true
 dot-below path name h =
-    ap (list_any (λ b. b == 46)) (below-some path name h) ∙ list_any-append (λ b. b == 46) path (46 ∷ name) ∙ or_true (list_any (λ b. b == 46) path)
-  where
-    or_true : (b : Bool) → (b || true) ≡ true
-    or_true true = refl
-    or_true false = refl
+    ap (list_any (λ b. b == 46)) (below-some path name h) ∙ list_any-append (λ b. b == 46) path (46 ∷ name) ∙ or_right (list_any (λ b. b == 46) path) true refl
 
 -- the bytes before the first dot
 abbrev pub head_of : Name → Name
@@ -79,11 +71,7 @@ head_of [] = []
 head_of (b ∷ name) = if b == 46 then [] else b ∷ head_of name
 
 not_first : (b : ℕ) (name : Name) → list_any (λ b. b == 46) (b ∷ name) ≡ false → (nat_eq b 46 ≡ false) × (list_any (λ b. b == 46) name ≡ false)
-not_first b name h = by (nat_eq b 46) (list_any (λ b. b == 46) name) h
-  where
-    by : (x y : Bool) → (x || y) ≡ false → (x ≡ false) × (y ≡ false)
-    by true y e = cc
-    by false y e = (refl, e)
+not_first b name h = or_parts (nat_eq b 46) (list_any (λ b. b == 46) name) h
 
 pub head_of-dotless : (name : Name) → list_any (λ b. b == 46) name ≡ false → head_of name ≡ name
 head_of-dotless [] h = refl
@@ -106,15 +94,21 @@ abbrev pub Different : List Name → Type 0
 Different [] = Unit {0}
 Different (n ∷ ns) = (Among n ns → ⊥) × Different ns
 
-or_parts : (a b : Bool) → (a || b) ≡ false → (a ≡ false) × (b ≡ false)
-or_parts true b h = cc
-or_parts false b h = (refl, h)
+none_of : (ns : List Name) → is_empty ns ≡ true → ns ≡ []
+none_of [] h = refl
+none_of (n ∷ ns) h = cc
 
-pub Different-from_test : (ns : List Name) → has_repeated ns ≡ false → Different ns
-Different-from_test [] h = tt
-Different-from_test (n ∷ ns) h =
-    let two = or_parts (is_among ns n) (has_repeated ns) h in
-    ((λ m. true≢false (sym (is_among-among n ns m) ∙ two.0)), Different-from_test ns two.1)
+Different-from_repeated : (ns : List Name) → repeated ns ≡ [] → Different ns
+Different-from_repeated [] h = tt
+Different-from_repeated (n ∷ ns) h =
+    let two = by (is_among ns n) h in ((λ m. true≢false (sym (is_among-among n ns m) ∙ two.0)), Different-from_repeated ns two.1)
+  where
+    by : (b : Bool) → (if b then n ∷ repeated ns else repeated ns) ≡ [] → (b ≡ false) × (repeated ns ≡ [])
+    by true e = cc
+    by false e = (refl, e)
+
+pub Different-from_test : (ns : List Name) → are_distinct ns ≡ true → Different ns
+Different-from_test ns h = Different-from_repeated ns (none_of (repeated ns) h)
 
 not_among : (n : Name) (ns : List Name) → (Among n ns → ⊥) → is_among ns n ≡ false
 not_among n ns h = by (is_among ns n) refl

@@ -1,19 +1,21 @@
 -- What an instance has, by names that do not say where it stands: the paths in an instance are these names below its path.
-use Rattle.std.proofs.Common.{◌≡◌, ℕ, ◌≤◌, Bool, true, false, List, [], ◌∷◌, ◌++◌, map, length, get_or, drop, refl, sym, ap, ◌∙◌}
-use Rattle.std.specs.Prelude.{◌&&◌, nat_lt, nat_le, not, slice_index_or}
+use Rattle.std.proofs.Common.{◌≡◌, ℕ, ◌≤◌, true, List, [], ◌∷◌, ◌++◌, map, length, get_or, drop, refl, sym, ap, ◌∙◌}
+use Rattle.std.specs.Prelude.{◌&&◌, nat_lt, nat_le, slice_index_or}
 use Rattle.std.specs.List.{flat_map, list_all}
 use Rattle.std.proofs.lemmas.Bool.{and_parts, leb-true}
 use Rattle.std.proofs.lemmas.List.{map-append}
+use Rattle.std.proofs.lemmas.List.Folds.{flat_map-map}
 use Rattle.text_rules.specs.Names.{Name}
 use Rattle.ranking.specs.Values.{values}
+use Rattle.device_model.specs.Building.{NamedPart}
 use Rattle.component_lang.specs.declared.design.UsedKind.{UsedKind}
 use Rattle.component_lang.specs.declared.design.UsedKind.TheVariants.{Gate, Shape as OfShape, Block as OfBlock}
 use Rattle.component_lang.specs.declared.design.Used.{Used}
 use Rattle.component_lang.specs.declared.design.Shape.{Shape}
 use Rattle.component_lang.specs.declared.design.Block.{Block}
-use Rattle.component_lang.specs.Designs.{is_plain_name, is_used, is_block, are_blocks, has_repeated, used_names, takes_args}
-use Rattle.flattener.specs.Flat.{FlatPart, Content, Instance, nothing, below, content_of, used_content, instance}
-use Rattle.flattener.proofs.Lists.{map-flat_map, flat_map-map, flat_map_same}
+use Rattle.component_lang.specs.Designs.{is_plain_name, is_used, is_block, are_blocks, are_distinct, used_names, takes_args}
+use Rattle.flattener.specs.Flat.{Content, Instance, nothing, below, kind_content, used_content, instance}
+use Rattle.flattener.proofs.Lists.{map-flat_map, flat_map_same}
 use Rattle.flattener.proofs.Naming.{Plain, Plain-from_test, below-below}
 use Rattle.flattener.proofs.Values.{values-both}
 
@@ -24,7 +26,7 @@ pub data Which : Type 0 where
   Instances : Which
 
 abbrev pub names_of : Which → Content → List Name
-names_of Parts content = map (λ (p : FlatPart). p.path) content.parts
+names_of Parts content = map (λ (p : NamedPart). p.name) content.parts
 names_of Wires content = content.wires
 names_of Instances content = content.instances
 
@@ -92,7 +94,7 @@ below-twice path name (n ∷ ns) h = λ i. below-below path name n h i ∷ below
 
 module _ (inners : List Inner) (mades : List Instance) (h : (j : ℕ) → Shows (get_or inners j no_names) (get_or mades j nothing)) (path : Name) where
   kind-shows : (which : Which) (name : Name) (kind : UsedKind) (passed : List Name) → 1 ≤ length name
-      → names_of which (content_of mades kind (below path name) passed) ≡ map (below path) (kind_names inners name kind which)
+      → names_of which (kind_content mades kind (below path name) passed) ≡ map (below path) (kind_names inners name kind which)
   kind-shows Parts name (Gate kind) passed l = refl
   kind-shows Wires name (Gate kind) passed l = refl
   kind-shows Instances name (Gate kind) passed l = refl
@@ -114,26 +116,22 @@ module _ (inners : List Inner) (mades : List Instance) (h : (j : ℕ) → Shows 
 -- what is known of a block
 pub record GoodBlock (types : List Shape) (above : List Block) (block : Block) : Type 0 where
   pub plain : list_all is_plain_name block.wires ≡ true
-  pub wires_differ : has_repeated block.wires ≡ false
+  pub wires_differ : are_distinct block.wires ≡ true
   pub ports_first : block.ports ≤ length block.wires
   pub used : list_all (is_used types above (length block.wires)) block.parts ≡ true
-  pub parts_differ : has_repeated (used_names block.parts) ≡ false
-
-not_true : (b : Bool) → not b ≡ true → b ≡ false
-not_true true h = cc
-not_true false h = refl
+  pub parts_differ : are_distinct (used_names block.parts) ≡ true
 
 pub GoodBlock-from_test : (types : List Shape) (above : List Block) (block : Block) → is_block types above block ≡ true → GoodBlock types above block
 GoodBlock-from_test types above block h =
     let plain = list_all is_plain_name block.wires in
-    let differ = not (has_repeated block.wires) in
+    let differ = are_distinct block.wires in
     let used = list_all (is_used types above (length block.wires)) block.parts in
-    let parts = not (has_repeated (used_names block.parts)) in
+    let parts = are_distinct (used_names block.parts) in
     let one = and_parts (plain && differ) (nat_le block.ports (length block.wires) && (used && parts)) h in
     let names = and_parts plain differ one.0 in
     let two = and_parts (nat_le block.ports (length block.wires)) (used && parts) one.1 in
     let three = and_parts used parts two.1 in
-    record { plain = names.0; wires_differ = not_true _ names.1; ports_first = leb-true block.ports (length block.wires) two.0; used = three.0; parts_differ = not_true _ three.1 }
+    record { plain = names.0; wires_differ = names.1; ports_first = leb-true block.ports (length block.wires) two.0; used = three.0; parts_differ = three.1 }
 
 -- what an instance has is its own wires and what its parts have
 pub names-instance : (which : Which) (block : Block) (mades : List Instance) (path : Name) (passed : List Name)
@@ -141,8 +139,8 @@ pub names-instance : (which : Which) (block : Block) (mades : List Instance) (pa
     ≡ map (below path) (own_names block which) ++ flat_map (λ used. names_of which (used_content mades path (passed ++ map (below path) (drop block.ports block.wires)) used)) block.parts
 names-instance Parts block mades path passed =
     let wires = passed ++ map (below path) (drop block.ports block.wires) in
-    map-flat_map (λ (p : FlatPart). p.path) (λ (c : Content). c.parts) (map (used_content mades path wires) block.parts)
-    ∙ flat_map-map (λ (c : Content). map (λ (p : FlatPart). p.path) c.parts) (used_content mades path wires) block.parts
+    map-flat_map (λ (p : NamedPart). p.name) (λ (c : Content). c.parts) (map (used_content mades path wires) block.parts)
+    ∙ flat_map-map (λ (c : Content). map (λ (p : NamedPart). p.name) c.parts) (used_content mades path wires) block.parts
 names-instance Wires block mades path passed =
     let own = map (below path) (drop block.ports block.wires) in
     ap (λ ns. own ++ ns) (flat_map-map (λ (c : Content). c.wires) (used_content mades path (passed ++ own)) block.parts)

@@ -3,22 +3,26 @@ use Rattle.std.proofs.Common.{◌≡◌, ℕ, zero, suc, ◌+◌, ◌≤◌, inl
 use Rattle.std.specs.Prelude.{max, nat_lt, nat_le, if◌then◌else◌}
 use Rattle.std.specs.List.{range_with_len}
 use Rattle.std.proofs.lemmas.Bool.{ltb-false, lt-ltb, le-ltb, le-leb, cases_lt, and_from}
+use Rattle.std.proofs.lemmas.List.FromFn.{length-range_with_len}
 use Rattle.std.proofs.lemmas.List.{append_assoc, take-append-drop, length-map, map-id, length-append, length-take-le}
 use Rattle.text_rules.specs.Names.{Name}
 use Rattle.ranking.specs.Values.{values}
 use Rattle.device_model.specs.declared.component.Component.{Component}
+use Rattle.device_model.specs.declared.limits.TheConstants.{PART_LIMIT, WIRE_LIMIT, NAME_LIMIT}
 use Rattle.device_model.specs.Devices.{Device}
+use Rattle.device_model.specs.Building.{NamedPart}
 use Rattle.component_lang.specs.declared.design.Block.{Block}
 use Rattle.component_lang.specs.Designs.{Design, is_design, are_blocks}
 use Rattle.flattener.specs.declared.counting.Counts.{Counts}
 use Rattle.flattener.specs.declared.flattening.FlattenError.{FlattenError}
 use Rattle.flattener.specs.declared.flattening.FlattenError.TheVariants.{TooManyParts, TooManyWires, TooManyBlocks, PathTooLong}
-use Rattle.flattener.specs.Flat.{FlatPart, Content, ports_of, top_ports, top_content, flat_wires, flat_device, longest_path, saturated, unless_over, flattened}
-use Rattle.flattener.specs.Counting.{no_counts, longest_of, counts_of_wires, counts_of_block, counts_of_design, refusal}
-use Rattle.flattener.specs.Expanding.{Grows, IsFlat, shown, wire_at, are_within, are_short, paths_of, instance_at, ports_at}
+use Rattle.flattener.specs.declared.flattening.TheConstants.{INSTANCE_LIMIT}
+use Rattle.flattener.specs.Flat.{Content, ports_of, top_ports, top_content, flat_wires, flat_device, longest_path, saturated, unless_over, flattened}
+use Rattle.flattener.specs.inner.Counting.{no_counts, longest_of, counts_of_wires, counts_of_block, counts_of_design, refusal}
+use Rattle.flattener.specs.inner.Expanding.{CanExpand, Grows, IsFlat, shown, wire_at, are_within, are_short, paths_of, instance_at, ports_at}
 use Rattle.flattener.proofs.Naming.{AllSome, AllSome-left, AllSome-plain, longest-append}
 use Rattle.flattener.proofs.Relative.{Which, Parts, Wires, Instances, names_of, Inner, no_names, wires_only, names_in, GoodBlock, instances-show}
-use Rattle.flattener.proofs.Counted.{Counted, longest_in, joined, Counted-wires, Counted-added, blocks-saturated}
+use Rattle.flattener.proofs.Counted.{Counted, longest_in, joined, Counted-wires, Counted-added, blocks-counted}
 use Rattle.flattener.proofs.Growing.{no_block, good_block, good_blocks, top_within, ports_there, got, short_all}
 
 -- ---- places from 0 on
@@ -47,10 +51,10 @@ wires_all names = wires_from [] names 0 refl
 -- ---- limits
 
 pub record Allowed (counts : Counts) : Type 0 where
-  pub parts : counts.parts ≤ 4096
-  pub wires : counts.wires ≤ 16384
-  pub instances : counts.instances ≤ 4096
-  pub longest : counts.longest ≤ 255
+  pub parts : counts.parts ≤ PART_LIMIT
+  pub wires : counts.wires ≤ WIRE_LIMIT
+  pub instances : counts.instances ≤ INSTANCE_LIMIT
+  pub longest : counts.longest ≤ NAME_LIMIT
 
 passes : (limit n : ℕ) (error : FlattenError) (otherwise : Option FlattenError) → (if nat_lt limit n then Some error else otherwise) ≡ None → (n ≤ limit) × (otherwise ≡ None)
 passes limit n error otherwise h = by (nat_lt limit n) refl h
@@ -61,45 +65,46 @@ passes limit n error otherwise h = by (nat_lt limit n) refl h
 
 pub Allowed-from_refusal : (counts : Counts) → refusal counts ≡ None → Allowed counts
 Allowed-from_refusal counts h =
-    let a = passes 4096 counts.parts (TooManyParts counts.parts) _ h in
-    let b = passes 16384 counts.wires (TooManyWires counts.wires) _ a.1 in
-    let c = passes 4096 counts.instances (TooManyBlocks counts.instances) _ b.1 in
-    let d = passes 255 counts.longest (PathTooLong counts.longest) _ c.1 in
+    let a = passes PART_LIMIT counts.parts (TooManyParts counts.parts) _ h in
+    let b = passes WIRE_LIMIT counts.wires (TooManyWires counts.wires) _ a.1 in
+    let c = passes INSTANCE_LIMIT counts.instances (TooManyBlocks counts.instances) _ b.1 in
+    let d = passes NAME_LIMIT counts.longest (PathTooLong counts.longest) _ c.1 in
     record { parts = a.0; wires = b.0; instances = c.0; longest = d.0 }
 
-abbrev pub answered : Device → Option FlattenError → Result Device FlattenError
-answered device None = Ok device
-answered device (Some error) = Err error
+-- a device, or why there is none
+abbrev pub unless_refused : Device → Option FlattenError → Result Device FlattenError
+unless_refused device None = Ok device
+unless_refused device (Some error) = Err error
 
-saturated_over : (limit n : ℕ) → limit ≤ 16384 → nat_lt limit (saturated n) ≡ nat_lt limit n
+saturated_over : (limit n : ℕ) → limit ≤ WIRE_LIMIT → nat_lt limit (saturated n) ≡ nat_lt limit n
 saturated_over limit n h = elim (cases_lt limit n) [
   | inl l ↦ lt-ltb limit (saturated n) (omega arith) ∙ sym (lt-ltb limit n l)
   | inr l ↦ le-ltb limit (saturated n) (omega arith) ∙ sym (le-ltb limit n l)
 ]
 
-one_limit : (device : Device) (limit n m : ℕ) (error : ℕ → FlattenError) (otherwise : Result Device FlattenError) (rest : Option FlattenError) → limit ≤ 16384 → m ≡ saturated n
-    → otherwise ≡ answered device rest → unless_over limit n error otherwise ≡ answered device (if nat_lt limit m then Some (error m) else rest)
+one_limit : (device : Device) (limit n m : ℕ) (error : ℕ → FlattenError) (otherwise : Result Device FlattenError) (rest : Option FlattenError) → limit ≤ WIRE_LIMIT → m ≡ saturated n
+    → otherwise ≡ unless_refused device rest → unless_over limit n error otherwise ≡ unless_refused device (if nat_lt limit m then Some (error m) else rest)
 one_limit device limit n m error otherwise rest h e g =
-    by (nat_lt limit n) ∙ ap (λ (b : Bool). answered device (if b then Some (error m) else rest)) (sym (ap (nat_lt limit) e ∙ saturated_over limit n h))
+    by (nat_lt limit n) ∙ ap (λ (b : Bool). unless_refused device (if b then Some (error m) else rest)) (sym (ap (nat_lt limit) e ∙ saturated_over limit n h))
   where
-    by : (b : Bool) → cond b (Err (error (saturated n))) otherwise ≡ answered device (cond b (Some (error m)) rest)
+    by : (b : Bool) → cond b (Err (error (saturated n))) otherwise ≡ unless_refused device (cond b (Some (error m)) rest)
     by true = ap (λ (k : ℕ). Err (error k)) (sym e)
     by false = g
 
 pub limits : (device : Device) (counts : Counts) (parts wires instances longest : ℕ) → counts.parts ≡ saturated parts → counts.wires ≡ saturated wires → counts.instances ≡ saturated instances → counts.longest ≡ saturated longest
-    → unless_over 4096 parts TooManyParts (unless_over 16384 wires TooManyWires (unless_over 4096 instances TooManyBlocks (unless_over 255 longest PathTooLong (Ok device))))
-    ≡ answered device (refusal counts)
+    → unless_over PART_LIMIT parts TooManyParts (unless_over WIRE_LIMIT wires TooManyWires (unless_over INSTANCE_LIMIT instances TooManyBlocks (unless_over NAME_LIMIT longest PathTooLong (Ok device))))
+    ≡ unless_refused device (refusal counts)
 limits device counts parts wires instances longest a b c d =
-    one_limit device 4096 parts counts.parts (λ n. TooManyParts n) _ _ (omega arith) a
-    (one_limit device 16384 wires counts.wires (λ n. TooManyWires n) _ _ (omega arith) b
-    (one_limit device 4096 instances counts.instances (λ n. TooManyBlocks n) _ _ (omega arith) c
-    (one_limit device 255 longest counts.longest (λ n. PathTooLong n) (Ok device) None (omega arith) d refl)))
+    one_limit device PART_LIMIT parts counts.parts (λ n. TooManyParts n) _ _ (omega arith) a
+    (one_limit device WIRE_LIMIT wires counts.wires (λ n. TooManyWires n) _ _ (omega arith) b
+    (one_limit device INSTANCE_LIMIT instances counts.instances (λ n. TooManyBlocks n) _ _ (omega arith) c
+    (one_limit device NAME_LIMIT longest counts.longest (λ n. PathTooLong n) (Ok device) None (omega arith) d refl)))
 
 -- ---- short paths
 
-short_from_longest : (names : List Name) → longest_of names ≤ 255 → are_short names ≡ true
+short_from_longest : (names : List Name) → longest_of names ≤ NAME_LIMIT → are_short names ≡ true
 short_from_longest [] h = refl
-short_from_longest (n ∷ names) h = and_from (nat_le (length n) 255) (are_short names) (le-leb (length n) 255 (omega arith)) (short_from_longest names (omega arith))
+short_from_longest (n ∷ names) h = and_from (nat_le (length n) NAME_LIMIT) (are_short names) (le-leb (length n) NAME_LIMIT (omega arith)) (short_from_longest names (omega arith))
 
 -- ---- the top
 
@@ -125,15 +130,15 @@ module _ (design : Design) (valid : is_design design ≡ true) where
   abbrev all : Inner
   all = joined (wires_only (top_ports design)) inner
 
-  top-saturated : Counted (counts_of_design design) all
+  top-counted : Counted (counts_of_design design) all
   top-counted =
       let block = get_or design.blocks design.top no_block in
       let some = AllSome-left (take block.ports block.wires) (drop block.ports block.wires) (subst AllSome (sym (take-append-drop block.ports block.wires)) (AllSome-plain block.wires top_good.plain)) in
       Counted-added (counts_of_wires (top_ports design)) (get_or (values counts_of_block design.blocks) design.top no_counts) (wires_only (top_ports design)) inner
-      (Counted-wires (top_ports design) (subst AllSome (sym top_ports-are) some)) (blocks-saturated design.types design.blocks good design.top)
+      (Counted-wires (top_ports design) (subst AllSome (sym top_ports-are) some)) (blocks-counted design.types design.blocks good design.top)
 
   pub many_parts : length (top_content design).parts ≡ length (inner Parts)
-  many_parts = sym (length-map (top_content design).parts (λ (p : FlatPart). p.path)) ∙ ap length (top-shows Parts)
+  many_parts = sym (length-map (top_content design).parts (λ (p : NamedPart). p.name)) ∙ ap length (top-shows Parts)
 
   pub wires_are : flat_wires design ≡ top_ports design ++ inner Wires
   wires_are = ap (λ ns. top_ports design ++ ns) (top-shows Wires)
@@ -145,7 +150,7 @@ module _ (design : Design) (valid : is_design design ≡ true) where
       ∙ ap (max (longest_of (inner Parts))) (longest-append (top_ports design ++ inner Wires) (inner Instances))
 
   -- The answer is the first limit that the counts pass, or the device.
-  pub flattened-by_counts : flattened design ≡ answered (flat_device design) (refusal (counts_of_design design))
+  pub flattened-by_counts : flattened design ≡ unless_refused (flat_device design) (refusal (counts_of_design design))
   flattened-by_counts =
       limits (flat_device design) (counts_of_design design) (length (top_content design).parts) (length (flat_wires design)) (length (top_content design).instances) (longest_path design)
       (top-counted.parts ∙ ap saturated (sym many_parts)) (top-counted.wires ∙ ap saturated (sym (ap length wires_are)))
@@ -155,13 +160,13 @@ module _ (design : Design) (valid : is_design design ≡ true) where
     allowed : Allowed (counts_of_design design)
     allowed = Allowed-from_refusal (counts_of_design design) passed
 
-    pub few_parts : length (top_content design).parts ≤ 4096
+    pub few_parts : length (top_content design).parts ≤ PART_LIMIT
     few_parts = let e = top-counted.parts in let f = allowed.parts in let g = many_parts in omega arith
 
-    pub few_wires : length (flat_wires design) ≤ 16384
+    pub few_wires : length (flat_wires design) ≤ WIRE_LIMIT
     few_wires = let e = top-counted.wires in let f = allowed.wires in let g = ap length wires_are in omega arith
 
-    longest_few : longest_in all ≤ 255
+    longest_few : longest_in all ≤ NAME_LIMIT
     longest_few = let e = top-counted.longest in let f = allowed.longest in omega arith
 
     pub top-short : are_short (paths_of (top_content design)) ≡ true
@@ -174,31 +179,43 @@ module _ (design : Design) (valid : is_design design ≡ true) where
 
   -- ---- the call that expands the top
 
-  module _ (passed_places : List ℕ) (are : passed_places ≡ range_with_len 0 (length (top_ports design))) where
-    pub ports_count : length passed_places ≡ ports_at design design.top
+  module _ (place : ℕ) (top_is : place ≡ design.top) (places : List ℕ) (places_are : places ≡ range_with_len 0 (length (top_ports design)))
+      (wires : List Name) (ports_are : wires ≡ top_ports design) where
+    ports_count : length places ≡ ports_at design place
     ports_count =
         let block = get_or design.blocks design.top no_block in
-        let e = ap length are in
-        let f = length-range 0 (length (top_ports design)) in
+        let e = ap length places_are in
+        let f = length-range_with_len 0 (length (top_ports design)) in
         let g = ap length top_ports-are in
         let h = length-take-le block.ports block.wires top_good.ports_first in
         let k = ports_there design.blocks design.top (top_within design valid) in
+        let there : ports_at design place ≡ ports_at design design.top = ap (ports_at design) top_is in
         omega arith
-      where
-        length-range : (a n : ℕ) → length (range_with_len a n) ≡ n
-        length-range a zero = refl
-        length-range a (suc n) = ap suc (length-range (a + 1) n)
 
-    pub places_within : are_within (length (top_ports design)) passed_places ≡ true
-    places_within = ap (are_within (length (top_ports design))) are ∙ range_within 0 (length (top_ports design)) (length (top_ports design)) (omega arith)
+    content_is : instance_at design place [] (map (wire_at wires) places) ≡ top_content design
+    content_is =
+        (λ i. instance_at design (top_is i) [] (map (wire_at (ports_are i)) (places_are i)))
+        ∙ ap (instance_at design design.top []) (wires_all (top_ports design))
 
-    pub content_is : (wires : List Name) → wires ≡ top_ports design → instance_at design design.top [] (map (wire_at wires) passed_places) ≡ top_content design
-    content_is wires e = ap (instance_at design design.top []) ((λ i. map (wire_at (e i)) (are i)) ∙ wires_all (top_ports design))
+    pub CanExpand-top : refusal (counts_of_design design) ≡ None → CanExpand design place [] places wires
+    CanExpand-top passed = record {
+      valid = valid;
+      there = (let e = top_within design valid in omega arith);
+      ports = ports_count;
+      within = (λ i. are_within (length (ports_are i)) (places_are i)) ∙ range_within 0 (length (top_ports design)) (length (top_ports design)) (omega arith);
+      few =
+          let e = ap (λ (c : Content). length c.wires) content_is in
+          let f = ap length ports_are in
+          let g = length-append (top_ports design) (top_content design).wires in
+          let h = few_wires passed in
+          omega arith;
+      short = ap (λ (c : Content). are_short (paths_of c)) content_is ∙ top-short passed;
+    }
 
-  pub IsFlat-from_Grows : (old : List Component) (ports : List Name) (content : Content) (parts : List Component) (wires : List Name) → old ≡ [] → ports ≡ top_ports design → content ≡ top_content design
-      → Grows old ports content parts wires → IsFlat design parts wires
-  IsFlat-from_Grows old ports content parts wires none e is h = record {
-    wires_are = h.wires_grow ∙ (λ i. e i ++ (is i).wires);
-    parts_are = h.parts_grow ∙ (λ i. map (shown (e i)) (none i) ++ (is i).parts);
-    joined = h.joined;
-  }
+    pub IsFlat-from_Grows : (old parts : List Component) (all_wires : List Name) → old ≡ []
+        → Grows old wires (instance_at design place [] (map (wire_at wires) places)) parts all_wires → IsFlat design parts all_wires
+    IsFlat-from_Grows old parts all_wires none h = record {
+      wires_are = h.wires_grow ∙ (λ i. ports_are i ++ (content_is i).wires);
+      parts_are = h.parts_grow ∙ (λ i. map (shown (ports_are i)) (none i) ++ (content_is i).parts);
+      joined = h.joined;
+    }

@@ -1,7 +1,7 @@
 -- Values of blocks, each by the values of the blocks before.
-use Rattle.std.proofs.Common.{◌≡◌, ℕ, zero, suc, ◌+◌, ◌<◌, true, List, [], ◌∷◌, ◌++◌, length, get_or, take, drop, refl, sym, ap, ◌∙◌, arith}
+use Rattle.std.proofs.Common.{◌≡◌, ℕ, zero, suc, ◌<◌, true, List, [], ◌∷◌, ◌++◌, length, get_or, take, refl, sym, ap, ◌∙◌, arith}
 use Rattle.std.proofs.lemmas.Bool.{and_parts, and_from}
-use Rattle.std.proofs.lemmas.List.{append_assoc, length_push, get_or_push, get_or_append_left, drop_more, take-append-drop, length-take-le}
+use Rattle.std.proofs.lemmas.List.{append_assoc, append-nil, length_push}
 use Rattle.ranking.specs.Values.{values_after, values}
 use Rattle.component_lang.specs.declared.design.Shape.{Shape}
 use Rattle.component_lang.specs.declared.design.Block.{Block}
@@ -53,11 +53,7 @@ pub block_among : (types : List Shape) (above blocks : List Block) (k : ℕ) (d 
     → is_block types (above ++ take k blocks) (get_or blocks k d) ≡ true
 block_among types above [] k d a l = absurd (omega arith)
 block_among types above (b ∷ bs) zero d a l =
-    ap (λ (bs : List Block). is_block types bs b) (append-none above) ∙ (and_parts (is_block types above b) (are_blocks types (above ++ b ∷ []) bs) a).0
-  where
-    append-none : (xs : List Block) → xs ++ [] ≡ xs
-    append-none [] = refl
-    append-none (x ∷ xs) = ap (λ ys. x ∷ ys) (append-none xs)
+    ap (λ (bs : List Block). is_block types bs b) (append-nil above) ∙ (and_parts (is_block types above b) (are_blocks types (above ++ b ∷ []) bs) a).0
 block_among types above (b ∷ bs) (suc k) d a l =
     ap (λ (cs : List Block). is_block types cs (get_or bs k d)) (sym (append_assoc above (b ∷ []) (take k bs)))
     ∙ block_among types (above ++ b ∷ []) bs k d (and_parts (is_block types above b) (are_blocks types (above ++ b ∷ []) bs) a).1 (omega arith)

@@ -5,9 +5,9 @@ use Rattle.text_rules.specs.Names.{Name}
 use Rattle.ranking.specs.Values.{values}
 use Rattle.device_model.specs.declared.component.Kind.{Kind}
 use Rattle.device_model.specs.declared.component.Kind.TheVariants.{Table}
-use Rattle.device_model.specs.declared.component.Component.{Component}
+use Rattle.device_model.specs.declared.limits.TheConstants.{PART_LIMIT, WIRE_LIMIT, NAME_LIMIT}
 use Rattle.device_model.specs.Devices.{Device}
-use Rattle.device_model.specs.Building.{place_in, device_of}
+use Rattle.device_model.specs.Building.{NamedPart, device_over}
 use Rattle.component_lang.specs.declared.design.UsedKind.{UsedKind}
 use Rattle.component_lang.specs.declared.design.UsedKind.TheVariants.{Gate, Shape as OfShape, Block as OfBlock}
 use Rattle.component_lang.specs.declared.design.Used.{Used}
@@ -15,17 +15,12 @@ use Rattle.component_lang.specs.declared.design.Shape.{Shape}
 use Rattle.component_lang.specs.declared.design.Block.{Block}
 use Rattle.component_lang.specs.Designs.{Design}
 use Rattle.flattener.specs.declared.flattening.FlattenError.{FlattenError}
-use Rattle.flattener.specs.declared.flattening.FlattenError.TheVariants.{TooManyParts, TooManyWires, TooManyBlocks, PathTooLong}
-
--- a part by its path, and the wires at its ports by theirs
-pub record FlatPart : Type 0 where
-  pub path : Name
-  pub kind : Kind
-  pub wires : List Name
+use Rattle.flattener.specs.declared.flattening.FlattenError.TheVariants.{TooManyParts, TooManyWires, TooManyBlocks, PathTooLong, Memory}
+use Rattle.flattener.specs.declared.flattening.TheConstants.{INSTANCE_LIMIT}
 
 -- the parts below an instance, the wires that are not passed to it or to one below it, and the instances below it
 pub record Content : Type 0 where
-  pub parts : List FlatPart
+  pub parts : List NamedPart
   pub wires : List Name
   pub instances : List Name
 
@@ -42,20 +37,20 @@ below [] name = name
 below (b ∷ path) name = (b ∷ path) ++ 46 ∷ name
 
 abbrev pub one_part : Name → Kind → List Name → Content
-one_part path kind wires = record { parts = record { path = path; kind = kind; wires = wires } ∷ []; wires = []; instances = [] }
+one_part path kind wires = record { parts = record { name = path; kind = kind; wires = wires } ∷ []; wires = []; instances = [] }
 
 abbrev pub one_instance : Name → Content → Content
 one_instance path inner = record inner { instances = path ∷ inner.instances }
 
 -- what a part of a block is, by the instances of the blocks before
-abbrev pub content_of : List Instance → UsedKind → Instance
-content_of above (Gate kind) path passed = one_part path kind passed
-content_of above (OfShape place) path passed = one_part path (Table place) passed
-content_of above (OfBlock place) path passed = one_instance path (slice_index_or above place nothing path passed)
+abbrev pub kind_content : List Instance → UsedKind → Instance
+kind_content above (Gate kind) path passed = one_part path kind passed
+kind_content above (OfShape place) path passed = one_part path (Table place) passed
+kind_content above (OfBlock place) path passed = one_instance path (slice_index_or above place nothing path passed)
 
 abbrev pub used_content : List Instance → Name → List Name → Used → Content
 used_content above path wires used =
-    content_of above used.kind (below path used.name) (map (λ wire. slice_index_or wires wire []) used.args)
+    kind_content above used.kind (below path used.name) (map (λ wire. slice_index_or wires wire []) used.args)
 
 -- A block's wires are those that are passed to it and then its own.
 abbrev pub instance : Block → List Instance → Instance
@@ -83,14 +78,8 @@ top_content design = slice_index_or (values instance design.blocks) design.top n
 abbrev pub flat_wires : Design → List Name
 flat_wires design = top_ports design ++ (top_content design).wires
 
-abbrev pub component : List Name → FlatPart → Component
-component wires part = record { name = part.path; kind = part.kind; ports = map (place_in wires) part.wires }
-
-abbrev pub flat_parts : Design → List Component
-flat_parts design = map (component (flat_wires design)) (top_content design).parts
-
 abbrev pub flat_device : Design → Device
-flat_device design = device_of (flat_parts design) (flat_wires design) (map (λ (s : Shape). s.table) design.types)
+flat_device design = device_over (top_content design).parts (flat_wires design) (map (λ (s : Shape). s.table) design.types)
 
 abbrev pub greatest : List ℕ → ℕ
 greatest [] = 0
@@ -98,8 +87,9 @@ greatest (n ∷ ns) = max n (greatest ns)
 
 -- the longest path of a part, a wire or an instance, in bytes
 abbrev pub longest_path : Design → ℕ
-longest_path design = greatest (map (λ (path : Name). length path)
-    (map (λ (p : FlatPart). p.path) (top_content design).parts ++ (flat_wires design ++ (top_content design).instances)))
+longest_path design =
+    let parts = map (λ (part : NamedPart). part.name) (top_content design).parts in
+    greatest (map (λ (path : Name). length path) (parts ++ (flat_wires design ++ (top_content design).instances)))
 
 -- a count stops at the greatest number of 64 bits
 abbrev pub saturated : ℕ → ℕ
@@ -111,8 +101,13 @@ unless_over limit count error otherwise = if nat_lt limit count then Err (error 
 -- The device of a design, or the first of these counts that is above its limit.
 abbrev pub flattened : Design → Result Device FlattenError
 flattened design =
-    unless_over 4096 (length (top_content design).parts) TooManyParts
-    (unless_over 16384 (length (flat_wires design)) TooManyWires
-    (unless_over 4096 (length (top_content design).instances) TooManyBlocks
-    (unless_over 255 (longest_path design) PathTooLong
+    unless_over PART_LIMIT (length (top_content design).parts) TooManyParts
+    (unless_over WIRE_LIMIT (length (flat_wires design)) TooManyWires
+    (unless_over INSTANCE_LIMIT (length (top_content design).instances) TooManyBlocks
+    (unless_over NAME_LIMIT (longest_path design) PathTooLong
     (Ok (flat_device design)))))
+
+-- An error tells itself, but for want of memory.
+abbrev pub told : FlattenError → Option FlattenError
+told Memory = None
+told error = Some error

@@ -1,3 +1,2 @@
 pub mod Flat
-pub mod Counting
-pub mod Expanding
+pub mod inner

@@ -2,21 +2,12 @@ ghost use Rattle.std.specs.Prelude.{◌≡◌, true, drop, slice_index_or, IfOk}
 ghost use Rattle.component_lang.specs.Designs.{is_design};
 ghost use Rattle.ranking.specs.Values.{values};
 ghost use Rattle.flattener.specs.Flat.{top_ports};
-ghost use Rattle.flattener.specs.Counting.{no_counts, longest_of, counts_of_wires, added, counts_of_part, counts_of_instance, counts_of_used, counts_of_block, counts_of_design, refusal};
+ghost use Rattle.flattener.specs.inner.Counting.{no_counts, longest_of, counts_of_wires, added, counts_of_part, counts_of_instance, counts_of_used, counts_of_block, counts_of_design, refusal};
 
-use crate::flattening::FlattenError;
+use crate::flattening::{FlattenError, INSTANCE_LIMIT};
 use component_lang::{Block, Design, Used, UsedKind};
-use device_model::Name;
+use device_model::{NAME_LIMIT, Name, PART_LIMIT, WIRE_LIMIT};
 use std::alloc::{AllocError, Global};
-
-/// The most parts, wires and instances of blocks, and the most bytes of a path.
-const PART_LIMIT: u64 = 4096;
-
-const WIRE_LIMIT: u64 = 16384;
-
-const INSTANCE_LIMIT: u64 = 4096;
-
-const PATH_LIMIT: u64 = 255;
 
 /// How much an instance of a block has, and its longest path, counted from the instance on. A count stops at the
 /// greatest number of 64 bits.
@@ -128,18 +119,18 @@ impl Counts {
     pub(crate) fn refusal(self) -> Option<FlattenError>
         ensures { result ≡ refusal self }
     {
-        if self.parts > PART_LIMIT {
+        if self.parts > PART_LIMIT as u64 {
             return Some(FlattenError::TooManyParts { count: self.parts });
         }
-        if self.wires > WIRE_LIMIT {
+        if self.wires > WIRE_LIMIT as u64 {
             return Some(FlattenError::TooManyWires { count: self.wires });
         }
-        if self.instances > INSTANCE_LIMIT {
+        if self.instances > INSTANCE_LIMIT as u64 {
             return Some(FlattenError::TooManyBlocks {
                 count: self.instances,
             });
         }
-        if self.longest > PATH_LIMIT {
+        if self.longest > NAME_LIMIT as u64 {
             return Some(FlattenError::PathTooLong {
                 length: self.longest,
             });

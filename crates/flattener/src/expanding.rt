@@ -1,9 +1,9 @@
 ghost use Rattle.std.specs.Prelude.{◌≡◌, ◌<◌, ◌≤◌, ◌+◌, ◌++◌, ◌∷◌, [], true, map, length, OnOk, IfOk};
-ghost use Rattle.flattener.specs.Expanding.{Grows, wire_at, are_joined, are_within, position_of, instance_at, ports_at, paths_of, are_short, prefix_of, behind};
+ghost use Rattle.flattener.specs.inner.Expanding.{CanExpand, Grows, wire_at, are_joined, are_within, position_of, instance_at, are_short, prefix_of, behind};
 
 use crate::counting::own_wires;
 use component_lang::{Design, UsedKind};
-use device_model::{Component, Kind, Name, Wires};
+use device_model::{Component, Kind, NAME_LIMIT, Name, WIRE_LIMIT, Wires};
 use std::alloc::{AllocError, Global};
 
 /// Parts and wires that were made so far. A port is a position among the wires.
@@ -25,14 +25,8 @@ pub(crate) fn expand(
     passed: &[u32],
     flat: &mut Flat,
 ) -> Result<(), AllocError>
-    requires place { place < length design.now.blocks }
-    requires ports { length passed.now ≡ ports_at design.now place }
-    requires within { are_within (length flat.old.wires.items) passed.now ≡ true }
+    requires can { CanExpand design.now place path.now passed.now flat.old.wires.items }
     requires joined { are_joined flat.old.wires.items flat.old.parts.items ≡ true }
-    requires few { let content = instance_at design.now place path.now (map (wire_at flat.old.wires.items) passed.now) in
-        length flat.old.wires.items + length content.wires ≤ 16384 }
-    requires short { let content = instance_at design.now place path.now (map (wire_at flat.old.wires.items) passed.now) in
-        are_short (paths_of content) ≡ true }
     ensures { let content = instance_at design.now place path.now (map (wire_at flat.old.wires.items) passed.now) in
         OnOk result (Grows flat.old.parts.items flat.old.wires.items content flat.new.parts.items flat.new.wires.items) }
 {
@@ -72,7 +66,7 @@ fn prefix_of(alloc: Global, path: &[u8]) -> Result<Vec<u8>, AllocError>
 // A name behind a prefix, which is written and taken away again.
 fn with_prefix(alloc: Global, prefix: &mut Vec<u8>, name: &[u8]) -> Result<Name, AllocError>
     requires some { 1 ≤ length name.now }
-    requires short { length (behind prefix.old.items name.now) ≤ 255 }
+    requires short { length (behind prefix.old.items name.now) ≤ NAME_LIMIT }
     ensures joined { IfOk result (λ joined. joined ≡ behind prefix.old.items name.now) }
     ensures same { OnOk result (prefix.new.items ≡ prefix.old.items) }
 {
@@ -107,8 +101,8 @@ fn read_positions(
     start: u32,
     positions: &mut Vec<u32>,
 ) -> Result<(), AllocError>
-    requires start { start ≤ 16384 }
-    requires args { are_within (length passed.now + 16384) args.now ≡ true }
+    requires start { start ≤ WIRE_LIMIT }
+    requires args { are_within (length passed.now + WIRE_LIMIT) args.now ≡ true }
     ensures { OnOk result (positions.new.items ≡ map (position_of passed.now start) args.now) }
 {
     positions.clear();
@@ -120,8 +114,8 @@ fn read_positions(
 
 // The passed wires are the first of a block, and its own stand from `start` on.
 fn position_of(wire: u32, passed: &[u32], start: u32) -> u32
-    requires start { start ≤ 16384 }
-    requires wire { wire < length passed.now + 16384 }
+    requires start { start ≤ WIRE_LIMIT }
+    requires wire { wire < length passed.now + WIRE_LIMIT }
     ensures { result ≡ position_of passed.now start wire }
 {
     let wire = wire as usize;

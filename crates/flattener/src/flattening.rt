@@ -1,16 +1,20 @@
-ghost use Rattle.std.specs.Prelude.{◌≡◌, ◌≢◌, ◌≤◌, map, MatchResult, IfOk, Ok, Err, None};
+ghost use Rattle.std.specs.Prelude.{◌≡◌, ◌≤◌, map, IfOk, None};
 ghost use Rattle.std.specs.List.{range_with_len};
 ghost use Rattle.component_lang.specs.declared.design.Shape.{Shape as OneType};
-ghost use Rattle.flattener.specs.Flat.{flattened};
-ghost use Rattle.flattener.specs.Counting.{counts_of_design, refusal};
-ghost use Rattle.flattener.specs.Expanding.{IsFlat};
+ghost use Rattle.text_rules.specs.Expected.{Fulfils};
+ghost use Rattle.flattener.specs.Flat.{flattened, told};
+ghost use Rattle.flattener.specs.inner.Counting.{counts_of_design, refusal};
+ghost use Rattle.flattener.specs.inner.Expanding.{IsFlat};
 ghost use Rattle.flattener.specs.declared.flattening.FlattenError.TheVariants.{Memory};
 
 use crate::counting::{Counts, top_ports};
 use crate::expanding::{Flat, expand};
 use component_lang::{Design, Shape};
-use device_model::{BuildError, Device, Name, Table};
+use device_model::{BuildError, Device, Name, Table, WIRE_LIMIT};
 use std::alloc::{AllocError, Global};
+
+/// The most instances of blocks below the top.
+pub const INSTANCE_LIMIT: usize = 4096;
 
 /// Why a design has no flat device. A count stops at the greatest number of 64 bits.
 #[derive(Clone, Copy, Debug, PartialEq, Eq)]
@@ -41,8 +45,7 @@ impl From<AllocError> for FlattenError {
 /// The first reason of `FlattenError` that applies is the answer, in the order in which they stand there. All counts are
 /// taken before anything is made.
 pub fn flatten(alloc: Global, design: &Design) -> Result<Device, FlattenError>
-    ensures { MatchResult result (λ device. Ok device ≡ flattened design.now)
-        (λ e. e ≢ Memory → Err e ≡ flattened design.now) }
+    ensures { Fulfils (λ device. device) told (flattened design.now) result }
 {
     let counts = Counts::of_design(alloc, design)?;
     if let Some(error) = counts.refusal() {
@@ -94,7 +97,7 @@ fn names_of(alloc: Global, names: &[Name]) -> Result<Vec<Name>, AllocError>
 
 // The places from 0 on.
 fn first_places(alloc: Global, count: usize) -> Result<Vec<u32>, AllocError>
-    requires { count ≤ 16384 }
+    requires { count ≤ WIRE_LIMIT }
     ensures { IfOk result (λ places. places.items ≡ range_with_len 0 count) }
 {
     let mut places = Vec::with_capacity(alloc, count)?;
@@ -107,18 +110,5 @@ fn first_places(alloc: Global, count: usize) -> Result<Vec<u32>, AllocError>
 fn tables_of(alloc: Global, types: &[Shape]) -> Result<Vec<Table>, AllocError>
     ensures { IfOk result (λ tables. tables.items ≡ map (λ (s : OneType). s.table) types.now) }
 {
-    let mut tables = Vec::with_capacity(alloc, types.len())?;
-    for shape in types {
-        tables.push(copy_of(&shape.table))?;
-    }
-    Ok(tables)
-}
-
-fn copy_of(table: &Table) -> Table
-    ensures { result ≡ table.now }
-{
-    match Table::new(table.ports(), table.ok(), table.bad()) {
-        Some(copy) => copy,
-        None => unreachable!(),
-    }
+    types.iter().map(|shape| shape.table).collect(alloc)
 }

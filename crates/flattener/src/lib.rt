@@ -4,5 +4,7 @@
 mod counting;
 mod expanding;
 mod flattening;
+#[cfg(test)]
+mod tests;
 
-pub use flattening::{FlattenError, flatten};
+pub use flattening::{FlattenError, INSTANCE_LIMIT, flatten};

@@ -1,6 +1,6 @@
 use Rattle.std.proofs.Common.{◌≡◌, drop}
 use Rattle.ranking.specs.Values.{values_after, values}
-use Rattle.flattener.specs.Counting.{counts_of_block}
+use Rattle.flattener.specs.inner.Counting.{counts_of_block}
 use Rattle.flattener.proofs.counting.counts_of.Given as goal
 
 -- what is left decides

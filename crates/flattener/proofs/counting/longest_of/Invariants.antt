@@ -1,6 +1,6 @@
 use Rattle.std.proofs.Common.{◌≡◌, drop}
 use Rattle.std.specs.Prelude.{max}
-use Rattle.flattener.specs.Counting.{longest_of}
+use Rattle.flattener.specs.inner.Counting.{longest_of}
 use Rattle.flattener.proofs.counting.longest_of.Given as goal
 
 -- what is left decides

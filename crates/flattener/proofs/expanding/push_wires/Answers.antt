@@ -1,5 +1,5 @@
 use Rattle.std.proofs.Common.{◌≡◌, length, ap, arith}
-use Rattle.flattener.specs.Expanding.{behind}
+use Rattle.flattener.specs.inner.Expanding.{behind}
 use Rattle.flattener.proofs.Lists.{short_at}
 use Rattle.flattener.proofs.expanding.push_wires.Goals as goal
 

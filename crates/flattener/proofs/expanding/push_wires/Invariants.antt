@@ -1,5 +1,5 @@
 use Rattle.std.proofs.Common.{◌≡◌, ◌++◌, map, take}
-use Rattle.flattener.specs.Expanding.{behind}
+use Rattle.flattener.specs.inner.Expanding.{behind}
 use Rattle.flattener.proofs.expanding.push_wires.Given as goal
 
 abbrev pub invariant-loop-name : goal.invariant-loop-name

@@ -1,5 +1,5 @@
 use Rattle.std.proofs.Common.{◌≡◌, map, take}
-use Rattle.flattener.specs.Expanding.{position_of}
+use Rattle.flattener.specs.inner.Expanding.{position_of}
 use Rattle.flattener.proofs.expanding.read_positions.Given as goal
 
 abbrev pub invariant-loop-wire : goal.invariant-loop-wire

@@ -1,5 +1,5 @@
 use Rattle.std.proofs.Common.{◌≡◌, drop, fold}
-use Rattle.flattener.specs.Counting.{added, counts_of_used, counts_of_block}
+use Rattle.flattener.specs.inner.Counting.{added, counts_of_used, counts_of_block}
 use Rattle.flattener.proofs.counting.Counts.of_block.Given as goal
 
 -- what is left decides

@@ -1,21 +1,23 @@
 -- What parts and wires that are made so far show, and how they grow. A port is a position among the wires.
-use Rattle.std.specs.Prelude.{◌≡◌, ℕ, ◌+◌, ◌-◌, Bool, true, List, [], ◌∷◌, ◌++◌, map, length, nat_lt, nat_le, slice_index, slice_index_or, if◌then◌else◌}
+use Rattle.std.specs.Prelude.{◌≡◌, ℕ, ◌+◌, ◌-◌, ◌<◌, ◌≤◌, Bool, true, List, [], ◌∷◌, ◌++◌, map, length, nat_lt, nat_le, slice_index, slice_index_or, if◌then◌else◌}
 use Rattle.std.specs.List.{list_all}
 use Rattle.text_rules.specs.Names.{Name}
 use Rattle.ranking.specs.Values.{values}
 use Rattle.device_model.specs.declared.component.Component.{Component}
+use Rattle.device_model.specs.declared.limits.TheConstants.{WIRE_LIMIT, NAME_LIMIT}
 use Rattle.device_model.specs.Devices.{has_wires}
+use Rattle.device_model.specs.Building.{NamedPart}
 use Rattle.component_lang.specs.declared.design.Block.{Block}
-use Rattle.component_lang.specs.Designs.{Design}
-use Rattle.flattener.specs.Flat.{FlatPart, Content, Instance, nothing, instance, top_content, flat_wires}
+use Rattle.component_lang.specs.Designs.{Design, is_design}
+use Rattle.flattener.specs.Flat.{Content, Instance, nothing, instance, top_content, flat_wires}
 
 -- the wire at a position
 abbrev pub wire_at : List Name → ℕ → Name
 wire_at wires position = slice_index_or wires position []
 
 -- a part with the wires at its ports
-abbrev pub shown : List Name → Component → FlatPart
-shown wires part = record { path = part.name; kind = part.kind; wires = map (wire_at wires) part.ports }
+abbrev pub shown : List Name → Component → NamedPart
+shown wires part = record { name = part.name; kind = part.kind; wires = map (wire_at wires) part.ports }
 
 -- each port is a position of a wire
 abbrev pub are_joined : List Name → List Component → Bool
@@ -38,11 +40,11 @@ abbrev pub ports_at : Design → ℕ → ℕ
 ports_at design place = slice_index (map (λ (block : Block). block.ports) design.blocks) place
 
 abbrev pub paths_of : Content → List Name
-paths_of content = map (λ (part : FlatPart). part.path) content.parts ++ (content.wires ++ content.instances)
+paths_of content = map (λ (part : NamedPart). part.name) content.parts ++ (content.wires ++ content.instances)
 
--- each path has at most 255 bytes
+-- each path keeps the limit of a name
 abbrev pub are_short : List Name → Bool
-are_short names = list_all (λ (name : Name). nat_le (length name) 255) names
+are_short names = list_all (λ (name : Name). nat_le (length name) NAME_LIMIT) names
 
 -- what stands before each name in the instance of a path
 abbrev pub prefix_of : Name → Name
@@ -51,6 +53,15 @@ prefix_of (b ∷ path) = (b ∷ path) ++ 46 ∷ []
 
 abbrev pub behind : Name → Name → Name
 behind prefix name = prefix ++ name
+
+-- A block of the design can be expanded at a path: a wire is passed for each of its ports, and what it has keeps the limits.
+pub record CanExpand (design : Design) (place : ℕ) (path : Name) (passed : List ℕ) (wires : List Name) : Type 0 where
+  pub valid : is_design design ≡ true
+  pub there : place < length design.blocks
+  pub ports : length passed ≡ ports_at design place
+  pub within : are_within (length wires) passed ≡ true
+  pub few : length wires + length (instance_at design place path (map (wire_at wires) passed)).wires ≤ WIRE_LIMIT
+  pub short : are_short (paths_of (instance_at design place path (map (wire_at wires) passed))) ≡ true
 
 -- parts and wires, and those with the content of an instance behind them
 pub record Grows (parts : List Component) (wires : List Name) (content : Content) (more_parts : List Component) (more_wires : List Name) : Type 0 where

@@ -3,6 +3,7 @@
 use Rattle.std.specs.Prelude.{ℕ, ◌+◌, max, List, map, length, drop, Option, Some, None, fold, nat_lt, nat_eq, slice_index_or, if◌then◌else◌}
 use Rattle.text_rules.specs.Names.{Name}
 use Rattle.ranking.specs.Values.{values}
+use Rattle.device_model.specs.declared.limits.TheConstants.{PART_LIMIT, WIRE_LIMIT, NAME_LIMIT}
 use Rattle.component_lang.specs.declared.design.UsedKind.{UsedKind}
 use Rattle.component_lang.specs.declared.design.UsedKind.TheVariants.{Gate, Shape as OfShape, Block as OfBlock}
 use Rattle.component_lang.specs.declared.design.Used.{Used}
@@ -11,6 +12,7 @@ use Rattle.component_lang.specs.Designs.{Design}
 use Rattle.flattener.specs.declared.counting.Counts.{Counts}
 use Rattle.flattener.specs.declared.flattening.FlattenError.{FlattenError}
 use Rattle.flattener.specs.declared.flattening.FlattenError.TheVariants.{TooManyParts, TooManyWires, TooManyBlocks, PathTooLong}
+use Rattle.flattener.specs.declared.flattening.TheConstants.{INSTANCE_LIMIT}
 use Rattle.flattener.specs.Flat.{saturated, greatest, top_ports}
 
 abbrev pub no_counts : Counts
@@ -68,8 +70,8 @@ counts_of_design design =
 -- the first limit that is passed
 abbrev pub refusal : Counts → Option FlattenError
 refusal counts =
-    if nat_lt 4096 counts.parts then Some (TooManyParts counts.parts)
-    else if nat_lt 16384 counts.wires then Some (TooManyWires counts.wires)
-    else if nat_lt 4096 counts.instances then Some (TooManyBlocks counts.instances)
-    else if nat_lt 255 counts.longest then Some (PathTooLong counts.longest)
+    if nat_lt PART_LIMIT counts.parts then Some (TooManyParts counts.parts)
+    else if nat_lt WIRE_LIMIT counts.wires then Some (TooManyWires counts.wires)
+    else if nat_lt INSTANCE_LIMIT counts.instances then Some (TooManyBlocks counts.instances)
+    else if nat_lt NAME_LIMIT counts.longest then Some (PathTooLong counts.longest)
     else None

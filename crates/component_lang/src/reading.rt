@@ -8,7 +8,7 @@ ghost use Rattle.component_lang.specs.Reading.{design};
 ghost use Rattle.component_lang.specs.Faults.{told};
 ghost use Rattle.component_lang.specs.inner.LineFaults.{fault_told};
 ghost use Rattle.component_lang.specs.inner.Views.{library_in, open_type_in, block_in};
-ghost use Rattle.component_lang.specs.inner.Sections.{section_in, reader_in};
+ghost use Rattle.component_lang.specs.inner.Sections.{reader_in};
 ghost use Rattle.component_lang.specs.inner.Sound.{is_sound_type, is_sound_block, is_sound, reader_size};
 
 use crate::blocks::OpenBlock;

@@ -1,4 +1,4 @@
-ghost use Rattle.std.specs.Prelude.{◌≡◌, ◌≤◌, ◌<◌, ℕ, true, Some, None, Ok, if◌then◌else◌};
+ghost use Rattle.std.specs.Prelude.{◌≡◌, ◌≤◌, ◌<◌, true, Some, None, Ok, if◌then◌else◌};
 ghost use Rattle.text_rules.specs.Expected.{Fulfils};
 ghost use Rattle.device_model.specs.TruthTable.{is_table};
 ghost use Rattle.component_lang.specs.Designs.{is_plain_name};

@@ -9,7 +9,8 @@ use Rattle.text_rules.specs.Names.{Name, is_among, is_short_name, is_name_byte}
 use Rattle.device_model.specs.Building.{repeated}
 use Rattle.device_model.proofs.Ordered.{Among}
 use Rattle.device_model.proofs.Repeats.{is_among-among, among_from_test}
-use Rattle.component_lang.specs.Designs.{is_plain_name, is_empty, are_distinct}
+use Rattle.component_lang.specs.Designs.{is_plain_name, are_distinct}
+use Rattle.component_lang.proofs.NameLists.{are_distinct-cons}
 use Rattle.flattener.specs.Flat.{below}
 use Rattle.flattener.specs.inner.Counting.{longest_of}
 use Rattle.flattener.specs.inner.Expanding.{prefix_of, behind}
@@ -94,21 +95,11 @@ abbrev pub Different : List Name → Type 0
 Different [] = Unit {0}
 Different (n ∷ ns) = (Among n ns → ⊥) × Different ns
 
-none_of : (ns : List Name) → is_empty ns ≡ true → ns ≡ []
-none_of [] h = refl
-none_of (n ∷ ns) h = cc
-
-Different-from_repeated : (ns : List Name) → repeated ns ≡ [] → Different ns
-Different-from_repeated [] h = tt
-Different-from_repeated (n ∷ ns) h =
-    let two = by (is_among ns n) h in ((λ m. true≢false (sym (is_among-among n ns m) ∙ two.0)), Different-from_repeated ns two.1)
-  where
-    by : (b : Bool) → (if b then n ∷ repeated ns else repeated ns) ≡ [] → (b ≡ false) × (repeated ns ≡ [])
-    by true e = cc
-    by false e = (refl, e)
-
 pub Different-from_test : (ns : List Name) → are_distinct ns ≡ true → Different ns
-Different-from_test ns h = Different-from_repeated ns (none_of (repeated ns) h)
+Different-from_test [] h = tt
+Different-from_test (n ∷ ns) h =
+    let two = and_parts (not (is_among ns n)) (are_distinct ns) (sym (are_distinct-cons n ns) ∙ h) in
+    ((λ m. true≢false (sym (is_among-among n ns m) ∙ not-true _ two.0)), Different-from_test ns two.1)
 
 not_among : (n : Name) (ns : List Name) → (Among n ns → ⊥) → is_among ns n ≡ false
 not_among n ns h = by (is_among ns n) refl

@@ -1,16 +1,27 @@
--- From the bytes that were taken to the script that was there.
-use Rattle.std.proofs.Common.{◌≡◌, ◌≢◌, ◌⊎◌, ◌<◌, ◌≤◌, ◌+◌, ℕ, true, false, List, ◌++◌, length, take, Option, Some, None, IfSome, inl, inr, refl, ◌∙◌, ap, subst, sym, arith, codes, nat_le, nat_lt, append-nil, take_all, if◌then◌else◌}
+-- From what was done by a course to what holds of a run.
+use Rattle.std.proofs.Common.{◌≡◌, ◌≢◌, ◌⊎◌, ◌↔◌, ◌<◌, ◌≤◌, ◌+◌, ◌-◌, ◌^◌, ℕ, true, false, List, ◌++◌, length, take, Option, Some, None, IfSome, inl, inr, refl, ◌∙◌, ap, subst, sym, arith, codes, nat_le, nat_lt, append-nil, take_all, if◌then◌else◌}
 use Rattle.std.specs.Prelude.{Result, Ok, Err}
-use Rattle.std.specs.Result.{result_ok}
 use Rattle.std.proofs.lemmas.Grind.{common_steps}
 use Rattle.std.specs.Io.KnownBytes.{Consumes, IsAtEnd}
-use Rattle.std.proofs.lemmas.Bool.{lt-ltb}
+use Rattle.std.proofs.lemmas.Bool.{lt-ltb, cases_eq}
 use Rattle.std.proofs.Math.Seq.{take-append_seam}
-use Rattle.diag_edge.specs.Edge.{RoseExactly}
+use Rattle.text_rules.specs.declared.text_lines.TheConstants.{TEXT_LIMIT}
+use Rattle.text_rules.specs.Expected.{IsExpectedFault}
+use Rattle.diag_edge.specs.Edge.{RoseExactly, Rose, Holding, absent, told_bytes}
+use Rattle.diag_edge.specs.declared.loading.LoadError.{LoadError}
+use Rattle.diag_edge.specs.declared.loading.LoadError.TheVariants.{Failed as LoadFailed, Long}
 use Rattle.device_model.specs.Devices.{Device}
-use Rattle.diag_cli.specs.Output.{Gives, GivesUnlessMemory, EndsAs, End, Ended, Failed, Cut, says, no_memory, file_limit, script_limit, device_in, output_of, with_device, served, script_for, whole_output, end_of}
+use Rattle.diag_cli.specs.declared.run.TheConstants.{SCRIPT_LIMIT}
+use Rattle.diag_cli.specs.Words.{Form, Serve, Plan, path_of}
+use Rattle.diag_cli.specs.Describing.{long_file_line, device_in}
+use Rattle.diag_cli.specs.Output.{Output, Gives, GivesUnlessMemory, says, no_memory}
+use Rattle.diag_cli.specs.Courses.{End, Ended, Failed, Cut, Course, Tells, Serves, read_error, served, wholly_served, end_of, served_or_refused, course_of}
+use Rattle.diag_cli.specs.Refusals.{or_memory}
+use Rattle.diag_cli.specs.Runs.{Reading, Writing, IsIdle, IsRun}
+use Rattle.diag_cli.specs.inner.Courses.{EndsAs, IsAnswered, IsServed, Follows}
 
--- what was taken is what was there, up to the limit
+-- ---- what was taken is what was there, up to the limit
+
 taken_all : (script : List ℕ) (after : Option (List ℕ)) (bytes : List ℕ) (end : End) (i j : ℕ) → j ≡ i → Consumes (Some script) after bytes → EndsAs end bytes (IsAtEnd after) (i < j) → (bytes ≡ take 16777216 script) × (end ≡ end_of script)
 taken_all script None bytes end i j same took is = absurd took
 taken_all script (Some left) bytes Ended i j same took is =
@@ -21,88 +32,219 @@ taken_all script (Some left) bytes Cut i j same took is =
     let long : nat_lt (length script) 16777216 ≡ false = grind (arith, common_steps, took, is) in
     (rw (took, ← is) (sym (take-append_seam bytes left)), rw long)
 
-long_output : (path file script : List ℕ) (end : End) → file_limit < length file → output_of (Some path) file script end ≡ says (codes "error: file above 16777216 bytes\n") 1
-long_output path file script end long = let no_more : nat_le (length file) file_limit ≡ false = grind arith in rw no_more
+-- the file that is told, under another name
+pub same_file : (file bytes : List ℕ) (told : Option (List ℕ)) → file ≡ bytes → IfSome told (λ all. bytes ≡ all) → IfSome told (λ all. file ≡ all)
+same_file file bytes None same is = tt
+same_file file bytes (Some all) same is = same ∙ is
 
-pub long_answer : (told left a b : Option (List ℕ)) (path : List ℕ) (r : ℕ) → IfSome told (λ file. file_limit < length file) → (r ≢ 5 → Gives (says (codes "error: file above 16777216 bytes\n") 1) r a b)
-    → IfSome told (λ file. IfSome left (λ script. r ≢ 5 → r ≢ 4 → GivesUnlessMemory (whole_output (Some path) file script) r a b))
-long_answer None left a b path r long said = tt
-long_answer (Some file) None a b path r long said = tt
-long_answer (Some file) (Some script) a b path r long said =
-    λ whole read. inr (subst (λ o. Gives o r a b) (sym (long_output path file _ _ long)) (said whole))
+pub too_long_is_no_failure : {T : Type 0} (result : Result T LoadError) (error : LoadError) (limit : ℕ) → result ≡ Err error → error ≡ Long limit → result ≡ Err LoadFailed → ⊥
+too_long_is_no_failure result error limit is long failed = let never : ⊥ = cc in never
 
--- What a run over a file whose device is found, or which is refused, did, by the status and the two counts of reads.
-abbrev pub Answers : Result Device (List ℕ) → ℕ → ℕ → ℕ → Option (List ℕ) → Option (List ℕ) → Option (List ℕ) → Option (List ℕ) → Type 0
-Answers (Err refusal) r i j left after a b = GivesUnlessMemory (says refusal 1) r a b
-Answers (Ok device) r i j left after a b =
-    Gives no_memory r a b
-    ⊎ ((bytes : List ℕ) × (end : End) × Consumes left after bytes × EndsAs end bytes (IsAtEnd after) (i < j) × Gives (served device bytes end) r a b)
+module _ (input new_input : Reading) (out new_out : Writing) (status : ℕ) where
+  -- ---- a device is served, or its file refused
 
-module _ (path file : List ℕ) (left after a b : Option (List ℕ)) (r i j : ℕ) where
-  answers-found : (found : Result Device (List ℕ)) → device_in path file ≡ found → r ≢ 5
-      → ((refusal : List ℕ) → device_in path file ≡ Err refusal → r ≢ 5 → GivesUnlessMemory (says refusal 1) r a b)
-      → ((device : Device) → device_in path file ≡ Ok device → r ≢ 5 → Gives no_memory r a b ⊎ ((bytes : List ℕ) × (end : End) × Consumes left after bytes × EndsAs end bytes (IsAtEnd after) (i < j) × Gives (served device bytes end) r a b))
-      → Answers found r i j left after a b
-  answers-found (Err refusal) is whole other ran = other refusal is whole
-  answers-found (Ok device) is whole other ran = ran device is whole
+  pub follows_device : (expected : Result Device Output) (device : Device) → expected ≡ Ok device → IsServed device input new_input out new_out status
+      → Follows (served_or_refused expected) input new_input out new_out status
+  follows_device expected device is done = subst (λ e. Follows (served_or_refused e) input new_input out new_out status) (sym is) done
+
+  zero_is_not_six : (status ≢ 5 → Gives no_memory status out.got new_out.got) → status ≡ 0 → IsAtEnd new_input.left
+  zero_is_not_six said zero = absurd (omega (arith, zero, (said (λ five. omega (arith, zero, five))).same_status))
+
+  by_memory : (expected : Result Device Output) → IsIdle input new_input → (status ≢ 5 → Gives no_memory status out.got new_out.got)
+      → Follows (served_or_refused expected) input new_input out new_out status
+  by_memory (Ok device) idle said = record { answer = λ whole. inl (said whole); all_read = zero_is_not_six said }
+  by_memory (Err output) idle said = (idle, λ whole. inl (said whole))
+
+  pub follows_refusal : (expected : Result Device Output) (fault : Option Output) → IsExpectedFault fault expected → IsIdle input new_input
+      → (status ≢ 5 → Gives (or_memory fault) status out.got new_out.got) → Follows (served_or_refused expected) input new_input out new_out status
+  follows_refusal expected None is idle said = by_memory expected idle said
+  follows_refusal expected (Some output) is idle said =
+      subst (λ e. Follows (served_or_refused e) input new_input out new_out status) (sym is) (idle, λ whole. inr (said whole))
+
+  -- ---- clauses of a run over the file
+
+  told_of : (course : Course) (output : Output) → course ≡ Tells output → Follows course input new_input out new_out status
+      → IsIdle input new_input × (status ≢ 5 → GivesUnlessMemory output status out.got new_out.got)
+  told_of course output is done = subst (λ c. Follows c input new_input out new_out status) is done
+
+  served_of : (course : Course) (device : Device) → course ≡ Serves device → Follows course input new_input out new_out status → IsServed device input new_input out new_out status
+  served_of course device is done = subst (λ c. Follows c input new_input out new_out status) is done
 
   -- from the bytes that were taken to the whole script
-  whole_answer : (found : Result Device (List ℕ)) (script : List ℕ) → left ≡ Some script → j ≡ i → Answers found r i j left after a b
-      → GivesUnlessMemory (with_device found (take script_limit script) (end_of script)) r a b
-  whole_answer (Err refusal) script told same answered = answered
-  whole_answer (Ok device) script told same (inl memory) = inl memory
-  whole_answer (Ok device) script told same (inr (bytes, end, took, is, gives)) =
-      let all = taken_all script after bytes end i j same (subst (λ l. Consumes l after bytes) told took) is in
-      inr (subst (λ o. Gives o r a b) (λ k. served device (all.0 k) (all.1 k)) gives)
+  whole_answer : (device : Device) (script : List ℕ) → input.left ≡ Some script → new_input.faults ≡ input.faults
+      → Gives no_memory status out.got new_out.got ⊎ IsAnswered device input new_input out new_out status
+      → GivesUnlessMemory (wholly_served device script) status out.got new_out.got
+  whole_answer device script told same (inl memory) = inl memory
+  whole_answer device script told same (inr answered) =
+      let all = taken_all script new_input.left answered.bytes answered.end input.faults new_input.faults same
+      (subst (λ l. Consumes l new_input.left answered.bytes) told answered.took) answered.ends in
+      inr (subst (λ o. Gives o status out.got new_out.got) (λ k. served device (all.0 k) (all.1 k)) answered.gives)
 
-pub file_answer : (told left after a b : Option (List ℕ)) (path file : List ℕ) (r i j : ℕ)
-    → IfSome told (λ bytes. file ≡ bytes)
-    → (r ≢ 5 → RoseExactly i j (r ≡ 4))
-    → ((refusal : List ℕ) → device_in path file ≡ Err refusal → r ≢ 5 → GivesUnlessMemory (says refusal 1) r a b)
-    → ((device : Device) → device_in path file ≡ Ok device → r ≢ 5 → Gives no_memory r a b ⊎ ((bytes : List ℕ) × (end : End) × Consumes left after bytes × EndsAs end bytes (IsAtEnd after) (i < j) × Gives (served device bytes end) r a b))
-    → IfSome told (λ f. IfSome left (λ script. r ≢ 5 → r ≢ 4 → GivesUnlessMemory (whole_output (Some path) f script) r a b))
-file_answer None left after a b path file r i j is rose other ran = tt
-file_answer (Some f) None after a b path file r i j is rose other ran = tt
-file_answer (Some f) (Some script) after a b path file r i j is rose other ran = λ whole read.
-    subst (λ g. GivesUnlessMemory (whole_output (Some path) g script) r a b) is
-    (whole_answer path file (Some script) after a b r i j (device_in path file) script refl ((rose whole).stayed read)
-    (answers-found path file (Some script) after a b r i j (device_in path file) refl whole other ran))
+  answer_of : (device : Device) (left : Option (List ℕ)) → input.left ≡ left → (status ≢ 5 → RoseExactly input.faults new_input.faults (status ≡ 4)) → IsServed device input new_input out new_out status
+      → IfSome left (λ script. status ≢ 5 → status ≢ 4 → GivesUnlessMemory (wholly_served device script) status out.got new_out.got)
+  answer_of device None told rose done = tt
+  answer_of device (Some script) told rose done = λ whole read. whole_answer device script told ((rose whole).stayed read) (done.answer whole)
 
--- where no script is answered
-pub no_script : (told : Option (List ℕ)) (path file : List ℕ) (i j t u : ℕ) → IfSome told (λ bytes. file ≡ bytes) → ((refusal : List ℕ) → device_in path file ≡ Err refusal → (j ≡ i) × (u ≡ t))
-    → IfSome told (λ f. script_for (Some path) f ≡ None → (j ≡ i) × (u ≡ t))
-no_script None path file i j t u is idle = tt
-no_script (Some f) path file i j t u is idle = λ none. by (device_in path file) refl (subst (λ g. result_ok (device_in path g) ≡ None) (sym is) none)
+  -- a count that rose tells the one status that goes with it
+  moved : RoseExactly input.faults new_input.faults (status ≡ 4) → input.faults < new_input.faults → (status ≡ 4 → ⊥) → ⊥
+  moved rose rises other = omega (arith, rose.stayed other, rises)
+
+  failed_at : (device : Device) (bytes : List ℕ) (end : End) → RoseExactly input.faults new_input.faults (status ≡ 4) → input.faults < new_input.faults
+      → Consumes input.left new_input.left bytes → Gives (served device bytes end) status out.got new_out.got
+      → (taken : List ℕ) × Consumes input.left new_input.left taken × Gives (served device taken Failed) status out.got new_out.got
+  failed_at device bytes Ended rose rises took gives = absurd (moved rose rises (λ four. omega (arith, four, gives.same_status)))
+  failed_at device bytes Failed rose rises took gives = (bytes, took, gives)
+  failed_at device bytes Cut rose rises took gives = absurd (moved rose rises (λ four. omega (arith, four, gives.same_status)))
+
+  fault_of : (device : Device) → RoseExactly input.faults new_input.faults (status ≡ 4) → input.faults < new_input.faults
+      → Gives no_memory status out.got new_out.got ⊎ IsAnswered device input new_input out new_out status
+      → (bytes : List ℕ) × Consumes input.left new_input.left bytes × Gives (served device bytes Failed) status out.got new_out.got
+  fault_of device rose rises (inl memory) = absurd (moved rose rises (λ four. omega (arith, four, memory.same_status)))
+  fault_of device rose rises (inr answered) = failed_at device answered.bytes answered.end rose rises answered.took answered.gives
+
+  -- ---- runs
+
+  module _ (form : Form) (held : List ℕ → Holding) (shelf new_shelf : Reading) where
+    on_told : {P Q : List ℕ → Type 0} (told : Option (List ℕ)) → ((file : List ℕ) → P file → Q file) → IfSome told P → IfSome told Q
+    on_told None f h = tt
+    on_told (Some file) f h = f file h
+
+    -- The file was read.
+    pub run_loaded : (file : List ℕ) → IfSome (told_bytes (held (path_of form))) (λ bytes. file ≡ bytes) → held (path_of form) ≢ absent → new_shelf.faults ≡ shelf.faults
+        → RoseExactly out.faults new_out.faults (status ≡ 5) → (status ≢ 5 → RoseExactly input.faults new_input.faults (status ≡ 4)) → status ≢ 2
+        → Follows (course_of (Some form) file) input new_input out new_out status → (status ≡ 7 → new_input.taken ≡ input.taken + SCRIPT_LIMIT)
+        → IsRun (Some form) held shelf new_shelf input new_input out new_out status
+    run_loaded file is there kept writes reads other done cut = record {
+      write_fault = writes;
+      read_fault = λ whole. ((λ four. inr ((reads whole).rose four)), λ rises. elim rises [ inl moves ↦ absurd (omega (arith, kept, moves)) | inr moves ↦ four_of whole moves ]);
+      usage = λ whole. ((λ two. absurd (other two)), λ none. absurd (let never : ⊥ = cc in never));
+      no_name = λ none. absurd (let never : ⊥ = cc in never);
+      absent_file = λ gone. absurd (there gone);
+      no_file = λ moves. absurd (omega (arith, kept, moves));
+      told = on_told (told_bytes (held (path_of form))) (λ bytes same output course.
+          let all = told_of (course_of (Some form) file) output (ap (course_of (Some form)) same ∙ course) done in (all.0, λ whole read. all.1 whole)) is;
+      answer = on_told (told_bytes (held (path_of form))) (λ bytes same device course.
+          answer_of device input.left refl reads (served_of (course_of (Some form) file) device (ap (course_of (Some form)) same ∙ course) done)) is;
+      script_fault = on_told (told_bytes (held (path_of form))) (λ bytes same device course rises whole.
+          fault_of device (reads whole) rises ((served_of (course_of (Some form) file) device (ap (course_of (Some form)) same ∙ course) done).answer whole)) is;
+      all_read = on_told (told_bytes (held (path_of form))) (λ bytes same device course zero.
+          (served_of (course_of (Some form) file) device (ap (course_of (Some form)) same ∙ course) done).all_read zero) is;
+      cut = cut;
+    }
+      where
+        four_of : status ≢ 5 → input.faults < new_input.faults → status ≡ 4
+        four_of whole moves = elim (cases_eq status 4) [ inl four ↦ four | inr not_four ↦ absurd (omega (arith, (reads whole).stayed not_four, moves)) ]
+
+-- ---- what may be told without a look at the script
+
+-- an output that tells that memory ran out, or the one that the file comes to
+abbrev pub IsRight : Form → Output → List ℕ → Type 0
+IsRight form output file = (output ≡ no_memory) ⊎ (course_of (Some form) file ≡ Tells output)
+
+-- a file that is too long has this output
+long_course : (form : Form) (file : List ℕ) → TEXT_LIMIT < length file → course_of (Some form) file ≡ Tells (says long_file_line 1)
+long_course form file long = by form
   where
-    by : (found : Result Device (List ℕ)) → device_in path file ≡ found → result_ok found ≡ None → (j ≡ i) × (u ≡ t)
-    by (Ok device) e n = cc
-    by (Err refusal) e n = idle refusal e
+    no_more : nat_le (length file) TEXT_LIMIT ≡ false
+    no_more = grind arith
 
-pub same_device : (d e : Device) → ◌≡◌ {A = Result Device (List ℕ)} (Ok d) (Ok e) → d ≡ e
-same_device d e h = cc
+    by : (form : Form) → course_of (Some form) file ≡ Tells (says long_file_line 1)
+    by (Serve path) = rw no_more
+    by (Plan path) = rw no_more
 
--- a count that rose tells the one status that goes with it
-moved : (r i j : ℕ) → RoseExactly i j (r ≡ 4) → i < j → (r ≡ 4 → ⊥) → ⊥
-moved r i j rose rises other = omega (arith, rose.stayed other, rises)
+-- and so it is right to tell that
+pub long_is_right : (form : Form) (told : Option (List ℕ)) → IfSome told (λ file. TEXT_LIMIT < length file) → IfSome told (IsRight form (says long_file_line 1))
+long_is_right form None long = tt
+long_is_right form (Some file) long = inr (long_course form file long)
 
-failed_run : (device : Device) (left after a b : Option (List ℕ)) (r i j : ℕ) → RoseExactly i j (r ≡ 4) → i < j
-    → Gives no_memory r a b ⊎ ((bytes : List ℕ) × (end : End) × Consumes left after bytes × EndsAs end bytes (IsAtEnd after) (i < j) × Gives (served device bytes end) r a b)
-    → (bytes : List ℕ) × Consumes left after bytes × Gives (served device bytes Failed) r a b
-failed_run device left after a b r i j rose rises (inl memory) = absurd (moved r i j rose rises (λ four. omega (arith, four, memory.same_status)))
-failed_run device left after a b r i j rose rises (inr (bytes, Ended, took, is, gives)) = absurd (moved r i j rose rises (λ four. omega (arith, four, gives.same_status)))
-failed_run device left after a b r i j rose rises (inr (bytes, Failed, took, is, gives)) = (bytes, took, gives)
-failed_run device left after a b r i j rose rises (inr (bytes, Cut, took, is, gives)) = absurd (moved r i j rose rises (λ four. omega (arith, four, gives.same_status)))
+-- ---- runs in which the script is not begun
 
--- where a read of the script failed
-pub fault_answer : (told left after a b : Option (List ℕ)) (path file : List ℕ) (r i j : ℕ) → IfSome told (λ bytes. file ≡ bytes)
-    → (r ≢ 5 → RoseExactly i j (r ≡ 4))
-    → ((device : Device) → device_in path file ≡ Ok device → r ≢ 5 → Gives no_memory r a b ⊎ ((bytes : List ℕ) × (end : End) × Consumes left after bytes × EndsAs end bytes (IsAtEnd after) (i < j) × Gives (served device bytes end) r a b))
-    → IfSome told (λ f. (device : Device) → script_for (Some path) f ≡ Some device → i < j → r ≢ 5 → (bytes : List ℕ) × Consumes left after bytes × Gives (served device bytes Failed) r a b)
-fault_answer None left after a b path file r i j is rose ran = tt
-fault_answer (Some f) left after a b path file r i j is rose ran = λ device found rises whole.
-    failed_run device left after a b r i j (rose whole) rises
-    (ran device (by device (device_in path file) refl (subst (λ g. result_ok (device_in path g) ≡ Some device) (sym is) found)) whole)
-  where
-    by : (device : Device) (in_file : Result Device (List ℕ)) → device_in path file ≡ in_file → result_ok in_file ≡ Some device → device_in path file ≡ Ok device
-    by device (Ok d) e n = e ∙ ap Ok (cc)
-    by device (Err refusal) e n = cc
+module _ (held : List ℕ → Holding) (shelf new_shelf input : Reading) (out new_out : Writing) (status : ℕ) where
+  idle : IsIdle input input
+  idle = record { taken = refl; faults = refl }
+
+  never_rises : {P : Type 0} → input.faults < input.faults → P
+  never_rises moves = absurd (omega (arith, moves))
+
+  known : (output : Output) → (status ≢ 5 → Gives output status out.got new_out.got) → (s : ℕ) → status ≡ s → s ≢ 5 → output.status ≢ s → ⊥
+  known output said s is whole other = other (sym ((said (λ five. whole (sym is ∙ five))).same_status) ∙ is)
+
+  module _ (form : Form) where
+    all_told : {P : List ℕ → Type 0} (told : Option (List ℕ)) → ((file : List ℕ) → P file) → IfSome told P
+    all_told None f = tt
+    all_told (Some file) f = f file
+
+    -- The file could not be read.
+    pub run_failed : shelf.faults < new_shelf.faults → RoseExactly out.faults new_out.faults (status ≡ 5)
+        → (status ≢ 5 → Gives (says read_error 4) status out.got new_out.got) → IsRun (Some form) held shelf new_shelf input input out new_out status
+    run_failed moves writes said = record {
+      write_fault = writes;
+      read_fault = λ whole. ((λ four. inl moves), λ rises. (said whole).same_status);
+      usage = λ whole. ((λ two. absurd (known (says read_error 4) said 2 two (λ e. absurd (omega (arith, e))) (λ e. absurd (omega (arith, e))))), λ none. absurd (let never : ⊥ = cc in never));
+      no_name = λ none. absurd (let never : ⊥ = cc in never);
+      absent_file = λ gone whole. (said whole).same_status;
+      no_file = λ rises. (idle, said);
+      told = all_told (told_bytes (held (path_of form))) (λ file output course. (idle, λ whole read. absurd (read (said whole).same_status)));
+      answer = all_told (told_bytes (held (path_of form))) (λ file device course. all_told input.left (λ script whole read. absurd (read (said whole).same_status)));
+      script_fault = all_told (told_bytes (held (path_of form))) (λ file device course rises. never_rises rises);
+      all_read = all_told (told_bytes (held (path_of form))) (λ file device course zero. absurd (known (says read_error 4) said 0 zero (λ e. absurd (omega (arith, e))) (λ e. absurd (omega (arith, e)))));
+      cut = λ seven. absurd (known (says read_error 4) said 7 seven (λ e. absurd (omega (arith, e))) (λ e. absurd (omega (arith, e))));
+    }
+
+    -- One output was given without a look at the script.
+    pub run_told : (output : Output) → output.status ≢ 0 → output.status ≢ 2 → output.status ≢ 4 → output.status ≢ 7 → IfSome (told_bytes (held (path_of form))) (IsRight form output)
+        → held (path_of form) ≢ absent → new_shelf.faults ≡ shelf.faults → RoseExactly out.faults new_out.faults (status ≡ 5)
+        → (status ≢ 5 → Gives output status out.got new_out.got) → IsRun (Some form) held shelf new_shelf input input out new_out status
+    run_told output no0 no2 no4 no7 right there kept writes said = record {
+      write_fault = writes;
+      read_fault = λ whole. ((λ four. absurd (no4 (sym (said whole).same_status ∙ four))), λ rises. elim rises [ inl moves ↦ absurd (omega (arith, kept, moves)) | inr moves ↦ never_rises moves ]);
+      usage = λ whole. ((λ two. absurd (no2 (sym (said whole).same_status ∙ two))), λ none. absurd (let never : ⊥ = cc in never));
+      no_name = λ none. absurd (let never : ⊥ = cc in never);
+      absent_file = λ gone. absurd (there gone);
+      no_file = λ moves. absurd (omega (arith, kept, moves));
+      told = on_right (told_bytes (held (path_of form))) (λ file is other course. (idle, λ whole read. told_by file other is course (said whole))) right;
+      answer = on_right (told_bytes (held (path_of form))) (λ file is device course. all_told input.left (λ script whole read. answer_by file device script is course (said whole))) right;
+      script_fault = all_told (told_bytes (held (path_of form))) (λ file device course rises. never_rises rises);
+      all_read = all_told (told_bytes (held (path_of form))) (λ file device course zero. absurd (known output said 0 zero (λ e. absurd (omega (arith, e))) no0));
+      cut = λ seven. absurd (known output said 7 seven (λ e. absurd (omega (arith, e))) no7);
+    }
+      where
+        on_right : {Q : List ℕ → Type 0} (told : Option (List ℕ)) → ((file : List ℕ) → IsRight form output file → Q file) → IfSome told (IsRight form output) → IfSome told Q
+        on_right None f h = tt
+        on_right (Some file) f h = f file h
+
+        same_output : (a b : Output) → Tells a ≡ Tells b → a ≡ b
+        same_output a b e = cc
+
+        not_both : (a : Output) (device : Device) → Tells a ≡ Serves device → ⊥
+        not_both a device e = cc
+
+        told_by : (file : List ℕ) (other : Output) → IsRight form output file → course_of (Some form) file ≡ Tells other → Gives output status out.got new_out.got
+            → GivesUnlessMemory other status out.got new_out.got
+        told_by file other (inl memory) course gives = inl (subst (λ o. Gives o status out.got new_out.got) memory gives)
+        told_by file other (inr is) course gives = inr (subst (λ o. Gives o status out.got new_out.got) (same_output output other (sym is ∙ course)) gives)
+
+        answer_by : (file : List ℕ) (device : Device) (script : List ℕ) → IsRight form output file → course_of (Some form) file ≡ Serves device → Gives output status out.got new_out.got
+            → GivesUnlessMemory (wholly_served device script) status out.got new_out.got
+        answer_by file device script (inl memory) course gives = inl (subst (λ o. Gives o status out.got new_out.got) memory gives)
+        answer_by file device script (inr is) course gives = absurd (not_both output device (sym is ∙ course))
+
+  -- The words have no form.
+  pub run_usage : RoseExactly out.faults new_out.faults (status ≡ 5) → (status ≢ 5 → Gives (says (codes "error: usage\n") 2) status out.got new_out.got)
+      → IsRun None held shelf shelf input input out new_out status
+  run_usage writes said = record {
+    write_fault = writes;
+    read_fault = λ whole. ((λ four. absurd (let two = (said whole).same_status in omega (arith, four, two))), λ rises. elim rises [ inl moves ↦ absurd (omega (arith, moves)) | inr moves ↦ never_rises moves ]);
+    usage = λ whole. ((λ two. refl), λ none. (said whole).same_status);
+    no_name = λ none. record { taken = refl; faults = refl };
+    absent_file = tt;
+    no_file = λ moves. absurd (omega (arith, moves));
+    told = λ output course. (idle, λ whole read. inr (subst (λ o. Gives o status out.got new_out.got) (same_output _ output course) (said whole)));
+    answer = λ device course. absurd (let never : ⊥ = cc in never);
+    script_fault = λ device course rises. never_rises rises;
+    all_read = λ device course zero. absurd (let never : ⊥ = cc in never);
+    cut = λ seven. absurd (known (says (codes "error: usage\n") 2) said 7 seven (λ e. absurd (omega (arith, e))) (λ e. absurd (omega (arith, e))));
+  }
+    where
+      same_output : (a b : Output) → Tells a ≡ Tells b → a ≡ b
+      same_output a b e = cc

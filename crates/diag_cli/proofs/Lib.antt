@@ -1,3 +1,4 @@
 pub mod Running
+pub mod Faults
 pub mod Headline
 pub mod Adapting

@@ -1,21 +1,22 @@
 -- The device that a file describes, or what is said of a file that gives none.
-use Rattle.std.specs.Prelude.{ℕ, ◌+◌, Bool, List, [], ◌∷◌, ◌++◌, length, Option, Some, None, Result, Ok, Err, codes, nat_le, if◌then◌else◌}
+use Rattle.std.specs.Prelude.{ℕ, ◌+◌, Bool, List, [], ◌∷◌, ◌++◌, length, Result, Ok, Err, codes, nat_le, if◌then◌else◌}
 use Rattle.std.specs.Fmt.{decimal}
 use Rattle.text_rules.specs.declared.text_lines.TheConstants.{TEXT_LIMIT}
 use Rattle.text_rules.specs.Tokens.{spaced}
 use Rattle.device_model.specs.declared.limits.TheConstants.{NAME_LIMIT, PART_LIMIT, WIRE_LIMIT}
 use Rattle.device_model.specs.Devices.{Device}
-use Rattle.bench_reader.specs.Netlists.{Fault as NetlistFault, netlist}
-use Rattle.bench_reader.specs.Faults.{fault_number as netlist_number, fault_name as netlist_name}
+use Rattle.bench_reader.specs.Netlists.{netlist}
+use Rattle.bench_reader.specs.Faults.{Fault as NetlistFault, fault_number as netlist_number, fault_name as netlist_name}
 use Rattle.component_lang.specs.Designs.{Design}
 use Rattle.component_lang.specs.Reading.{Fault as DesignFault, design}
 use Rattle.component_lang.specs.Faults.{fault_number as design_number, fault_name as design_name}
 use Rattle.flattener.specs.declared.flattening.FlattenError.{FlattenError}
 use Rattle.flattener.specs.declared.flattening.FlattenError.TheVariants.{TooManyParts, TooManyWires, TooManyBlocks, PathTooLong, Memory}
-use Rattle.flattener.specs.declared.counting.TheConstants.{INSTANCE_LIMIT}
+use Rattle.flattener.specs.declared.flattening.TheConstants.{INSTANCE_LIMIT}
 use Rattle.flattener.specs.Flat.{flattened}
 use Rattle.plain_minimum.specs.declared.search.TheConstants.{SIZE_LIMIT}
 use Rattle.diag_cli.specs.Words.{is_design_path}
+use Rattle.diag_cli.specs.Output.{Output, says, no_memory_line}
 
 -- the line that tells a fault, by its line, its number and its name
 abbrev pub fault_line : ℕ → ℕ → List ℕ → List ℕ
@@ -32,9 +33,6 @@ design_line fault = fault_line fault.line (design_number fault.what) (design_nam
 abbrev pub above_line : List ℕ → ℕ → ℕ → List ℕ
 above_line what count limit = spaced (codes "error:" ∷ what ∷ decimal count ∷ codes "above" ∷ decimal limit ∷ [])
 
-abbrev pub no_memory_line : List ℕ
-no_memory_line = codes "error: memory\n"
-
 abbrev pub flatten_line : FlattenError → List ℕ
 flatten_line (TooManyParts count) = above_line (codes "parts") count PART_LIMIT
 flatten_line (TooManyWires count) = above_line (codes "wires") count WIRE_LIMIT
@@ -48,27 +46,27 @@ not_yet_line = codes "error: not yet\n"
 abbrev pub long_file_line : List ℕ
 long_file_line = codes "error: file above 16777216 bytes\n"
 
--- a device, or the line that refuses it
-abbrev pub or_line : {F : Type 0} → (F → List ℕ) → Result Device F → Result Device (List ℕ)
+-- a device, or the line that refuses its file
+abbrev pub or_line : {F : Type 0} → (F → List ℕ) → Result Device F → Result Device Output
 or_line line (Ok device) = Ok device
-or_line line (Err fault) = Err (line fault)
+or_line line (Err fault) = Err (says (line fault) 1)
 
-abbrev pub design_device : Result Design DesignFault → Result Device (List ℕ)
+abbrev pub design_device : Result Design DesignFault → Result Device Output
 design_device (Ok made) = or_line flatten_line (flattened made)
-design_device (Err fault) = Err (design_line fault)
+design_device (Err fault) = Err (says (design_line fault) 1)
 
 -- the device that a text describes, by the path of its file
-abbrev pub described : List ℕ → List ℕ → Result Device (List ℕ)
+abbrev pub described : List ℕ → List ℕ → Result Device Output
 described path text = if is_design_path path then design_device (design text) else or_line netlist_line (netlist text)
 
 -- the same of a file, which may be too long
-abbrev pub device_in : List ℕ → List ℕ → Result Device (List ℕ)
-device_in path file = if nat_le (length file) TEXT_LIMIT then described path file else Err long_file_line
+abbrev pub device_in : List ℕ → List ℕ → Result Device Output
+device_in path file = if nat_le (length file) TEXT_LIMIT then described path file else Err (says long_file_line 1)
 
 -- parts and wires are few enough that all values can be tried
 abbrev pub is_small : Device → Bool
 is_small device = nat_le (length device.parts + length device.wires) SIZE_LIMIT
 
-abbrev pub if_small : Result Device (List ℕ) → Result Device (List ℕ)
-if_small (Ok device) = if is_small device then Ok device else Err not_yet_line
-if_small (Err line) = Err line
+abbrev pub if_small : Result Device Output → Result Device Output
+if_small (Ok device) = if is_small device then Ok device else Err (says not_yet_line 1)
+if_small (Err output) = Err output

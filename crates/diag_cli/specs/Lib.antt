@@ -1,5 +1,7 @@
 pub mod Words
-pub mod Describing
 pub mod Output
+pub mod Describing
+pub mod Courses
 pub mod Runs
 pub mod Refusals
+pub mod inner

@@ -5,7 +5,8 @@ use Rattle.diag_edge.specs.Edge.{RoseExactly, Holding, absent}
 use Rattle.device_model.specs.Devices.{Device}
 use Rattle.diag_cli.specs.declared.run.TheConstants.{SCRIPT_LIMIT}
 use Rattle.diag_cli.specs.Words.{Form, named_file, told_file}
-use Rattle.diag_cli.specs.Output.{Output, Failed, Course, Tells, Serves, Gives, GivesUnlessMemory, says, read_error, served, wholly_served, course_of}
+use Rattle.diag_cli.specs.Output.{Output, Gives, GivesUnlessMemory, says}
+use Rattle.diag_cli.specs.Courses.{Failed, Course, Tells, Serves, read_error, served, wholly_served, course_of}
 
 -- what a source of bytes shows at a time: the bytes still to come, where they are told, how many were taken, and its faults
 pub record Reading : Type 0 where

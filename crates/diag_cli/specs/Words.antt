@@ -19,15 +19,23 @@ is_device_path path = ends_in (codes ".bench") path || is_design_path path
 -- the forms of the command line
 pub data Form : Type 0 where
   Serve : (path : List ℕ) → Form
+  Plan : (path : List ℕ) → Form
 
 -- the file that a form names
 abbrev pub path_of : Form → List ℕ
 path_of (Serve path) = path
+path_of (Plan path) = path
 
--- `serve FILE`, where the file is a netlist or a design
+-- a command over a netlist or a design
+abbrev pub form_over : List ℕ → List ℕ → Option Form
+form_over command path =
+    if same_name command (codes "serve") then Some (Serve path)
+    else if same_name command (codes "plan") then Some (Plan path)
+    else None
+
+-- `serve FILE` or `plan FILE`
 abbrev pub form_of : List (List ℕ) → Option Form
-form_of (command ∷ path ∷ []) =
-    if same_name command (codes "serve") && is_device_path path then Some (Serve path) else None
+form_of (command ∷ path ∷ []) = if is_device_path path then form_over command path else None
 form_of words = None
 
 -- the file that the words name, if they have a form

@@ -35,6 +35,7 @@ pub struct FileShelf {
 }
 
 impl FileShelf {
+    /// No file is open yet.
     pub fn new(rt: HostRuntime) -> Self
         ensures taken { ⟦<FileShelf as Source>⟧.taken result ≡ 0 }
         ensures faults { ⟦<FileShelf as Source>⟧.faults result ≡ 0 }
@@ -106,7 +107,9 @@ pub struct StdSource<R: Read + Drop> {
 }
 
 impl<R: Read + Drop> StdSource<R> {
+    /// Nothing is read yet.
     pub fn new(input: R) -> Self
+        ensures left { ⟦<StdSource<R> as Source>⟧.left result ≡ R.remaining input }
         ensures taken { ⟦<StdSource<R> as Source>⟧.taken result ≡ 0 }
         ensures faults { ⟦<StdSource<R> as Source>⟧.faults result ≡ 0 }
     {
@@ -152,7 +155,9 @@ pub struct StdSink<W: Write + Drop> {
 }
 
 impl<W: Write + Drop> StdSink<W> {
+    /// Nothing is written yet.
     pub fn new(out: W) -> Self
+        ensures got { ⟦<StdSink<W> as Sink>⟧.got result ≡ W.contents out }
         ensures faults { ⟦<StdSink<W> as Sink>⟧.faults result ≡ 0 }
     {
         StdSink { out, faults: 0 }

@@ -1,31 +1,24 @@
-ghost use Rattle.std.specs.Prelude.{◌≤◌, ◌+◌, length, IfOk};
+ghost use Rattle.std.specs.Prelude.{◌≡◌, ◌≤◌, ◌+◌, length, IfOk, Some};
 ghost use Rattle.bench_reader.specs.Netlists.{netlist};
 ghost use Rattle.component_lang.specs.Reading.{design};
 ghost use Rattle.flattener.specs.Flat.{flattened};
-ghost use Rattle.diag_cli.specs.Output.{file_limit, netlist_line, flatten_line, or_line, flat_device, described, device_in};
-ghost use Rattle.diag_cli.specs.Refusals.{Finds};
+ghost use Rattle.diag_cli.specs.Describing.{above_line, netlist_line, flatten_line, or_line, design_device, described, if_small};
+ghost use Rattle.diag_cli.specs.Output.{says};
+ghost use Rattle.diag_cli.specs.Refusals.{Finds, told_by};
 
 use crate::refusal::Refusal;
 use crate::words::is_design_path;
 use bench_reader::{BenchError, read_bench};
 use component_lang::{Design, LangError, read_lang};
-use device_model::Device;
-use flattener::{FlattenError, flatten};
-use session_core::SIZE_LIMIT;
+use device_model::{Device, NAME_LIMIT, PART_LIMIT, WIRE_LIMIT};
+use flattener::{FlattenError, INSTANCE_LIMIT, flatten};
+use plain_minimum::SIZE_LIMIT;
 use std::alloc::Global;
-
-/// The limits of a flat device: its parts, its wires, its instances of blocks, and the bytes of a path.
-const PART_LIMIT: u64 = 4096;
-
-const WIRE_LIMIT: u64 = 16384;
-
-const BLOCK_LIMIT: u64 = 4096;
-
-const PATH_LIMIT: u64 = 255;
+use text_rules::TEXT_LIMIT;
 
 fn netlist_device(alloc: Global, text: &[u8]) -> Result<Device, Refusal>
-    requires { length text.now ≤ file_limit }
-    ensures { Finds result (or_line netlist_line (netlist text.now)) }
+    requires { length text.now ≤ TEXT_LIMIT }
+    ensures { Finds (or_line netlist_line (netlist text.now)) result }
 {
     match read_bench(alloc, text) {
         Ok(device) => Ok(device),
@@ -38,38 +31,33 @@ fn netlist_device(alloc: Global, text: &[u8]) -> Result<Device, Refusal>
     }
 }
 
+// The refusal that tells a count above its limit.
+pub(crate) fn above(what: &'static str, count: u64, limit: usize) -> Refusal
+    ensures { told_by result ≡ Some (says (above_line what.now count limit) 1) }
+{
+    Refusal::Above {
+        what,
+        count,
+        limit: limit as u64,
+    }
+}
+
 fn flattened_device(alloc: Global, design: &Design) -> Result<Device, Refusal>
-    ensures { Finds result (or_line flatten_line (flattened design.now)) }
+    ensures { Finds (or_line flatten_line (flattened design.now)) result }
 {
     match flatten(alloc, design) {
         Ok(device) => Ok(device),
-        Err(FlattenError::TooManyParts { count }) => Err(Refusal::Above {
-            what: "parts",
-            count,
-            limit: PART_LIMIT,
-        }),
-        Err(FlattenError::TooManyWires { count }) => Err(Refusal::Above {
-            what: "wires",
-            count,
-            limit: WIRE_LIMIT,
-        }),
-        Err(FlattenError::TooManyBlocks { count }) => Err(Refusal::Above {
-            what: "blocks",
-            count,
-            limit: BLOCK_LIMIT,
-        }),
-        Err(FlattenError::PathTooLong { length }) => Err(Refusal::Above {
-            what: "path",
-            count: length,
-            limit: PATH_LIMIT,
-        }),
+        Err(FlattenError::TooManyParts { count }) => Err(above("parts", count, PART_LIMIT)),
+        Err(FlattenError::TooManyWires { count }) => Err(above("wires", count, WIRE_LIMIT)),
+        Err(FlattenError::TooManyBlocks { count }) => Err(above("blocks", count, INSTANCE_LIMIT)),
+        Err(FlattenError::PathTooLong { length }) => Err(above("path", length, NAME_LIMIT)),
         Err(FlattenError::Memory) => Err(Refusal::Memory),
     }
 }
 
 fn design_device(alloc: Global, text: &[u8]) -> Result<Device, Refusal>
-    requires { length text.now ≤ file_limit }
-    ensures { Finds result (flat_device (design text.now)) }
+    requires { length text.now ≤ TEXT_LIMIT }
+    ensures { Finds (design_device (design text.now)) result }
 {
     match read_lang(alloc, text) {
         Ok(design) => flattened_device(alloc, &design),
@@ -82,10 +70,10 @@ fn design_device(alloc: Global, text: &[u8]) -> Result<Device, Refusal>
     }
 }
 
-// The device that a text describes, by the ending of its file's path.
-fn described(alloc: Global, path: &str, text: &[u8]) -> Result<Device, Refusal>
-    requires { length text.now ≤ file_limit }
-    ensures { Finds result (described path.now text.now) }
+/// The device that a text describes, by the ending of its file's path.
+pub(crate) fn described(alloc: Global, path: &str, text: &[u8]) -> Result<Device, Refusal>
+    requires { length text.now ≤ TEXT_LIMIT }
+    ensures { Finds (described path.now text.now) result }
 {
     if is_design_path(path) {
         design_device(alloc, text)
@@ -94,13 +82,13 @@ fn described(alloc: Global, path: &str, text: &[u8]) -> Result<Device, Refusal>
     }
 }
 
-/// The device of a file, if it is small enough to be served.
-pub fn device_in(alloc: Global, path: &str, file: &[u8]) -> Result<Device, Refusal>
-    requires { length file.now ≤ file_limit }
-    ensures found { Finds result (device_in path.now file.now) }
-    ensures few { IfOk result (λ device. length device.parts + length device.wires ≤ 20) }
+/// The device of a text, if it is small enough to be served.
+pub(crate) fn small_device(alloc: Global, path: &str, text: &[u8]) -> Result<Device, Refusal>
+    requires { length text.now ≤ TEXT_LIMIT }
+    ensures found { Finds (if_small (described path.now text.now)) result }
+    ensures few { IfOk result (λ device. length device.parts + length device.wires ≤ SIZE_LIMIT) }
 {
-    let device = described(alloc, path, file)?;
+    let device = described(alloc, path, text)?;
     if device.parts().len() + device.wires().len() > SIZE_LIMIT {
         return Err(Refusal::NotYet);
     }

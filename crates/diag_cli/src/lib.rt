@@ -3,6 +3,7 @@
 
 mod adapters;
 mod describing;
+mod planning;
 mod program;
 mod refusal;
 mod run;

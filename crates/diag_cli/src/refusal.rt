@@ -1,14 +1,17 @@
-ghost use Rattle.std.specs.Prelude.{◌≡◌, ◌≢◌, ◌-◌, ◌^◌, ◌<◌, codes, decimal, ◌++◌};
+ghost use Rattle.std.specs.Prelude.{◌≡◌, ◌≢◌, ◌⊎◌, ◌-◌, ◌^◌, ◌<◌, ◌∷◌, [], codes, decimal, OnOk};
+ghost use Rattle.std.specs.Io.KnownBytes.{Appends};
 ghost use Rattle.diag_edge.specs.Edge.{HasCause, RoseExactly, Puts};
-ghost use Rattle.diag_cli.specs.Output.{Gives, says, fault_line, above_line};
-ghost use Rattle.diag_cli.specs.Refusals.{refusal_output};
+ghost use Rattle.diag_cli.specs.Describing.{fault_line, above_line};
+ghost use Rattle.text_rules.specs.Tokens.{spaced};
+ghost use Rattle.diag_cli.specs.Courses.{sum_above};
+ghost use Rattle.diag_cli.specs.Output.{Gives, says};
+ghost use Rattle.diag_cli.specs.Refusals.{told_by, or_memory};
 
 use crate::saying::say;
-use diag_edge::writing::put_two;
-use diag_edge::{Sink, WriteFailed};
-use session_core::put_count;
+use diag_edge::{Chunk, Sink, WriteFailed, put_line};
+use itoa::Buffer;
 
-/// Why a file gives no device that is served.
+/// Why a file gives nothing of what the words ask for.
 #[derive(Clone, Copy, Debug, PartialEq, Eq)]
 pub enum Refusal {
     /// The text has a fault: its line, its number and its name.
@@ -23,63 +26,62 @@ pub enum Refusal {
         count: u64,
         limit: u64,
     },
+    /// The sum of the clauses is above the budget.
+    Sum { budget: u32 },
     /// There are more parts and wires than can be tried.
     NotYet,
     /// There was no memory.
     Memory,
 }
 
-// The front of the line that tells a fault, up to its name.
-#[tactic(auto, using(diag_edge::proofs::Growing::puts_on))]
-fn put_fault_numbers<O: Sink>(out: &mut O, line: u64, number: u64) -> Result<(), WriteFailed>
-    ensures text { Puts (O.got out.old) (O.got out.new) result
-        ((codes "error: line " ++ decimal line ++ codes ": fault ") ++ (codes "" ++ decimal number ++ codes " ")) }
-    ensures cause { HasCause (O.faults out.old) (O.faults out.new) result }
-{
-    put_count(out, b"error: line ", line, b": fault ")?;
-    put_count(out, b"", number, b" ")
-}
-
 // The line that tells a fault.
-#[tactic(auto, using(diag_edge::proofs::Growing::puts_on))]
-fn put_fault<O: Sink>(out: &mut O, line: u64, number: u64, name: &[u8]) -> Result<(), WriteFailed>
-    ensures text { Puts (O.got out.old) (O.got out.new) result
-        (((codes "error: line " ++ decimal line ++ codes ": fault ") ++ (codes "" ++ decimal number ++ codes " ")) ++ (name.now ++ codes "\n")) }
+fn put_fault<O: Sink>(out: &mut O, line: u32, number: u32, name: &[u8]) -> Result<(), WriteFailed>
+    ensures text { OnOk result (Appends (O.got out.old) (O.got out.new) (fault_line line number name.now)) }
     ensures cause { HasCause (O.faults out.old) (O.faults out.new) result }
 {
-    put_fault_numbers(out, line, number)?;
-    put_two(out, name, b"\n")
-}
-
-// The line that tells a count, behind `error: `.
-#[tactic(auto, using(diag_edge::proofs::Growing::puts_on))]
-fn put_counts<O: Sink>(out: &mut O, count: u64, limit: u64) -> Result<(), WriteFailed>
-    ensures text { Puts (O.got out.old) (O.got out.new) result
-        ((codes " " ++ decimal count ++ codes " above ") ++ (codes "" ++ decimal limit ++ codes "\n")) }
-    ensures cause { HasCause (O.faults out.old) (O.faults out.new) result }
-{
-    put_count(out, b" ", count, b" above ")?;
-    put_count(out, b"", limit, b"\n")
+    let mut chunk = Chunk::new();
+    chunk.add(out, b"error: line ")?;
+    chunk.add_number(out, line)?;
+    chunk.add(out, b": fault")?;
+    chunk.end_line(out, &[Buffer::new().format(number).as_bytes(), name])?;
+    chunk.put(out)?;
+    Ok(())
 }
 
 // The line that tells a count above its limit.
-#[tactic(auto, using(diag_edge::proofs::Growing::puts_on))]
 fn put_above<O: Sink>(out: &mut O, what: &[u8], count: u64, limit: u64) -> Result<(), WriteFailed>
-    ensures text { Puts (O.got out.old) (O.got out.new) result
-        ((codes "error: " ++ what.now) ++ ((codes " " ++ decimal count ++ codes " above ") ++ (codes "" ++ decimal limit ++ codes "\n"))) }
+    ensures text { Puts (O.got out.old) (O.got out.new) result (above_line what.now count limit) }
     ensures cause { HasCause (O.faults out.old) (O.faults out.new) result }
 {
-    put_two(out, b"error: ", what)?;
-    put_counts(out, count, limit)
+    put_line(
+        out,
+        &[
+            b"error:",
+            what,
+            Buffer::new().format(count).as_bytes(),
+            b"above",
+            Buffer::new().format(limit).as_bytes(),
+        ],
+    )
+}
+
+// The line that tells a sum above the budget.
+fn put_sum_above<O: Sink>(out: &mut O, budget: u32) -> Result<(), WriteFailed>
+    ensures text { Puts (O.got out.old) (O.got out.new) result
+        (spaced (codes "error:" ∷ codes "sum" ∷ codes "above" ∷ decimal budget ∷ [])) }
+    ensures cause { HasCause (O.faults out.old) (O.faults out.new) result }
+{
+    put_line(out, &[b"error:", b"sum", b"above", Buffer::new().format(budget).as_bytes()])
 }
 
 // Tells a fault and answers the status, or 5 where the write failed.
 fn tell_fault<O: Sink>(out: &mut O, line: u32, number: u32, name: &str) -> u8
     requires faults { O.faults out.old < 2 ^ 64 - 1 }
     ensures write_fault { RoseExactly (O.faults out.old) (O.faults out.new) (result ≡ 5) }
+    ensures either { (result ≡ 1) ⊎ (result ≡ 5) }
     ensures said { result ≢ 5 → Gives (says (fault_line line number name.now) 1) result (O.got out.old) (O.got out.new) }
 {
-    match put_fault(out, u64::from(line), u64::from(number), name.as_bytes()) {
+    match put_fault(out, line, number, name.as_bytes()) {
         Ok(()) => 1,
         Err(_) => 5,
     }
@@ -89,6 +91,7 @@ fn tell_fault<O: Sink>(out: &mut O, line: u32, number: u32, name: &str) -> u8
 fn tell_above<O: Sink>(out: &mut O, what: &str, count: u64, limit: u64) -> u8
     requires faults { O.faults out.old < 2 ^ 64 - 1 }
     ensures write_fault { RoseExactly (O.faults out.old) (O.faults out.new) (result ≡ 5) }
+    ensures either { (result ≡ 1) ⊎ (result ≡ 5) }
     ensures said { result ≢ 5 → Gives (says (above_line what.now count limit) 1) result (O.got out.old) (O.got out.new) }
 {
     match put_above(out, what.as_bytes(), count, limit) {
@@ -97,15 +100,32 @@ fn tell_above<O: Sink>(out: &mut O, what: &str, count: u64, limit: u64) -> u8
     }
 }
 
-/// Tells a refusal and answers the status, or 5 where the write failed.
-pub fn tell<O: Sink>(out: &mut O, refusal: Refusal) -> u8
+// Tells a sum above the budget and answers the status, or 5 where the write failed.
+fn tell_sum<O: Sink>(out: &mut O, budget: u32) -> u8
     requires faults { O.faults out.old < 2 ^ 64 - 1 }
     ensures write_fault { RoseExactly (O.faults out.old) (O.faults out.new) (result ≡ 5) }
-    ensures said { result ≢ 5 → Gives (refusal_output refusal) result (O.got out.old) (O.got out.new) }
+    ensures either { (result ≡ 3) ⊎ (result ≡ 5) }
+    ensures said { result ≢ 5 → Gives (sum_above budget) result (O.got out.old) (O.got out.new) }
+{
+    match put_sum_above(out, budget) {
+        Ok(()) => 3,
+        Err(_) => 5,
+    }
+}
+
+/// Tells a refusal and answers the status, or 5 where the write failed.
+pub(crate) fn tell<O: Sink>(out: &mut O, refusal: Refusal) -> u8
+    requires faults { O.faults out.old < 2 ^ 64 - 1 }
+    ensures write_fault { RoseExactly (O.faults out.old) (O.faults out.new) (result ≡ 5) }
+    ensures not_usage { result ≢ 2 }
+    ensures not_read { result ≢ 4 }
+    ensures not_cut { result ≢ 7 }
+    ensures said { result ≢ 5 → Gives (or_memory (told_by refusal)) result (O.got out.old) (O.got out.new) }
 {
     match refusal {
         Refusal::Fault { line, number, name } => tell_fault(out, line, number, name),
         Refusal::Above { what, count, limit } => tell_above(out, what, count, limit),
+        Refusal::Sum { budget } => tell_sum(out, budget),
         Refusal::NotYet => say(out, b"error: not yet\n", 1),
         Refusal::Memory => say(out, b"error: memory\n", 6),
     }

@@ -1,6 +1,27 @@
 ghost use Rattle.std.specs.Prelude.{◌≡◌, map, string_bytes};
-ghost use Rattle.std.specs.Option.{option_copied};
-ghost use Rattle.diag_cli.specs.Words.{served_file, ends_in, is_design_path, is_device_path};
+ghost use Rattle.std.specs.Option.{option_map};
+ghost use Rattle.diag_cli.specs.Words.{form_of, form_over, path_of, ends_in, is_design_path, is_device_path};
+ghost use Rattle.diag_cli.specs.inner.Forms.{meant};
+
+/// What the words of the command line ask for.
+#[derive(Clone, Copy, Debug)]
+pub enum Form<'a> {
+    /// `serve FILE`: answers the script on the input over the device of a file.
+    Serve { path: &'a str },
+    /// `plan FILE`: tells how large a device is, and the sum that the budget limits.
+    Plan { path: &'a str },
+}
+
+impl<'a> Form<'a> {
+    /// The file that is named.
+    pub fn path(self) -> &'a str
+        ensures { result.now ≡ path_of (meant self.entry) }
+    {
+        match self {
+            Form::Serve { path } | Form::Plan { path } => path,
+        }
+    }
+}
 
 // Whether something stands before an ending.
 fn ends_in(ending: &[u8], path: &str) -> bool
@@ -23,14 +44,28 @@ fn is_device_path(path: &str) -> bool
     ends_in(b".bench", path) || is_design_path(path)
 }
 
-/// The file that the words name. There is none exactly where the words have no shape.
-pub fn served_file(words: &[String]) -> Option<&str>
-    ensures { option_copied result ≡ served_file (map string_bytes words.now) }
+// The form of a command over a netlist or a design.
+fn form_over<'a>(command: &str, path: &'a str) -> Option<Form<'a>>
+    ensures { option_map meant result ≡ form_over command.now path.now }
 {
-    match words {
-        [command, path] if command.as_str() == "serve" && is_device_path(path.as_str()) => {
-            Some(path.as_str())
-        }
+    match command {
+        "serve" => Some(Form::Serve { path }),
+        "plan" => Some(Form::Plan { path }),
         _ => None,
+    }
+}
+
+/// The form of the words, if they have one.
+pub fn form_of(words: &[String]) -> Option<Form<'_>>
+    ensures { option_map meant result ≡ form_of (map string_bytes words.now) }
+{
+    let [command, path] = words else {
+        return None;
+    };
+    let path = path.as_str();
+    if is_device_path(path) {
+        form_over(command.as_str(), path)
+    } else {
+        None
     }
 }

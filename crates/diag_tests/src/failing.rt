@@ -1,4 +1,4 @@
-use crate::running::{Meeting, SMOOTH, run};
+use crate::running::{CHAIN, Meeting, NOTHING_FAILS, run};
 use std::test::Fail;
 
 const WORDS: [&str; 2] = ["serve", "chain.bench"];
@@ -13,9 +13,9 @@ fn a_read_fails_within_a_line(rt: HostRuntime) -> Result<(), Fail> {
     let meeting = Meeting {
         piece: 7,
         failing_read: 3,
-        ..SMOOTH
+        ..NOTHING_FAILS
     };
-    let ran = run(rt.alloc(), &WORDS, SCRIPT, &meeting)?;
+    let ran = run(rt.alloc(), CHAIN, &WORDS, SCRIPT, &meeting)?;
     let want = "ready 2 3\nS open\nS min 0\nerror: read\n";
     assert_eq!(rt; ran.out.as_slice(), want.as_bytes());
     assert_eq!(rt; ran.status, 4);
@@ -28,9 +28,9 @@ fn the_file_cannot_be_read(rt: HostRuntime) -> Result<(), Fail> {
     for failing_pick_or_load in 1..=3 {
         let meeting = Meeting {
             failing_pick_or_load,
-            ..SMOOTH
+            ..NOTHING_FAILS
         };
-        let ran = run(rt.alloc(), &WORDS, SCRIPT, &meeting)?;
+        let ran = run(rt.alloc(), CHAIN, &WORDS, SCRIPT, &meeting)?;
         assert_eq!(rt;
             ran.out.as_slice(),
             "error: read\n".as_bytes(),
@@ -46,9 +46,9 @@ fn the_first_write_fails(rt: HostRuntime) -> Result<(), Fail> {
     let meeting = Meeting {
         failing_write: 1,
         keep: 3,
-        ..SMOOTH
+        ..NOTHING_FAILS
     };
-    let ran = run(rt.alloc(), &WORDS, SCRIPT, &meeting)?;
+    let ran = run(rt.alloc(), CHAIN, &WORDS, SCRIPT, &meeting)?;
     assert!(rt; ran.out.as_slice().len() <= 3);
     assert!(rt; OUT.as_bytes().starts_with(ran.out.as_slice()));
     assert_eq!(rt; ran.status, 5);
@@ -63,9 +63,9 @@ fn a_write_fails(rt: HostRuntime) -> Result<(), Fail> {
         let meeting = Meeting {
             failing_write,
             keep: 1,
-            ..SMOOTH
+            ..NOTHING_FAILS
         };
-        let ran = run(rt.alloc(), &WORDS, SCRIPT, &meeting)?;
+        let ran = run(rt.alloc(), CHAIN, &WORDS, SCRIPT, &meeting)?;
         let out = ran.out.as_slice();
         if ran.status == 0 {
             assert_eq!(rt; out, OUT.as_bytes(), "call {failing_write}");

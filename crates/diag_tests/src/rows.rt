@@ -1,7 +1,8 @@
-use crate::running::{Meeting, SMOOTH, run};
+use crate::running::{C17, CHAIN, File, Meeting, NOTHING_FAILS, run};
 use std::test::Fail;
 
 struct Row {
+    file: File,
     words: &'static [&'static str],
     script: &'static str,
     out: &'static str,
@@ -11,6 +12,10 @@ struct Row {
 const ROWS: [Row; 13] = [
     // The inputs are 0, so 22 and 23 are to be 0. One of 10 and 22 explains the 1, and the first of them is named.
     Row {
+        file: File {
+            name: "c17.bench",
+            text: C17,
+        },
         words: &["serve", "c17.bench"],
         script: "open S\nsee S 1=0\nsee S 2=0\nsee S 3=0\nsee S 6=0\nsee S 7=0\nsee S 22=1\nsee S 23=0\nmin S\n",
         out: "ready 6 11\nS open\nS ok\nS ok\nS ok\nS ok\nS ok\nS ok\nS ok\nS min 1 10\n",
@@ -18,12 +23,17 @@ const ROWS: [Row; 13] = [
     },
     // Of the parts above both outputs only 16 explains two ones.
     Row {
+        file: File {
+            name: "c17.bench",
+            text: C17,
+        },
         words: &["serve", "c17.bench"],
         script: "open S\nsee S 1=0\nsee S 2=0\nsee S 3=0\nsee S 6=0\nsee S 7=0\nsee S 22=1\nsee S 23=1\nmin S\n",
         out: "ready 6 11\nS open\nS ok\nS ok\nS ok\nS ok\nS ok\nS ok\nS ok\nS min 1 16\n",
         status: 0,
     },
     Row {
+        file: CHAIN,
         words: &["serve", "chain.bench"],
         script: "open S\nsee S a=0\nsee S c=1\nmin S\nopen T\nmin T\n",
         out: "ready 2 3\nS open\nS ok\nS ok\nS min 1 b\nnot yet\nnot yet\n",
@@ -31,12 +41,17 @@ const ROWS: [Row; 13] = [
     },
     // No line feed ends the last line.
     Row {
+        file: CHAIN,
         words: &["serve", "chain.bench"],
         script: "open S\nmin S",
         out: "ready 2 3\nS open\nS min 0\n",
         status: 0,
     },
     Row {
+        file: File {
+            name: "input.bench",
+            text: "INPUT(a)\n",
+        },
         words: &["serve", "input.bench"],
         script: "open S\nmin S\n",
         out: "ready 0 1\nS open\nS min 0\n",
@@ -44,12 +59,20 @@ const ROWS: [Row; 13] = [
     },
     // Three ones are odd, so y is to be 1.
     Row {
+        file: File {
+            name: "wide.bench",
+            text: "INPUT(a)\nINPUT(b)\nINPUT(c)\ny = xor(a, b, c)\n",
+        },
         words: &["serve", "wide.bench"],
         script: "open S\nsee S a=1\nsee S b=1\nsee S c=1\nsee S y=0\nmin S\n",
         out: "ready 1 4\nS open\nS ok\nS ok\nS ok\nS ok\nS min 1 y\n",
         status: 0,
     },
     Row {
+        file: File {
+            name: "twice.bench",
+            text: "INPUT(a)\nOUTPUT(z)\na = NOT(a)\n",
+        },
         words: &["serve", "twice.bench"],
         script: "open S\n",
         out: "error: line 3: fault 6 driven twice\n",
@@ -57,6 +80,10 @@ const ROWS: [Row; 13] = [
     },
     // 21 wires are more than all whose values are tried.
     Row {
+        file: File {
+            name: "many.bench",
+            text: "INPUT(a)\nINPUT(b)\nINPUT(c)\nINPUT(d)\nINPUT(e)\nINPUT(f)\nINPUT(g)\nINPUT(h)\nINPUT(i)\nINPUT(j)\nINPUT(k)\nINPUT(l)\nINPUT(m)\nINPUT(n)\nINPUT(o)\nINPUT(p)\nINPUT(q)\nINPUT(r)\nINPUT(s)\nINPUT(t)\nINPUT(u)\n",
+        },
         words: &["serve", "many.bench"],
         script: "open S\n",
         out: "error: not yet\n",
@@ -64,6 +91,10 @@ const ROWS: [Row; 13] = [
     },
     // Two instances of a block have a wire of their own each. The first inverts a, so u.w is to be 1.
     Row {
+        file: File {
+            name: "pair.dev",
+            text: "block B p q\nwire w\npart g NOT p w\npart h NOT w q\nend\nblock T a b c\npart u B a b\npart v B b c\nend\ntop T\n",
+        },
         words: &["serve", "pair.dev"],
         script: "open S\nsee S a=0\nsee S u.w=0\nsee S v.w=0\nmin S\n",
         out: "ready 4 5\nS open\nS ok\nS ok\nS ok\nS min 1 u.g\n",
@@ -71,24 +102,40 @@ const ROWS: [Row; 13] = [
     },
     // A valve that is stuck shut passes nothing on, and no valve makes pressure.
     Row {
+        file: File {
+            name: "valve.dev",
+            text: "type V in out\nok 00\nok 11\nbad 00\nbad 10\nend\nblock T a b\npart v V a b\nend\ntop T\n",
+        },
         words: &["serve", "valve.dev"],
         script: "open S\nsee S a=1\nsee S b=0\nmin S\nsee S a=0\nsee S b=1\nmin S\n",
         out: "ready 1 2\nS open\nS ok\nS ok\nS min 1 v\nS ok\nS ok\nS inconsistent\n",
         status: 0,
     },
     Row {
+        file: File {
+            name: "dotted.dev",
+            text: "block M a.b\nend\ntop M\n",
+        },
         words: &["serve", "dotted.dev"],
         script: "open S\n",
         out: "error: line 1: fault 2 name\n",
         status: 1,
     },
     Row {
+        file: File {
+            name: "long.dev",
+            text: "block A p\npart xxxxxxxxxxxxxxxxxxxxxxxxxxxxxxxxxxxxxxxxxxxxxxxxxxxxxxxxxxxxxxxx NOT p p\nend\nblock B p\npart xxxxxxxxxxxxxxxxxxxxxxxxxxxxxxxxxxxxxxxxxxxxxxxxxxxxxxxxxxxxxxxx A p\nend\nblock C p\npart xxxxxxxxxxxxxxxxxxxxxxxxxxxxxxxxxxxxxxxxxxxxxxxxxxxxxxxxxxxxxxxx B p\nend\nblock D p\npart xxxxxxxxxxxxxxxxxxxxxxxxxxxxxxxxxxxxxxxxxxxxxxxxxxxxxxxxxxxxxxxx C p\nend\ntop D\n",
+        },
         words: &["serve", "long.dev"],
         script: "open S\n",
         out: "error: path 259 above 255\n",
         status: 1,
     },
     Row {
+        file: File {
+            name: "other.bench",
+            text: "",
+        },
         words: &["serve", "absent.bench"],
         script: "open S\n",
         out: "error: read\n",
@@ -112,9 +159,9 @@ const WRONG: [&[&str]; 8] = [
 fn answers_rows(rt: HostRuntime) -> Result<(), Fail> {
     for piece in [1, 7, 4096] {
         for row in &ROWS {
-            let meeting = Meeting { piece, ..SMOOTH };
+            let meeting = Meeting { piece, ..NOTHING_FAILS };
             assert!(rt; 0 < meeting.piece);
-            let ran = run(rt.alloc(), row.words, row.script, &meeting)?;
+            let ran = run(rt.alloc(), row.file, row.words, row.script, &meeting)?;
             let words = row.words;
             assert_eq!(rt; ran.out.as_slice(), row.out.as_bytes(), "{words:?}");
             assert_eq!(rt; ran.status, row.status, "{words:?}");
@@ -126,7 +173,7 @@ fn answers_rows(rt: HostRuntime) -> Result<(), Fail> {
 #[test]
 fn refuses_words(rt: HostRuntime) -> Result<(), Fail> {
     for words in WRONG {
-        let ran = run(rt.alloc(), words, "open S\n", &SMOOTH)?;
+        let ran = run(rt.alloc(), CHAIN, words, "open S\n", &NOTHING_FAILS)?;
         assert_eq!(rt;
             ran.out.as_slice(),
             "error: usage\n".as_bytes(),

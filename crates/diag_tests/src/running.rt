@@ -10,37 +10,18 @@ use std::test::Fail;
 pub const C17: &str =
     "# c17\nINPUT(1)\nINPUT(2)\nINPUT(3)\nINPUT(6)\nINPUT(7)\nOUTPUT(22)\nOUTPUT(23)\n\n10 = NAND(1, 3)\n11 = NAND(3, 6)\n16 = NAND(2, 11)\n19 = NAND(11, 7)\n22 = NAND(10, 16)\n23 = NAND(16, 19)\n";
 
-/// The files of the shelf.
-const FILES: [(&str, &str); 10] = [
-    ("c17.bench", C17),
-    (
-        "chain.bench",
-        "INPUT(a)\nOUTPUT(c)\nb = BUFF(a)\nc = BUFF(b)\n",
-    ),
-    (
-        "wide.bench",
-        "INPUT(a)\nINPUT(b)\nINPUT(c)\ny = xor(a, b, c)\n",
-    ),
-    ("twice.bench", "INPUT(a)\nOUTPUT(z)\na = NOT(a)\n"),
-    (
-        "many.bench",
-        "INPUT(a)\nINPUT(b)\nINPUT(c)\nINPUT(d)\nINPUT(e)\nINPUT(f)\nINPUT(g)\nINPUT(h)\nINPUT(i)\nINPUT(j)\nINPUT(k)\nINPUT(l)\nINPUT(m)\nINPUT(n)\nINPUT(o)\nINPUT(p)\nINPUT(q)\nINPUT(r)\nINPUT(s)\nINPUT(t)\nINPUT(u)\n",
-    ),
-    ("input.bench", "INPUT(a)\n"),
-    (
-        "pair.dev",
-        "block B p q\nwire w\npart g NOT p w\npart h NOT w q\nend\nblock T a b c\npart u B a b\npart v B b c\nend\ntop T\n",
-    ),
-    (
-        "valve.dev",
-        "type V in out\nok 00\nok 11\nbad 00\nbad 10\nend\nblock T a b\npart v V a b\nend\ntop T\n",
-    ),
-    ("dotted.dev", "block M a.b\nend\ntop M\n"),
-    (
-        "long.dev",
-        "block A p\npart xxxxxxxxxxxxxxxxxxxxxxxxxxxxxxxxxxxxxxxxxxxxxxxxxxxxxxxxxxxxxxxx NOT p p\nend\nblock B p\npart xxxxxxxxxxxxxxxxxxxxxxxxxxxxxxxxxxxxxxxxxxxxxxxxxxxxxxxxxxxxxxxx A p\nend\nblock C p\npart xxxxxxxxxxxxxxxxxxxxxxxxxxxxxxxxxxxxxxxxxxxxxxxxxxxxxxxxxxxxxxxx B p\nend\nblock D p\npart xxxxxxxxxxxxxxxxxxxxxxxxxxxxxxxxxxxxxxxxxxxxxxxxxxxxxxxxxxxxxxxx C p\nend\ntop D\n",
-    ),
-];
+/// A file of the shelf.
+#[derive(Clone, Copy)]
+pub struct File {
+    pub name: &'static str,
+    pub text: &'static str,
+}
+
+/// Two buffers, one behind the other.
+pub const CHAIN: File = File {
+    name: "chain.bench",
+    text: "INPUT(a)\nOUTPUT(c)\nb = BUFF(a)\nc = BUFF(b)\n",
+};
 
 /// More room than any output here needs.
 const ROOM: usize = 4096;
@@ -57,7 +38,7 @@ pub struct Meeting {
 }
 
 /// Nothing fails, and the script comes in one piece.
-pub const SMOOTH: Meeting = Meeting {
+pub const NOTHING_FAILS: Meeting = Meeting {
     piece: 4096,
     failing_pick_or_load: 0,
     failing_read: 0,
@@ -78,15 +59,13 @@ fn numbers(alloc: Global, number: u64) -> Result<Vec<u64>, AllocError> {
     Ok(numbers)
 }
 
-fn shelf_of(alloc: Global, failing: u64) -> Result<MemShelf, AllocError>
+fn shelf_of(alloc: Global, file: File, failing: u64) -> Result<MemShelf, AllocError>
     ensures taken { IfOk result (λ shelf. shelf.taken ≡ 0) }
     ensures faults { IfOk result (λ shelf. shelf.faults ≡ 0) }
 {
     let mut files = Vec::new(alloc);
-    for (name, text) in FILES {
-        let bytes = Vec::from_slice(alloc, text.as_bytes())?;
-        files.push((String::from_str(alloc, name)?, bytes))?;
-    }
+    let bytes = Vec::from_slice(alloc, file.text.as_bytes())?;
+    files.push((String::from_str(alloc, file.name)?, bytes))?;
     Ok(MemShelf::new(files, numbers(alloc, failing)?))
 }
 
@@ -98,12 +77,18 @@ fn owned(alloc: Global, words: &[&str]) -> Result<Vec<String>, AllocError> {
     Ok(owned)
 }
 
-/// Runs the program on these words and this script.
-pub fn run(alloc: Global, words: &[&str], script: &str, meeting: &Meeting) -> Result<Ran, Fail>
+/// Runs the program on these words and this script, over a shelf that has this one file.
+pub fn run(
+    alloc: Global,
+    file: File,
+    words: &[&str],
+    script: &str,
+    meeting: &Meeting,
+) -> Result<Ran, Fail>
     requires { 0 < meeting.now.piece }
 {
     let words = owned(alloc, words)?;
-    let mut shelf = shelf_of(alloc, meeting.failing_pick_or_load)?;
+    let mut shelf = shelf_of(alloc, file, meeting.failing_pick_or_load)?;
     let script = Vec::from_slice(alloc, script.as_bytes())?;
     let mut input = MemSource::new(script, meeting.piece, numbers(alloc, meeting.failing_read)?);
     let mut out = MemSink::new(

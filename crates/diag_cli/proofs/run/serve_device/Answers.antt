@@ -1,52 +1,61 @@
-use Rattle.std.proofs.Common.{inr, refl, ap, length}
+use Rattle.std.proofs.Common.{inr, refl, ap, arith, length}
 use Rattle.text_rules.specs.TextLines.{whole_lines, all_lines}
 use Rattle.session_core.specs.Items.{Plain}
-use Rattle.diag_cli.specs.Output.{Ended, Failed, Cut, read_error, script_too_long}
+use Rattle.diag_cli.specs.Courses.{Ended, Failed, Cut, read_error, script_too_long}
 use Rattle.diag_cli.proofs.Running.{ready_then, then_last}
 use Rattle.diag_cli.proofs.run.serve_device.Goals as goal
 
-pub returns-in-Done-clause-answer : goal.returns-in-Done-clause-answer
-returns-in-Done-clause-answer g c = λ _.
+pub returns-in-Done-clause-served : goal.returns-in-Done-clause-served
+returns-in-Done-clause-served g c =
     let done = c.in-Done.ensures.served in
-    inr (
-      done.0,
-      Ended,
-      done.2,
-      (done.3.0, done.3.1),
-      record {
-        same_status = refl;
-        text = ready_then c.args.device c.in-Ok.service (all_lines done.0) _ _ _ _ _ c.in-Ok.ensures (ap length c.parts.ensures.parts) (ap length c.wires.ensures.wires) c.in-Ok-put_ready.ensures.text done.3.2.written;
-      },
-    )
+    record {
+      answer = λ _. inr (record {
+        bytes = done.0;
+        end = Ended;
+        took = done.2;
+        ends = (done.3.0, done.3.1);
+        gives = record {
+          same_status = refl;
+          text = ready_then c.args.device c.in-Ok.service (all_lines done.0) _ _ _ _ _ c.in-Ok.ensures (ap length c.parts.ensures.parts) (ap length c.wires.ensures.wires) c.in-Ok-put_ready.ensures.text done.3.2.written;
+        };
+      });
+      all_read = λ _. done.3.0;
+    }
 
-pub returns-in-ReadFault-clause-answer : goal.returns-in-ReadFault-clause-answer
-returns-in-ReadFault-clause-answer g c = λ whole.
+pub returns-in-ReadFault-clause-served : goal.returns-in-ReadFault-clause-served
+returns-in-ReadFault-clause-served g c =
     let done = c.in-ReadFault.ensures.served in
-    let said = c.say-in-ReadFault.ensures.said whole in
-    inr (
-      done.0,
-      Failed,
-      done.2,
-      c.in-ReadFault.ensures.read_fault.rose refl,
-      record {
-        same_status = said.same_status;
-        text = then_last c.args.device (whole_lines done.0) (Plain read_error) _ _ _
-            (ready_then c.args.device c.in-Ok.service (whole_lines done.0) _ _ _ _ _ c.in-Ok.ensures (ap length c.parts.ensures.parts) (ap length c.wires.ensures.wires) c.in-Ok-put_ready.ensures.text done.3.1.written) said.text;
-      },
-    )
+    let said = c.say-in-ReadFault.ensures.said in
+    record {
+      answer = λ whole. inr (record {
+        bytes = done.0;
+        end = Failed;
+        took = done.2;
+        ends = c.in-ReadFault.ensures.read_fault.rose refl;
+        gives = record {
+          same_status = (said whole).same_status;
+          text = then_last c.args.device (whole_lines done.0) (Plain read_error) _ _ _
+              (ready_then c.args.device c.in-Ok.service (whole_lines done.0) _ _ _ _ _ c.in-Ok.ensures (ap length c.parts.ensures.parts) (ap length c.wires.ensures.wires) c.in-Ok-put_ready.ensures.text done.3.1.written) (said whole).text;
+        };
+      });
+      all_read = λ zero. absurd (let same = (said (λ five. omega (arith, zero, five))).same_status in omega (arith, zero, same));
+    }
 
-pub returns-clause-answer : goal.returns-clause-answer
-returns-clause-answer g c = λ whole.
+pub returns-clause-served : goal.returns-clause-served
+returns-clause-served g c =
     let done = c.in-Limit.ensures.served in
-    let said = c.say-in-Limit.ensures.said whole in
-    inr (
-      done.0,
-      Cut,
-      done.2,
-      done.3.0,
-      record {
-        same_status = said.same_status;
-        text = then_last c.args.device (whole_lines done.0) (Plain script_too_long) _ _ _
-            (ready_then c.args.device c.in-Ok.service (whole_lines done.0) _ _ _ _ _ c.in-Ok.ensures (ap length c.parts.ensures.parts) (ap length c.wires.ensures.wires) c.in-Ok-put_ready.ensures.text done.3.1.written) said.text;
-      },
-    )
+    let said = c.say-in-Limit.ensures.said in
+    record {
+      answer = λ whole. inr (record {
+        bytes = done.0;
+        end = Cut;
+        took = done.2;
+        ends = done.3.0;
+        gives = record {
+          same_status = (said whole).same_status;
+          text = then_last c.args.device (whole_lines done.0) (Plain script_too_long) _ _ _
+              (ready_then c.args.device c.in-Ok.service (whole_lines done.0) _ _ _ _ _ c.in-Ok.ensures (ap length c.parts.ensures.parts) (ap length c.wires.ensures.wires) c.in-Ok-put_ready.ensures.text done.3.1.written) (said whole).text;
+        };
+      });
+      all_read = λ zero. absurd (let same = (said (λ five. omega (arith, zero, five))).same_status in omega (arith, zero, same));
+    }

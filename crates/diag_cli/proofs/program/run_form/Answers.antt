@@ -1,0 +1,32 @@
+use Rattle.std.proofs.Common.{◌≡◌, ◌<◌, ◌∙◌, IfSome, Err, arith, length, refl, ap, subst}
+use Rattle.text_rules.specs.declared.text_lines.TheConstants.{TEXT_LIMIT}
+use Rattle.diag_edge.specs.Edge.{told_bytes}
+use Rattle.diag_edge.specs.declared.loading.LoadError.TheVariants.{Long}
+use Rattle.diag_cli.specs.Output.{says}
+use Rattle.diag_cli.specs.Describing.{long_file_line}
+use Rattle.diag_cli.specs.inner.Forms.{meant}
+use Rattle.diag_cli.proofs.Headline.{same_file, too_long_is_no_failure, run_loaded, run_told, long_is_right}
+use Rattle.diag_cli.proofs.program.run_form.Goals as goal
+
+pub returns-in-Ok : goal.returns-in-Ok
+returns-in-Ok g c =
+    let read = c.in-Ok.ensures in
+    let done = c.run_file.ensures in
+    let told = subst (λ name. IfSome (told_bytes (g.H.Shelf.held c.args.shelf.now name)) (λ bytes. c.in-Ok.file.items ≡ bytes)) c.path.ensures read.bytes in
+    run_loaded _ _ _ _ _ (meant c.args.form) _ _ _ c.deref.result.now (same_file c.deref.result.now c.in-Ok.file.items _ c.deref.ensures.value told)
+    (λ gone. let is = read.absent (ap (g.H.Shelf.held c.args.shelf.now) c.path.ensures ∙ gone) in let never : ⊥ = cc in never)
+    (read.failed.stayed (λ is. let never : ⊥ = cc in never))
+    done.write_fault done.read_fault done.not_usage done.follows done.cut
+
+pub returns-in-Err-Long : goal.returns-in-Err-Long
+returns-in-Err-Long g c =
+    let read = c.in-Err-Long.ensures in
+    let limit = read.that_limit c.in-Err-Long.field-0-0 (ap Err c.in-Err-Long.field-0-is) in
+    let long = read.long_file (ap Err (c.in-Err-Long.field-0-is ∙ ap Long limit)) in
+    let other = too_long_is_no_failure (Err c.in-Err-Long.field-0) c.in-Err-Long.field-0 c.in-Err-Long.field-0-0 refl c.in-Err-Long.field-0-is in
+    let told = subst (λ name. IfSome (told_bytes (g.H.Shelf.held c.args.shelf.now name)) (λ bytes. TEXT_LIMIT < length bytes)) c.path.ensures long in
+    run_told _ _ _ _ _ _ _ (meant c.args.form) (says long_file_line 1) (λ e. omega (arith, e)) (λ e. omega (arith, e)) (λ e. omega (arith, e)) (λ e. omega (arith, e))
+    (long_is_right (meant c.args.form) _ told)
+    (λ gone. other (read.absent (ap (g.H.Shelf.held c.args.shelf.now) c.path.ensures ∙ gone)))
+    (read.failed.stayed other)
+    c.say-in-Err-Long.ensures.write_fault c.say-in-Err-Long.ensures.said

@@ -1,0 +1,105 @@
+-- What a run comes to by its words and its file: an output, or a script that is answered over a device.
+use Rattle.std.specs.Prelude.{ℕ, List, [], ◌∷◌, ◌++◌, length, take, Option, Some, None, Result, Ok, Err, codes, nat_lt, if◌then◌else◌}
+use Rattle.std.specs.Fmt.{decimal}
+use Rattle.text_rules.specs.TextLines.{whole_lines, all_lines}
+use Rattle.text_rules.specs.Tokens.{spaced}
+use Rattle.device_model.specs.Devices.{Device}
+use Rattle.device_model.specs.Diagnosis.{device_system}
+use Rattle.clause_encoder.specs.declared.limits.TheConstants.{CLAUSE_LIMIT}
+use Rattle.clause_encoder.specs.declared.encoding.EncodeError.{EncodeError}
+use Rattle.clause_encoder.specs.declared.encoding.EncodeError.TheVariants.{TooManyClauses, Memory}
+use Rattle.clause_encoder.specs.Clauses.{ClauseList}
+use Rattle.clause_encoder.specs.Encoding.{encoded}
+use Rattle.branch_states.specs.declared.measuring.TheConstants.{BUDGET_LIMIT}
+use Rattle.branch_states.specs.Branches.{sum_of}
+use Rattle.session_core.specs.Items.{Item, Plain, line}
+use Rattle.session_core.specs.FirstPath.{first_replies}
+use Rattle.diag_cli.specs.declared.planning.Sizes.{Sizes}
+use Rattle.diag_cli.specs.declared.run.TheConstants.{SCRIPT_LIMIT}
+use Rattle.diag_cli.specs.Words.{Form, Serve, Plan}
+use Rattle.diag_cli.specs.Output.{Output, says, no_memory}
+use Rattle.diag_cli.specs.Describing.{above_line, device_in, if_small}
+
+-- ---- a script is answered
+
+-- How a script ends: with its end, by a read that failed, or at the limit
+pub data End : Type 0 where
+  Ended : End
+  Failed : End
+  Cut : End
+
+abbrev pub read_error : List ℕ
+read_error = codes "error: read\n"
+
+abbrev pub script_too_long : List ℕ
+script_too_long = codes "error: script above 16777216 bytes\n"
+
+abbrev pub ready_line : Device → Item
+ready_line device = line (codes "ready" ∷ decimal (length device.parts) ∷ decimal (length device.wires) ∷ [])
+
+-- the line `ready`, and then the replies to lines
+abbrev pub ready_and_replies : Device → List (List ℕ) → List Item
+ready_and_replies device lines = ready_line device ∷ first_replies (device_system device) [] lines
+
+-- the output for a device that is served, by how the script ends
+abbrev pub served : Device → List ℕ → End → Output
+served device script Ended = record { items = ready_and_replies device (all_lines script); status = 0 }
+served device script Failed = record { items = ready_and_replies device (whole_lines script) ++ Plain read_error ∷ []; status = 4 }
+served device script Cut = record { items = ready_and_replies device (whole_lines script) ++ Plain script_too_long ∷ []; status = 7 }
+
+-- a script of the limit or more is cut
+abbrev pub end_of : List ℕ → End
+end_of script = if nat_lt (length script) SCRIPT_LIMIT then Ended else Cut
+
+-- the output for a device that is served, where no read of the script fails
+abbrev pub wholly_served : Device → List ℕ → Output
+wholly_served device script = served device (take SCRIPT_LIMIT script) (end_of script)
+
+-- ---- a device is planned
+
+-- a word and a number
+abbrev pub count_line : List ℕ → ℕ → Item
+count_line what count = line (what ∷ decimal count ∷ [])
+
+abbrev pub size_lines : Sizes → List Item
+size_lines sizes = count_line (codes "parts") sizes.parts ∷ count_line (codes "wires") sizes.wires
+    ∷ count_line (codes "clauses") sizes.clauses ∷ count_line (codes "sum") sizes.sum ∷ []
+
+-- a sum above the budget
+abbrev pub sum_above : ℕ → Output
+sum_above budget = says (spaced (codes "error:" ∷ codes "sum" ∷ codes "above" ∷ decimal budget ∷ [])) 3
+
+-- too many clauses
+abbrev pub not_encoded : EncodeError → Output
+not_encoded (TooManyClauses count) = says (above_line (codes "clauses") count CLAUSE_LIMIT) 1
+not_encoded Memory = no_memory
+
+-- the numbers of parts, wires and clauses, and the sum of the clauses, where no limit is passed
+abbrev pub sizes_by : Device → Result ClauseList EncodeError → Result Sizes Output
+sizes_by device (Ok cnf) =
+    if nat_lt BUDGET_LIMIT (sum_of cnf.clauses) then Err (sum_above BUDGET_LIMIT)
+    else Ok (record { parts = length device.parts; wires = length device.wires; clauses = length cnf.clauses; sum = sum_of cnf.clauses })
+sizes_by device (Err error) = Err (not_encoded error)
+
+abbrev pub sizes_in : Result Device Output → Result Sizes Output
+sizes_in (Ok device) = sizes_by device (encoded device)
+sizes_in (Err output) = Err output
+
+abbrev pub planned : Result Sizes Output → Output
+planned (Ok sizes) = record { items = size_lines sizes; status = 0 }
+planned (Err output) = output
+
+-- ---- all forms
+
+pub data Course : Type 0 where
+  Tells : (output : Output) → Course
+  Serves : (device : Device) → Course
+
+abbrev pub served_or_refused : Result Device Output → Course
+served_or_refused (Ok device) = Serves device
+served_or_refused (Err output) = Tells output
+
+abbrev pub course_of : Option Form → List ℕ → Course
+course_of None file = Tells (says (codes "error: usage\n") 2)
+course_of (Some (Serve path)) file = served_or_refused (if_small (device_in path file))
+course_of (Some (Plan path)) file = Tells (planned (sizes_in (device_in path file)))

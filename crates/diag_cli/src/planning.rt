@@ -1,0 +1,109 @@
+ghost use Rattle.std.specs.Prelude.{◌≡◌, ◌≢◌, ◌⊎◌, ◌-◌, ◌^◌, ◌<◌, ◌≤◌, [], ◌∷◌, length, Ok, OnOk};
+ghost use Rattle.diag_edge.specs.Edge.{HasCause, RoseExactly};
+ghost use Rattle.clause_encoder.specs.Encoding.{encoded};
+ghost use Rattle.diag_cli.specs.Describing.{device_in};
+ghost use Rattle.diag_cli.specs.Output.{Gives, GivesUnlessMemory};
+ghost use Rattle.diag_cli.specs.Courses.{count_line, size_lines, sizes_by, sizes_in, planned};
+ghost use Rattle.session_core.specs.Spelling.{Writes};
+ghost use Rattle.diag_cli.specs.Refusals.{Finds};
+
+use crate::describing::{above, described};
+use crate::refusal::{Refusal, tell};
+use branch_states::{BUDGET_LIMIT, MeasureError, measure};
+use clause_encoder::{CLAUSE_LIMIT, EncodeError, encode};
+use device_model::Device;
+use diag_edge::{Sink, WriteFailed, put_line};
+use itoa::Buffer;
+use std::alloc::Global;
+use text_rules::TEXT_LIMIT;
+
+/// How large a device is, and the sum that the budget limits.
+#[derive(Clone, Copy, Debug, PartialEq, Eq)]
+pub(crate) struct Sizes {
+    pub(crate) parts: u64,
+    pub(crate) wires: u64,
+    pub(crate) clauses: u64,
+    pub(crate) sum: u64,
+}
+
+fn sizes_of(alloc: Global, device: &Device) -> Result<Sizes, Refusal>
+    ensures { Finds (sizes_by device.now (encoded device.now)) result }
+{
+    let cnf = match encode(alloc, device) {
+        Ok(cnf) => cnf,
+        Err(EncodeError::TooManyClauses { count }) => {
+            return Err(above("clauses", count, CLAUSE_LIMIT as usize));
+        }
+        Err(EncodeError::Memory) => return Err(Refusal::Memory),
+    };
+    match measure(alloc, &cnf, BUDGET_LIMIT) {
+        Ok(sum) => Ok(Sizes {
+            parts: device.parts().len() as u64,
+            wires: device.wires().len() as u64,
+            clauses: u64::from(cnf.len()),
+            sum: u64::from(sum),
+        }),
+        Err(MeasureError::Above) => Err(Refusal::Sum {
+            budget: BUDGET_LIMIT,
+        }),
+        Err(MeasureError::Memory) => Err(Refusal::Memory),
+    }
+}
+
+fn sizes_in(alloc: Global, path: &str, file: &[u8]) -> Result<Sizes, Refusal>
+    requires { length file.now ≤ TEXT_LIMIT }
+    ensures { Finds (sizes_in (device_in path.now file.now)) result }
+{
+    let device = described(alloc, path, file)?;
+    sizes_of(alloc, &device)
+}
+
+// Puts a line of a word and a number.
+fn put_count<O: Sink>(out: &mut O, what: &[u8], count: u64) -> Result<(), WriteFailed>
+    ensures text { OnOk result (Writes (O.got out.old) (O.got out.new) (count_line what.now count ∷ [])) }
+    ensures cause { HasCause (O.faults out.old) (O.faults out.new) result }
+{
+    put_line(out, &[what, Buffer::new().format(count).as_bytes()])
+}
+
+// Puts a line for each size.
+fn put_sizes<O: Sink>(out: &mut O, sizes: Sizes) -> Result<(), WriteFailed>
+    ensures text { OnOk result (Writes (O.got out.old) (O.got out.new) (size_lines sizes)) }
+    ensures cause { HasCause (O.faults out.old) (O.faults out.new) result }
+{
+    put_count(out, b"parts", sizes.parts)?;
+    put_count(out, b"wires", sizes.wires)?;
+    put_count(out, b"clauses", sizes.clauses)?;
+    put_count(out, b"sum", sizes.sum)?;
+    Ok(())
+}
+
+// Tells the sizes of a device and answers 0, or 5 where a write failed.
+fn tell_sizes<O: Sink>(out: &mut O, sizes: Sizes) -> u8
+    requires faults { O.faults out.old < 2 ^ 64 - 1 }
+    ensures write_fault { RoseExactly (O.faults out.old) (O.faults out.new) (result ≡ 5) }
+    ensures either { (result ≡ 0) ⊎ (result ≡ 5) }
+    ensures said { result ≢ 5 → Gives (planned (Ok sizes)) result (O.got out.old) (O.got out.new) }
+{
+    match put_sizes(out, sizes) {
+        Ok(()) => 0,
+        Err(_) => 5,
+    }
+}
+
+/// Tells how large the device of a file is, or why it cannot be told, and answers the status.
+pub(crate) fn plan_file<O: Sink>(alloc: Global, path: &str, file: &[u8], out: &mut O) -> u8
+    requires short { length file.now ≤ TEXT_LIMIT }
+    requires faults { O.faults out.old < 2 ^ 64 - 1 }
+    ensures write_fault { RoseExactly (O.faults out.old) (O.faults out.new) (result ≡ 5) }
+    ensures not_usage { result ≢ 2 }
+    ensures not_read { result ≢ 4 }
+    ensures not_cut { result ≢ 7 }
+    ensures said { result ≢ 5 → GivesUnlessMemory (planned (sizes_in (device_in path.now file.now))) result
+        (O.got out.old) (O.got out.new) }
+{
+    match sizes_in(alloc, path, file) {
+        Ok(sizes) => tell_sizes(out, sizes),
+        Err(refusal) => tell(out, refusal),
+    }
+}

@@ -1,37 +1,35 @@
--- What the drivers of forms are.
-use Rattle.std.proofs.Common.{◌≡◌, Bool, true, false, cond, List, [], ◌∷◌, ◌++◌, Option, Some, None, is_some, refl, sym, ap, ◌∙◌}
+-- What drives the signals of statements.
+use Rattle.std.proofs.Common.{◌≡◌, Bool, true, false, cond, List, [], ◌∷◌, Option, Some, None, is_some, refl, sym, ap, ◌∙◌}
 use Rattle.std.specs.Prelude.{◌||◌, if◌then◌else◌}
 use Rattle.std.specs.List.{flat_map}
 use Rattle.std.specs.Map.{lookup, keys_of}
 use Rattle.std.proofs.lemmas.Bool.{true≢false}
+use Rattle.std.proofs.lemmas.Map.Made.{is_some-lookup}
 use Rattle.indexmap.specs.IndexMap.{insert_entry}
 use Rattle.text_rules.specs.Names.{Name, same_name, is_among}
 use Rattle.device_model.specs.Building.{repeated}
 use Rattle.device_model.proofs.Naming.{same_name-same, same_name-other, same_from_test}
 use Rattle.bench_reader.specs.declared.signals.Driver.{Driver}
 use Rattle.bench_reader.specs.declared.signals.Driver.TheVariants.{Outside, Gate as ByGate}
-use Rattle.bench_reader.specs.Netlists.{Form, Input, Output, Gate, driven_by_gate, driven}
-use Rattle.bench_reader.specs.Steps.{Drivers}
+use Rattle.bench_reader.specs.declared.kinds.NamedKind.{NamedKind}
+use Rattle.bench_reader.specs.Statements.{Statement, Input, Output, Gate}
+use Rattle.bench_reader.specs.Signals.{driven_by_gate, driven}
+use Rattle.bench_reader.specs.inner.Steps.{Signals}
 
 abbrev pub is_gate : Option Driver → Bool
 is_gate None = false
 is_gate (Some Outside) = false
 is_gate (Some ByGate) = true
 
-abbrev pub driver_of : Drivers → Name → Option Driver
+abbrev pub driver_of : Signals → Name → Option Driver
 driver_of ds name = lookup (same_name name) ds
 
 -- a name is among the keys where it has a driver
-pub among_keys : (name : Name) (ds : Drivers) → is_among (keys_of ds) name ≡ is_some (driver_of ds name)
-among_keys name [] = refl
-among_keys name (d ∷ ds) = by (same_name name d.0) (among_keys name ds)
-  where
-    by : (b : Bool) → is_among (keys_of ds) name ≡ is_some (driver_of ds name) → (b || is_among (keys_of ds) name) ≡ is_some (cond b (Some d.1) (driver_of ds name))
-    by true h = refl
-    by false h = h
+pub among_keys : (name : Name) (ds : Signals) → is_among (keys_of ds) name ≡ is_some (driver_of ds name)
+among_keys name ds = sym (is_some-lookup (same_name name) ds)
 
 -- the driver of a name after another is inserted
-pub lookup-insert : (m n : Name) (driver : Driver) (ds : Drivers) → driver_of (insert_entry same_name ds n driver) m ≡ cond (same_name m n) (Some driver) (driver_of ds m)
+pub lookup-insert : (m n : Name) (driver : Driver) (ds : Signals) → driver_of (insert_entry same_name ds n driver) m ≡ cond (same_name m n) (Some driver) (driver_of ds m)
 lookup-insert m n driver [] = refl
 lookup-insert m n driver (d ∷ ds) = by (same_name n d.0) refl (lookup-insert m n driver ds)
   where
@@ -57,7 +55,7 @@ lookup-insert m n driver (d ∷ ds) = by (same_name n d.0) refl (lookup-insert m
         ∙ other (same_name m d.0) (same_name m n) (λ a b. same_name-same n d.0 (sym (same_from_test m n b) ∙ same_from_test m d.0 a)) e
 
 -- no name is inserted twice
-pub repeated-insert : (n : Name) (driver : Driver) (ds : Drivers) → repeated (keys_of ds) ≡ [] → repeated (keys_of (insert_entry same_name ds n driver)) ≡ []
+pub repeated-insert : (n : Name) (driver : Driver) (ds : Signals) → repeated (keys_of ds) ≡ [] → repeated (keys_of (insert_entry same_name ds n driver)) ≡ []
 repeated-insert n driver [] h = refl
 repeated-insert n driver (d ∷ ds) h = by (same_name n d.0) refl (is_among (keys_of ds) d.0) refl h (λ k. repeated-insert n driver ds k)
   where
@@ -80,16 +78,8 @@ repeated-insert n driver (d ∷ ds) h = by (same_name n d.0) refl (is_among (key
         let alone = added true (no_driver (driver_of ds d.0) (sym (among_keys d.0 ds) ∙ f)) other in
         ap (λ (c : Bool). if c then d.0 ∷ repeated (keys_of (insert_entry same_name ds n driver)) else repeated (keys_of (insert_entry same_name ds n driver))) alone ∙ later g
 
-pub among-append : (m : Name) (xs ys : List Name) → is_among (xs ++ ys) m ≡ (is_among xs m || is_among ys m)
-among-append m [] ys = refl
-among-append m (x ∷ xs) ys = by (same_name m x) (among-append m xs ys)
-  where
-    by : (b : Bool) → is_among (xs ++ ys) m ≡ (is_among xs m || is_among ys m) → (b || is_among (xs ++ ys) m) ≡ ((b || is_among xs m) || is_among ys m)
-    by true h = refl
-    by false h = h
-
--- the drivers are those of the forms above
-pub record Drives (ds : Drivers) (above : List Form) : Type 0 where
+-- the drivers are those of the statements above
+pub record Drives (ds : Signals) (above : List Statement) : Type 0 where
   pub all : (m : Name) → is_among (flat_map driven above) m ≡ is_some (driver_of ds m)
   pub gates : (m : Name) → is_among (flat_map driven_by_gate above) m ≡ is_gate (driver_of ds m)
   pub once : repeated (keys_of ds) ≡ []
@@ -105,14 +95,14 @@ gate_too : (b : Bool) (o : Option Driver) (a : Bool) → a ≡ is_gate o → (b 
 gate_too true o a h = refl
 gate_too false o a h = h
 
-pub Drives-gate : (ds : Drivers) (above : List Form) (o k : Name) (is : List Name) → Drives ds above → Drives (insert_entry same_name ds o ByGate) (Gate o k is ∷ above)
+pub Drives-gate : (ds : Signals) (above : List Statement) (o : Name) (k : NamedKind) (is : List Name) → Drives ds above → Drives (insert_entry same_name ds o ByGate) (Gate o k is ∷ above)
 Drives-gate ds above o k is h = record {
   all = λ m. some_too (same_name m o) ByGate (driver_of ds m) (is_among (flat_map driven above) m) (h.all m) ∙ ap is_some (sym (lookup-insert m o ByGate ds));
   gates = λ m. gate_too (same_name m o) (driver_of ds m) (is_among (flat_map driven_by_gate above) m) (h.gates m) ∙ ap is_gate (sym (lookup-insert m o ByGate ds));
   once = repeated-insert o ByGate ds h.once;
 }
 
-pub Drives-input : (ds : Drivers) (above : List Form) (s : Name) → is_gate (driver_of ds s) ≡ false → Drives ds above → Drives (insert_entry same_name ds s Outside) (Input s ∷ above)
+pub Drives-input : (ds : Signals) (above : List Statement) (s : Name) → is_gate (driver_of ds s) ≡ false → Drives ds above → Drives (insert_entry same_name ds s Outside) (Input s ∷ above)
 Drives-input ds above s free h = record {
   all = λ m. some_too (same_name m s) Outside (driver_of ds m) (is_among (flat_map driven above) m) (h.all m) ∙ ap is_some (sym (lookup-insert m s Outside ds));
   gates = λ m. h.gates m ∙ by m (same_name m s) refl ∙ ap is_gate (sym (lookup-insert m s Outside ds));
@@ -123,5 +113,5 @@ Drives-input ds above s free h = record {
     by m true e = ap (λ (k : Name). is_gate (driver_of ds k)) (same_from_test m s e) ∙ free
     by m false e = refl
 
-pub Drives-output : (ds : Drivers) (above : List Form) (s : Name) → Drives ds above → Drives ds (Output s ∷ above)
+pub Drives-output : (ds : Signals) (above : List Statement) (s : Name) → Drives ds above → Drives ds (Output s ∷ above)
 Drives-output ds above s h = record { all = h.all; gates = h.gates; once = h.once }

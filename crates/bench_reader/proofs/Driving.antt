@@ -11,14 +11,16 @@ use Rattle.bench_reader.specs.declared.signals.Driver.TheVariants.{Outside, Gate
 use Rattle.device_model.specs.Building.{place_in}
 use Rattle.device_model.proofs.Tables.{position_or_len-map}
 use Rattle.bench_reader.specs.declared.fault.BenchFault.TheVariants.{DrivenTwice}
-use Rattle.bench_reader.specs.Netlists.{Input, Gate, fault_at}
+use Rattle.bench_reader.specs.declared.kinds.NamedKind.{NamedKind}
+use Rattle.bench_reader.specs.Faults.{fault_at}
+use Rattle.bench_reader.specs.Statements.{Input, Gate}
+use Rattle.bench_reader.specs.inner.Steps.{Signals, if_free, unless_gate, driven_more}
 use Rattle.bench_reader.proofs.Drivers.{among_keys}
-use Rattle.bench_reader.specs.Steps.{Drivers, if_free, unless_gate, driven_more}
 
 abbrev pub Entries : Type 0
 Entries = List (Bor Name × Driver)
 
-abbrev pub seen : Entries → Drivers
+abbrev pub seen : Entries → Signals
 seen es = map (λ e. (e.0.now, e.1)) es
 
 abbrev pub same_key : Bor Name → Bor Name → Bool
@@ -35,7 +37,7 @@ insert-seen key driver (e ∷ es) = by (same_name key.now e.0.now) (insert-seen 
     by : (b : Bool) → seen (insert_entry same_key es key driver) ≡ insert_entry same_name (seen es) key.now driver
         → seen (if b then (e.0, driver) ∷ es else e ∷ insert_entry same_key es key driver) ≡ (if b then (e.0.now, driver) ∷ seen es else (e.0.now, e.1) ∷ insert_entry same_name (seen es) key.now driver)
     by true h = refl
-    by false h = ap (λ (ds : Drivers). (e.0.now, e.1) ∷ ds) h
+    by false h = ap (λ (ds : Signals). (e.0.now, e.1) ∷ ds) h
 
 pub keys-seen : (es : Entries) → map (λ (k : Bor Name). k.now) (keys_of es) ≡ keys_of (seen es)
 keys-seen [] = refl
@@ -70,10 +72,10 @@ module _ (line : ℕ) (es new : Entries) (key : Bor Name) (old : Option Driver) 
   looked : lookup (same_name key.now) (seen es) ≡ old
   looked = sym (was ∙ lookup-seen key.now es)
 
-  pub gate-free : (kind : Name) (inputs : List Name) → old ≡ None → new ≡ insert_entry same_key es key ByGate → driven_more (seen es) (line, Gate key.now kind inputs) ≡ Ok (seen new)
+  pub gate-free : (kind : NamedKind) (inputs : List Name) → old ≡ None → new ≡ insert_entry same_key es key ByGate → driven_more (seen es) (line, Gate key.now kind inputs) ≡ Ok (seen new)
   gate-free kind inputs none made = ap (λ d. if_free line d (insert_entry same_name (seen es) key.now ByGate)) (looked ∙ none) ∙ ap Ok (sym (ap seen made ∙ insert-seen key ByGate es))
 
-  pub gate-taken : (kind : Name) (inputs : List Name) (driver : Driver) → old ≡ Some driver → driven_more (seen es) (line, Gate key.now kind inputs) ≡ Err (fault_at DrivenTwice line)
+  pub gate-taken : (kind : NamedKind) (inputs : List Name) (driver : Driver) → old ≡ Some driver → driven_more (seen es) (line, Gate key.now kind inputs) ≡ Err (fault_at DrivenTwice line)
   gate-taken kind inputs driver some = ap (λ d. if_free line d (insert_entry same_name (seen es) key.now ByGate)) (looked ∙ some)
 
   pub input-free : old ≡ None → new ≡ insert_entry same_key es key Outside → driven_more (seen es) (line, Input key.now) ≡ Ok (seen new)

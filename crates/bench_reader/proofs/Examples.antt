@@ -6,8 +6,8 @@ use Rattle.device_model.specs.declared.component.Kind.TheVariants.{And, Nand, Xo
 use Rattle.device_model.specs.declared.component.Component.{Component}
 use Rattle.device_model.specs.Devices.{Device}
 use Rattle.std.specs.Prelude.{Result, Ok, Err}
-use Rattle.bench_reader.specs.Netlists.{Fault, netlist}
-use Rattle.bench_reader.specs.Faults.{fault_number}
+use Rattle.bench_reader.specs.Faults.{Fault, fault_number}
+use Rattle.bench_reader.specs.Netlists.{netlist}
 
 -- lines, each with its line feed
 abbrev text : List (List ℕ) → List ℕ

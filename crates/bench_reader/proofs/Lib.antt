@@ -1,10 +1,9 @@
 pub mod Words
-pub mod Forms
+pub mod Parsing
+pub mod Lines
 pub mod Drivers
 pub mod Driving
 pub mod Twice
-pub mod Saying
 pub mod Parts
-pub mod Devices
 pub mod Whole
 mod Examples

@@ -1,91 +1,131 @@
--- The parts that forms without a fault give, over the driven signals in any order.
-use Rattle.std.proofs.Common.{◌≡◌, ℕ, suc, ◌+◌, Bool, true, false, cond, not, List, [], ◌∷◌, ◌++◌, length, get_or, Option, Some, None, nat_lt, refl, sym, ap, ◌∙◌, arith}
-use Rattle.std.specs.Prelude.{◌||◌, is_none, if◌then◌else◌}
-use Rattle.std.specs.List.{flat_map, list_all, position_or_len}
-use Rattle.std.proofs.lemmas.Bool.{and_parts, lt-ltb}
-use Rattle.std.proofs.lemmas.Bool.Decides.{nat_tests}
-use Rattle.text_rules.specs.Names.{Name, same_name, is_among}
+-- The parts of statements without a fault, over the driven signals in any order.
+use Rattle.std.proofs.Common.{◌≡◌, ℕ, ◌+◌, ◌-◌, Bool, true, false, List, [], ◌∷◌, ◌++◌, map, length, Option, Some, None, refl, ap, ◌∙◌, arith}
+use Rattle.std.specs.Prelude.{◌&&◌, is_none, nat_le, if◌then◌else◌}
+use Rattle.std.specs.List.{flat_map, list_all}
+use Rattle.std.proofs.lemmas.Bool.{and_parts, and_from, leb-true}
+use Rattle.std.proofs.lemmas.List.{length-map, length_push, map-append}
+use Rattle.std.proofs.lemmas.List.Folds.{list_all-append}
+use Rattle.std.proofs.lemmas.Simd.{map-map}
+use Rattle.text_rules.specs.Names.{Name, is_short_name, is_among}
 use Rattle.device_model.specs.declared.component.Kind.{Kind}
+use Rattle.device_model.specs.declared.component.Kind.TheVariants.{Table}
 use Rattle.device_model.specs.declared.component.Component.{Component}
-use Rattle.device_model.specs.Devices.{part_names, takes}
-use Rattle.device_model.specs.Building.{place_in}
-use Rattle.device_model.proofs.Naming.{same_from_test}
+use Rattle.device_model.specs.Devices.{part_names, takes, takes_ports, has_arity, has_wires}
+use Rattle.device_model.specs.Building.{NamedPart, place_in, joined}
+use Rattle.device_model.proofs.Joining.{named, named-joined, joined-wired}
 use Rattle.bench_reader.specs.declared.kinds.NamedKind.{NamedKind}
-use Rattle.bench_reader.specs.declared.kinds.NamedKind.TheVariants.{AtOnce, Sequential, Unknown}
+use Rattle.bench_reader.specs.declared.kinds.NamedKind.TheVariants.{Combinational, Sequential, Unknown}
 use Rattle.bench_reader.specs.declared.fault.BenchFault.{BenchFault}
 use Rattle.bench_reader.specs.declared.fault.BenchFault.TheVariants.{Name as NoName, Inputs as WrongInputs}
-use Rattle.bench_reader.specs.Netlists.{Form, Input, Output, Gate, kind_named, kind_fault, is_signal, driven_by_gate, part_with, part_of}
-use Rattle.bench_reader.specs.Steps.{is_sound}
+use Rattle.bench_reader.specs.Statements.{Statement, Input, Output, Gate, kind_fault}
+use Rattle.bench_reader.specs.Signals.{driven_by_gate, used}
+use Rattle.bench_reader.specs.Netlists.{part_of}
+use Rattle.bench_reader.specs.inner.Steps.{is_faultless}
 
--- ---- places
+-- ---- what a gate without a fault has
 
-among_found : (n : Name) (wires : List Name) → nat_lt (position_or_len (same_name n) wires) (length wires) ≡ is_among wires n
-among_found n [] = refl
-among_found n (x ∷ wires) = by (same_name n x) (among_found n wires)
-  where
-    by : (b : Bool) → nat_lt (position_or_len (same_name n) wires) (length wires) ≡ is_among wires n
-        → nat_lt (cond (not b) (1 + position_or_len (same_name n) wires) 0) (length (x ∷ wires)) ≡ (b || is_among wires n)
-    by true h = lt-ltb 0 (length (x ∷ wires)) (omega arith)
-    by false h = more (position_or_len (same_name n) wires) (length wires) ∙ h
-      where
-        more : (p l : ℕ) → nat_lt (1 + p) (suc l) ≡ nat_lt p l
-        more p l = grind (arith, nat_tests)
-
-pub place_below : (n : Name) (wires : List Name) → is_among wires n ≡ true → nat_lt (place_in wires n) (length wires) ≡ true
-place_below n wires h = among_found n wires ∙ h
-
--- the name at its place
-pub at_place : (n : Name) (wires : List Name) → is_among wires n ≡ true → get_or wires (place_in wires n) [] ≡ n
-at_place n [] h = cc
-at_place n (x ∷ wires) h = by (same_name n x) refl h (at_place n wires)
-  where
-    by : (b : Bool) → same_name n x ≡ b → (b || is_among wires n) ≡ true → (is_among wires n ≡ true → get_or wires (place_in wires n) [] ≡ n)
-        → get_or (x ∷ wires) (cond (not b) (1 + position_or_len (same_name n) wires) 0) [] ≡ n
-    by true e g rest = sym (same_from_test n x e)
-    by false e g rest = let p = place_in wires n in let next : 1 + p ≡ suc p = omega arith in ap (λ k. get_or (x ∷ wires) k []) next ∙ rest g
-
--- ---- what a form without a fault has
-
-pub record GateFacts (output kind : Name) (inputs : List Name) : Type 0 where
-  pub named : is_signal output ≡ true
+pub record IsFaultlessGate (output : Name) (kind : NamedKind) (inputs : List Name) : Type 0 where
+  pub named : is_short_name output ≡ true
   pub gate : Kind
-  pub meant : kind_named kind ≡ AtOnce gate
+  pub meant : kind ≡ Combinational gate
   pub taken : takes gate (length inputs) ≡ true
 
 no_fault : (b : Bool) (fault : Option BenchFault) → is_none (if b then fault else Some NoName) ≡ true → (b ≡ true) × (is_none fault ≡ true)
 no_fault true fault h = (refl, h)
 no_fault false fault h = cc
 
-pub gate_facts : (output kind : Name) (inputs : List Name) → is_sound (Gate output kind inputs) ≡ true → GateFacts output kind inputs
-gate_facts output kind inputs h =
-    let fine = no_fault _ (kind_fault (length inputs) (kind_named kind)) h in
-    by (kind_named kind) refl (and_parts (is_signal output) (list_all is_signal inputs) fine.0).0 fine.1
+pub faultless_gate : (output : Name) (kind : NamedKind) (inputs : List Name) → is_faultless (Gate output kind inputs) ≡ true → IsFaultlessGate output kind inputs
+faultless_gate output kind inputs h =
+    let fine = no_fault _ (kind_fault (length inputs) kind) h in
+    by kind (and_parts (is_short_name output) (list_all is_short_name inputs) fine.0).0 fine.1
   where
     took : (b : Bool) → is_none {T = BenchFault} (if b then None else Some WrongInputs) ≡ true → b ≡ true
     took true e = refl
     took false e = cc
 
-    by : (m : NamedKind) → kind_named kind ≡ m → is_signal output ≡ true → is_none (kind_fault (length inputs) m) ≡ true → GateFacts output kind inputs
-    by (AtOnce k) e s f = record { named = s; gate = k; meant = e; taken = took (takes k (length inputs)) f }
-    by Sequential e s f = cc
-    by Unknown e s f = cc
+    by : (m : NamedKind) → is_short_name output ≡ true → is_none (kind_fault (length inputs) m) ≡ true → IsFaultlessGate output m inputs
+    by (Combinational k) s f = record { named = s; gate = k; meant = refl; taken = took (takes k (length inputs)) f }
+    by Sequential s f = cc
+    by Unknown s f = cc
+
+-- ---- one part
+
+-- its name is that of its output
+abbrev pub named_names : List NamedPart → List Name
+named_names parts = map (λ (part : NamedPart). part.name) parts
+
+pub names-part_of : (s : Statement) → is_faultless s ≡ true → named_names (part_of s) ≡ driven_by_gate s
+names-part_of (Input signal) h = refl
+names-part_of (Output signal) h = refl
+names-part_of (Gate output kind inputs) h = ap (λ m. named_names (part_of (Gate output m inputs))) (faultless_gate output kind inputs h).meant
+
+takes_one_more : (kind : Kind) (n : ℕ) → takes kind n ≡ true → takes_ports [] kind (n + 1) ≡ true
+takes_one_more (Table t) n h = let none = and_parts (nat_le 1 n) (nat_le n 0) h in absurd (omega (arith, leb-true 1 n none.0, leb-true n 0 none.1))
+takes_one_more gate n h = let same : n + 1 - 1 ≡ n = omega arith in ap (takes gate) same ∙ h
 
 module _ (wires : List Name) where
-  -- ---- names, arities and wires of the parts
+  -- a part of the right arity, over wires that are there
+  abbrev pub fits : NamedPart → Bool
+  fits part = has_arity [] (joined wires part) && list_all (is_among wires) part.wires
 
-  map-append : (xs ys : List Component) → part_names (xs ++ ys) ≡ part_names xs ++ part_names ys
-  map-append [] ys = refl
-  map-append (x ∷ xs) ys = ap (λ (ns : List Name). x.name ∷ ns) (map-append xs ys)
+  gate_fits : (output : Name) (kind : NamedKind) (inputs : List Name) → IsFaultlessGate output kind inputs → list_all (is_among wires) (inputs ++ output ∷ []) ≡ true
+      → list_all fits (part_of (Gate output kind inputs)) ≡ true
+  gate_fits output kind inputs gate there =
+      let ports = length-map (inputs ++ output ∷ []) (place_in wires) ∙ length_push inputs output in
+      ap (λ m. list_all fits (part_of (Gate output m inputs))) gate.meant
+      ∙ and_from _ _ (and_from _ _ (ap (takes_ports [] gate.gate) ports ∙ takes_one_more gate.gate (length inputs) gate.taken) there) refl
 
-  part_of-name : (form : Form) → is_sound form ≡ true → part_names (part_of wires form) ≡ driven_by_gate form
-  part_of-name (Input s) h = refl
-  part_of-name (Output s) h = refl
-  part_of-name (Gate o k is) h = ap (λ m. part_names (part_with wires o is m)) (gate_facts o k is h).meant
+  pub statement_fits : (s : Statement) → is_faultless s ≡ true → list_all (is_among wires) (driven_by_gate s) ≡ true → list_all (is_among wires) (used s) ≡ true
+      → list_all fits (part_of s) ≡ true
+  statement_fits (Input signal) h drives uses = refl
+  statement_fits (Output signal) h drives uses = refl
+  statement_fits (Gate output kind inputs) h drives uses =
+      gate_fits output kind inputs (faultless_gate output kind inputs h) (list_all-append (is_among wires) inputs (output ∷ []) ∙ and_from _ _ uses drives)
 
-  pub parts-names : (forms : List Form) → list_all is_sound forms ≡ true → part_names (flat_map (part_of wires) forms) ≡ flat_map driven_by_gate forms
-  parts-names [] h = refl
-  parts-names (f ∷ forms) h =
-      let hs = and_parts (is_sound f) (list_all is_sound forms) h in
-      map-append (part_of wires f) (flat_map (part_of wires) forms)
-      ∙ ap (λ ns. ns ++ part_names (flat_map (part_of wires) forms)) (part_of-name f hs.0)
-      ∙ ap (λ ns. driven_by_gate f ++ ns) (parts-names forms hs.1)
+  -- ---- all parts
+
+  pub statements_fit : (statements : List Statement) → list_all is_faultless statements ≡ true
+      → list_all (λ s. list_all (is_among wires) (driven_by_gate s)) statements ≡ true
+      → list_all (λ s. list_all (is_among wires) (used s)) statements ≡ true
+      → list_all fits (flat_map part_of statements) ≡ true
+  statements_fit [] h drives uses = refl
+  statements_fit (s ∷ statements) h drives uses =
+      let faultless = and_parts (is_faultless s) (list_all is_faultless statements) h in
+      let gates = and_parts (list_all (is_among wires) (driven_by_gate s)) (list_all (λ (s : Statement). list_all (is_among wires) (driven_by_gate s)) statements) drives in
+      let inputs = and_parts (list_all (is_among wires) (used s)) (list_all (λ (s : Statement). list_all (is_among wires) (used s)) statements) uses in
+      list_all-append fits (part_of s) (flat_map part_of statements)
+      ∙ and_from _ _ (statement_fits s faultless.0 gates.0 inputs.0) (statements_fit statements faultless.1 gates.1 inputs.1)
+
+  -- parts that fit have their arities and their wires, and the names of these back
+  pub arities-joined : (parts : List NamedPart) → list_all fits parts ≡ true → list_all (has_arity []) (map (joined wires) parts) ≡ true
+  arities-joined [] h = refl
+  arities-joined (part ∷ parts) h =
+      let two = and_parts (fits part) (list_all fits parts) h in
+      and_from _ _ (and_parts (has_arity [] (joined wires part)) (list_all (is_among wires) part.wires) two.0).0 (arities-joined parts two.1)
+
+  pub wired-joined : (parts : List NamedPart) → list_all fits parts ≡ true → list_all (has_wires (length wires)) (map (joined wires) parts) ≡ true
+  wired-joined [] h = refl
+  wired-joined (part ∷ parts) h =
+      let two = and_parts (fits part) (list_all fits parts) h in
+      and_from _ _ (joined-wired wires part (and_parts (has_arity [] (joined wires part)) (list_all (is_among wires) part.wires) two.0).1) (wired-joined parts two.1)
+
+  pub named_back : (parts : List NamedPart) → list_all fits parts ≡ true → map (named wires) (map (joined wires) parts) ≡ parts
+  named_back [] h = refl
+  named_back (part ∷ parts) h =
+      let two = and_parts (fits part) (list_all fits parts) h in
+      let first = named-joined wires part (and_parts (has_arity [] (joined wires part)) (list_all (is_among wires) part.wires) two.0).1 in
+      let rest = named_back parts two.1 in
+      cc
+
+-- ---- names
+
+pub names-parts : (statements : List Statement) → list_all is_faultless statements ≡ true → named_names (flat_map part_of statements) ≡ flat_map driven_by_gate statements
+names-parts [] h = refl
+names-parts (s ∷ statements) h =
+    let two = and_parts (is_faultless s) (list_all is_faultless statements) h in
+    map-append (λ (part : NamedPart). part.name) (part_of s) (flat_map part_of statements)
+    ∙ ap (λ ns. ns ++ named_names (flat_map part_of statements)) (names-part_of s two.0)
+    ∙ ap (λ ns. driven_by_gate s ++ ns) (names-parts statements two.1)
+
+pub names-joined : (wires : List Name) (parts : List NamedPart) → part_names (map (joined wires) parts) ≡ named_names parts
+names-joined wires parts = map-map (λ (part : Component). part.name) (joined wires) parts

@@ -1,99 +1,152 @@
 -- The netlist of a text, by what its lines say, what they drive and what they use.
-use Rattle.std.proofs.Common.{◌≡◌, ◌≢◌, ℕ, ◌≤◌, Bool, true, false, cond, not, List, [], ◌∷◌, ◌++◌, map, length, Option, Some, None, Ok, Err, nat_lt, refl, sym, ap, subst, ◌∙◌, arith}
-use Rattle.std.specs.Prelude.{Result, IfOk, ◌&&◌, ◌||◌, is_none, if◌then◌else◌}
-use Rattle.std.specs.List.{filter, filter_map, flat_map, list_all, enumerate_from}
+use Rattle.std.proofs.Common.{◌≡◌, ℕ, suc, inl, inr, Bool, true, false, cond, not, List, [], ◌∷◌, ◌++◌, map, length, Option, Some, None, Ok, Err, nat_lt, refl, sym, ap, subst, ◌∙◌}
+use Rattle.std.specs.Prelude.{Result, ◌&&◌, ◌||◌, is_none, if◌then◌else◌}
+use Rattle.std.specs.List.{filter, filter_map, flat_map, list_all}
 use Rattle.std.specs.Map.{keys_of}
-use Rattle.std.proofs.lemmas.Bool.{and_parts, and_from}
-use Rattle.std.proofs.lemmas.Bool.Decides.{nat_tests}
-use Rattle.text_rules.specs.Names.{Name, is_among}
+use Rattle.std.proofs.lemmas.Bool.{and_parts, and_from, or_parts, true≢false, ltb-false}
+use Rattle.std.proofs.lemmas.List.{length-map}
+use Rattle.std.proofs.lemmas.List.Folds.{list_all-append}
+use Rattle.text_rules.specs.Expected.{IsExpectedFault}
+use Rattle.text_rules.specs.Names.{Name, is_short_name, is_among}
 use Rattle.text_rules.specs.TextLines.{all_lines}
 use Rattle.device_model.specs.declared.component.Component.{Component}
+use Rattle.device_model.specs.declared.limits.TheConstants.{PART_LIMIT, WIRE_LIMIT}
 use Rattle.device_model.specs.declared.building.BuildError.{BuildError}
 use Rattle.device_model.specs.declared.building.BuildError.TheVariants.{TooMany as TooManyParts, TwoParts, TwoWires, Arity, NoWire, Memory as NoMemory}
 use Rattle.device_model.specs.TruthTable.{TruthTable}
+use Rattle.device_model.specs.Order.{placed, sorted_distinct}
 use Rattle.device_model.specs.Devices.{Device}
-use Rattle.device_model.specs.Building.{built}
+use Rattle.device_model.specs.Building.{joined, reason, repeated, built, device_over}
+use Rattle.device_model.proofs.Naming.{same, below, above, compared}
+use Rattle.device_model.proofs.Ordered.{Among, among_sorted_distinct, placed-below, placed-above}
+use Rattle.device_model.proofs.Sorting.{itself}
 use Rattle.device_model.proofs.Repeats.{is_among-among, among_from_test}
-use Rattle.device_model.proofs.Making.{list_all-among, list_all-from_among}
+use Rattle.device_model.proofs.Making.{list_all-among, list_all-from_among, component_name}
+use Rattle.device_model.proofs.CallerLemmas.{sorted_distinct-same_tests}
+use Rattle.device_model.proofs.Joining.{CanBeBuilt, built-over}
 use Rattle.bench_reader.specs.declared.fault.BenchFault.{BenchFault}
 use Rattle.bench_reader.specs.declared.fault.BenchFault.TheVariants.{Name as NoName, DrivenTwice, Undriven, TooMany}
 use Rattle.bench_reader.specs.declared.fault.BenchError.{BenchError}
 use Rattle.bench_reader.specs.declared.fault.BenchError.TheVariants.{Bad, Memory}
-use Rattle.bench_reader.specs.Faults.{IsFault}
-use Rattle.bench_reader.specs.Netlists.{Form, Input, Output, Gate, reading, Fault, fault_in, fault_at, said_in, is_signal, driven, driven_by_gate, used, driven_twice, undriven, wires_of, part_of, device_of, too_many, unless_refused, netlist}
-use Rattle.bench_reader.specs.Steps.{Drivers, all_said, is_sound, drivers_from, first_undriven, is_too_large, CanBeBuilt}
-use Rattle.bench_reader.specs.declared.statement.Said.{Said}
-use Rattle.bench_reader.specs.Meanings.{form, numbered}
+use Rattle.bench_reader.specs.declared.statement.NumberedStatement.{NumberedStatement}
+use Rattle.bench_reader.specs.Faults.{Fault, fault_at, told, unless_fault}
+use Rattle.bench_reader.specs.Statements.{Statement, Input, Output, Gate}
+use Rattle.bench_reader.specs.Signals.{driven, driven_by_gate, used, driven_twice, lines_without, undriven}
+use Rattle.bench_reader.specs.Netlists.{part_of, device_of, fault_in, statement_in, too_many, netlist}
+use Rattle.bench_reader.specs.inner.Lines.{unnumbered, with_number}
+use Rattle.bench_reader.specs.inner.Steps.{Signals, signals_from, first_undriven, is_too_large, is_faultless, AreFaultless}
 use Rattle.bench_reader.proofs.Drivers.{among_keys, Drives-none}
-use Rattle.bench_reader.proofs.Saying.{first_or, form_at, said-first, said_are_sound}
+use Rattle.bench_reader.proofs.Lines.{readings_from, said, read_are_faultless}
 use Rattle.bench_reader.proofs.Twice.{Ends, Splits, splits, gates_once}
-use Rattle.bench_reader.proofs.Parts.{gate_facts}
-use Rattle.bench_reader.proofs.Devices.{sorted_distinct-members, length-sorted_distinct_once, device_built}
+use Rattle.bench_reader.proofs.Parts.{faultless_gate, names-parts, names-joined, statements_fit, arities-joined, wired-joined, named_back}
+
+-- ---- names that differ are as many in order
+
+length-placed_new : (x : Name) (ys : List Name) → (Among x ys → ⊥) → length (placed itself x ys) ≡ suc (length ys)
+length-placed_new x [] h = refl
+length-placed_new x (y ∷ ys) h = elim (compared x y) [
+  | same e ↦ absurd (h (inl e))
+  | below l ↦ ap length (placed-below itself x y ys l)
+  | above l ↦ (let rest = length-placed_new x ys (λ m. h (inr m)) in ap length (placed-above itself x y ys l) ∙ ap suc rest)
+]
+
+no_repeat : (n : Name) (ns : List Name) → repeated (n ∷ ns) ≡ [] → (is_among ns n ≡ false) × (repeated ns ≡ [])
+no_repeat n ns h = by (is_among ns n) h
+  where
+    by : (b : Bool) → cond b (n ∷ repeated ns) (repeated ns) ≡ [] → (b ≡ false) × (repeated ns ≡ [])
+    by true e = cc
+    by false e = (refl, e)
+
+length-sorted_distinct_once : (ns : List Name) → repeated ns ≡ [] → length (sorted_distinct itself ns) ≡ length ns
+length-sorted_distinct_once [] h = refl
+length-sorted_distinct_once (n ∷ ns) h =
+    let two = no_repeat n ns h in
+    length-placed_new n (sorted_distinct itself ns) (λ m. true≢false (sym (is_among-among n ns (among_sorted_distinct itself ns n m)) ∙ two.0))
+    ∙ ap suc (length-sorted_distinct_once ns two.1)
 
 -- ---- signals as names of wires
 
-driven_signal : (form : Form) → is_sound form ≡ true → list_all is_signal (driven form) ≡ true
-driven_signal (Input s) h = by (is_signal s) h
+driven_named : (s : Statement) → is_faultless s ≡ true → list_all is_short_name (driven s) ≡ true
+driven_named (Input signal) h = by (is_short_name signal) h
   where
     by : (b : Bool) → is_none {T = BenchFault} (if b then None else Some NoName) ≡ true → (b && true) ≡ true
     by true e = refl
     by false e = cc
-driven_signal (Output s) h = refl
-driven_signal (Gate o k is) h = and_from _ _ (gate_facts o k is h).named refl
+driven_named (Output signal) h = refl
+driven_named (Gate output kind inputs) h = and_from _ _ (faultless_gate output kind inputs h).named refl
 
-all_append : (p : Name → Bool) (xs ys : List Name) → list_all p xs ≡ true → list_all p ys ≡ true → list_all p (xs ++ ys) ≡ true
-all_append p [] ys h g = g
-all_append p (x ∷ xs) ys h g = let two = and_parts (p x) (list_all p xs) h in and_from _ _ two.0 (all_append p xs ys two.1 g)
+all_driven_named : (statements : List Statement) → list_all is_faultless statements ≡ true → list_all is_short_name (flat_map driven statements) ≡ true
+all_driven_named [] h = refl
+all_driven_named (s ∷ statements) h =
+    let two = and_parts (is_faultless s) (list_all is_faultless statements) h in
+    list_all-append is_short_name (driven s) (flat_map driven statements) ∙ and_from _ _ (driven_named s two.0) (all_driven_named statements two.1)
 
-driven_signals : (forms : List Form) → list_all is_sound forms ≡ true → list_all is_signal (flat_map driven forms) ≡ true
-driven_signals [] h = refl
-driven_signals (f ∷ forms) h =
-    let two = and_parts (is_sound f) (list_all is_sound forms) h in
-    all_append is_signal (driven f) (flat_map driven forms) (driven_signal f two.0) (driven_signals forms two.1)
-
-gates_pass : (p : Name → Bool) (forms : List Form) → list_all p (flat_map driven forms) ≡ true → list_all (λ f. list_all p (driven_by_gate f)) forms ≡ true
+gates_pass : (p : Name → Bool) (statements : List Statement) → list_all p (flat_map driven statements) ≡ true → list_all (λ s. list_all p (driven_by_gate s)) statements ≡ true
 gates_pass p [] h = refl
-gates_pass p (Input s ∷ forms) h = gates_pass p forms (and_parts (p s) (list_all p (flat_map driven forms)) h).1
-gates_pass p (Output s ∷ forms) h = gates_pass p forms h
-gates_pass p (Gate o k is ∷ forms) h =
-    let two = and_parts (p o) (list_all p (flat_map driven forms)) h in
-    and_from _ _ (and_from _ _ two.0 refl) (gates_pass p forms two.1)
+gates_pass p (Input signal ∷ statements) h = gates_pass p statements (and_parts (p signal) (list_all p (flat_map driven statements)) h).1
+gates_pass p (Output signal ∷ statements) h = gates_pass p statements h
+gates_pass p (Gate output kind inputs ∷ statements) h =
+    let two = and_parts (p output) (list_all p (flat_map driven statements)) h in
+    and_from _ _ (and_from _ _ two.0 refl) (gates_pass p statements two.1)
 
--- What is said to be fit to build is fit.
-module _ (forms : List Form) (signals : List Name) (fit : CanBeBuilt forms signals) where
-  pub signals-named : list_all is_signal signals ≡ true
-  signals-named = list_all-from_among is_signal signals (λ n m.
-      list_all-among is_signal (flat_map driven forms) (driven_signals forms fit.sound) n
-      (among_from_test n (flat_map driven forms) (sym (fit.members n) ∙ is_among-among n signals m)))
+-- ---- the device of statements without a fault
 
-  gates_here : list_all (λ f. list_all (is_among signals) (driven_by_gate f)) forms ≡ true
-  gates_here = gates_pass (is_among signals) forms (list_all-from_among (is_among signals) (flat_map driven forms) (λ n m. fit.members n ∙ is_among-among n (flat_map driven forms) m))
+module _ (statements : List Statement) (signals : List Name) (fine : AreFaultless statements signals) where
+  pub signals-named : list_all is_short_name signals ≡ true
+  signals-named = list_all-from_among is_short_name signals (λ n m.
+      list_all-among is_short_name (flat_map driven statements) (all_driven_named statements fine.faultless) n
+      (among_from_test n (flat_map driven statements) (sym (fine.members n) ∙ is_among-among n signals m)))
 
-  pub built-device : built (flat_map (part_of signals) forms) signals [] ≡ Ok (device_of forms)
-  built-device = device_built signals forms (fit.sound, gates_here, fit.uses) fit.once fit.gates_once fit.members fit.few_wires fit.few_parts
+  gates_here : list_all (λ s. list_all (is_among signals) (driven_by_gate s)) statements ≡ true
+  gates_here = gates_pass (is_among signals) statements (list_all-from_among (is_among signals) (flat_map driven statements) (λ n m. fine.members n ∙ is_among-among n (flat_map driven statements) m))
 
-  module _ (parts : List Component) (wires : List Name) (tables : List TruthTable) (p : parts ≡ flat_map (part_of signals) forms) (w : wires ≡ signals) (t : tables ≡ []) where
-    built-of_these : built parts wires tables ≡ Ok (device_of forms)
-    built-of_these = ap (λ (ps : List Component). built ps wires tables) p ∙ ap (λ (ws : List Name). built (flat_map (part_of signals) forms) ws tables) w
-        ∙ ap (built (flat_map (part_of signals) forms) signals) t ∙ built-device
+  names-made : map component_name (map (joined signals) (flat_map part_of statements)) ≡ flat_map driven_by_gate statements
+  names-made = names-joined signals (flat_map part_of statements) ∙ names-parts statements fine.faultless
 
-    pub the_device : (device : Device) → Ok device ≡ built parts wires tables → device ≡ device_of forms
-    the_device device e = let both = e ∙ built-of_these in cc
+  can_be_built : CanBeBuilt (map (joined signals) (flat_map part_of statements)) signals []
+  can_be_built =
+      let parts = flat_map part_of statements in
+      let fit = statements_fit signals statements fine.faultless gates_here fine.uses in
+      let many : length (map (joined signals) parts) ≡ length (flat_map driven_by_gate statements) =
+      sym (length-map (map (joined signals) parts) component_name) ∙ ap length names-made in
+      record {
+        few_parts = rw many fine.few_parts;
+        few_wires = fine.few_wires;
+        parts_once = ap repeated names-made ∙ fine.gates_once;
+        wires_once = fine.once;
+        arities = arities-joined signals parts fit;
+        wired = wired-joined signals parts fit;
+      }
+
+  built-device : built (map (joined signals) (flat_map part_of statements)) signals [] ≡ Ok (device_of statements)
+  built-device =
+      let parts = flat_map part_of statements in
+      built-over (map (joined signals) parts) signals [] can_be_built
+      ∙ ap (λ ps. Ok (device_over ps signals [])) (named_back signals parts (statements_fit signals statements fine.faultless gates_here fine.uses))
+      ∙ ap (λ sorted. Ok (record { parts = sorted_distinct component_name (map (joined sorted) parts); wires = sorted; tables = [] }))
+      (sorted_distinct-same_tests signals (flat_map driven statements) fine.members)
+
+  module _ (parts : List Component) (wires : List Name) (tables : List TruthTable) (p : parts ≡ map (joined signals) (flat_map part_of statements)) (w : wires ≡ signals) (t : tables ≡ []) where
+    built-of_these : built parts wires tables ≡ Ok (device_of statements)
+    built-of_these = (λ i. built (p i) (w i) (t i)) ∙ built-device
+
+    pub the_device : (device : Device) → built parts wires tables ≡ Ok device → device_of statements ≡ device
+    the_device device e = let both = sym built-of_these ∙ e in cc
 
     -- Nothing else can be wanting than memory.
-    pub only_memory : (error : BuildError) → (error ≢ NoMemory → Err error ≡ built parts wires tables) → error ≡ NoMemory
+    pub only_memory : (error : BuildError) → IsExpectedFault (reason error) (built parts wires tables) → error ≡ NoMemory
     only_memory NoMemory h = refl
-    only_memory (TooManyParts count) h = let both = h (λ e. cc) ∙ built-of_these in cc
-    only_memory (TwoParts name) h = let both = h (λ e. cc) ∙ built-of_these in cc
-    only_memory (TwoWires name) h = let both = h (λ e. cc) ∙ built-of_these in cc
-    only_memory (Arity part) h = let both = h (λ e. cc) ∙ built-of_these in cc
-    only_memory (NoWire part) h = let both = h (λ e. cc) ∙ built-of_these in cc
+    only_memory (TooManyParts count) h = let both = sym built-of_these ∙ h in cc
+    only_memory (TwoParts name) h = let both = sym built-of_these ∙ h in cc
+    only_memory (TwoWires name) h = let both = sym built-of_these ∙ h in cc
+    only_memory (Arity part) h = let both = sym built-of_these ∙ h in cc
+    only_memory (NoWire part) h = let both = sym built-of_these ∙ h in cc
 
 -- ---- what is used
 
-there_same : (forms : List (ℕ × Form)) → flat_map (λ (f : ℕ × Form). driven f.1) forms ≡ flat_map driven (map form_at forms)
-there_same [] = refl
-there_same (f ∷ forms) = ap (λ ns. driven f.1 ++ ns) (there_same forms)
+there-said : (statements : List (ℕ × Statement)) → flat_map (λ (s : ℕ × Statement). driven s.1) statements ≡ flat_map driven (map said statements)
+there-said [] = refl
+there-said (s ∷ statements) = ap (λ ns. driven s.1 ++ ns) (there-said statements)
 
 all_same : (p q : Name → Bool) → ((n : Name) → p n ≡ q n) → (ns : List Name) → list_all p ns ≡ list_all q ns
 all_same p q h [] = refl
@@ -103,142 +156,144 @@ abbrev IsFirst : Option ℕ → List ℕ → Type 0
 IsFirst None lines = lines ≡ []
 IsFirst (Some line) lines = (rest : List ℕ) × (lines ≡ line ∷ rest)
 
-abbrev lines_without : List Name → List (ℕ × Form) → List ℕ
-lines_without there forms = map (λ (f : ℕ × Form). f.0) (filter (λ (f : ℕ × Form). not (list_all (is_among there) (used f.1))) forms)
-
 -- The first line that uses what is not among the driven signals, where each of two lists has them.
-first_without : (there signals : List Name) → ((n : Name) → is_among there n ≡ is_among signals n) → (forms : List (ℕ × Form)) → IsFirst (first_undriven signals forms) (lines_without there forms)
-first_without there signals same [] = refl
-first_without there signals same (f ∷ forms) =
-    by (list_all (is_among signals) (used f.1)) (list_all (is_among there) (used f.1)) (all_same (is_among there) (is_among signals) same (used f.1)) (first_without there signals same forms)
+first_without : (there signals : List Name) → ((n : Name) → is_among there n ≡ is_among signals n) → (statements : List (ℕ × Statement))
+    → IsFirst (first_undriven signals statements) (lines_without there statements)
+first_without there signals alike [] = refl
+first_without there signals alike ((line, s) ∷ statements) =
+    by (list_all (is_among signals) (used s)) (list_all (is_among there) (used s)) (all_same (is_among there) (is_among signals) alike (used s)) (first_without there signals alike statements)
   where
-    by : (a b : Bool) → b ≡ a → IsFirst (first_undriven signals forms) (lines_without there forms)
-        → IsFirst (if a then first_undriven signals forms else Some f.0)
-        (map (λ (f : ℕ × Form). f.0) (cond (not b) (f ∷ filter (λ (f : ℕ × Form). not (list_all (is_among there) (used f.1))) forms) (filter (λ (f : ℕ × Form). not (list_all (is_among there) (used f.1))) forms)))
+    by : (a b : Bool) → b ≡ a → IsFirst (first_undriven signals statements) (lines_without there statements)
+        → IsFirst (if a then first_undriven signals statements else Some line)
+        (map (λ (s : ℕ × Statement). s.0) (cond (not b) ((line, s) ∷ filter (λ (s : ℕ × Statement). not (list_all (is_among there) (used s.1))) statements) (filter (λ (s : ℕ × Statement). not (list_all (is_among there) (used s.1))) statements)))
     by true true e h = h
     by true false e h = cc
     by false true e h = cc
-    by false false e h = (lines_without there forms, refl)
+    by false false e h = (lines_without there statements, refl)
 
-all_used : (signals : List Name) (forms : List (ℕ × Form)) → first_undriven signals forms ≡ None → list_all (λ f. list_all (is_among signals) (used f)) (map form_at forms) ≡ true
+all_used : (signals : List Name) (statements : List (ℕ × Statement)) → first_undriven signals statements ≡ None → list_all (λ s. list_all (is_among signals) (used s)) (map said statements) ≡ true
 all_used signals [] h = refl
-all_used signals (f ∷ forms) h = by (list_all (is_among signals) (used f.1)) refl h (all_used signals forms)
+all_used signals ((line, s) ∷ statements) h = by (list_all (is_among signals) (used s)) refl h (all_used signals statements)
   where
-    by : (b : Bool) → list_all (is_among signals) (used f.1) ≡ b → cond b (first_undriven signals forms) (Some f.0) ≡ None
-        → (first_undriven signals forms ≡ None → list_all (λ f. list_all (is_among signals) (used f)) (map form_at forms) ≡ true)
-        → (list_all (is_among signals) (used f.1) && list_all (λ f. list_all (is_among signals) (used f)) (map form_at forms)) ≡ true
+    by : (b : Bool) → list_all (is_among signals) (used s) ≡ b → cond b (first_undriven signals statements) (Some line) ≡ None
+        → (first_undriven signals statements ≡ None → list_all (λ s. list_all (is_among signals) (used s)) (map said statements) ≡ true)
+        → (list_all (is_among signals) (used s) && list_all (λ s. list_all (is_among signals) (used s)) (map said statements)) ≡ true
     by true e g rest = and_from _ _ e (rest g)
     by false e g rest = cc
 
-few_of : (parts wires : ℕ) → (nat_lt 4096 parts || nat_lt 16384 wires) ≡ false → (parts ≤ 4096) × (wires ≤ 16384)
-few_of parts wires h = let a : parts ≤ 4096 = grind (arith, nat_tests) in let b : wires ≤ 16384 = grind (arith, nat_tests) in (a, b)
-
 -- ---- a text, from step to step
 
-abbrev readings : List ℕ → List (ℕ × Result (Option Form) BenchFault)
-readings text = enumerate_from 1 (map reading (all_lines text))
+abbrev readings : List ℕ → List (ℕ × Result (Option Statement) BenchFault)
+readings text = readings_from 1 (all_lines text)
+
+-- what the lines say, or the first fault of one
+abbrev lines_read : List ℕ → Result (List (ℕ × Statement)) Fault
+lines_read text = unless_fault (filter_map fault_in (readings text)) (filter_map statement_in (readings text))
+
+-- the netlist, where these are the faults that no line has alone
+abbrev unless_later : List (ℕ × Statement) → List Fault → List Fault → List Fault → Result Device Fault
+unless_later statements twice without many = unless_fault (twice ++ without ++ many) (device_of (map said statements))
 
 module _ (text : List ℕ) where
-  pub fault_said : (fault : Fault) → all_said (readings text) ≡ Err fault → netlist text ≡ Err fault
-  fault_said fault h = by (filter_map fault_in (readings text)) refl (sym (said-first (readings text)) ∙ h)
+  pub fault_read : (fault : Fault) → lines_read text ≡ Err fault → netlist text ≡ Err fault
+  fault_read fault h = by (filter_map fault_in (readings text)) refl h
     where
-      by : (fs : List Fault) → filter_map fault_in (readings text) ≡ fs → first_or fs (filter_map said_in (readings text)) ≡ Err fault → netlist text ≡ Err fault
+      by : (fs : List Fault) → filter_map fault_in (readings text) ≡ fs → unless_fault fs (filter_map statement_in (readings text)) ≡ Err fault → netlist text ≡ Err fault
       by [] e g = cc
       by (f ∷ fs) e g =
-          ap (λ a. unless_refused (map form_at (filter_map said_in (readings text))) (a ++ map (fault_at DrivenTwice) (driven_twice (filter_map said_in (readings text)))
-          ++ map (fault_at Undriven) (undriven (filter_map said_in (readings text))) ++ too_many (map form_at (filter_map said_in (readings text))))) e ∙ (cc)
+          ap (λ a. unless_fault (a ++ map (fault_at DrivenTwice) (driven_twice (filter_map statement_in (readings text)))
+          ++ map (fault_at Undriven) (undriven (filter_map statement_in (readings text))) ++ too_many (map said (filter_map statement_in (readings text))))
+          (device_of (map said (filter_map statement_in (readings text))))) e ∙ (cc)
 
-  module _ (forms : List (ℕ × Form)) (said : all_said (readings text) ≡ Ok forms) where
-    both : (filter_map fault_in (readings text) ≡ []) × (filter_map said_in (readings text) ≡ forms)
-    both = by (filter_map fault_in (readings text)) refl (sym (said-first (readings text)) ∙ said)
+  module _ (statements : List (ℕ × Statement)) (read : lines_read text ≡ Ok statements) where
+    both : (filter_map fault_in (readings text) ≡ []) × (filter_map statement_in (readings text) ≡ statements)
+    both = by (filter_map fault_in (readings text)) refl read
       where
-        by : (fs : List Fault) → filter_map fault_in (readings text) ≡ fs → first_or fs (filter_map said_in (readings text)) ≡ Ok forms
-            → (filter_map fault_in (readings text) ≡ []) × (filter_map said_in (readings text) ≡ forms)
+        by : (fs : List Fault) → filter_map fault_in (readings text) ≡ fs → unless_fault fs (filter_map statement_in (readings text)) ≡ Ok statements
+            → (filter_map fault_in (readings text) ≡ []) × (filter_map statement_in (readings text) ≡ statements)
         by [] e g = (e, cc)
         by (f ∷ fs) e g = cc
 
-    pub are_sound : list_all is_sound (map form_at forms) ≡ true
-    are_sound = ap (λ fs. list_all is_sound (map form_at fs)) (sym both.1) ∙ said_are_sound 1 (all_lines text)
+    are_faultless : list_all is_faultless (map said statements) ≡ true
+    are_faultless = ap (λ ss. list_all is_faultless (map said ss)) (sym both.1) ∙ read_are_faultless 1 (all_lines text)
 
-    without_faults : netlist text ≡ unless_refused (map form_at forms) (map (fault_at DrivenTwice) (driven_twice forms) ++ map (fault_at Undriven) (undriven forms) ++ too_many (map form_at forms))
+    without_faults : netlist text ≡ unless_later statements (map (fault_at DrivenTwice) (driven_twice statements)) (map (fault_at Undriven) (undriven statements)) (too_many (map said statements))
     without_faults =
-        ap (λ fs. unless_refused (map form_at fs) (filter_map fault_in (readings text) ++ map (fault_at DrivenTwice) (driven_twice fs) ++ map (fault_at Undriven) (undriven fs) ++ too_many (map form_at fs))) both.1
-        ∙ ap (λ a. unless_refused (map form_at forms) (a ++ map (fault_at DrivenTwice) (driven_twice forms) ++ map (fault_at Undriven) (undriven forms) ++ too_many (map form_at forms))) both.0
+        ap (λ ss. unless_fault (filter_map fault_in (readings text) ++ map (fault_at DrivenTwice) (driven_twice ss) ++ map (fault_at Undriven) (undriven ss) ++ too_many (map said ss)) (device_of (map said ss))) both.1
+        ∙ ap (λ fs. unless_fault (fs ++ map (fault_at DrivenTwice) (driven_twice statements) ++ map (fault_at Undriven) (undriven statements) ++ too_many (map said statements)) (device_of (map said statements))) both.0
 
-    pub fault_driven : (fault : Fault) → drivers_from [] forms ≡ Err fault → netlist text ≡ Err fault
+    pub fault_driven : (fault : Fault) → signals_from [] statements ≡ Err fault → netlist text ≡ Err fault
     fault_driven fault h =
-        let split : Splits (Err fault) forms [] = subst (λ o. Splits o forms []) h (splits forms [] [] Drives-none) in
+        let split : Splits (Err fault) statements [] = subst (λ o. Splits o statements []) h (splits statements [] [] Drives-none) in
         without_faults
-        ∙ ap (λ ls. unless_refused (map form_at forms) (map (fault_at DrivenTwice) ls ++ map (fault_at Undriven) (undriven forms) ++ too_many (map form_at forms))) split.2
+        ∙ ap (λ ls. unless_later statements (map (fault_at DrivenTwice) ls) (map (fault_at Undriven) (undriven statements)) (too_many (map said statements))) split.2
         ∙ ap Err (sym split.1)
 
-    module _ (drivers : Drivers) (driven_so : drivers_from [] forms ≡ Ok drivers) where
-      split : (driven_twice forms ≡ []) × Ends drivers [] (map form_at forms)
-      split = subst (λ o. Splits o forms []) driven_so (splits forms [] [] Drives-none)
+    module _ (signals : Signals) (driven_so : signals_from [] statements ≡ Ok signals) where
+      split : (driven_twice statements ≡ []) × Ends signals [] (map said statements)
+      split = subst (λ o. Splits o statements []) driven_so (splits statements [] [] Drives-none)
 
-      members : (m : Name) → is_among (keys_of drivers) m ≡ is_among (flat_map driven (map form_at forms)) m
-      members m = among_keys m drivers ∙ sym (split.1.all m)
+      members : (m : Name) → is_among (keys_of signals) m ≡ is_among (flat_map driven (map said statements)) m
+      members m = among_keys m signals ∙ sym (split.1.all m)
 
-      without_twice : netlist text ≡ unless_refused (map form_at forms) (map (fault_at Undriven) (undriven forms) ++ too_many (map form_at forms))
+      without_twice : netlist text ≡ unless_later statements [] (map (fault_at Undriven) (undriven statements)) (too_many (map said statements))
       without_twice =
-          without_faults ∙ ap (λ ls. unless_refused (map form_at forms) (map (fault_at DrivenTwice) ls ++ map (fault_at Undriven) (undriven forms) ++ too_many (map form_at forms))) split.0
+          without_faults ∙ ap (λ ls. unless_later statements (map (fault_at DrivenTwice) ls) (map (fault_at Undriven) (undriven statements)) (too_many (map said statements))) split.0
 
-      first : IsFirst (first_undriven (keys_of drivers) forms) (undriven forms)
+      first : IsFirst (first_undriven (keys_of signals) statements) (undriven statements)
       first =
-          let there : (m : Name) → is_among (flat_map (λ (f : ℕ × Form). driven f.1) forms) m ≡ is_among (keys_of drivers) m = λ m. ap (λ ns. is_among ns m) (there_same forms) ∙ sym (members m) in
-          first_without (flat_map (λ (f : ℕ × Form). driven f.1) forms) (keys_of drivers) there forms
+          let there : (m : Name) → is_among (flat_map (λ (s : ℕ × Statement). driven s.1) statements) m ≡ is_among (keys_of signals) m = λ m. ap (λ ns. is_among ns m) (there-said statements) ∙ sym (members m) in
+          first_without (flat_map (λ (s : ℕ × Statement). driven s.1) statements) (keys_of signals) there statements
 
-      pub fault_used : (line : ℕ) → first_undriven (keys_of drivers) forms ≡ Some line → netlist text ≡ Err (fault_at Undriven line)
+      pub fault_used : (line : ℕ) → first_undriven (keys_of signals) statements ≡ Some line → netlist text ≡ Err (fault_at Undriven line)
       fault_used line h =
-          let is : IsFirst (Some line) (undriven forms) = subst (λ o. IsFirst o (undriven forms)) h first in
-          without_twice ∙ ap (λ ls. unless_refused (map form_at forms) (map (fault_at Undriven) ls ++ too_many (map form_at forms))) is.1
+          let is : IsFirst (Some line) (undriven statements) = subst (λ o. IsFirst o (undriven statements)) h first in
+          without_twice ∙ ap (λ ls. unless_later statements [] (map (fault_at Undriven) ls) (too_many (map said statements))) is.1
 
-      module _ (used_so : first_undriven (keys_of drivers) forms ≡ None) where
-        many : length (wires_of (map form_at forms)) ≡ length (keys_of drivers)
-        many = ap length (sym (sorted_distinct-members (keys_of drivers) (flat_map driven (map form_at forms)) members)) ∙ length-sorted_distinct_once (keys_of drivers) split.1.once
+      module _ (used_so : first_undriven (keys_of signals) statements ≡ None) where
+        many : length (device_of (map said statements)).wires ≡ length (keys_of signals)
+        many = ap length (sym (sorted_distinct-same_tests (keys_of signals) (flat_map driven (map said statements)) members)) ∙ length-sorted_distinct_once (keys_of signals) split.1.once
 
-        without_undriven : netlist text ≡ unless_refused (map form_at forms)
-            (if is_too_large (map form_at forms) (keys_of drivers) then fault_at TooMany 0 ∷ [] else [])
+        without_undriven : netlist text ≡ unless_later statements [] [] (if is_too_large (map said statements) (keys_of signals) then fault_at TooMany 0 ∷ [] else [])
         without_undriven =
             without_twice
-            ∙ ap (λ ls. unless_refused (map form_at forms) (map (fault_at Undriven) ls ++ too_many (map form_at forms))) (subst (λ o. IsFirst o (undriven forms)) used_so first)
-            ∙ ap (λ n. unless_refused (map form_at forms) (if nat_lt 4096 (length (flat_map driven_by_gate (map form_at forms))) || nat_lt 16384 n then fault_at TooMany 0 ∷ [] else [])) many
+            ∙ ap (λ ls. unless_later statements [] (map (fault_at Undriven) ls) (too_many (map said statements))) (subst (λ o. IsFirst o (undriven statements)) used_so first)
+            ∙ ap (λ n. unless_later statements [] [] (if nat_lt PART_LIMIT (length (flat_map driven_by_gate (map said statements))) || nat_lt WIRE_LIMIT n then fault_at TooMany 0 ∷ [] else [])) many
 
-        pub fault_many : is_too_large (map form_at forms) (keys_of drivers) ≡ true → netlist text ≡ Err (fault_at TooMany 0)
-        fault_many h = without_undriven ∙ ap (λ b. unless_refused (map form_at forms) (if b then fault_at TooMany 0 ∷ [] else [])) h
+        pub fault_many : is_too_large (map said statements) (keys_of signals) ≡ true → netlist text ≡ Err (fault_at TooMany 0)
+        fault_many h = without_undriven ∙ ap (λ b. unless_later statements [] [] (if b then fault_at TooMany 0 ∷ [] else [])) h
 
-        module _ (few : is_too_large (map form_at forms) (keys_of drivers) ≡ false) where
-          pub can_be_built : CanBeBuilt (map form_at forms) (keys_of drivers)
-          can_be_built = record {
-            sound = are_sound;
-            gates_once = gates_once forms [] split.0;
-            once = split.1.once;
-            members = members;
-            uses = all_used (keys_of drivers) forms used_so;
-            few_parts = (few_of (length (flat_map driven_by_gate (map form_at forms))) (length (keys_of drivers)) few).0;
-            few_wires = (few_of (length (flat_map driven_by_gate (map form_at forms))) (length (keys_of drivers)) few).1;
-          }
+        module _ (few : is_too_large (map said statements) (keys_of signals) ≡ false) where
+          pub all_faultless : AreFaultless (map said statements) (keys_of signals)
+          all_faultless =
+              let two = or_parts (nat_lt PART_LIMIT (length (flat_map driven_by_gate (map said statements)))) (nat_lt WIRE_LIMIT (length (keys_of signals))) few in
+              record {
+                faultless = are_faultless;
+                gates_once = gates_once statements [] split.0;
+                once = split.1.once;
+                members = members;
+                uses = all_used (keys_of signals) statements used_so;
+                few_parts = ltb-false PART_LIMIT _ two.0;
+                few_wires = ltb-false WIRE_LIMIT _ two.1;
+              }
 
-          pub is_read : netlist text ≡ Ok (device_of (map form_at forms))
-          is_read = without_undriven ∙ ap (λ b. unless_refused (map form_at forms) (if b then fault_at TooMany 0 ∷ [] else [])) few
+          pub is_read : netlist text ≡ Ok (device_of (map said statements))
+          is_read = without_undriven ∙ ap (λ b. unless_later statements [] [] (if b then fault_at TooMany 0 ∷ [] else [])) few
 
--- ---- statements as forms with their lines
+-- ---- statements without their lines
 
-pub forms-numbered : (statements : List Said) → map form_at (map numbered statements) ≡ map form statements
-forms-numbered [] = refl
-forms-numbered (s ∷ ss) = ap (λ (fs : List Form). form s ∷ fs) (forms-numbered ss)
+pub said-with_number : (statements : List NumberedStatement) → map said (map with_number statements) ≡ map unnumbered statements
+said-with_number [] = refl
+said-with_number (s ∷ statements) = ap (λ (ss : List Statement). unnumbered s ∷ ss) (said-with_number statements)
 
 -- ---- faults that are handed on
 
 module _ (text : List ℕ) where
-  pub handed_said : (error : BenchError) → IsFault error (all_said (readings text)) → IsFault error (netlist text)
-  handed_said (Bad line what) h = fault_said text (record { line = line; what = what }) h
-  handed_said Memory h = tt
+  pub handed_read : (error : BenchError) → IsExpectedFault (told error) (lines_read text) → IsExpectedFault (told error) (netlist text)
+  handed_read (Bad line what) h = fault_read text (fault_at what line) h
+  handed_read Memory h = tt
 
-  pub handed_driven : (error : BenchError) (forms : List (ℕ × Form)) → all_said (readings text) ≡ Ok forms → IsFault error (drivers_from [] forms) → IsFault error (netlist text)
-  handed_driven (Bad line what) forms said h = fault_driven text forms said (record { line = line; what = what }) h
-  handed_driven Memory forms said h = tt
-
-pub handed_device : (r : Result Device BenchError) (device : Device) (netlist_so : Result Device Fault) → netlist_so ≡ Ok device → IfOk r (λ d. d ≡ device) → IfOk r (λ d. netlist_so ≡ Ok d)
-handed_device (Ok d) device n h e = h ∙ ap Ok (sym e)
-handed_device (Err error) device n h e = tt
+  pub handed_driven : (error : BenchError) (statements : List (ℕ × Statement)) → lines_read text ≡ Ok statements → IsExpectedFault (told error) (signals_from [] statements)
+      → IsExpectedFault (told error) (netlist text)
+  handed_driven (Bad line what) statements read h = fault_driven text statements read (fault_at what line) h
+  handed_driven Memory statements read h = tt

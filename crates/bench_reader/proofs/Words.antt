@@ -6,8 +6,8 @@ use Rattle.std.proofs.lemmas.Bool.{and_parts}
 use Rattle.std.proofs.lemmas.Bool.Decides.{nat_tests, same_from_decides}
 use Rattle.std.proofs.lemmas.Slice.Eq.{bytes_eq-Decides}
 use Rattle.text_rules.specs.Names.{same_name}
-use Rattle.bench_reader.specs.Netlists.{capital, capitals}
-use Rattle.bench_reader.specs.Words.{is_capital}
+use Rattle.bench_reader.specs.Statements.{capital, capitals}
+use Rattle.bench_reader.specs.inner.Lines.{is_capital}
 
 capital_from_lower : (b k : ℕ) → is_capital k ≡ true → to_ascii_lowercase b ≡ to_ascii_lowercase k → capital b ≡ k
 capital_from_lower b k h e = grind (arith, nat_tests)

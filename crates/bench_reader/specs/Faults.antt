@@ -1,10 +1,9 @@
--- How the faults of netlists are numbered and named.
-use Rattle.std.specs.Prelude.{◌≡◌, ℕ, List, codes, Result, Err}
+-- The faults of netlists: their numbers, their names, and which of them an error tells.
+use Rattle.std.specs.Prelude.{ℕ, List, [], ◌∷◌, codes, Option, Some, None, Result, Ok, Err}
 use Rattle.bench_reader.specs.declared.fault.BenchFault.{BenchFault}
 use Rattle.bench_reader.specs.declared.fault.BenchFault.TheVariants.{Line, Name, Kind, Inputs, Sequential, DrivenTwice, Undriven, TooMany}
 use Rattle.bench_reader.specs.declared.fault.BenchError.{BenchError}
 use Rattle.bench_reader.specs.declared.fault.BenchError.TheVariants.{Bad, Memory}
-use Rattle.bench_reader.specs.Netlists.{Fault}
 
 abbrev pub fault_number : BenchFault → ℕ
 fault_number Line = 1
@@ -26,7 +25,20 @@ fault_name DrivenTwice = codes "driven twice"
 fault_name Undriven = codes "undriven"
 fault_name TooMany = codes "too many"
 
--- An error is the fault that is expected. Want of memory says nothing.
-abbrev pub IsFault : {A : Type 0} → BenchError → Result A Fault → Type 0
-IsFault (Bad line what) expected = expected ≡ Err (record { line = line; what = what })
-IsFault Memory expected = Unit {0}
+-- what is wrong with a text, and in which line
+pub record Fault : Type 0 where
+  pub line : ℕ
+  pub what : BenchFault
+
+abbrev pub fault_at : BenchFault → ℕ → Fault
+fault_at what line = record { line = line; what = what }
+
+-- An error tells a fault, but for want of memory.
+abbrev pub told : BenchError → Option Fault
+told (Bad line what) = Some (fault_at what line)
+told Memory = None
+
+-- what there is without a fault, or the first fault
+abbrev pub unless_fault : {A : Type 0} → List Fault → A → Result A Fault
+unless_fault [] a = Ok a
+unless_fault (fault ∷ faults) a = Err fault

@@ -1,6 +1,5 @@
-pub mod Netlists
 pub mod Faults
-pub mod Steps
-pub mod Meanings
-pub mod Words
-pub mod Forms
+pub mod Statements
+pub mod Signals
+pub mod Netlists
+pub mod inner

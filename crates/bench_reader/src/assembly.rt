@@ -1,24 +1,26 @@
-ghost use Rattle.std.specs.Prelude.{◌≡◌, ◌∷◌, ◌++◌, ◌≤◌, [], map, drop, length, IfOk, IfErr, true};
+ghost use Rattle.std.specs.Prelude.{◌≡◌, ◌∷◌, ◌++◌, ◌≤◌, [], map, length, IfOk, Ok, true};
 ghost use Rattle.std.specs.Map.{keys_of};
-ghost use Rattle.std.specs.List.{filter, flat_map, list_all};
+ghost use Rattle.std.specs.List.{flat_map, list_all};
 ghost use Rattle.std.specs.Option.{option_to_list};
-ghost use Rattle.device_model.specs.Building.{place_in};
-ghost use Rattle.bench_reader.specs.Netlists.{is_word, is_signal, part_of, device_of};
-ghost use Rattle.bench_reader.specs.Meanings.{line_tokens, meaning, form, drivers_in};
-ghost use Rattle.bench_reader.specs.Steps.{is_sound, CanBeBuilt};
-ghost use Rattle.bench_reader.specs.declared.fault.BenchError.TheVariants.{Memory};
+ghost use Rattle.text_rules.specs.Expected.{Fulfils};
+ghost use Rattle.text_rules.specs.Names.{is_short_name};
+ghost use Rattle.device_model.specs.Building.{place_in, joined};
+ghost use Rattle.bench_reader.specs.Faults.{told};
+ghost use Rattle.bench_reader.specs.Netlists.{part_of, device_of};
+ghost use Rattle.bench_reader.specs.inner.Lines.{input_names, meaning, unnumbered};
+ghost use Rattle.bench_reader.specs.inner.Steps.{signals_in, is_faultless, AreFaultless};
 
 use crate::fault::BenchError;
-use crate::kinds::{NamedKind, kind_named};
+use crate::kinds::NamedKind;
 use crate::signals::Signals;
-use crate::statement::{Inputs, Said, Statement, is_word};
-use device_model::{BuildError, Component, Device, Name, Wires};
+use crate::statement::{Inputs, NumberedStatement, Statement, has_no_mark};
+use device_model::{BuildError, Component, Device, Name, WIRE_LIMIT, Wires};
 use std::alloc::{AllocError, Global};
 
 // The place of the wire of a driven signal.
 fn place_of(signals: &Signals<'_>, signal: &[u8]) -> u32
-    requires { length signals.now.entries ≤ 16384 }
-    ensures { result ≡ place_in (keys_of (drivers_in signals.now)) signal.now }
+    requires { length signals.now.entries ≤ WIRE_LIMIT }
+    ensures { result ≡ place_in (keys_of (signals_in signals.now)) signal.now }
 {
     signals.get_index_of(&signal).unwrap_or(signals.len()) as u32
 }
@@ -30,13 +32,13 @@ fn ports_of(
     inputs: Inputs<'_>,
     output: &[u8],
 ) -> Result<Wires, AllocError>
-    requires { length signals.now.entries ≤ 16384 }
-    ensures { IfOk result (λ ports. ports ≡ map (place_in (keys_of (drivers_in signals.now)))
-        (filter is_word (drop 4 (line_tokens inputs.entry.line.now)) ++ output.now ∷ [])) }
+    requires { length signals.now.entries ≤ WIRE_LIMIT }
+    ensures { IfOk result (λ ports. ports ≡ map (place_in (keys_of (signals_in signals.now)))
+        (input_names inputs.entry ++ output.now ∷ [])) }
 {
     let mut ports = Vec::new(alloc);
     for token in inputs.tokens() {
-        if is_word(token) {
+        if has_no_mark(token) {
             ports.push(place_of(signals, token))?;
         }
     }
@@ -50,9 +52,10 @@ fn part_of(
     signals: &Signals<'_>,
     statement: &Statement<'_>,
 ) -> Result<Option<Component>, AllocError>
-    requires few { length signals.now.entries ≤ 16384 }
-    requires sound { is_sound (meaning statement.now) ≡ true }
-    ensures { IfOk result (λ part. option_to_list part ≡ part_of (keys_of (drivers_in signals.now)) (meaning statement.now)) }
+    requires few { length signals.now.entries ≤ WIRE_LIMIT }
+    requires faultless { is_faultless (meaning statement.now) ≡ true }
+    ensures { IfOk result (λ part. option_to_list part
+        ≡ map (joined (keys_of (signals_in signals.now))) (part_of (meaning statement.now))) }
 {
     let Statement::Gate {
         output,
@@ -62,7 +65,7 @@ fn part_of(
     else {
         return Ok(None);
     };
-    let NamedKind::AtOnce(kind) = kind_named(kind) else {
+    let NamedKind::Combinational(kind) = kind else {
         return Ok(None);
     };
     let name = Name::new(alloc, output)?;
@@ -73,15 +76,16 @@ fn part_of(
 fn parts_of(
     alloc: Global,
     signals: &Signals<'_>,
-    statements: &[Said<'_>],
+    statements: &[NumberedStatement<'_>],
 ) -> Result<Vec<Component>, AllocError>
-    requires few { length signals.now.entries ≤ 16384 }
-    requires sound { list_all is_sound (map form statements.now) ≡ true }
-    ensures { IfOk result (λ parts. parts.items ≡ flat_map (part_of (keys_of (drivers_in signals.now))) (map form statements.now)) }
+    requires few { length signals.now.entries ≤ WIRE_LIMIT }
+    requires faultless { list_all is_faultless (map unnumbered statements.now) ≡ true }
+    ensures { IfOk result (λ parts. parts.items
+        ≡ map (joined (keys_of (signals_in signals.now))) (flat_map part_of (map unnumbered statements.now))) }
 {
     let mut parts = Vec::new(alloc);
-    for said in statements {
-        if let Some(part) = part_of(alloc, signals, &said.statement)? {
+    for numbered in statements {
+        if let Some(part) = part_of(alloc, signals, &numbered.statement)? {
             parts.push(part)?;
         }
     }
@@ -89,8 +93,8 @@ fn parts_of(
 }
 
 fn wires_of(alloc: Global, signals: &Signals<'_>) -> Result<Vec<Name>, AllocError>
-    requires { list_all is_signal (keys_of (drivers_in signals.now)) ≡ true }
-    ensures { IfOk result (λ wires. wires.items ≡ keys_of (drivers_in signals.now)) }
+    requires { list_all is_short_name (keys_of (signals_in signals.now)) ≡ true }
+    ensures { IfOk result (λ wires. wires.items ≡ keys_of (signals_in signals.now)) }
 {
     let mut wires = Vec::with_capacity(alloc, signals.len())?;
     for signal in signals.keys() {
@@ -103,19 +107,19 @@ fn wires_of(alloc: Global, signals: &Signals<'_>) -> Result<Vec<Name>, AllocErro
 pub fn assemble(
     alloc: Global,
     signals: &Signals<'_>,
-    statements: &[Said<'_>],
+    statements: &[NumberedStatement<'_>],
 ) -> Result<Device, BenchError>
-    requires { CanBeBuilt (map form statements.now) (keys_of (drivers_in signals.now)) }
-    ensures device { IfOk result (λ device. device ≡ device_of (map form statements.now)) }
-    ensures memory { IfErr result (λ error. error ≡ Memory) }
+    requires { AreFaultless (map unnumbered statements.now) (keys_of (signals_in signals.now)) }
+    ensures { Fulfils (λ device. device) told (Ok (device_of (map unnumbered statements.now))) result }
 {
     let parts = parts_of(alloc, signals, statements)?;
     let wires = wires_of(alloc, signals)?;
     match Device::build(alloc, parts, wires, Vec::new(alloc)) {
         Ok(device) => Ok(device),
-        Err(error) => {
-            prove!(matches!(&error, BuildError::Memory));
-            Err(BenchError::Memory)
-        }
+        Err(error) => match error {
+            BuildError::Memory => Err(BenchError::Memory),
+            // The statements have no fault, so nothing else is wrong with their parts and wires.
+            _ => unreachable!(),
+        },
     }
 }

@@ -1,8 +1,8 @@
 ghost use Rattle.std.specs.Prelude.{◌≡◌, true};
 ghost use Rattle.std.specs.List.{list_all};
 ghost use Rattle.text_rules.specs.Names.{same_name};
-ghost use Rattle.bench_reader.specs.Netlists.{capitals, kind_named};
-ghost use Rattle.bench_reader.specs.Words.{is_capital};
+ghost use Rattle.bench_reader.specs.Statements.{capitals, kind_named};
+ghost use Rattle.bench_reader.specs.inner.Lines.{is_capital};
 
 use device_model::Kind;
 
@@ -10,7 +10,7 @@ use device_model::Kind;
 #[derive(Clone, Copy, Debug, PartialEq, Eq)]
 pub enum NamedKind {
     /// A gate, whose output follows its inputs at once.
-    AtOnce(Kind),
+    Combinational(Kind),
     /// A part that keeps its value from one time to the next.
     Sequential,
     Unknown,
@@ -29,21 +29,21 @@ pub fn kind_named(word: &[u8]) -> NamedKind
     ensures { result ≡ kind_named word.now }
 {
     if spells(word, b"AND") {
-        NamedKind::AtOnce(Kind::And)
+        NamedKind::Combinational(Kind::And)
     } else if spells(word, b"OR") {
-        NamedKind::AtOnce(Kind::Or)
+        NamedKind::Combinational(Kind::Or)
     } else if spells(word, b"NAND") {
-        NamedKind::AtOnce(Kind::Nand)
+        NamedKind::Combinational(Kind::Nand)
     } else if spells(word, b"NOR") {
-        NamedKind::AtOnce(Kind::Nor)
+        NamedKind::Combinational(Kind::Nor)
     } else if spells(word, b"XOR") {
-        NamedKind::AtOnce(Kind::Xor)
+        NamedKind::Combinational(Kind::Xor)
     } else if spells(word, b"XNOR") {
-        NamedKind::AtOnce(Kind::Xnor)
+        NamedKind::Combinational(Kind::Xnor)
     } else if spells(word, b"NOT") {
-        NamedKind::AtOnce(Kind::Not)
+        NamedKind::Combinational(Kind::Not)
     } else if spells(word, b"BUFF") || spells(word, b"BUF") {
-        NamedKind::AtOnce(Kind::Buff)
+        NamedKind::Combinational(Kind::Buff)
     } else if spells(word, b"DFF") {
         NamedKind::Sequential
     } else {

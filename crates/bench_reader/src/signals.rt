@@ -1,13 +1,15 @@
-ghost use Rattle.std.specs.Prelude.{◌≡◌, [], map, not, drop};
+ghost use Rattle.std.specs.Prelude.{◌≡◌, [], map};
 ghost use Rattle.std.specs.Map.{keys_of};
-ghost use Rattle.std.specs.List.{filter, list_all};
+ghost use Rattle.std.specs.List.{list_all};
+ghost use Rattle.text_rules.specs.Expected.{Fulfils};
 ghost use Rattle.text_rules.specs.Names.{is_among};
-ghost use Rattle.bench_reader.specs.Netlists.{is_word, used};
-ghost use Rattle.bench_reader.specs.Meanings.{Gives, line_tokens, meaning, numbered, drivers_in};
-ghost use Rattle.bench_reader.specs.Steps.{driven_more, drivers_from, first_undriven};
+ghost use Rattle.bench_reader.specs.Faults.{told};
+ghost use Rattle.bench_reader.specs.Signals.{used};
+ghost use Rattle.bench_reader.specs.inner.Lines.{input_names, meaning, with_number};
+ghost use Rattle.bench_reader.specs.inner.Steps.{signals_in, driven_more, signals_from, first_undriven};
 
 use crate::fault::{BenchError, BenchFault};
-use crate::statement::{Inputs, Said, Statement, is_word};
+use crate::statement::{Inputs, NumberedStatement, Statement, has_no_mark};
 use indexmap::IndexMap;
 use std::alloc::Global;
 
@@ -22,14 +24,14 @@ pub enum Driver {
 pub type Signals<'a> = IndexMap<&'a [u8], Driver>;
 
 // A gate drives what nothing above drives; what comes from outside may be said again, but no gate above drives it.
-fn drive<'a>(signals: &mut Signals<'a>, said: &Said<'a>) -> Result<(), BenchError>
-    ensures { Gives result (λ _. drivers_in signals.new) (driven_more (drivers_in signals.old) (numbered said.now)) }
+fn drive<'a>(signals: &mut Signals<'a>, numbered: &NumberedStatement<'a>) -> Result<(), BenchError>
+    ensures { Fulfils (λ _. signals_in signals.new) told (driven_more (signals_in signals.old) (with_number numbered.now)) result }
 {
     let again = BenchError::Bad {
-        line: said.line,
+        line: numbered.line,
         what: BenchFault::DrivenTwice,
     };
-    match said.statement {
+    match numbered.statement {
         Statement::Gate { output, .. } => match signals.insert(output, Driver::Gate)? {
             None => Ok(()),
             Some(_) => Err(again),
@@ -44,28 +46,31 @@ fn drive<'a>(signals: &mut Signals<'a>, said: &Said<'a>) -> Result<(), BenchErro
 }
 
 /// All driven signals, or the first line that drives one again.
-pub fn signals_of<'a>(alloc: Global, statements: &[Said<'a>]) -> Result<Signals<'a>, BenchError>
-    ensures { Gives result drivers_in (drivers_from [] (map numbered statements.now)) }
+pub fn signals_of<'a>(
+    alloc: Global,
+    statements: &[NumberedStatement<'a>],
+) -> Result<Signals<'a>, BenchError>
+    ensures { Fulfils signals_in told (signals_from [] (map with_number statements.now)) result }
 {
     let mut signals = IndexMap::new(alloc);
-    for said in statements {
-        drive(&mut signals, said)?;
+    for numbered in statements {
+        drive(&mut signals, numbered)?;
     }
     Ok(signals)
 }
 
 fn is_driven(signals: &Signals<'_>, signal: &[u8]) -> bool
-    ensures { result ≡ is_among (keys_of (drivers_in signals.now)) signal.now }
+    ensures { result ≡ is_among (keys_of (signals_in signals.now)) signal.now }
 {
     signals.contains_key(&signal)
 }
 
 // Whether all inputs of a gate are driven.
 fn are_driven(signals: &Signals<'_>, inputs: Inputs<'_>) -> bool
-    ensures { result ≡ list_all (is_among (keys_of (drivers_in signals.now))) (filter is_word (drop 4 (line_tokens inputs.entry.line.now))) }
+    ensures { result ≡ list_all (is_among (keys_of (signals_in signals.now))) (input_names inputs.entry) }
 {
     for token in inputs.tokens() {
-        if is_word(token) && !is_driven(signals, token) {
+        if has_no_mark(token) && !is_driven(signals, token) {
             return false;
         }
     }
@@ -74,7 +79,7 @@ fn are_driven(signals: &Signals<'_>, inputs: Inputs<'_>) -> bool
 
 // Whether all signals are driven that a line uses.
 fn has_driven(signals: &Signals<'_>, statement: &Statement<'_>) -> bool
-    ensures { result ≡ list_all (is_among (keys_of (drivers_in signals.now))) (used (meaning statement.now)) }
+    ensures { result ≡ list_all (is_among (keys_of (signals_in signals.now))) (used (meaning statement.now)) }
 {
     match *statement {
         Statement::Input(_) => true,
@@ -84,12 +89,12 @@ fn has_driven(signals: &Signals<'_>, statement: &Statement<'_>) -> bool
 }
 
 /// The first line that uses a signal which no line drives.
-pub fn first_undriven(signals: &Signals<'_>, statements: &[Said<'_>]) -> Option<u32>
-    ensures { result ≡ first_undriven (keys_of (drivers_in signals.now)) (map numbered statements.now) }
+pub fn first_undriven(signals: &Signals<'_>, statements: &[NumberedStatement<'_>]) -> Option<u32>
+    ensures { result ≡ first_undriven (keys_of (signals_in signals.now)) (map with_number statements.now) }
 {
-    for said in statements {
-        if !has_driven(signals, &said.statement) {
-            return Some(said.line);
+    for numbered in statements {
+        if !has_driven(signals, &numbered.statement) {
+            return Some(numbered.line);
         }
     }
     None

@@ -1,17 +1,14 @@
-ghost use Rattle.std.specs.Prelude.{◌≡◌, ◌∷◌, codes, drop, is_some, length, map};
-ghost use Rattle.std.specs.List.{filter, flat_map};
+ghost use Rattle.std.specs.Prelude.{◌≡◌, ◌∷◌, codes, is_some, length, map};
+ghost use Rattle.std.specs.List.{flat_map};
 ghost use Rattle.std.specs.Option.{option_map};
 ghost use Rattle.text_rules.specs.Tokens.{tokens_left};
-ghost use Rattle.bench_reader.specs.Netlists.{driven_by_gate, is_word, is_signal, listed_from, inputs_in, form_of, kind_named, kind_fault, form_fault, reading};
-ghost use Rattle.bench_reader.specs.Forms.{is_close, count_signals};
-ghost use Rattle.bench_reader.specs.Meanings.{line_tokens, meaning, form, read};
+ghost use Rattle.bench_reader.specs.Statements.{has_no_mark, listed_from, inputs_in, statement_of, kind_fault, statement_fault, reading};
+ghost use Rattle.bench_reader.specs.Signals.{driven_by_gate};
+ghost use Rattle.bench_reader.specs.inner.Lines.{line_tokens, input_tokens, input_names, meaning, meaning_of_line, unnumbered, is_close, count_names};
 
 use crate::fault::BenchFault;
 use crate::kinds::{NamedKind, kind_named, spells};
-use text_rules::{Tokens, is_mark, is_name, uncommented};
-
-/// The longest name of a signal, in bytes.
-const NAME_LIMIT: usize = 64;
+use text_rules::{Tokens, is_mark, is_short_name, uncommented};
 
 /// So many tokens stand before the inputs of a gate.
 const BEFORE_INPUTS: usize = 4;
@@ -23,10 +20,10 @@ pub enum Statement<'a> {
     Input(&'a [u8]),
     /// The signal has to be driven.
     Output(&'a [u8]),
-    /// A gate with its output, the word of its kind and its inputs.
+    /// A gate with its output, its kind and its inputs.
     Gate {
         output: &'a [u8],
-        kind: &'a [u8],
+        kind: NamedKind,
         inputs: Inputs<'a>,
     },
 }
@@ -40,7 +37,7 @@ pub struct Inputs<'a> {
 impl<'a> Inputs<'a> {
     /// Walks the names and the marks, in order.
     pub fn tokens(self) -> Tokens<'a>
-        ensures { tokens_left result ≡ drop 4 (line_tokens self.entry.line.now) }
+        ensures { tokens_left result ≡ input_tokens self.entry }
     {
         let mut tokens = Tokens::with_marks(self.line);
         for _ in 0..BEFORE_INPUTS {
@@ -52,18 +49,18 @@ impl<'a> Inputs<'a> {
 
 /// A statement and the number of its line.
 #[derive(Clone, Copy)]
-pub struct Said<'a> {
+pub struct NumberedStatement<'a> {
     pub line: u32,
     pub statement: Statement<'a>,
 }
 
 /// How many of the statements are gates.
-pub fn gate_count(statements: &[Said<'_>]) -> usize
-    ensures { result ≡ length (flat_map driven_by_gate (map form statements.now)) }
+pub fn gate_count(statements: &[NumberedStatement<'_>]) -> usize
+    ensures { result ≡ length (flat_map driven_by_gate (map unnumbered statements.now)) }
 {
     let mut count = 0;
-    for said in statements {
-        if matches!(said.statement, Statement::Gate { .. }) {
+    for numbered in statements {
+        if matches!(numbered.statement, Statement::Gate { .. }) {
             count += 1;
         }
     }
@@ -71,23 +68,17 @@ pub fn gate_count(statements: &[Said<'_>]) -> usize
 }
 
 /// Whether a token is no mark.
-pub fn is_word(token: &[u8]) -> bool
-    ensures { result ≡ is_word token.now }
+pub fn has_no_mark(token: &[u8]) -> bool
+    ensures { result ≡ has_no_mark token.now }
 {
     !token.iter().any(|byte| is_mark(*byte))
-}
-
-fn is_signal(word: &[u8]) -> bool
-    ensures { result ≡ is_signal word.now }
-{
-    is_name(NAME_LIMIT, word)
 }
 
 // Whether a word and what is left are words with a comma between each two, and a closing bracket.
 fn are_listed<'a>(mut word: &'a [u8], mut tokens: Tokens<'a>) -> bool
     ensures { result ≡ is_some (listed_from (word.entry.now ∷ tokens_left tokens.entry)) }
 {
-    while is_word(word) {
+    while has_no_mark(word) {
         match tokens.next() {
             Some(b",") => {}
             Some(b")") => return tokens.next().is_none(),
@@ -124,10 +115,10 @@ fn closes(mut tokens: Tokens<'_>) -> bool
 
 // `signal )` behind a keyword and the opening bracket.
 fn signal_of<'a>(keyword: &[u8], mut tokens: Tokens<'a>) -> Option<Statement<'a>>
-    ensures { option_map meaning result ≡ form_of (keyword.now ∷ codes "(" ∷ tokens_left tokens.entry) }
+    ensures { option_map meaning result ≡ statement_of (keyword.now ∷ codes "(" ∷ tokens_left tokens.entry) }
 {
     let signal = tokens.next()?;
-    if !is_word(signal) || !closes(tokens) {
+    if !has_no_mark(signal) || !closes(tokens) {
         return None;
     }
     if spells(keyword, b"INPUT") {
@@ -142,13 +133,17 @@ fn signal_of<'a>(keyword: &[u8], mut tokens: Tokens<'a>) -> Option<Statement<'a>
 // `KIND ( inputs )` behind the output and the equals sign of a line.
 fn gate_of<'a>(line: &'a [u8], output: &'a [u8], mut tokens: Tokens<'a>) -> Option<Statement<'a>>
     requires { line_tokens line.now ≡ output.now ∷ codes "=" ∷ tokens_left tokens }
-    ensures { option_map meaning result ≡ form_of (line_tokens line.now) }
+    ensures { option_map meaning result ≡ statement_of (line_tokens line.now) }
 {
     let kind = tokens.next()?;
-    if tokens.next()? == b"(".as_slice() && is_word(output) && is_word(kind) && is_list(tokens) {
+    if tokens.next()? == b"(".as_slice()
+        && has_no_mark(output)
+        && has_no_mark(kind)
+        && is_list(tokens)
+    {
         Some(Statement::Gate {
             output,
-            kind,
+            kind: kind_named(kind),
             inputs: Inputs { line },
         })
     } else {
@@ -156,10 +151,14 @@ fn gate_of<'a>(line: &'a [u8], output: &'a [u8], mut tokens: Tokens<'a>) -> Opti
     }
 }
 
-// What stands behind the first token of a line, if it makes one of the forms.
-fn form_of<'a>(line: &'a [u8], first: &'a [u8], mut tokens: Tokens<'a>) -> Option<Statement<'a>>
+// What stands behind the first token of a line, if it makes a statement.
+fn statement_of<'a>(
+    line: &'a [u8],
+    first: &'a [u8],
+    mut tokens: Tokens<'a>,
+) -> Option<Statement<'a>>
     requires { line_tokens line.now ≡ first.now ∷ tokens_left tokens }
-    ensures { option_map meaning result ≡ form_of (line_tokens line.now) }
+    ensures { option_map meaning result ≡ statement_of (line_tokens line.now) }
 {
     match tokens.next()? {
         b"(" => signal_of(first, tokens),
@@ -168,14 +167,14 @@ fn form_of<'a>(line: &'a [u8], first: &'a [u8], mut tokens: Tokens<'a>) -> Optio
     }
 }
 
-// How many inputs a gate has, if all of them are signals.
-fn count_signals(inputs: Inputs<'_>) -> Option<usize>
-    ensures { result ≡ count_signals (filter is_word (drop 4 (line_tokens inputs.entry.line.now))) }
+// How many inputs a gate has, if all of them are names of signals.
+fn count_names(inputs: Inputs<'_>) -> Option<usize>
+    ensures { result ≡ count_names (input_names inputs.entry) }
 {
     let mut count = 0;
     for token in inputs.tokens() {
-        if is_word(token) {
-            if !is_signal(token) {
+        if has_no_mark(token) {
+            if !is_short_name(token) {
                 return None;
             }
             count += 1;
@@ -185,30 +184,30 @@ fn count_signals(inputs: Inputs<'_>) -> Option<usize>
 }
 
 // What is wrong with the kind of a gate, or else with the number of its inputs.
-fn kind_fault(kind: &[u8], inputs: usize) -> Option<BenchFault>
-    ensures { result ≡ kind_fault inputs (kind_named kind.now) }
+fn kind_fault(kind: NamedKind, inputs: usize) -> Option<BenchFault>
+    ensures { result ≡ kind_fault inputs kind }
 {
-    match kind_named(kind) {
+    match kind {
         NamedKind::Unknown => Some(BenchFault::Kind),
         NamedKind::Sequential => Some(BenchFault::Sequential),
-        NamedKind::AtOnce(kind) => (!kind.takes(inputs)).then_some(BenchFault::Inputs),
+        NamedKind::Combinational(kind) => (!kind.takes(inputs)).then_some(BenchFault::Inputs),
     }
 }
 
-// What is wrong with a form: a name, or else its kind, or else the number of inputs.
+// What is wrong with a statement: a name, or else its kind, or else the number of inputs.
 fn fault_of(statement: &Statement<'_>) -> Option<BenchFault>
-    ensures { result ≡ form_fault (meaning statement.now) }
+    ensures { result ≡ statement_fault (meaning statement.now) }
 {
     match *statement {
         Statement::Input(signal) | Statement::Output(signal) => {
-            (!is_signal(signal)).then_some(BenchFault::Name)
+            (!is_short_name(signal)).then_some(BenchFault::Name)
         }
         Statement::Gate {
             output,
             kind,
             inputs,
-        } => match count_signals(inputs) {
-            Some(count) if is_signal(output) => kind_fault(kind, count),
+        } => match count_names(inputs) {
+            Some(count) if is_short_name(output) => kind_fault(kind, count),
             _ => Some(BenchFault::Name),
         },
     }
@@ -216,14 +215,14 @@ fn fault_of(statement: &Statement<'_>) -> Option<BenchFault>
 
 /// Reads one line.
 pub fn read_line(line: &[u8]) -> Result<Option<Statement<'_>>, BenchFault>
-    ensures { read result ≡ reading line.now }
+    ensures { meaning_of_line result ≡ reading line.now }
 {
     let line = uncommented(line);
     let mut tokens = Tokens::with_marks(line);
     let Some(first) = tokens.next() else {
         return Ok(None);
     };
-    let Some(statement) = form_of(line, first, tokens) else {
+    let Some(statement) = statement_of(line, first, tokens) else {
         return Err(BenchFault::Line);
     };
     match fault_of(&statement) {

@@ -12,8 +12,7 @@ use Rattle.device_model.specs.declared.component.Kind.TheVariants.{Xor, Xnor}
 use Rattle.device_model.specs.TruthTable.{TruthTable, is_table}
 use Rattle.device_model.specs.Devices.{takes_ports, is_set}
 use Rattle.clause_encoder.specs.Clauses.{literal}
-use Rattle.clause_encoder.specs.Encoding.{raw_clauses, blocked_rows, table_clauses, rows_of, row_bits, blocking_literals}
-use Rattle.clause_encoder.specs.Steps.{parity_clauses}
+use Rattle.clause_encoder.specs.Encoding.{parity_clauses, raw_clauses, blocked_rows, table_clauses, rows_of, row_bits, blocking_literals}
 use Rattle.clause_encoder.proofs.RowBits.{others}
 use Rattle.clause_encoder.proofs.Writing.{IsTable-from, shifted_far}
 

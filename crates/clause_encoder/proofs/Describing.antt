@@ -13,8 +13,7 @@ use Rattle.device_model.specs.declared.component.Component.{Component}
 use Rattle.device_model.specs.TruthTable.{TruthTable}
 use Rattle.device_model.specs.Devices.{Device, IsDevice, allows, parts_fit, takes_ports, has_arity, has_wires, takes}
 use Rattle.clause_encoder.specs.Clauses.{Clause, var_of, literal, is_true_clause, all_hold, is_clause}
-use Rattle.clause_encoder.specs.Encoding.{and_clauses, row_bits, rows_of, blocking_literals, row_clause, blocked_rows, table_clauses, gate_clauses, raw_clauses, wire_variable, clauses_from, all_clauses, clause_list, tidy, Describes}
-use Rattle.clause_encoder.specs.Steps.{parity_clauses}
+use Rattle.clause_encoder.specs.Encoding.{parity_clauses, and_clauses, row_bits, rows_of, blocking_literals, row_clause, blocked_rows, table_clauses, gate_clauses, raw_clauses, wire_variable, clauses_from, all_clauses, clause_list, tidy, Describes}
 use Rattle.clause_encoder.proofs.Literals.{AllIn, AllRaw, AllIn-append, AllRaw-append, AllRaw-map, all_hold-tidy, are_clauses-tidy}
 use Rattle.clause_encoder.proofs.RowBits.{AllPositive}
 use Rattle.clause_encoder.proofs.Meaning.{and_clauses-literals, takes-some, raw-holds}

@@ -10,10 +10,9 @@ use Rattle.ranking.specs.Assignments.{Assignment}
 use Rattle.device_model.specs.declared.component.Kind.{Kind}
 use Rattle.device_model.specs.declared.component.Kind.TheVariants.{And, Or, Nand, Nor, Xor, Xnor, Not, Buff, Table}
 use Rattle.device_model.specs.TruthTable.{TruthTable}
-use Rattle.device_model.specs.Devices.{is_set, first_bit, gate_value, gate_allows, table_allows, any_table_allows, allows, takes, takes_ports, rows_take}
+use Rattle.device_model.specs.Devices.{most_inputs, is_set, first_bit, gate_value, gate_allows, table_allows, any_table_allows, allows, takes, takes_ports, rows_take}
 use Rattle.clause_encoder.specs.Clauses.{Clause, literal, is_true_clause, all_hold}
-use Rattle.clause_encoder.specs.Encoding.{and_clauses, row_bits, rows_of, blocking_literals, row_clause, blocked_rows, table_clauses, gate_clauses, raw_clauses}
-use Rattle.clause_encoder.specs.Steps.{parity_clauses}
+use Rattle.clause_encoder.specs.Encoding.{parity_clauses, and_clauses, row_bits, rows_of, blocking_literals, row_clause, blocked_rows, table_clauses, gate_clauses, raw_clauses}
 use Rattle.clause_encoder.proofs.Literals.{lit, lit-literal, neg-literal}
 use Rattle.clause_encoder.proofs.RowBits.{AllPositive, row_bits-number, row_number-below, blocking_literals-row, all-rows, all-filtered}
 
@@ -179,10 +178,11 @@ table-holds a rows h ports hh hs = list_all-append (is_true_clause a) (blocked_r
 
 -- ---- gates
 
-one_input : (a : Assignment) (xs : List ℕ) → (length xs == 1) ≡ true → list_all (λ b. b) (map a xs) ≡ first_bit (map a xs)
+one_input : (a : Assignment) (xs : List ℕ) → (nat_le 1 (length xs) && nat_le (length xs) 1) ≡ true → list_all (λ b. b) (map a xs) ≡ first_bit (map a xs)
 one_input a [] e = absurd (false≢true e)
 one_input a (x ∷ []) e = and_true (a x)
-one_input a (x ∷ y ∷ xs) e = absurd (omega (arith, eqb-true (length (x ∷ y ∷ xs)) 1 e))
+one_input a (x ∷ y ∷ xs) e =
+    absurd (omega (arith, leb-true (length (x ∷ y ∷ xs)) 1 (and_parts (nat_le 1 (length (x ∷ y ∷ xs))) (nat_le (length (x ∷ y ∷ xs)) 1) e).1))
 
 module _ (a : Assignment) (h : ℕ) (xs : List ℕ) (y : ℕ) (hh : 1 ≤ h) (hy : 1 ≤ y) (hs : AllPositive xs) where
   gate-holds : (kind : Kind) → takes kind (length xs) ≡ true → all_hold a (gate_clauses kind h xs y) ≡ (not (a h) || same_bit (a y) (gate_value kind (map a xs)))
@@ -194,18 +194,10 @@ module _ (a : Assignment) (h : ℕ) (xs : List ℕ) (y : ℕ) (hh : 1 ≤ h) (hy
   gate-holds Nor e = and-holds a h y true false hh hy xs hs ∙ ap (λ b. not (a h) || same_bit (a y) b) (all_not a xs)
   gate-holds Xor e = parity-holds a true h xs y hh hy hs
   gate-holds Xnor e = parity-holds a false h xs y hh hy hs
-  gate-holds (Table t) e = absurd (false≢true e)
+  gate-holds (Table t) e = absurd (omega (arith, leb-true 1 (length xs) (and_parts (nat_le 1 (length xs)) (nat_le (length xs) 0) e).0, leb-true (length xs) 0 (and_parts (nat_le 1 (length xs)) (nat_le (length xs) 0) e).1))
 
 pub takes-some : (kind : Kind) (n : ℕ) → takes kind n ≡ true → 1 ≤ n
-takes-some Not n e = omega (arith, eqb-true n 1 e)
-takes-some Buff n e = omega (arith, eqb-true n 1 e)
-takes-some Xor n e = leb-true 1 n (and_parts (nat_le 1 n) (nat_le n 8) e).0
-takes-some Xnor n e = leb-true 1 n (and_parts (nat_le 1 n) (nat_le n 8) e).0
-takes-some And n e = leb-true 1 n (and_parts (nat_le 1 n) (nat_le n 16) e).0
-takes-some Or n e = leb-true 1 n (and_parts (nat_le 1 n) (nat_le n 16) e).0
-takes-some Nand n e = leb-true 1 n (and_parts (nat_le 1 n) (nat_le n 16) e).0
-takes-some Nor n e = leb-true 1 n (and_parts (nat_le 1 n) (nat_le n 16) e).0
-takes-some (Table t) n e = absurd (false≢true e)
+takes-some kind n e = leb-true 1 n (and_parts (nat_le 1 n) (nat_le n (most_inputs kind)) e).0
 
 AllPositive-take : (n : ℕ) (vs : List ℕ) → AllPositive vs → AllPositive (take n vs)
 AllPositive-take zero vs h = tt
@@ -248,11 +240,4 @@ raw-holds a tables (Table t) h ports hh hs e = by_rows (slice_get tables t) e wh
   by_rows : (rows : Option TruthTable) → rows_take rows (length ports) ≡ true → all_hold a (table_clauses rows h ports) ≡ any_table_allows rows (a h) (map a ports)
   by_rows None e = absurd (false≢true e)
   by_rows (Some rows) e = table-holds a rows h ports hh hs
-raw-holds a tables And h ports hh hs e = ports-hold a And h ports hh hs e
-raw-holds a tables Or h ports hh hs e = ports-hold a Or h ports hh hs e
-raw-holds a tables Nand h ports hh hs e = ports-hold a Nand h ports hh hs e
-raw-holds a tables Nor h ports hh hs e = ports-hold a Nor h ports hh hs e
-raw-holds a tables Xor h ports hh hs e = ports-hold a Xor h ports hh hs e
-raw-holds a tables Xnor h ports hh hs e = ports-hold a Xnor h ports hh hs e
-raw-holds a tables Not h ports hh hs e = ports-hold a Not h ports hh hs e
-raw-holds a tables Buff h ports hh hs e = ports-hold a Buff h ports hh hs e
+raw-holds a tables gate h ports hh hs e = ports-hold a gate h ports hh hs e

@@ -2,7 +2,7 @@
 use Rattle.std.proofs.Common.{◌≡◌, ℕ, zero, suc, ◌-◌, ◌<◌, ◌≤◌, List, [], ◌∷◌, ◌++◌, length, take, drop, get_or, ℤ, refl, ap, sym, ◌∙◌, subst, arith}
 use Rattle.std.proofs.lemmas.List.{get_or_read, length-append, length-drop, take_all, drop_at, drop-append-le, take-append-le}
 use Rattle.clause_encoder.specs.Clauses.{Clause}
-use Rattle.clause_encoder.specs.Flat.{pieces, EndAt, start_at}
+use Rattle.clause_encoder.specs.inner.Flat.{pieces, EndAt, start_at}
 
 pub length-pieces : (literals : List ℤ) (start : ℕ) (ends : List ℕ) → length (pieces literals start ends) ≡ length ends
 length-pieces literals start [] = refl

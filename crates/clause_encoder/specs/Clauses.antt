@@ -2,6 +2,7 @@
 use Rattle.std.specs.Prelude.{ℕ, ◌+◌, ◌^◌, Bool, true, false, ◌&&◌, List, [], ◌∷◌, length, ℤ, pos, negsuc, neg_ℤ, nat_lt, nat_le}
 use Rattle.std.specs.List.{list_any, list_all}
 use Rattle.ranking.specs.Bits.{same_bit}
+use Rattle.clause_encoder.specs.declared.limits.TheConstants.{CLAUSE_LIMIT, VARIABLE_LIMIT}
 use Rattle.ranking.specs.Assignments.{Assignment}
 
 -- a literal is a variable, or below 0 where it is negated
@@ -45,4 +46,4 @@ is_clause vars (l ∷ clause) = vars_rise 0 (l ∷ clause) && list_all (λ k. na
 
 abbrev pub is_clause_list : ClauseList → Bool
 is_clause_list cnf =
-    (nat_lt cnf.vars (2 ^ 29) && nat_le (length cnf.clauses) 262144) && list_all (is_clause cnf.vars) cnf.clauses
+    (nat_lt cnf.vars VARIABLE_LIMIT && nat_le (length cnf.clauses) CLAUSE_LIMIT) && list_all (is_clause cnf.vars) cnf.clauses

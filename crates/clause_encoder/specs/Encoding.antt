@@ -8,8 +8,9 @@ use Rattle.device_model.specs.declared.component.Kind.TheVariants.{And, Or, Nand
 use Rattle.device_model.specs.declared.component.Component.{Component}
 use Rattle.device_model.specs.TruthTable.{TruthTable}
 use Rattle.device_model.specs.Devices.{Device, is_set, fits}
+use Rattle.clause_encoder.specs.declared.limits.TheConstants.{CLAUSE_LIMIT}
 use Rattle.clause_encoder.specs.declared.encoding.EncodeError.{EncodeError}
-use Rattle.clause_encoder.specs.declared.encoding.EncodeError.TheVariants.{TooManyClauses}
+use Rattle.clause_encoder.specs.declared.encoding.EncodeError.TheVariants.{TooManyClauses, Memory}
 use Rattle.clause_encoder.specs.Clauses.{var_of, is_positive, literal, Clause, ClauseList, all_hold}
 
 -- ---- tidy clauses
@@ -62,11 +63,9 @@ blocking_literals (v ∷ vs) (b ∷ bits) = literal (not b) v ∷ blocking_liter
 abbrev pub row_clause : ℕ → List ℕ → ℕ → List Bool → Bool → Clause
 row_clause h xs y row value = literal false h ∷ (blocking_literals xs row ++ literal value y ∷ [])
 
-abbrev pub xor_clauses : ℕ → List ℕ → ℕ → List Clause
-xor_clauses h xs y = map (λ r. row_clause h xs y (row_bits r xs) (has_odd_ones (row_bits r xs))) (rows_of xs)
-
-abbrev pub xnor_clauses : ℕ → List ℕ → ℕ → List Clause
-xnor_clauses h xs y = map (λ r. row_clause h xs y (row_bits r xs) (not (has_odd_ones (row_bits r xs)))) (rows_of xs)
+-- where the part is ok, the output is 1 where the number of ones is odd, or where it is even
+abbrev pub parity_clauses : Bool → ℕ → List ℕ → ℕ → List Clause
+parity_clauses odd h xs y = map (λ r. row_clause h xs y (row_bits r xs) (same_bit odd (has_odd_ones (row_bits r xs)))) (rows_of xs)
 
 -- In this mode the ports have none of the rows that are not in the set.
 abbrev pub blocked_rows : Bool → ℕ → ℕ → List ℕ → List Clause
@@ -85,8 +84,8 @@ gate_clauses Nand h xs y = and_clauses (pos h) (neg_ℤ (pos y)) (map pos xs)
 gate_clauses Not h xs y = and_clauses (pos h) (neg_ℤ (pos y)) (map pos xs)
 gate_clauses Or h xs y = and_clauses (pos h) (neg_ℤ (pos y)) (map (λ x. neg_ℤ (pos x)) xs)
 gate_clauses Nor h xs y = and_clauses (pos h) (pos y) (map (λ x. neg_ℤ (pos x)) xs)
-gate_clauses Xor h xs y = xor_clauses h xs y
-gate_clauses Xnor h xs y = xnor_clauses h xs y
+gate_clauses Xor h xs y = parity_clauses true h xs y
+gate_clauses Xnor h xs y = parity_clauses false h xs y
 gate_clauses (Table t) h xs y = []
 
 -- The last port of a gate is its output.
@@ -117,9 +116,14 @@ raw_count device = length (all_clauses device)
 abbrev pub clause_list : Device → ClauseList
 clause_list device = record { vars = length device.parts + length device.wires; clauses = tidy (all_clauses device) }
 
+-- an error is a reason, but for want of memory
+abbrev pub reason : EncodeError → Option EncodeError
+reason (TooManyClauses count) = Some (TooManyClauses count)
+reason Memory = None
+
 -- The clauses of a device, or how many are too many.
 abbrev pub encoded : Device → Result ClauseList EncodeError
-encoded device = if nat_lt 262144 (raw_count device) then Err (TooManyClauses (raw_count device)) else Ok (clause_list device)
+encoded device = if nat_lt CLAUSE_LIMIT (raw_count device) then Err (TooManyClauses (raw_count device)) else Ok (clause_list device)
 
 -- Under bits for the health of the parts and for the wires, all clauses hold for some bits of the variables above these
 -- exactly where the device fits.

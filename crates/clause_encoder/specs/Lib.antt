@@ -1,4 +1,3 @@
 pub mod Clauses
-pub mod Flat
 pub mod Encoding
-pub mod Steps
+pub mod inner

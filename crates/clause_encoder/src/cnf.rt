@@ -3,6 +3,7 @@ ghost use Rattle.std.specs.List.{list_all};
 ghost use Rattle.clause_encoder.specs.Clauses.{is_clause, is_clause_list};
 
 use crate::flat::FlatClauses;
+use crate::limits::{CLAUSE_LIMIT, VARIABLE_LIMIT};
 use std::alloc::{AllocError, Global};
 use std::marker::Model;
 
@@ -59,8 +60,8 @@ impl Cnf {
     ///
     /// The variables are fewer than 2^29 and the clauses at most 262,144. Each has a literal, and its variables rise.
     pub fn of(alloc: Global, vars: u32, clauses: Vec<Clause>) -> Result<Cnf, AllocError>
-        requires vars { vars < 2 ^ 29 }
-        requires few { length clauses.items ≤ 262144 }
+        requires vars { vars < VARIABLE_LIMIT }
+        requires few { length clauses.items ≤ CLAUSE_LIMIT }
         requires each { list_all (is_clause vars) clauses.items ≡ true }
         ensures { IfOk result (λ cnf. cnf ≡ record { vars = vars; clauses = clauses.items }) }
     {
@@ -75,8 +76,8 @@ impl Cnf {
     }
 
     pub(crate) fn of_flat(vars: u32, clauses: FlatClauses) -> Cnf
-        requires vars { vars < 2 ^ 29 }
-        requires few { length clauses ≤ 262144 }
+        requires vars { vars < VARIABLE_LIMIT }
+        requires few { length clauses ≤ CLAUSE_LIMIT }
         requires each { list_all (is_clause vars) clauses ≡ true }
         ensures { result ≡ record { vars = vars; clauses = clauses } }
     {

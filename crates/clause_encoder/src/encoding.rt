@@ -1,16 +1,15 @@
 ghost use Rattle.std.specs.Prelude.{◌≡◌, ◌≢◌, ◌<◌, ◌≤◌, ◌+◌, ◌++◌, ℕ, true, List, map, length, All, MatchResult, IfOk, OnOk};
+ghost use Rattle.text_rules.specs.Expected.{Fulfils};
 ghost use Rattle.device_model.specs.Devices.{takes_ports};
-ghost use Rattle.clause_encoder.specs.Encoding.{encoded, Describes, raw_count, raw_clauses, table_clauses, all_clauses, tidy};
+ghost use Rattle.clause_encoder.specs.Encoding.{encoded, reason, Describes, raw_count, raw_clauses, table_clauses, all_clauses, tidy};
 ghost use Rattle.clause_encoder.specs.declared.encoding.EncodeError.TheVariants.{Memory};
 
 use crate::cnf::Cnf;
 use crate::gates::push_part;
+use crate::limits::CLAUSE_LIMIT;
 use crate::writer::Writer;
 use device_model::{Component, Device, Kind, Table};
 use std::alloc::{AllocError, Global};
-
-/// The most clauses.
-const CLAUSE_LIMIT: u64 = 262_144;
 
 /// Why a device has no list of clauses.
 #[derive(Clone, Copy, Debug, PartialEq, Eq)]
@@ -33,12 +32,11 @@ impl From<AllocError> for EncodeError {
 ///
 /// All clauses are true exactly where the parts' health and the bits of the wires fit the device.
 pub fn encode(alloc: Global, device: &Device) -> Result<Cnf, EncodeError>
-    ensures encoded { MatchResult result (λ cnf. Ok cnf ≡ encoded device.now)
-        (λ e. e ≢ Memory → Err e ≡ encoded device.now) }
+    ensures encoded { Fulfils (λ cnf. cnf) reason (encoded device.now) result }
     ensures describes { IfOk result (λ cnf. Describes cnf device.now) }
 {
     let count = raw_count(device);
-    if count > CLAUSE_LIMIT {
+    if count > u64::from(CLAUSE_LIMIT) {
         return Err(EncodeError::TooManyClauses { count });
     }
     let mut writer = Writer::new(alloc);

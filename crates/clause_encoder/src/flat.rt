@@ -1,5 +1,5 @@
 ghost use Rattle.std.specs.Prelude.{◌≡◌, ◌<◌, ◌++◌, [], ◌∷◌, length, slice_index_or, OnOk, OnErr};
-ghost use Rattle.clause_encoder.specs.Flat.{start_at};
+ghost use Rattle.clause_encoder.specs.inner.Flat.{start_at};
 
 use std::alloc::{AllocError, Global};
 use std::marker::Model;
@@ -14,7 +14,7 @@ pub(crate) struct FlatClauses {
 
 impl Model for FlatClauses {
     ghost use Rattle.std.specs.Prelude.{ℤ, List, length};
-    ghost use Rattle.clause_encoder.specs.Flat.{pieces, EndAt};
+    ghost use Rattle.clause_encoder.specs.inner.Flat.{pieces, EndAt};
 
     ghost Value = { List (List ℤ) };
 

@@ -2,9 +2,9 @@ ghost use Rattle.std.specs.Prelude.{◌≡◌, ◌<◌, ◌≤◌, ◌^◌, ◌%
 ghost use Rattle.ranking.specs.Bits.{same_bit};
 ghost use Rattle.device_model.specs.Devices.{is_set, takes, takes_ports};
 ghost use Rattle.clause_encoder.specs.Clauses.{literal};
-ghost use Rattle.clause_encoder.specs.Steps.{parity_clauses};
-ghost use Rattle.clause_encoder.specs.Encoding.{tidy, and_clauses, row_bits, blocking_literals, blocked_rows, table_clauses, gate_clauses, raw_clauses};
+ghost use Rattle.clause_encoder.specs.Encoding.{tidy, and_clauses, parity_clauses, row_bits, blocking_literals, blocked_rows, table_clauses, gate_clauses, raw_clauses};
 
+use crate::limits::VARIABLE_LIMIT;
 use crate::writer::Writer;
 use device_model::{Kind, Table};
 use std::alloc::{AllocError, Global};
@@ -19,8 +19,8 @@ pub(crate) fn push_part(
     ports: &[u32],
 ) -> Result<(), AllocError>
     requires arity { takes_ports tables.now kind (length ports.now) ≡ true }
-    requires health { health < 2 ^ 29 }
-    requires ports { All (λ v. v < 2 ^ 29) ports.now }
+    requires health { health < VARIABLE_LIMIT }
+    requires ports { All (λ v. v < VARIABLE_LIMIT) ports.now }
     ensures { OnOk result
         (writer.new ≡ writer.old ++ tidy (raw_clauses tables.now kind health ports.now)) }
 {
@@ -42,9 +42,9 @@ fn push_gate(
     output: u32,
 ) -> Result<(), AllocError>
     requires arity { takes gate (length inputs.now) ≡ true }
-    requires health { health < 2 ^ 29 }
-    requires inputs { All (λ v. v < 2 ^ 29) inputs.now }
-    requires output { output < 2 ^ 29 }
+    requires health { health < VARIABLE_LIMIT }
+    requires inputs { All (λ v. v < VARIABLE_LIMIT) inputs.now }
+    requires output { output < VARIABLE_LIMIT }
     ensures { OnOk result
         (writer.new ≡ writer.old ++ tidy (gate_clauses gate health inputs.now output)) }
 {
@@ -69,9 +69,9 @@ fn push_and(
     output: u32,
     output_as_is: bool,
 ) -> Result<(), AllocError>
-    requires health { health < 2 ^ 29 }
-    requires inputs { All (λ v. v < 2 ^ 29) inputs.now }
-    requires output { output < 2 ^ 29 }
+    requires health { health < VARIABLE_LIMIT }
+    requires inputs { All (λ v. v < VARIABLE_LIMIT) inputs.now }
+    requires output { output < VARIABLE_LIMIT }
     ensures { OnOk result (writer.new ≡ writer.old ++ tidy
         (and_clauses (pos health) (literal output_as_is output)
         (map (literal inputs_as_is) inputs.now))) }
@@ -89,7 +89,7 @@ fn push_and(
 }
 
 fn push_literals(clause: &mut Vec<i32>, positive: bool, variables: &[u32]) -> Result<(), AllocError>
-    requires { All (λ v. v < 2 ^ 29) variables.now }
+    requires { All (λ v. v < VARIABLE_LIMIT) variables.now }
     ensures { OnOk result
         (clause.new.items ≡ clause.old.items ++ map (literal positive) variables.now) }
 {
@@ -109,9 +109,9 @@ fn push_parity(
     odd: bool,
 ) -> Result<(), AllocError>
     requires few { length inputs.now ≤ 8 }
-    requires health { health < 2 ^ 29 }
-    requires inputs { All (λ v. v < 2 ^ 29) inputs.now }
-    requires output { output < 2 ^ 29 }
+    requires health { health < VARIABLE_LIMIT }
+    requires inputs { All (λ v. v < VARIABLE_LIMIT) inputs.now }
+    requires output { output < VARIABLE_LIMIT }
     ensures { OnOk result
         (writer.new ≡ writer.old ++ tidy (parity_clauses odd health inputs.now output)) }
 {
@@ -140,8 +140,8 @@ fn push_table(
     ports: &[u32],
 ) -> Result<(), AllocError>
     requires arity { length ports.now ≡ table.now.ports }
-    requires health { health < 2 ^ 29 }
-    requires ports { All (λ v. v < 2 ^ 29) ports.now }
+    requires health { health < VARIABLE_LIMIT }
+    requires ports { All (λ v. v < VARIABLE_LIMIT) ports.now }
     ensures { OnOk result
         (writer.new ≡ writer.old ++ tidy (table_clauses (Some table.now) health ports.now)) }
 {
@@ -162,8 +162,8 @@ fn push_side(
 ) -> Result<(), AllocError>
     requires rows { rows ≡ 2 ^ length ports.now }
     requires few { rows ≤ 64 }
-    requires health { health < 2 ^ 29 }
-    requires ports { All (λ v. v < 2 ^ 29) ports.now }
+    requires health { health < VARIABLE_LIMIT }
+    requires ports { All (λ v. v < VARIABLE_LIMIT) ports.now }
     ensures { OnOk result
         (writer.new ≡ writer.old ++ tidy (blocked_rows ok allowed health ports.now)) }
 {
@@ -187,7 +187,7 @@ fn is_set(rows: u64, row: u32) -> bool
 
 // Makes the clause a literal and those that are false in a row.
 fn set_row(clause: &mut Vec<i32>, first: i32, variables: &[u32], row: u32) -> Result<(), AllocError>
-    requires { All (λ v. v < 2 ^ 29) variables.now }
+    requires { All (λ v. v < VARIABLE_LIMIT) variables.now }
     ensures { OnOk result
         (clause.new.items ≡ first ∷ blocking_literals variables.now (row_bits row variables.now)) }
 {
@@ -203,7 +203,7 @@ fn set_row(clause: &mut Vec<i32>, first: i32, variables: &[u32], row: u32) -> Re
 
 // The literal that is true where the variable has the bit.
 fn literal(positive: bool, variable: u32) -> i32
-    requires { variable < 2 ^ 29 }
+    requires { variable < VARIABLE_LIMIT }
     ensures { result ≡ literal positive variable }
 {
     let variable = variable as i32;

@@ -5,9 +5,11 @@ mod cnf;
 mod encoding;
 mod flat;
 mod gates;
+mod limits;
 #[cfg(test)]
 mod tests;
 mod writer;
 
 pub use cnf::{Clause, Cnf};
 pub use encoding::{EncodeError, encode};
+pub use limits::{CLAUSE_LIMIT, VARIABLE_LIMIT};

@@ -1,20 +1,20 @@
 -- What stays sound where types, blocks and wires are added.
-use Rattle.std.proofs.Common.{◌≡◌, ℕ, ◌<◌, ◌≤◌, Bool, true, false, not, List, [], ◌∷◌, ◌++◌, length, Option, Some, None, refl, sym, ap, ◌∙◌, append_assoc, append-nil, length-append, arith}
+use Rattle.std.proofs.Common.{◌≡◌, ℕ, ◌<◌, ◌≤◌, true, false, not, List, [], ◌∷◌, ◌++◌, length, Option, Some, None, refl, sym, ap, ◌∙◌, append_assoc, append-nil, length-append, arith}
 use Rattle.std.specs.Prelude.{◌&&◌, ◌||◌, nat_le, nat_lt, slice_get}
 use Rattle.std.specs.List.{list_any, list_all}
-use Rattle.std.proofs.lemmas.Bool.{and_parts, and_from, leb-true, le-leb, ltb-true, lt-ltb}
-use Rattle.std.proofs.lemmas.List.{get_or_append_left}
+use Rattle.std.proofs.lemmas.Bool.{and_parts, and_from, or_parts, or_from, not-true, not_from_false, leb-true, le-leb, ltb-true, lt-ltb}
+use Rattle.std.proofs.lemmas.List.{get_or_append_left, map-append}
 use Rattle.std.proofs.lemmas.List.Folds.{list_any-append, list_all-append}
 use Rattle.std.proofs.lemmas.Option.{slice_get_within, slice_get-get_or, get_or_from_slice_get}
 use Rattle.text_rules.specs.Names.{Name, same_name, is_among}
 use Rattle.text_rules.proofs.PartLemmas.{passes_too}
-use Rattle.component_lang.proofs.NameLists.{same_name-sym}
+use Rattle.component_lang.proofs.NameLists.{same_name-sym, are_distinct-cons}
 use Rattle.component_lang.specs.declared.design.UsedKind.{UsedKind}
 use Rattle.component_lang.specs.declared.design.UsedKind.TheVariants.{Gate, Shape as OfShape, Block as OfBlock}
 use Rattle.component_lang.specs.declared.design.Used.{Used}
 use Rattle.component_lang.specs.declared.design.Shape.{Shape}
 use Rattle.component_lang.specs.declared.design.Block.{Block}
-use Rattle.component_lang.specs.Designs.{is_plain_name, has_repeated, used_names, shape_takes, block_takes, takes_args, is_used, is_block, are_blocks}
+use Rattle.component_lang.specs.Designs.{is_plain_name, are_distinct, used_names, shape_takes, block_takes, takes_args, is_used, is_block, are_blocks}
 
 -- ---- more types, and more blocks above
 
@@ -53,32 +53,28 @@ used_more types types' above n m used l h =
 -- the parts of a block
 pub record IsBlock (types : List Shape) (above : List Block) (block : Block) : Type 0 where
   pub named : list_all is_plain_name block.wires ≡ true
-  pub once : has_repeated block.wires ≡ false
+  pub once : are_distinct block.wires ≡ true
   pub ported : block.ports ≤ length block.wires
   pub parts : list_all (is_used types above (length block.wires)) block.parts ≡ true
-  pub parts_once : has_repeated (used_names block.parts) ≡ false
-
-not_not : (b : Bool) → not b ≡ true → b ≡ false
-not_not true h = cc
-not_not false h = refl
+  pub parts_once : are_distinct (used_names block.parts) ≡ true
 
 pub IsBlock-from_test : (types : List Shape) (above : List Block) (block : Block) → is_block types above block ≡ true → IsBlock types above block
 IsBlock-from_test types above block h =
-    let two = and_parts (list_all is_plain_name block.wires && not (has_repeated block.wires)) _ h in
+    let two = and_parts (list_all is_plain_name block.wires && are_distinct block.wires) _ h in
     let wires = and_parts _ _ two.0 in
     let rest = and_parts (nat_le block.ports (length block.wires)) _ two.1 in
     let parts = and_parts _ _ rest.1 in
     record {
       named = wires.0;
-      once = not_not (has_repeated block.wires) wires.1;
+      once = wires.1;
       ported = leb-true block.ports (length block.wires) rest.0;
       parts = parts.0;
-      parts_once = not_not (has_repeated (used_names block.parts)) parts.1;
+      parts_once = parts.1;
     }
 
 pub is_block-IsBlock : (types : List Shape) (above : List Block) (block : Block) → IsBlock types above block → is_block types above block ≡ true
 is_block-IsBlock types above block h =
-    and_from _ _ (and_from _ _ h.named (ap not h.once)) (and_from _ _ (le-leb block.ports (length block.wires) h.ported) (and_from _ _ h.parts (ap not h.parts_once)))
+    and_from _ _ (and_from _ _ h.named h.once) (and_from _ _ (le-leb block.ports (length block.wires) h.ported) (and_from _ _ h.parts h.parts_once))
 
 block_types : (types types' : List Shape) (above : List Block) (block : Block) → is_block types above block ≡ true → is_block (types ++ types') above block ≡ true
 block_types types types' above block h =
@@ -109,49 +105,38 @@ are_blocks-more types above (b ∷ blocks) block h g =
 
 -- ---- names that differ
 
-or_false : (a b : Bool) → (a || b) ≡ false → (a ≡ false) × (b ≡ false)
-or_false true b h = cc
-or_false false b h = (refl, h)
-
-or_from : (a b : Bool) → a ≡ false → b ≡ false → (a || b) ≡ false
-or_from true b h g = cc
-or_from false b h g = g
-
 -- two lists whose names differ, and none of the second stands in the first
-pub repeated-append : (xs ys : List Name) → has_repeated xs ≡ false → has_repeated ys ≡ false → list_any (is_among xs) ys ≡ false → has_repeated (xs ++ ys) ≡ false
-repeated-append [] ys h g apart = g
-repeated-append (x ∷ xs) ys h g apart =
-    let two = or_false (is_among xs x) (has_repeated xs) h in
+pub are_distinct-append : (xs ys : List Name) → are_distinct xs ≡ true → are_distinct ys ≡ true → list_any (is_among xs) ys ≡ false → are_distinct (xs ++ ys) ≡ true
+are_distinct-append [] ys h g apart = g
+are_distinct-append (x ∷ xs) ys h g apart =
+    let two = and_parts (not (is_among xs x)) (are_distinct xs) (sym (are_distinct-cons x xs) ∙ h) in
     let split = any_first ys apart in
-    or_from _ _ (list_any-append (same_name x) xs ys ∙ or_from _ _ two.0 split.0) (repeated-append xs ys two.1 g split.1)
+    are_distinct-cons x (xs ++ ys)
+    ∙ and_from _ _ (not_from_false _ (list_any-append (same_name x) xs ys ∙ or_from _ _ (not-true _ two.0) split.0)) (are_distinct-append xs ys two.1 g split.1)
   where
     any_first : (ns : List Name) → list_any (is_among (x ∷ xs)) ns ≡ false → (is_among ns x ≡ false) × (list_any (is_among xs) ns ≡ false)
     any_first [] e = (refl, refl)
     any_first (n ∷ ns) e =
-        let one = or_false (same_name n x || is_among xs n) (list_any (is_among (x ∷ xs)) ns) e in
-        let both = or_false (same_name n x) (is_among xs n) one.0 in
+        let one = or_parts (same_name n x || is_among xs n) (list_any (is_among (x ∷ xs)) ns) e in
+        let both = or_parts (same_name n x) (is_among xs n) one.0 in
         let rest = any_first ns one.1 in
         (or_from _ _ (same_name-sym x n ∙ both.0) rest.0, or_from _ _ both.1 rest.1)
 
 -- ---- one block with more wires, or with a part more
 
 pub block-wires : (types : List Shape) (above : List Block) (block : Block) (names : List Name) → is_block types above block ≡ true → list_all is_plain_name names ≡ true
-    → has_repeated names ≡ false → list_any (is_among block.wires) names ≡ false → is_block types above (record block { wires = block.wires ++ names }) ≡ true
+    → are_distinct names ≡ true → list_any (is_among block.wires) names ≡ false → is_block types above (record block { wires = block.wires ++ names }) ≡ true
 block-wires types above block names h plain once apart =
     let b = IsBlock-from_test types above block h in
     let more : length block.wires ≤ length (block.wires ++ names) = omega (arith, length-append block.wires names) in
     is_block-IsBlock types above (record block { wires = block.wires ++ names }) (record {
       named = list_all-append is_plain_name block.wires names ∙ and_from _ _ b.named plain;
-      once = repeated-append block.wires names b.once once apart;
+      once = are_distinct-append block.wires names b.once once apart;
       ported = (let p = b.ported in omega arith);
       parts_once = b.parts_once;
       parts = passes_too (is_used types above (length block.wires)) (is_used types above (length (block.wires ++ names)))
           (λ used g. ap (λ ts. is_used ts above (length (block.wires ++ names)) used) (sym (append-nil types)) ∙ used_more types [] above (length block.wires) (length (block.wires ++ names)) used more g) block.parts b.parts;
     })
-
-names-push : (parts : List Used) (part : Used) → used_names (parts ++ part ∷ []) ≡ used_names parts ++ part.name ∷ []
-names-push [] part = refl
-names-push (p ∷ parts) part = ap (λ ns. p.name ∷ ns) (names-push parts part)
 
 pub block-part : (types : List Shape) (above : List Block) (block : Block) (part : Used) → is_block types above block ≡ true → is_used types above (length block.wires) part ≡ true
     → is_among (used_names block.parts) part.name ≡ false → is_block types above (record block { parts = block.parts ++ part ∷ [] }) ≡ true
@@ -161,6 +146,6 @@ block-part types above block part h used new =
       named = b.named;
       once = b.once;
       ported = b.ported;
-      parts_once = ap has_repeated (names-push block.parts part) ∙ repeated-append (used_names block.parts) (part.name ∷ []) b.parts_once refl (or_from _ _ new refl);
+      parts_once = ap are_distinct (map-append (λ (u : Used). u.name) block.parts (part ∷ [])) ∙ are_distinct-append (used_names block.parts) (part.name ∷ []) b.parts_once refl (or_from _ _ new refl);
       parts = list_all-append (is_used types above (length block.wires)) block.parts (part ∷ []) ∙ and_from _ _ b.parts (and_from _ _ used refl);
     })

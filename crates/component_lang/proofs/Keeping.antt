@@ -1,10 +1,9 @@
 -- Each line keeps a reader sound, and adds no more to it than it has words.
 use Rattle.std.proofs.Common.{◌≡◌, ℕ, ◌+◌, ◌-◌, ◌^◌, ◌<◌, ◌≤◌, Bool, true, false, not, List, [], ◌∷◌, ◌++◌, map, length, codes, Option, Some, None, Result, Ok, Err, is_some, unwrap_or, refl, sym, ap, ◌∙◌, length-append, length-take, arith}
-use Rattle.std.specs.Prelude.{◌&&◌, ◌==◌, nat_le, nat_lt, if◌then◌else◌}
-use Rattle.std.specs.List.{list_any, list_all, prefix_len}
-use Rattle.std.proofs.lemmas.Bool.{and_parts, and_from, le-leb, ltb-true, lt-ltb, eqb-true}
+use Rattle.std.specs.Prelude.{◌==◌, nat_lt, if◌then◌else◌}
+use Rattle.std.specs.List.{list_all, prefix_len}
+use Rattle.std.proofs.lemmas.Bool.{and_parts, and_from, not-true, le-leb, ltb-true, lt-ltb, eqb-true}
 use Rattle.std.proofs.lemmas.Nat.{pow_pos}
-use Rattle.std.proofs.lemmas.List.{length-map}
 use Rattle.text_rules.specs.Names.{Name, same_name, is_among}
 use Rattle.text_rules.specs.TextLines.{uncommented}
 use Rattle.text_rules.specs.Tokens.{words}
@@ -15,10 +14,12 @@ use Rattle.component_lang.specs.declared.design.UsedKind.{UsedKind}
 use Rattle.component_lang.specs.declared.design.UsedKind.TheVariants.{Gate, Shape as OfShape, Block as OfBlock}
 use Rattle.component_lang.specs.declared.design.Block.{Block}
 use Rattle.component_lang.specs.declared.fault.LangFault.{LangFault}
-use Rattle.component_lang.specs.declared.fault.LangFault.TheVariants.{Line as NotHere, Name as NoName, Twice, Unknown, Ports, Row}
-use Rattle.component_lang.specs.Designs.{is_plain_name, has_repeated, used_names, takes_args, is_block, are_blocks}
-use Rattle.component_lang.specs.Reading.{Draft, Place, Outside, InType, InBlock, Behind, Reader, kind_named, is_row, row_in, with_row, shape_of, at, is_new, type_line, block_line, behind, wire_line, used_as, part_of_kind, part_line, outside, in_type, in_block, at_place, after_words, after_line}
-use Rattle.component_lang.specs.Sound.{is_free, is_sound_draft, is_sound_open, is_sound_place, is_sound, open_wires, reader_size}
+use Rattle.component_lang.specs.declared.fault.LangFault.TheVariants.{Line as NotHere, Name as NoName, Twice, Ports, Row}
+use Rattle.component_lang.specs.Designs.{is_plain_name, are_distinct, used_names, takes_args, is_block, are_blocks}
+use Rattle.component_lang.specs.Kinds.{OpenType, Section, Outside, InType, InBlock, AfterTop, Reader, kind_named}
+use Rattle.component_lang.specs.TypeRows.{is_row, row_in, with_row, shape_of}
+use Rattle.component_lang.specs.DesignLines.{at, is_new, type_line, block_line, top_of_kind, are_new, wire_line, part_of, with_part, part_line, outside, in_type, in_block, at_section, after_words, after_line}
+use Rattle.component_lang.specs.inner.Sound.{is_free, is_sound_type, is_sound_block, is_sound_section, is_sound, open_wires, reader_size}
 use Rattle.component_lang.proofs.RowSets.{row_in-fits, with_row-fits}
 use Rattle.component_lang.proofs.NameLists.{among_position}
 use Rattle.component_lang.proofs.Named.{kind_named-place}
@@ -41,10 +42,6 @@ either-keeps : (n : ℕ) (b : Bool) (r s : Result Reader LangFault) → Keeps n 
 either-keeps n true r s h g = h
 either-keeps n false r s h g = g
 
-not_not : (b : Bool) → not b ≡ true → b ≡ false
-not_not true h = cc
-not_not false h = refl
-
 all_fits : (k : ℕ) → nat_lt (2 ^ k - 1) (2 ^ k) ≡ true
 all_fits k = lt-ltb (2 ^ k - 1) (2 ^ k) (let p = pow_pos k in omega arith)
 
@@ -53,9 +50,9 @@ module _ (reader : Reader) (n : ℕ) (blocks_sound : are_blocks reader.types [] 
   type_line-keeps name ports l =
       if-keeps n (list_all is_plain_name (name ∷ ports)) NoName _ (λ plain.
       if-keeps n (is_new reader name ports) Twice _ (λ new.
-      if-keeps n (nat_le 1 (length ports) && nat_le (length ports) 6) Ports (Ok (at reader (InType (record { name = name; ports = length ports; ok = 0; bad = None })))) (λ few.
+      if-keeps n (has_few_ports (length ports)) Ports (Ok (at reader (InType (record { name = name; ports = length ports; ok = 0; bad = None })))) (λ few.
       let named = and_parts (is_plain_name name) (list_all is_plain_name ports) plain in
-      let fresh = and_parts (not (is_some (kind_named reader name))) (not (has_repeated ports)) new in (
+      let fresh = and_parts (not (is_some (kind_named reader name))) (are_distinct ports) new in (
         and_from _ _ blocks_sound (and_from _ _ (and_from _ _ named.0 fresh.0)
             (and_from _ _ few (and_from _ _ (lt-ltb 0 (2 ^ (2 ^ length ports)) (pow_pos (2 ^ length ports))) (all_fits (2 ^ length ports))))),
         omega arith,
@@ -66,23 +63,23 @@ module _ (reader : Reader) (n : ℕ) (blocks_sound : are_blocks reader.types [] 
       if-keeps n (list_all is_plain_name (name ∷ ports)) NoName _ (λ plain.
       if-keeps n (is_new reader name ports) Twice (Ok (at reader (InBlock (record { name = name; ports = length ports; wires = ports; parts = [] })))) (λ new.
       let named = and_parts (is_plain_name name) (list_all is_plain_name ports) plain in
-      let fresh = and_parts (not (is_some (kind_named reader name))) (not (has_repeated ports)) new in (
+      let fresh = and_parts (not (is_some (kind_named reader name))) (are_distinct ports) new in (
         and_from _ _ blocks_sound (and_from _ _ (and_from _ _ named.0 fresh.0)
             (and_from _ _ (and_from _ _ named.1 fresh.1) (and_from _ _ (le-leb (length ports) (length ports) (omega arith)) refl))),
         omega arith,
       )))
 
-  behind-keeps : (name : Name) (o : Option UsedKind) → kind_named reader name ≡ o → length reader.types + length reader.blocks ≤ n → Keeps n (behind reader o)
-  behind-keeps name None e l = tt
-  behind-keeps name (Some (Gate kind)) e l = tt
-  behind-keeps name (Some (OfShape place)) e l = tt
-  behind-keeps name (Some (OfBlock place)) e l = (and_from _ _ blocks_sound (lt-ltb place (length reader.blocks) (kind_named-place reader name place e)), omega arith)
+  top_of_kind-keeps : (name : Name) (o : Option UsedKind) → kind_named reader name ≡ o → length reader.types + length reader.blocks ≤ n → Keeps n (top_of_kind reader o)
+  top_of_kind-keeps name None e l = tt
+  top_of_kind-keeps name (Some (Gate kind)) e l = tt
+  top_of_kind-keeps name (Some (OfShape place)) e l = tt
+  top_of_kind-keeps name (Some (OfBlock place)) e l = (and_from _ _ blocks_sound (lt-ltb place (length reader.blocks) (kind_named-place reader name place e)), omega arith)
 
   outside-keeps : (line : List Name) → length reader.types + length reader.blocks + length line ≤ n → Keeps n (outside reader line)
   outside-keeps [] l = tt
   outside-keeps (word ∷ []) l = tt
   outside-keeps (word ∷ name ∷ []) l =
-      either-keeps n (same_name word (codes "top")) _ _ (if-keeps n (is_plain_name name) NoName _ (λ plain. behind-keeps name (kind_named reader name) refl (omega arith)))
+      either-keeps n (same_name word (codes "top")) _ _ (if-keeps n (is_plain_name name) NoName _ (λ plain. top_of_kind-keeps name (kind_named reader name) refl (omega arith)))
       (either-keeps n (same_name word (codes "type")) _ _ (type_line-keeps name [] (omega arith))
       (either-keeps n (same_name word (codes "block")) _ (Err NotHere) (block_line-keeps name [] (omega arith)) tt))
   outside-keeps (word ∷ name ∷ port ∷ ports) l =
@@ -91,48 +88,48 @@ module _ (reader : Reader) (n : ℕ) (blocks_sound : are_blocks reader.types [] 
 
   -- ---- in a type
 
-  module _ (draft : Draft) (sound : is_sound_draft reader draft ≡ true) where
-    free : is_free reader draft.name ≡ true
-    free = (and_parts (is_free reader draft.name) _ sound).0
+  module _ (open_type : OpenType) (sound : is_sound_type reader open_type ≡ true) where
+    free : is_free reader open_type.name ≡ true
+    free = (and_parts (is_free reader open_type.name) _ sound).0
 
-    few : has_few_ports draft.ports ≡ true
-    few = (and_parts (has_few_ports draft.ports) _ (and_parts (is_free reader draft.name) _ sound).1).0
+    few : has_few_ports open_type.ports ≡ true
+    few = (and_parts (has_few_ports open_type.ports) _ (and_parts (is_free reader open_type.name) _ sound).1).0
 
-    ok_fits : draft.ok < 2 ^ (2 ^ draft.ports)
-    ok_fits = ltb-true draft.ok (2 ^ (2 ^ draft.ports)) (and_parts _ _ (and_parts (has_few_ports draft.ports) _ (and_parts (is_free reader draft.name) _ sound).1).1).0
+    ok_fits : open_type.ok < 2 ^ (2 ^ open_type.ports)
+    ok_fits = ltb-true open_type.ok (2 ^ (2 ^ open_type.ports)) (and_parts _ _ (and_parts (has_few_ports open_type.ports) _ (and_parts (is_free reader open_type.name) _ sound).1).1).0
 
-    bad_test : nat_lt (unwrap_or draft.bad (2 ^ (2 ^ draft.ports) - 1)) (2 ^ (2 ^ draft.ports)) ≡ true
-    bad_test = (and_parts (nat_lt draft.ok (2 ^ (2 ^ draft.ports))) _ (and_parts (has_few_ports draft.ports) _ (and_parts (is_free reader draft.name) _ sound).1).1).1
+    bad_test : nat_lt (unwrap_or open_type.bad (2 ^ (2 ^ open_type.ports) - 1)) (2 ^ (2 ^ open_type.ports)) ≡ true
+    bad_test = (and_parts (nat_lt open_type.ok (2 ^ (2 ^ open_type.ports))) _ (and_parts (has_few_ports open_type.ports) _ (and_parts (is_free reader open_type.name) _ sound).1).1).1
 
-    bad_fits : (o : Option ℕ) → nat_lt (unwrap_or o (2 ^ (2 ^ draft.ports) - 1)) (2 ^ (2 ^ draft.ports)) ≡ true → unwrap_or o 0 < 2 ^ (2 ^ draft.ports)
-    bad_fits None h = pow_pos (2 ^ draft.ports)
-    bad_fits (Some b) h = ltb-true b (2 ^ (2 ^ draft.ports)) h
+    bad_fits : (o : Option ℕ) → nat_lt (unwrap_or o (2 ^ (2 ^ open_type.ports) - 1)) (2 ^ (2 ^ open_type.ports)) ≡ true → unwrap_or o 0 < 2 ^ (2 ^ open_type.ports)
+    bad_fits None h = pow_pos (2 ^ open_type.ports)
+    bad_fits (Some b) h = ltb-true b (2 ^ (2 ^ open_type.ports)) h
 
-    row_fits : (row : List ℕ) → is_row draft.ports row ≡ true → row_in row < 2 ^ draft.ports
+    row_fits : (row : List ℕ) → is_row open_type.ports row ≡ true → row_in row < 2 ^ open_type.ports
     row_fits row h =
-        let size = ap (λ k. 2 ^ k) (eqb-true (length row) draft.ports (and_parts _ _ h).0) in
+        let size = ap (λ k. 2 ^ k) (eqb-true (length row) open_type.ports (and_parts _ _ h).0) in
         omega (arith, row_in-fits row, size)
 
-    more_fits : (rows : ℕ) (row : List ℕ) → rows < 2 ^ (2 ^ draft.ports) → is_row draft.ports row ≡ true → nat_lt (with_row rows (row_in row)) (2 ^ (2 ^ draft.ports)) ≡ true
-    more_fits rows row h is = lt-ltb (with_row rows (row_in row)) (2 ^ (2 ^ draft.ports)) (with_row-fits (2 ^ draft.ports) rows (row_in row) h (row_fits row is))
+    more_fits : (rows : ℕ) (row : List ℕ) → rows < 2 ^ (2 ^ open_type.ports) → is_row open_type.ports row ≡ true → nat_lt (with_row rows (row_in row)) (2 ^ (2 ^ open_type.ports)) ≡ true
+    more_fits rows row h is = lt-ltb (with_row rows (row_in row)) (2 ^ (2 ^ open_type.ports)) (with_row-fits (2 ^ open_type.ports) rows (row_in row) h (row_fits row is))
 
-    in_type-keeps : (line : List (List ℕ)) → length reader.types + length reader.blocks + length line ≤ n → Keeps n (in_type reader draft line)
+    in_type-keeps : (line : List (List ℕ)) → length reader.types + length reader.blocks + length line ≤ n → Keeps n (in_type reader open_type line)
     in_type-keeps [] l = tt
     in_type-keeps (word ∷ []) l =
-        if-keeps n (same_name word (codes "end")) NotHere (Ok (record reader { types = reader.types ++ shape_of draft ∷ []; place = Outside })) (λ e.
-        (and_from _ _ (are_blocks-types reader.types (shape_of draft ∷ []) [] reader.blocks blocks_sound) refl, omega (arith, length-append reader.types (shape_of draft ∷ []))))
+        if-keeps n (same_name word (codes "end")) NotHere (Ok (record reader { types = reader.types ++ shape_of open_type ∷ []; section = Outside })) (λ e.
+        (and_from _ _ (are_blocks-types reader.types (shape_of open_type ∷ []) [] reader.blocks blocks_sound) refl, omega (arith, length-append reader.types (shape_of open_type ∷ []))))
     in_type-keeps (word ∷ row ∷ []) l =
         either-keeps n (same_name word (codes "ok")) _ _
-        (if-keeps n (is_row draft.ports row) Row (Ok (at reader (InType (record draft { ok = with_row draft.ok (row_in row) })))) (λ is.
-        (and_from _ _ blocks_sound (and_from _ _ free (and_from _ _ few (and_from _ _ (more_fits draft.ok row ok_fits is) bad_test))), omega arith)))
+        (if-keeps n (is_row open_type.ports row) Row (Ok (at reader (InType (record open_type { ok = with_row open_type.ok (row_in row) })))) (λ is.
+        (and_from _ _ blocks_sound (and_from _ _ free (and_from _ _ few (and_from _ _ (more_fits open_type.ok row ok_fits is) bad_test))), omega arith)))
         (either-keeps n (same_name word (codes "bad")) _ (Err NotHere)
-        (if-keeps n (is_row draft.ports row) Row (Ok (at reader (InType (record draft { bad = Some (with_row (unwrap_or draft.bad 0) (row_in row)) })))) (λ is.
-        (and_from _ _ blocks_sound (and_from _ _ free (and_from _ _ few (and_from _ _ (lt-ltb draft.ok (2 ^ (2 ^ draft.ports)) ok_fits) (more_fits (unwrap_or draft.bad 0) row (bad_fits draft.bad bad_test) is)))), omega arith))) tt)
+        (if-keeps n (is_row open_type.ports row) Row (Ok (at reader (InType (record open_type { bad = Some (with_row (unwrap_or open_type.bad 0) (row_in row)) })))) (λ is.
+        (and_from _ _ blocks_sound (and_from _ _ free (and_from _ _ few (and_from _ _ (lt-ltb open_type.ok (2 ^ (2 ^ open_type.ports)) ok_fits) (more_fits (unwrap_or open_type.bad 0) row (bad_fits open_type.bad bad_test) is)))), omega arith))) tt)
     in_type-keeps (word ∷ row ∷ more ∷ line) l = tt
 
   -- ---- in a block
 
-  module _ (block : Block) (sound : is_sound_open reader block ≡ true) where
+  module _ (block : Block) (sound : is_sound_block reader block ≡ true) where
     block_free : is_free reader block.name ≡ true
     block_free = (and_parts (is_free reader block.name) _ sound).0
 
@@ -142,9 +139,9 @@ module _ (reader : Reader) (n : ℕ) (blocks_sound : are_blocks reader.types [] 
     wire_line-keeps : (names : List Name) → length reader.types + length reader.blocks + (length block.wires + length names) ≤ n → Keeps n (wire_line reader block names)
     wire_line-keeps names l =
         if-keeps n (list_all is_plain_name names) NoName _ (λ plain.
-        if-keeps n (not (has_repeated names) && not (list_any (is_among block.wires) names)) Twice (Ok (at reader (InBlock (record block { wires = block.wires ++ names })))) (λ new. (
+        if-keeps n (are_new block.wires names) Twice (Ok (at reader (InBlock (record block { wires = block.wires ++ names })))) (λ new. (
           and_from _ _ blocks_sound (and_from _ _ block_free
-              (block-wires reader.types reader.blocks block names block_sound plain (not_not _ (and_parts _ _ new).0) (not_not _ (and_parts _ _ new).1))),
+              (block-wires reader.types reader.blocks block names block_sound plain (and_parts (are_distinct names) _ new).0 (not-true _ (and_parts (are_distinct names) _ new).1))),
           omega (arith, length-append block.wires names),
         )))
 
@@ -157,22 +154,32 @@ module _ (reader : Reader) (n : ℕ) (blocks_sound : are_blocks reader.types [] 
     part_line-keeps : (name kind : Name) (args : List Name) → length reader.types + length reader.blocks + length block.wires ≤ n → Keeps n (part_line reader block name kind args)
     part_line-keeps name kind args l =
         if-keeps n (list_all is_plain_name (name ∷ kind ∷ args)) NoName _ (λ plain.
-        unless-keeps n (is_among (used_names block.parts) name) Twice _ (λ new. of_kind (and_parts _ _ plain).0 new (kind_named reader kind)))
+        unless-keeps n (is_among (used_names block.parts) name) Twice _ (λ new.
+        of_kind (and_parts _ _ plain).0 new (kind_named reader kind) (list_all (is_among block.wires) args) refl))
       where
-        of_kind : is_plain_name name ≡ true → is_among (used_names block.parts) name ≡ false → (o : Option UsedKind) → Keeps n (part_of_kind reader block name args o)
-        of_kind plain new None = tt
-        of_kind plain new (Some is) =
-            if-keeps n (list_all (is_among block.wires) args) Unknown _ (λ wired.
-            if-keeps n (takes_args reader.types reader.blocks is (length args)) Ports (Ok (at reader (InBlock (record block { parts = block.parts ++ used_as block name is args ∷ [] })))) (λ fits. (
-              and_from _ _ blocks_sound (and_from _ _ block_free (block-part reader.types reader.blocks block (used_as block name is args) block_sound
-                  (and_from _ _ plain (and_from _ _ (ap (takes_args reader.types reader.blocks is) (length-map args (place_in block.wires)) ∙ fits) (places_below args wired))) new)),
-              omega arith,
-            )))
+        places : List ℕ
+        places = map (place_in block.wires) args
+
+        fitting : is_plain_name name ≡ true → is_among (used_names block.parts) name ≡ false → list_all (is_among block.wires) args ≡ true
+            → (is : UsedKind) (b : Bool) → takes_args reader.types reader.blocks is (length places) ≡ b
+            → Keeps n (with_part reader block (if b then Ok (record { name = name; kind = is; args = places }) else Err Ports))
+        fitting plain new wired is true fits = (
+          and_from _ _ blocks_sound (and_from _ _ block_free (block-part reader.types reader.blocks block (record { name = name; kind = is; args = places }) block_sound
+              (and_from _ _ plain (and_from _ _ fits (places_below args wired))) new)),
+          omega arith,
+        )
+        fitting plain new wired is false fits = tt
+
+        of_kind : is_plain_name name ≡ true → is_among (used_names block.parts) name ≡ false → (o : Option UsedKind) (b : Bool) → list_all (is_among block.wires) args ≡ b
+            → Keeps n (with_part reader block (part_of reader name o (if b then Some places else None)))
+        of_kind plain new None b wired = tt
+        of_kind plain new (Some is) false wired = tt
+        of_kind plain new (Some is) true wired = fitting plain new wired is (takes_args reader.types reader.blocks is (length places)) refl
 
     in_block-keeps : (line : List (List ℕ)) → length reader.types + length reader.blocks + length block.wires + length line ≤ n → Keeps n (in_block reader block line)
     in_block-keeps [] l = tt
     in_block-keeps (word ∷ []) l =
-        if-keeps n (same_name word (codes "end")) NotHere (Ok (record reader { blocks = reader.blocks ++ block ∷ []; place = Outside })) (λ e.
+        if-keeps n (same_name word (codes "end")) NotHere (Ok (record reader { blocks = reader.blocks ++ block ∷ []; section = Outside })) (λ e.
         (and_from _ _ (are_blocks-more reader.types [] reader.blocks block blocks_sound block_sound) refl, omega (arith, length-append reader.blocks (block ∷ []))))
     in_block-keeps (word ∷ name ∷ []) l = if-keeps n (same_name word (codes "wire")) NotHere _ (λ e. wire_line-keeps (name ∷ []) (omega arith))
     in_block-keeps (word ∷ name ∷ second ∷ rest) l =
@@ -181,18 +188,18 @@ module _ (reader : Reader) (n : ℕ) (blocks_sound : are_blocks reader.types [] 
 
 -- ---- lines
 
-at_place-keeps : (reader : Reader) (place : Place) (n : ℕ) (line : List (List ℕ)) → are_blocks reader.types [] reader.blocks ≡ true → is_sound_place reader place ≡ true
-    → length reader.types + length reader.blocks + open_wires place + length line ≤ n → Keeps n (at_place reader place line)
-at_place-keeps reader Outside n line blocks sound l = outside-keeps reader n blocks line (omega arith)
-at_place-keeps reader (InType draft) n line blocks sound l = in_type-keeps reader n blocks draft sound line (omega arith)
-at_place-keeps reader (InBlock block) n line blocks sound l = in_block-keeps reader n blocks block sound line l
-at_place-keeps reader (Behind top) n line blocks sound l = tt
+at_section-keeps : (reader : Reader) (place : Section) (n : ℕ) (line : List (List ℕ)) → are_blocks reader.types [] reader.blocks ≡ true → is_sound_section reader place ≡ true
+    → length reader.types + length reader.blocks + open_wires place + length line ≤ n → Keeps n (at_section reader place line)
+at_section-keeps reader Outside n line blocks sound l = outside-keeps reader n blocks line (omega arith)
+at_section-keeps reader (InType open_type) n line blocks sound l = in_type-keeps reader n blocks open_type sound line (omega arith)
+at_section-keeps reader (InBlock block) n line blocks sound l = in_block-keeps reader n blocks block sound line l
+at_section-keeps reader (AfterTop top) n line blocks sound l = tt
 
 after_words-keeps : (reader : Reader) (n : ℕ) (line : List (List ℕ)) → is_sound reader ≡ true → reader_size reader + length line ≤ n → Keeps n (after_words reader line)
 after_words-keeps reader n [] sound l = (sound, omega arith)
 after_words-keeps reader n (w ∷ ws) sound l =
     let two = and_parts (are_blocks reader.types [] reader.blocks) _ sound in
-    at_place-keeps reader reader.place n (w ∷ ws) two.0 two.1 l
+    at_section-keeps reader reader.section n (w ∷ ws) two.0 two.1 l
 
 uncommented-fits : (line : List ℕ) → length (uncommented line) ≤ length line
 uncommented-fits line = omega (arith, length-take (prefix_len (λ b. not (b == 35)) line) line)

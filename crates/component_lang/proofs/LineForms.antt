@@ -1,23 +1,22 @@
 -- What the lines of types and blocks do, by the tests that the code makes.
-use Rattle.std.proofs.Common.{◌≡◌, ℕ, Bool, true, false, List, [], ◌∷◌, ◌++◌, map, length, codes, Option, Some, None, Result, Ok, Err, Bor, is_some, refl, sym, ap, ◌∙◌}
-use Rattle.std.specs.Prelude.{◌&&◌, nat_le, if◌then◌else◌}
+use Rattle.std.proofs.Common.{◌≡◌, ℕ, Bool, true, false, List, [], ◌∷◌, ◌++◌, length, codes, Option, Some, None, Result, Ok, Err, Bor, is_some, refl, ap, ◌∙◌}
+use Rattle.std.specs.Prelude.{if◌then◌else◌}
 use Rattle.std.specs.List.{list_all}
 use Rattle.std.specs.Iterator.{YieldsFirstBy}
-use Rattle.std.proofs.lemmas.Bool.{and_from}
-use Rattle.std.proofs.lemmas.List.{length-map}
 use Rattle.text_rules.specs.Names.{Name, same_name, is_among}
 use Rattle.text_rules.specs.Tokens.{Uncut, tokens_left}
 use Rattle.text_rules.proofs.NameLemmas.{equal_if_same}
 use Rattle.device_model.specs.TruthTable.{has_few_ports}
-use Rattle.device_model.specs.Building.{place_in}
 use Rattle.component_lang.specs.declared.design.UsedKind.{UsedKind}
+use Rattle.component_lang.specs.declared.design.Used.{Used}
 use Rattle.component_lang.specs.declared.design.Block.{Block}
 use Rattle.component_lang.specs.declared.fault.LangFault.{LangFault}
-use Rattle.component_lang.specs.declared.fault.LangFault.TheVariants.{Name as NoName, Twice, Unknown, Ports}
+use Rattle.component_lang.specs.declared.fault.LangFault.TheVariants.{Name as NoName, Twice, Ports}
 use Rattle.component_lang.specs.Designs.{is_plain_name, used_names, takes_args}
-use Rattle.component_lang.specs.Reading.{Draft, Reader, InType, InBlock, at, is_new, kind_named, type_line, block_line, wire_line, ok_line, bad_line, part_of_kind, part_line, outside, in_type, in_block}
-use Rattle.component_lang.specs.Words.{are_new, new_ports}
-use Rattle.component_lang.proofs.NameLists.{more_names}
+use Rattle.component_lang.specs.Kinds.{OpenType, Reader, InType, InBlock, kind_named}
+use Rattle.component_lang.specs.DesignLines.{at, is_new, type_line, block_line, ok_line, bad_line, are_new, wire_line, places_in, part_of, with_part, part_line, outside, in_type, in_block}
+use Rattle.component_lang.specs.inner.Words.{new_ports, places_among}
+use Rattle.component_lang.proofs.NameLists.{more_names, places_among-ok}
 
 -- ---- words
 
@@ -27,9 +26,6 @@ no_more None left after steps h = steps.0
 no_more (Some t) left after steps h = cc
 
 -- ---- types
-
-abbrev tried : Bool → Bool → Reader → Result Reader LangFault
-tried new few next = if new then (if few then Ok next else Err Ports) else Err Twice
 
 abbrev if_plain : {A : Type 0} → Bool → Result A LangFault → Result A LangFault
 if_plain p r = if p then r else Err NoName
@@ -41,7 +37,7 @@ abbrev pub type_begun : Reader → Name → ℕ → Reader
 type_begun reader name n = at reader (InType (record { name = name; ports = n; ok = 0; bad = None }))
 
 abbrev pub type_with : Reader → Name → List Name → Result Reader LangFault
-type_with reader name ports = if nat_le 1 (length ports) && nat_le (length ports) 6 then Ok (type_begun reader name (length ports)) else Err Ports
+type_with reader name ports = if has_few_ports (length ports) then Ok (type_begun reader name (length ports)) else Err Ports
 
 -- by the number of ports, where it is tested
 pub type_size : (reader : Reader) (name : Name) (ports : List Name) (size : ℕ) {few : Bool} → length ports ≡ size → has_few_ports size ≡ few
@@ -68,10 +64,6 @@ ports_fault : {A : Type 0} (p n : Bool) (ports : List Name) (r : Result A LangFa
 ports_fault true true ports r what g = cc
 ports_fault true false ports r what g = cc
 ports_fault false n ports r what g = cc
-
-pub type_line-fault : (reader : Reader) (name : Name) (ports : List Name) (what : LangFault) → new_ports reader name ports ≡ Err what → type_line reader name ports ≡ Err what
-type_line-fault reader name ports what h =
-    ports_fault (list_all is_plain_name (name ∷ ports)) (is_new reader name ports) ports (type_with reader name ports) what h
 
 -- ---- blocks
 
@@ -118,62 +110,41 @@ wire_line-wires reader block names wires h = wire_line-more reader block names �
 
 -- ---- parts
 
-pub all_plain : (name kind : Name) (args : List Name) → is_plain_name name ≡ true → is_plain_name kind ≡ true → list_all is_plain_name args ≡ true → list_all is_plain_name (name ∷ kind ∷ args) ≡ true
-all_plain name kind args n k a = and_from _ _ n (and_from _ _ k a)
-
 module _ (reader : Reader) (block : Block) (name kind : Name) (args : List Name) where
-  pub part-no_name : (list_all is_plain_name (name ∷ kind ∷ args)) ≡ false → part_line reader block name kind args ≡ Err NoName
-  part-no_name h = ap (λ p. if_plain p (if is_among (used_names block.parts) name then Err Twice else part_of_kind reader block name args (kind_named reader kind))) h
+  abbrev part_after_names : Bool → Option (List ℕ) → Result Reader LangFault
+  part_after_names taken places = if taken then Err Twice else with_part reader block (part_of reader name (kind_named reader kind) places)
 
-  module _ (plain : list_all is_plain_name (name ∷ kind ∷ args) ≡ true) where
-    part-plain : part_line reader block name kind args ≡ (if is_among (used_names block.parts) name then Err Twice else part_of_kind reader block name args (kind_named reader kind))
-    part-plain = ap (λ p. if_plain p (if is_among (used_names block.parts) name then Err Twice else part_of_kind reader block name args (kind_named reader kind))) plain
+  abbrev part_words : List Name
+  part_words = name ∷ kind ∷ args
 
-    pub part-twice : is_among (used_names block.parts) name ≡ true → part_line reader block name kind args ≡ Err Twice
-    part-twice h = part-plain ∙ ap (λ b. if b then Err Twice else part_of_kind reader block name args (kind_named reader kind)) h
+  pub part-fault : (what : LangFault) → places_among part_words block.wires args ≡ Err what → part_line reader block name kind args ≡ Err what
+  part-fault what h = by (list_all is_plain_name part_words) h
+    where
+      by : (p : Bool) → if_plain p (Ok (places_in block.wires args)) ≡ Err what
+          → if_plain p (part_after_names (is_among (used_names block.parts) name) (places_in block.wires args)) ≡ Err what
+      by true g = cc
+      by false g = cc
 
-    module _ (new : is_among (used_names block.parts) name ≡ false) where
-      part-new : part_line reader block name kind args ≡ part_of_kind reader block name args (kind_named reader kind)
-      part-new = part-plain ∙ ap (λ b. if b then Err Twice else part_of_kind reader block name args (kind_named reader kind)) new
+  -- where all words are names, the line does what its name, its kind and its places say
+  pub part-named : (taken : Bool) (places : Option (List ℕ)) → places_among part_words block.wires args ≡ Ok places → is_among (used_names block.parts) name ≡ taken
+      → part_line reader block name kind args ≡ part_after_names taken places
+  part-named taken places h t =
+      let found = places_among-ok part_words block.wires args places h in
+      ap (λ p. if_plain p (part_after_names (is_among (used_names block.parts) name) (places_in block.wires args))) found.0
+      ∙ ap (λ b. part_after_names b (places_in block.wires args)) t ∙ ap (part_after_names taken) found.1
 
-      pub part-no_kind : kind_named reader kind ≡ None → part_line reader block name kind args ≡ Err Unknown
-      part-no_kind h = part-new ∙ ap (part_of_kind reader block name args) h
-
-      module _ (is : UsedKind) (known : kind_named reader kind ≡ Some is) where
-        part-known : part_line reader block name kind args ≡ part_of_kind reader block name args (Some is)
-        part-known = part-new ∙ ap (part_of_kind reader block name args) known
-
-        abbrev part_added : List ℕ → Reader
-        part_added places = at reader (InBlock (record block { parts = block.parts ++ record { name = name; kind = is; args = places } ∷ [] }))
-
-        abbrev part_tried : Bool → Bool → List ℕ → Result Reader LangFault
-        part_tried wired fits places = if wired then (if fits then Ok (part_added places) else Err Ports) else Err Unknown
-
-        abbrev found_or : Bool → List ℕ → Option (List ℕ)
-        found_or b xs = if b then Some xs else None
-
-        pub part-no_wire : None ≡ (if list_all (is_among block.wires) args then Some (map (place_in block.wires) args) else None) → part_line reader block name kind args ≡ Err Unknown
-        part-no_wire h = part-known ∙ by (list_all (is_among block.wires) args) h
-          where
-            by : (b : Bool) → None ≡ found_or b (map (place_in block.wires) args) → part_tried b (takes_args reader.types reader.blocks is (length args)) (map (place_in block.wires) args) ≡ Err Unknown
-            by true g = cc
-            by false g = refl
-
-        pub part-wired : (places : List ℕ) (size : ℕ) {fits : Bool} → Some places ≡ (if list_all (is_among block.wires) args then Some (map (place_in block.wires) args) else None)
-            → length places ≡ size → takes_args reader.types reader.blocks is size ≡ fits → part_line reader block name kind args ≡ (if fits then Ok (part_added places) else Err Ports)
-        part-wired places size {fits} h e t =
-            part-known ∙ by (list_all (is_among block.wires) args) h ∙ ap (λ n. part_tried true (takes_args reader.types reader.blocks is n) places) e ∙ ap (λ b. part_tried true b places) t
-          where
-            same_size : map (place_in block.wires) args ≡ places → length args ≡ length places
-            same_size g = sym (length-map args (place_in block.wires)) ∙ ap length g
-
-            by : (b : Bool) → Some places ≡ found_or b (map (place_in block.wires) args)
-                → part_tried b (takes_args reader.types reader.blocks is (length args)) (map (place_in block.wires) args) ≡ part_tried true (takes_args reader.types reader.blocks is (length places)) places
-            by true g =
-                let same : map (place_in block.wires) args ≡ places = cc in
-                ap (λ n. part_tried true (takes_args reader.types reader.blocks is n) (map (place_in block.wires) args)) (same_size same)
-                ∙ ap (part_tried true (takes_args reader.types reader.blocks is (length places))) same
-            by false g = cc
+pub part_of-name : (reader : Reader) (name : Name) (kind : Option UsedKind) (places : Option (List ℕ)) (part : Used) → part_of reader name kind places ≡ Ok part → part.name ≡ name
+part_of-name reader name None places part h = cc
+part_of-name reader name (Some kind) None part h = cc
+part_of-name reader name (Some kind) (Some places) part h = by (takes_args reader.types reader.blocks kind (length places)) h
+  where
+    by : (b : Bool) → (if b then Ok (record { name = name; kind = kind; args = places }) else Err Ports) ≡ Ok part → part.name ≡ name
+    by true g = cc (ap (λ (r : Result Used LangFault). name_of r) g)
+      where
+        name_of : Result Used LangFault → Name
+        name_of (Ok u) = u.name
+        name_of (Err what) = name
+    by false g = cc
 
 -- ---- lines by their first words
 
@@ -186,13 +157,13 @@ outside-block reader word name words ports e b =
     by [] = refl
     by (p ∷ ps) = refl
 
-pub in_type-ok : (reader : Reader) (draft : Draft) (word row : Name) (words : List Name) → words ≡ row ∷ [] → same_name word (codes "ok") ≡ true
-    → in_type reader draft (word ∷ words) ≡ ok_line reader draft row
-in_type-ok reader draft word row words e b = rw (e, equal_if_same word (codes "ok") b) refl
+pub in_type-ok : (reader : Reader) (open_type : OpenType) (word row : Name) (words : List Name) → words ≡ row ∷ [] → same_name word (codes "ok") ≡ true
+    → in_type reader open_type (word ∷ words) ≡ ok_line reader open_type row
+in_type-ok reader open_type word row words e b = rw (e, equal_if_same word (codes "ok") b) refl
 
-pub in_type-bad : (reader : Reader) (draft : Draft) (word row : Name) (words : List Name) → words ≡ row ∷ [] → same_name word (codes "bad") ≡ true
-    → in_type reader draft (word ∷ words) ≡ bad_line reader draft row
-in_type-bad reader draft word row words e b = rw (e, equal_if_same word (codes "bad") b) refl
+pub in_type-bad : (reader : Reader) (open_type : OpenType) (word row : Name) (words : List Name) → words ≡ row ∷ [] → same_name word (codes "bad") ≡ true
+    → in_type reader open_type (word ∷ words) ≡ bad_line reader open_type row
+in_type-bad reader open_type word row words e b = rw (e, equal_if_same word (codes "bad") b) refl
 
 pub in_block-wire : (reader : Reader) (block : Block) (word name : Name) (words others : List Name) → words ≡ name ∷ others → same_name word (codes "wire") ≡ true
     → in_block reader block (word ∷ words) ≡ wire_line reader block (name ∷ others)
@@ -202,7 +173,3 @@ in_block-wire reader block word name words others e b =
     by : (ns : List Name) → in_block reader block (codes "wire" ∷ name ∷ ns) ≡ wire_line reader block (name ∷ ns)
     by [] = refl
     by (n ∷ ns) = refl
-
-pub in_block-part : (reader : Reader) (block : Block) (word name kind : Name) (words others args : List Name) → words ≡ name ∷ others → others ≡ kind ∷ args → same_name word (codes "part") ≡ true
-    → in_block reader block (word ∷ words) ≡ part_line reader block name kind args
-in_block-part reader block word name kind words others args e f b = rw (e, f, equal_if_same word (codes "part") b) refl

@@ -3,19 +3,22 @@ use Rattle.std.proofs.Common.{◌≡◌, ℕ, suc, ◌+◌, ◌≤◌, Bool, tru
 use Rattle.std.specs.Prelude.{◌&&◌, ◌||◌, position, nat_lt, if◌then◌else◌}
 use Rattle.std.specs.List.{list_any, list_all, position_or_len}
 use Rattle.std.proofs.lemmas.Bool.{and_parts, leb-true, lt-ltb}
-use Rattle.std.proofs.lemmas.Bool.Decides.{nat_tests}
-use Rattle.std.proofs.lemmas.List.{length-map}
+use Rattle.std.proofs.lemmas.Bool.Decides.{nat_tests, same_from_decides}
+use Rattle.std.proofs.lemmas.List.{map-append}
 use Rattle.std.proofs.lemmas.List.Folds.{list_any-append}
 use Rattle.indexmap.specs.IndexSet.{insert_key}
 use Rattle.text_rules.specs.Names.{Name, same_name, is_among}
-use Rattle.text_rules.proofs.NameLemmas.{same_if_equal, equal_if_same}
+use Rattle.text_rules.proofs.NameLemmas.{same_name-Decides, same_if_equal, equal_if_same}
 use Rattle.device_model.specs.Building.{place_in}
 use Rattle.component_lang.specs.declared.fault.LangFault.{LangFault}
 use Rattle.component_lang.specs.declared.fault.LangFault.TheVariants.{Name as NoName, Twice}
-use Rattle.component_lang.specs.Designs.{is_plain_name, has_repeated}
-use Rattle.component_lang.specs.Words.{with_name, are_new, places_in}
+use Rattle.device_model.specs.Building.{repeated}
+use Rattle.device_model.proofs.Tables.{list_any-map}
+use Rattle.component_lang.specs.Designs.{is_plain_name, are_none, are_distinct}
+use Rattle.component_lang.specs.DesignLines.{are_new, places_in}
+use Rattle.component_lang.specs.inner.Words.{with_name, places_among}
 
-abbrev bytes : Bor Name → Name
+abbrev pub bytes : Bor Name → Name
 bytes k = k.now
 
 abbrev pub same_key : Bor Name → Bor Name → Bool
@@ -23,48 +26,33 @@ same_key a b = same_name a.now b.now
 
 -- ---- keys and their bytes
 
-pub among_keys : (p : Name → Bool) (ks : List (Bor Name)) → list_any (λ k. p (bytes k)) ks ≡ list_any p (map bytes ks)
-among_keys p [] = refl
-among_keys p (k ∷ ks) = ap (λ b. p k.now || b) (among_keys p ks)
-
-map-push : (ks : List (Bor Name)) (k : Bor Name) → map bytes (ks ++ k ∷ []) ≡ map bytes ks ++ k.now ∷ []
-map-push [] k = refl
-map-push (x ∷ ks) k = ap (λ ns. x.now ∷ ns) (map-push ks k)
-
 pub keys-insert : (ks : List (Bor Name)) (k : Bor Name) → map bytes (insert_key same_key ks k) ≡ insert_key same_name (map bytes ks) k.now
-keys-insert ks k = by (list_any (same_key k) ks) ∙ ap (λ b. if b then map bytes ks else map bytes ks ++ k.now ∷ []) (among_keys (same_name k.now) ks)
+keys-insert ks k = by (list_any (same_key k) ks) ∙ ap (λ b. if b then map bytes ks else map bytes ks ++ k.now ∷ []) (list_any-map bytes (same_name k.now) ks)
   where
     by : (b : Bool) → map bytes (if b then ks else ks ++ k ∷ []) ≡ (if b then map bytes ks else map bytes ks ++ k.now ∷ [])
     by true = refl
-    by false = map-push ks k
-
-position_or_len-keys : (p : Name → Bool) (ks : List (Bor Name)) → position_or_len (λ k. p (bytes k)) ks ≡ position_or_len p (map bytes ks)
-position_or_len-keys p [] = refl
-position_or_len-keys p (k ∷ ks) = ap (λ n. cond (not (p k.now)) (1 + n) 0) (position_or_len-keys p ks)
-
--- a look-up by a key's bytes is a look-up among the bytes of the keys
-pub position-keys : (p : Name → Bool) (ks : List (Bor Name)) → position (λ k. p (bytes k)) ks ≡ position p (map bytes ks)
-position-keys p ks =
-    ap (λ n. cond (nat_lt n (length ks)) (Some n) None) (position_or_len-keys p ks)
-    ∙ ap (λ n. cond (nat_lt (position_or_len p (map bytes ks)) n) (Some (position_or_len p (map bytes ks))) None) (sym (length-map ks bytes))
+    by false = map-append bytes ks (k ∷ [])
 
 -- ---- names that are added
 
 pub same_name-sym : (a b : Name) → same_name a b ≡ same_name b a
-same_name-sym a b = by (same_name a b) (same_name b a) (λ e. same_if_equal b a (sym (equal_if_same a b e))) (λ e. same_if_equal a b (sym (equal_if_same b a e)))
-  where
-    by : (x y : Bool) → (x ≡ true → y ≡ true) → (y ≡ true → x ≡ true) → x ≡ y
-    by true y to back = sym (to refl)
-    by false true to back = back refl
-    by false false to back = refl
+same_name-sym a b = same_from_decides (same_name a b) (same_name b a) (same_name-Decides a b) (λ e. sym (equal_if_same b a e), λ e. same_if_equal b a (sym e))
 
--- a name behind those above stands among them or is the last
-any_behind : (above : List Name) (n : Name) (names : List Name) → list_any (is_among (above ++ n ∷ [])) names ≡ (list_any (is_among above) names || is_among names n)
-any_behind above n [] = refl
-any_behind above n (m ∷ names) =
+-- a name before others that differ from one another has to differ from them
+pub are_distinct-cons : (n : Name) (names : List Name) → are_distinct (n ∷ names) ≡ (not (is_among names n) && are_distinct names)
+are_distinct-cons n names = by (is_among names n)
+  where
+    by : (b : Bool) → are_none (if b then n ∷ repeated names else repeated names) ≡ (not b && are_distinct names)
+    by true = refl
+    by false = refl
+
+-- a name after those above stands among them or is the last
+any_after : (above : List Name) (n : Name) (names : List Name) → list_any (is_among (above ++ n ∷ [])) names ≡ (list_any (is_among above) names || is_among names n)
+any_after above n [] = refl
+any_after above n (m ∷ names) =
     ap (λ b. b || list_any (is_among (above ++ n ∷ [])) names) (list_any-append (same_name m) above (n ∷ []))
     ∙ ap (λ b. (is_among above m || (b || false)) || list_any (is_among (above ++ n ∷ [])) names) (same_name-sym m n)
-    ∙ ap (λ b. (is_among above m || (same_name n m || false)) || b) (any_behind above n names)
+    ∙ ap (λ b. (is_among above m || (same_name n m || false)) || b) (any_after above n names)
     ∙ by (is_among above m) (same_name n m) (list_any (is_among above) names) (is_among names n)
   where
     by : (a b c d : Bool) → ((a || (b || false)) || (c || d)) ≡ ((a || c) || (b || d))
@@ -73,30 +61,30 @@ any_behind above n (m ∷ names) =
     by false true false d = refl
     by false false c d = refl
 
--- the first name is new, and the others are new behind it
+-- the first name is new, and the others are new after it
 pub are_new-first : (above : List Name) (n : Name) (names : List Name) → are_new above (n ∷ names) ≡ (not (is_among above n) && are_new (insert_key same_name above n) names)
-are_new-first above n names = by (is_among above n) refl
+are_new-first above n names =
+    ap (λ b. b && not (is_among above n || list_any (is_among above) names)) (are_distinct-cons n names) ∙ by (is_among above n) refl
   where
-    rest : (a b c : Bool) → (not (a || b) && not c) ≡ (not b && not (c || a))
-    rest true true c = refl
-    rest true false true = refl
-    rest true false false = refl
-    rest false true c = refl
-    rest false false true = refl
-    rest false false false = refl
+    rest : (a d c : Bool) → ((not a && d) && not c) ≡ (d && not (c || a))
+    rest true true true = refl
+    rest true true false = refl
+    rest true false c = refl
+    rest false true true = refl
+    rest false true false = refl
+    rest false false c = refl
 
-    no : (a b : Bool) → (not (a || b) && false) ≡ false
-    no true b = refl
-    no false true = refl
-    no false false = refl
+    no : (b : Bool) → (b && false) ≡ false
+    no true = refl
+    no false = refl
 
     by : (b : Bool) → is_among above n ≡ b
-        → (not (is_among names n || has_repeated names) && not (b || list_any (is_among above) names))
+        → ((not (is_among names n) && are_distinct names) && not (b || list_any (is_among above) names))
         ≡ (not b && are_new (if b then above else above ++ n ∷ []) names)
-    by true e = no (is_among names n) (has_repeated names)
+    by true e = no (not (is_among names n) && are_distinct names)
     by false e =
-        rest (is_among names n) (has_repeated names) (list_any (is_among above) names)
-        ∙ ap (λ b. not (has_repeated names) && not b) (sym (any_behind above n names))
+        rest (is_among names n) (are_distinct names) (list_any (is_among above) names)
+        ∙ ap (λ b. are_distinct names && not b) (sym (any_after above n names))
 
 abbrev if_plain : {A : Type 0} → Bool → Result A LangFault → Result A LangFault
 if_plain p r = if p then r else Err NoName
@@ -149,20 +137,6 @@ more_names-first new above n names added is_new h = by (is_plain_name n) h
         ∙ ap (λ (t : Bool). more_names (new && t) added names) b
     by false g = cc
 
-pub more_names-refused : (new : Bool) (above : List Name) (n : Name) (names : List Name) (what : LangFault) → with_name above n ≡ Err what → more_names new above (n ∷ names) ≡ Err what
-more_names-refused new above n names what h = by (is_plain_name n) h
-  where
-    one : List Name × Bool
-    one = (insert_key same_name above n, not (is_among above n))
-
-    by : (p : Bool) → if_plain p (Ok one) ≡ Err what
-        → if_plain (p && list_all is_plain_name names) (if_new (new && are_new above (n ∷ names)) (above ++ n ∷ names)) ≡ Err what
-    by true g = cc
-    by false g = cc
-
-pub more_names-end : (above : List Name) → more_names true above [] ≡ Ok above
-more_names-end above = ap (λ (xs : List Name). Ok xs) (append-nil above)
-
 -- a fault of the others is one of all
 pub more_names-fault : (new : Bool) (above names : List Name) (what : LangFault) → more_names true above names ≡ Err what → more_names new above names ≡ Err what
 more_names-fault true above names what h = h
@@ -200,7 +174,7 @@ with_name-length above n added new h = by (is_plain_name n) (is_among above n) h
 abbrev found_or : Bool → List ℕ → Option (List ℕ)
 found_or b xs = if b then Some xs else None
 
--- the places of names behind those of names above, of which not all may be known
+-- the places of names after those of names above, of which not all may be known
 abbrev pub more_places : Bool → List ℕ → List Name → List Name → Result (Option (List ℕ)) LangFault
 more_places known done wires names =
     if list_all is_plain_name names then Ok (if known && list_all (is_among wires) names then Some (done ++ map (place_in wires) names) else None) else Err NoName
@@ -250,28 +224,13 @@ more_places-unknown known done wires n names plain h =
     none true = refl
     none false = refl
 
-pub more_places-refused : (known : Bool) (done : List ℕ) (wires : List Name) (n : Name) (names : List Name) → is_plain_name n ≡ false → more_places known done wires (n ∷ names) ≡ Err NoName
-more_places-refused known done wires n names h =
-    ap (λ p. if_plain (p && list_all is_plain_name names) (Ok (found_or (known && (is_among wires n && list_all (is_among wires) names)) (done ++ place_in wires n ∷ map (place_in wires) names)))) h
-
 pub more_places-end : (known : Bool) (done : List ℕ) (wires : List Name) → more_places known done wires [] ≡ Ok (if known then Some done else None)
 more_places-end true done wires = ap (λ (xs : List ℕ). Ok (Some xs)) (append-nil done)
 more_places-end false done wires = refl
 
 -- ---- lengths
 
-pub plain-sizes : (n : Name) → is_plain_name n ≡ true → (1 ≤ length n) × (length n ≤ 255)
-plain-sizes n h =
-    let name = and_parts _ _ h in
-    let sized = and_parts _ _ name.0 in
-    let both = and_parts _ _ sized.0 in
-    (leb-true 1 (length n) both.0, (let most = leb-true (length n) 64 both.1 in omega arith))
-
 -- ---- names of a list
-
-map-more : {A : Type 0} (name : A → Name) (xs : List A) (x : A) → map name (xs ++ x ∷ []) ≡ map name xs ++ name x ∷ []
-map-more name [] x = refl
-map-more name (y ∷ xs) x = ap (λ ns. name y ∷ ns) (map-more name xs x)
 
 -- the names of a list and one more, which is not there yet
 pub keys-more : {A : Type 0} (name : A → Name) (ks more : List (Bor Name)) (k : Bor Name) (xs ys : List A) (x : A) → map bytes ks ≡ map name xs → more ≡ insert_key same_key ks k
@@ -279,28 +238,19 @@ pub keys-more : {A : Type 0} (name : A → Name) (ks more : List (Bor Name)) (k 
 keys-more name ks more k xs ys x before added free is behind =
     ap (map bytes) added ∙ keys-insert ks k ∙ ap (λ ns. insert_key same_name ns k.now) before
     ∙ ap (λ b. if b then map name xs else map name xs ++ k.now ∷ []) free
-    ∙ ap (λ n. map name xs ++ n ∷ []) (sym is) ∙ sym (map-more name xs x) ∙ ap (map name) (sym behind)
+    ∙ ap (λ n. map name xs ++ n ∷ []) (sym is) ∙ sym (map-append name xs (x ∷ [])) ∙ ap (map name) (sym behind)
 
 -- what the places of names say of them
-pub places_in-ok : (wires names : List Name) (found : Option (List ℕ)) → places_in wires names ≡ Ok found
-    → (list_all is_plain_name names ≡ true) × (found ≡ (if list_all (is_among wires) names then Some (map (place_in wires) names) else None))
-places_in-ok wires names found h = by (list_all is_plain_name names) h
+pub places_among-ok : (words wires names : List Name) (found : Option (List ℕ)) → places_among words wires names ≡ Ok found → (list_all is_plain_name words ≡ true) × (places_in wires names ≡ found)
+places_among-ok words wires names found h = by (list_all is_plain_name words) h
   where
-    by : (p : Bool) → if_plain p (Ok (found_or (list_all (is_among wires) names) (map (place_in wires) names))) ≡ Ok found
-        → (p ≡ true) × (found ≡ found_or (list_all (is_among wires) names) (map (place_in wires) names))
+    by : (p : Bool) → if_plain p (Ok (places_in wires names)) ≡ Ok found → (p ≡ true) × (places_in wires names ≡ found)
     by true g = (refl, cc)
     by false g = cc
 
-pub places_in-fault : (wires names : List Name) (what : LangFault) → places_in wires names ≡ Err what → (list_all is_plain_name names ≡ false) × (what ≡ NoName)
-places_in-fault wires names what h = by (list_all is_plain_name names) h
-  where
-    by : (p : Bool) → if_plain p (Ok (found_or (list_all (is_among wires) names) (map (place_in wires) names))) ≡ Err what → (p ≡ false) × (what ≡ NoName)
-    by true g = cc
-    by false g = (refl, cc)
-
 pub inserted-among : (ks : List (Bor Name)) (k : Bor Name) (names : List Name) {new old : Bool} → map bytes ks ≡ names → new ≡ not (list_any (same_key k) ks) → new ≡ not old → is_among names k.now ≡ old
 inserted-among ks k names {new} {old} same is e =
-    ap (λ ns. is_among ns k.now) (sym same) ∙ sym (among_keys (same_name k.now) ks) ∙ by (list_any (same_key k) ks) old (sym is ∙ e)
+    ap (λ ns. is_among ns k.now) (sym same) ∙ sym (list_any-map bytes (same_name k.now) ks) ∙ by (list_any (same_key k) ks) old (sym is ∙ e)
   where
     by : (a b : Bool) → not a ≡ not b → a ≡ b
     by true true g = refl

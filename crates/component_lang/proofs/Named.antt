@@ -12,7 +12,7 @@ use Rattle.component_lang.specs.declared.design.UsedKind.{UsedKind}
 use Rattle.component_lang.specs.declared.design.UsedKind.TheVariants.{Gate, Shape as OfShape, Block as OfBlock}
 use Rattle.component_lang.specs.declared.design.Shape.{Shape}
 use Rattle.component_lang.specs.declared.design.Block.{Block}
-use Rattle.component_lang.specs.Reading.{Reader, gates, types_from, blocks_from, kind_named}
+use Rattle.component_lang.specs.Kinds.{Reader, gates, types_from, blocks_from, kind_named}
 
 abbrev pub type_names : List Shape → List Name
 type_names types = map (λ (shape : Shape). shape.name) types
@@ -98,10 +98,6 @@ kind_named-split : (reader : Reader) (name : Name) → kind_named reader name
 kind_named-split reader name =
     lookup-append (same_name name) gates (types_from 0 reader.types ++ blocks_from 0 reader.blocks)
     ∙ ap (first_some (lookup (same_name name) gates)) (lookup-append (same_name name) (types_from 0 reader.types) (blocks_from 0 reader.blocks))
-
-pub kind_named-gate : (reader : Reader) (name : Name) (kind : UsedKind) → lookup (same_name name) gates ≡ Some kind → kind_named reader name ≡ Some kind
-kind_named-gate reader name kind g =
-    kind_named-split reader name ∙ ap (λ (o : Option UsedKind). first_some o (first_some (lookup (same_name name) (types_from 0 reader.types)) (lookup (same_name name) (blocks_from 0 reader.blocks)))) g
 
 pub kind_named-type : (reader : Reader) (name : Name) (place : ℕ) → lookup (same_name name) gates ≡ None → position (same_name name) (type_names reader.types) ≡ Some place
     → kind_named reader name ≡ Some (OfShape place)

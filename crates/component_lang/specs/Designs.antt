@@ -1,8 +1,9 @@
 -- Designs: types of parts, and blocks of parts, wires and instances of blocks above them.
-use Rattle.std.specs.Prelude.{ℕ, ◌-◌, Bool, true, false, not, ◌&&◌, ◌||◌, List, [], ◌∷◌, ◌++◌, map, length, ◌==◌, Option, Some, None, nat_lt, nat_le, slice_get}
+use Rattle.std.specs.Prelude.{ℕ, ◌-◌, Bool, true, false, not, ◌&&◌, List, [], ◌∷◌, ◌++◌, map, length, ◌==◌, Option, Some, None, nat_lt, nat_le, slice_get}
 use Rattle.std.specs.List.{list_all, list_any}
-use Rattle.text_rules.specs.Names.{Name, is_name, is_among}
+use Rattle.text_rules.specs.Names.{Name, is_short_name}
 use Rattle.device_model.specs.Devices.{takes}
+use Rattle.device_model.specs.Building.{repeated}
 use Rattle.component_lang.specs.declared.design.UsedKind.{UsedKind}
 use Rattle.component_lang.specs.declared.design.UsedKind.TheVariants.{Gate, Shape as OfShape, Block as OfBlock}
 use Rattle.component_lang.specs.declared.design.Used.{Used}
@@ -17,11 +18,15 @@ pub record Design : Type 0 where
 
 -- one to 64 bytes of names, without a dot
 abbrev pub is_plain_name : Name → Bool
-is_plain_name word = is_name 64 word && not (list_any (λ b. b == 46) word)
+is_plain_name word = is_short_name word && not (list_any (λ b. b == 46) word)
 
-abbrev pub has_repeated : List Name → Bool
-has_repeated [] = false
-has_repeated (n ∷ ns) = is_among ns n || has_repeated ns
+abbrev pub are_none : List Name → Bool
+are_none [] = true
+are_none (name ∷ names) = false
+
+-- no name stands twice
+abbrev pub are_distinct : List Name → Bool
+are_distinct names = are_none (repeated names)
 
 abbrev pub used_names : List Used → List Name
 used_names parts = map (λ (u : Used). u.name) parts
@@ -49,9 +54,9 @@ is_used types above wires used =
 -- Names are plain and differ, wires among wires and parts among parts. The ports are the first of the wires.
 abbrev pub is_block : List Shape → List Block → Block → Bool
 is_block types above block =
-    (list_all is_plain_name block.wires && not (has_repeated block.wires))
+    (list_all is_plain_name block.wires && are_distinct block.wires)
     && (nat_le block.ports (length block.wires)
-    && (list_all (is_used types above (length block.wires)) block.parts && not (has_repeated (used_names block.parts))))
+    && (list_all (is_used types above (length block.wires)) block.parts && are_distinct (used_names block.parts)))
 
 -- each block uses only blocks that stand before it
 abbrev pub are_blocks : List Shape → List Block → List Block → Bool

@@ -1,5 +1,5 @@
 -- How the faults of designs are numbered and named.
-use Rattle.std.specs.Prelude.{◌≡◌, ℕ, List, codes, Result, Err}
+use Rattle.std.specs.Prelude.{ℕ, List, codes, Option, Some, None}
 use Rattle.component_lang.specs.declared.fault.LangFault.{LangFault}
 use Rattle.component_lang.specs.declared.fault.LangFault.TheVariants.{Line, Name, Twice, Unknown, Ports, Row, NoTop, AfterTop}
 use Rattle.component_lang.specs.declared.fault.LangError.{LangError}
@@ -26,7 +26,7 @@ fault_name Row = codes "row"
 fault_name NoTop = codes "no top"
 fault_name AfterTop = codes "after top"
 
--- An error is the fault that is expected. Want of memory says nothing.
-abbrev pub IsFault : {A : Type 0} → LangError → Result A Fault → Type 0
-IsFault (Bad line what) expected = expected ≡ Err (record { line = line; what = what })
-IsFault Memory expected = Unit {0}
+-- An error tells a fault, but for want of memory.
+abbrev pub told : LangError → Option Fault
+told (Bad line what) = Some (record { line = line; what = what })
+told Memory = None

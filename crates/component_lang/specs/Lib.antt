@@ -1,8 +1,7 @@
 pub mod Designs
+pub mod Kinds
+pub mod TypeRows
+pub mod DesignLines
 pub mod Reading
 pub mod Faults
-pub mod Words
-pub mod Meanings
-pub mod Views
-pub mod Places
-pub mod Sound
+pub mod inner

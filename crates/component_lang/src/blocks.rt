@@ -1,13 +1,19 @@
-ghost use Rattle.std.specs.Prelude.{◌≡◌, ◌≤◌, length};
+ghost use Rattle.std.specs.Prelude.{◌≡◌, ◌≤◌, ◌∷◌, length};
+ghost use Rattle.std.specs.Option.{option_map};
+ghost use Rattle.text_rules.specs.Expected.{Fulfils};
+ghost use Rattle.text_rules.specs.Tokens.{tokens_left};
+ghost use Rattle.text_rules.specs.declared.text_lines.TheConstants.{TEXT_LIMIT};
 ghost use Rattle.component_lang.specs.Designs.{used_names};
-ghost use Rattle.component_lang.specs.Meanings.{names_in};
+ghost use Rattle.component_lang.specs.inner.LineFaults.{fault_told};
+ghost use Rattle.component_lang.specs.inner.NameSets.{names_in};
+ghost use Rattle.component_lang.specs.inner.Words.{places_among};
 
 use crate::design::{Block, Used, Uses};
 use crate::fault::LangFault;
-use crate::kinds::Closed;
+use crate::kinds::Library;
 use crate::line_error::LineError;
 use crate::words::{add_name, add_names, is_plain_name, places_of};
-use device_model::{Name, Names, Wires};
+use device_model::{Name, Names};
 use indexmap::IndexSet;
 use std::alloc::Global;
 use text_rules::Tokens;
@@ -21,21 +27,38 @@ pub struct OpenBlock<'a> {
     parts: Vec<Used>,
     part_names: IndexSet<&'a [u8]>,
     ghost parts_named: { names_in part_names ≡ used_names parts.items },
-    ghost few: { length wires.keys ≤ 16777216 },
+    ghost few: { length wires.keys ≤ TEXT_LIMIT },
+}
+
+// The places of a part's arguments, if each is a wire. The name of the part, that of its kind and they have to be names.
+fn part_places<'a>(
+    alloc: Global,
+    wires: &IndexSet<&'a [u8]>,
+    name: &[u8],
+    kind: &[u8],
+    args: Tokens<'a>,
+) -> Result<Option<Vec<u32>>, LineError>
+    requires { length wires.now.keys ≤ TEXT_LIMIT }
+    ensures { Fulfils (option_map (λ v. v.items)) fault_told
+        (places_among (name.now ∷ kind.now ∷ tokens_left args.entry) (names_in wires.now) (tokens_left args.entry)) result }
+{
+    if !is_plain_name(name) || !is_plain_name(kind) {
+        return Err(LineError::Fault(LangFault::Name));
+    }
+    places_of(alloc, wires, args)
 }
 
 impl<'a> OpenBlock<'a> {
-    ghost use Rattle.std.specs.Prelude.{◌+◌, ◌<◌, ◌∷◌, [], true, Ok};
+    ghost use Rattle.std.specs.Prelude.{◌+◌, ◌<◌, [], true, Ok};
     ghost use Rattle.std.specs.List.{list_all};
-    ghost use Rattle.text_rules.specs.Tokens.{tokens_left};
     ghost use Rattle.component_lang.specs.Designs.{is_plain_name};
-    ghost use Rattle.component_lang.specs.Reading.{Reader, InBlock, at, wire_line, part_line};
-    ghost use Rattle.component_lang.specs.Meanings.{Gives};
-    ghost use Rattle.component_lang.specs.Views.{block_in, closed_in};
+    ghost use Rattle.component_lang.specs.Kinds.{Reader, InBlock};
+    ghost use Rattle.component_lang.specs.DesignLines.{at, wire_line, part_line};
+    ghost use Rattle.component_lang.specs.inner.Views.{block_in, library_in};
 
     /// A block without parts, whose wires are its ports.
     pub fn new(alloc: Global, name: &'a [u8], ports: IndexSet<&'a [u8]>) -> Self
-        requires { length ports.keys ≤ 16777216 }
+        requires { length ports.keys ≤ TEXT_LIMIT }
         ensures { block_in result ≡ record { name = name.now; ports = length (names_in ports.entry); wires = names_in ports.entry; parts = [] } }
     {
         OpenBlock {
@@ -53,9 +76,9 @@ impl<'a> OpenBlock<'a> {
         first: &'a [u8],
         others: Tokens<'a>,
     ) -> Result<OpenBlock<'a>, LineError>
-        requires { length self.wires.keys + 1 + length (tokens_left others) ≤ 16777216 }
-        ensures { (reader : Reader) → Gives result (λ block. at reader (InBlock (block_in block)))
-            (wire_line reader (block_in self.entry) (first.now ∷ tokens_left others.entry)) }
+        requires { length self.wires.keys + 1 + length (tokens_left others) ≤ TEXT_LIMIT }
+        ensures { (reader : Reader) → Fulfils (λ block. at reader (InBlock (block_in block))) fault_told
+            (wire_line reader (block_in self.entry) (first.now ∷ tokens_left others.entry)) result }
     {
         let is_new = add_name(&mut self.wires, first)?;
         add_names(&mut self.wires, others)?;
@@ -70,33 +93,20 @@ impl<'a> OpenBlock<'a> {
     pub fn with_part(
         mut self,
         alloc: Global,
-        closed: &Closed<'a>,
+        library: &Library<'a>,
         name: &'a [u8],
         kind: &[u8],
         args: Tokens<'a>,
     ) -> Result<OpenBlock<'a>, LineError>
-        ensures { Gives result (λ block. at (closed_in closed.now) (InBlock (block_in block)))
-            (part_line (closed_in closed.now) (block_in self.entry) name.now kind.now (tokens_left args.entry)) }
+        ensures { Fulfils (λ block. at (library_in library.now) (InBlock (block_in block))) fault_told
+            (part_line (library_in library.now) (block_in self.entry) name.now kind.now (tokens_left args.entry)) result }
     {
-        if !is_plain_name(name) || !is_plain_name(kind) {
-            return Err(LineError::Fault(LangFault::Name));
-        }
-        let places = places_of(alloc, &self.wires, args)?;
+        let places = part_places(alloc, &self.wires, name, kind, args)?;
         if !self.part_names.insert(name)? {
             return Err(LineError::Fault(LangFault::Twice));
         }
-        let Some(kind) = closed.kind_named(kind) else {
-            return Err(LineError::Fault(LangFault::Unknown));
-        };
-        let Some(places) = places else {
-            return Err(LineError::Fault(LangFault::Unknown));
-        };
-        if !closed.takes_args(kind, places.len()) {
-            return Err(LineError::Fault(LangFault::Ports));
-        }
-        let name = Name::new(alloc, name)?;
-        let args = Wires::new(alloc, &places)?;
-        self.parts.push(Used { name, kind, args })?;
+        self.parts
+            .push(library.part_of(alloc, name, kind, places)?)?;
         Ok(self)
     }
 
@@ -104,7 +114,7 @@ impl<'a> OpenBlock<'a> {
     pub fn close(self, alloc: Global) -> Result<Block, LineError>
         requires named { is_plain_name self.name.now ≡ true }
         requires wires { list_all is_plain_name (names_in self.wires) ≡ true }
-        ensures { Gives result (λ block. block) (Ok (block_in self.entry)) }
+        ensures { Fulfils (λ block. block) fault_told (Ok (block_in self.entry)) result }
     {
         let mut wires = Vec::new(alloc);
         for wire in self.wires.iter() {

@@ -2,31 +2,32 @@ ghost use Rattle.std.specs.Prelude.{◌≡◌, ◌+◌, ◌≤◌, length, map};
 ghost use Rattle.std.specs.Map.{lookup};
 ghost use Rattle.std.specs.Option.{option_map};
 ghost use Rattle.text_rules.specs.Names.{same_name};
+ghost use Rattle.text_rules.specs.declared.text_lines.TheConstants.{TEXT_LIMIT};
 ghost use Rattle.component_lang.specs.declared.design.UsedKind.TheVariants.{Gate as OfGate};
 ghost use Rattle.component_lang.specs.declared.design.Shape.{Shape as TypeOfParts};
 ghost use Rattle.component_lang.specs.declared.design.Block.{Block as BlockOfParts};
-ghost use Rattle.component_lang.specs.Reading.{gates};
-ghost use Rattle.component_lang.specs.Meanings.{names_in};
+ghost use Rattle.component_lang.specs.Kinds.{gates};
+ghost use Rattle.component_lang.specs.inner.NameSets.{names_in};
 
-use crate::design::{Block, Design, Shape, UsedKind};
+use crate::design::{Block, Design, Shape, Used, UsedKind};
 use crate::fault::LangFault;
 use crate::line_error::LineError;
 use crate::words::{add_names, is_plain_name, spells};
-use device_model::Kind;
+use device_model::{Kind, Name, Wires};
 use indexmap::IndexSet;
 use std::alloc::Global;
 use text_rules::Tokens;
 
-/// What is closed above a line: types and blocks, and their names in the same order.
+/// The types and blocks that are closed above a line, and their names in the same order.
 #[derive(Drop)]
-pub struct Closed<'a> {
+pub struct Library<'a> {
     types: Vec<Shape>,
     type_names: IndexSet<&'a [u8]>,
     blocks: Vec<Block>,
     block_names: IndexSet<&'a [u8]>,
     ghost types_named: { names_in type_names ≡ map (λ (shape : TypeOfParts). shape.name) types.items },
     ghost blocks_named: { names_in block_names ≡ map (λ (block : BlockOfParts). block.name) blocks.items },
-    ghost few: { length types.items + length blocks.items ≤ 16777216 },
+    ghost few: { length types.items + length blocks.items ≤ TEXT_LIMIT },
 }
 
 // The gate that a word names.
@@ -54,20 +55,22 @@ fn gate_named(word: &[u8]) -> Option<Kind>
     }
 }
 
-impl<'a> Closed<'a> {
+impl<'a> Library<'a> {
     ghost use Rattle.std.specs.Prelude.{◌<◌, ◌∷◌, ◌++◌, [], true, not, is_some, Ok};
+    ghost use Rattle.text_rules.specs.Expected.{Fulfils};
     ghost use Rattle.text_rules.specs.Tokens.{tokens_left};
-    ghost use Rattle.component_lang.specs.Designs.{is_design, takes_args};
-    ghost use Rattle.component_lang.specs.Reading.{Outside, kind_named};
-    ghost use Rattle.component_lang.specs.Words.{new_ports};
-    ghost use Rattle.component_lang.specs.Meanings.{Gives};
-    ghost use Rattle.component_lang.specs.Views.{closed_in};
+    ghost use Rattle.component_lang.specs.Designs.{is_plain_name, is_design, takes_args};
+    ghost use Rattle.component_lang.specs.Kinds.{Outside, kind_named};
+    ghost use Rattle.component_lang.specs.DesignLines.{part_of};
+    ghost use Rattle.component_lang.specs.inner.LineFaults.{fault_told};
+    ghost use Rattle.component_lang.specs.inner.Words.{new_ports};
+    ghost use Rattle.component_lang.specs.inner.Views.{library_in};
 
     /// Nothing is closed above the first line.
     pub fn new(alloc: Global) -> Self
-        ensures { closed_in result ≡ record { types = []; blocks = []; place = Outside } }
+        ensures { library_in result ≡ record { types = []; blocks = []; section = Outside } }
     {
-        Closed {
+        Library {
             types: Vec::new(alloc),
             type_names: IndexSet::new(alloc),
             blocks: Vec::new(alloc),
@@ -77,7 +80,7 @@ impl<'a> Closed<'a> {
 
     /// The gate, the type or the block of a name.
     pub fn kind_named(&self, name: &[u8]) -> Option<UsedKind>
-        ensures { result ≡ kind_named (closed_in self.now) name.now }
+        ensures { result ≡ kind_named (library_in self.now) name.now }
     {
         if let Some(gate) = gate_named(name) {
             return Some(UsedKind::Gate(gate));
@@ -106,14 +109,42 @@ impl<'a> Closed<'a> {
         }
     }
 
-    /// The ports that a line names behind a new type or block.
+    /// The part of a kind, by the kind's name and the places of the wires at its ports, if all of these are known.
+    pub fn part_of(
+        &self,
+        alloc: Global,
+        name: &[u8],
+        kind: &[u8],
+        places: Option<Vec<u32>>,
+    ) -> Result<Used, LineError>
+        requires { is_plain_name name.now ≡ true }
+        ensures { Fulfils (λ part. part) fault_told
+            (part_of (library_in self.now) name.now (kind_named (library_in self.now) kind.now) (option_map (λ v. v.items) places)) result }
+    {
+        let Some(kind) = self.kind_named(kind) else {
+            return Err(LineError::Fault(LangFault::Unknown));
+        };
+        let Some(places) = places else {
+            return Err(LineError::Fault(LangFault::Unknown));
+        };
+        if !self.takes_args(kind, places.len()) {
+            return Err(LineError::Fault(LangFault::Ports));
+        }
+        Ok(Used {
+            name: Name::new(alloc, name)?,
+            kind,
+            args: Wires::new(alloc, &places)?,
+        })
+    }
+
+    /// The ports that a line names after a new type or block.
     pub fn ports_of(
         &self,
         alloc: Global,
         name: &[u8],
         words: Tokens<'a>,
     ) -> Result<IndexSet<&'a [u8]>, LineError>
-        ensures { Gives result names_in (new_ports (closed_in self.now) name.now (tokens_left words.entry)) }
+        ensures { Fulfils names_in fault_told (new_ports (library_in self.now) name.now (tokens_left words.entry)) result }
     {
         if !is_plain_name(name) {
             return Err(LineError::Fault(LangFault::Name));
@@ -129,10 +160,10 @@ impl<'a> Closed<'a> {
     /// Adds a type.
     pub fn add_type(&mut self, name: &'a [u8], shape: Shape) -> Result<(), LineError>
         requires named { shape.name ≡ name.now }
-        requires free { not (is_some (kind_named (closed_in self.old) name.now)) ≡ true }
-        requires few { length self.old.types.items + length self.old.blocks.items < 16777216 }
-        ensures { Gives result (λ _. closed_in self.new)
-            (Ok (record (closed_in self.old) { types = self.old.types.items ++ shape ∷ [] })) }
+        requires free { not (is_some (kind_named (library_in self.old) name.now)) ≡ true }
+        requires few { length self.old.types.items + length self.old.blocks.items < TEXT_LIMIT }
+        ensures { Fulfils (λ _. library_in self.new) fault_told
+            (Ok (record (library_in self.old) { types = self.old.types.items ++ shape ∷ [] })) result }
     {
         // No name is in the list without its type where memory runs out.
         self.types.reserve(1)?;
@@ -144,10 +175,10 @@ impl<'a> Closed<'a> {
     /// Adds a block.
     pub fn add_block(&mut self, name: &'a [u8], block: Block) -> Result<(), LineError>
         requires named { block.name ≡ name.now }
-        requires free { not (is_some (kind_named (closed_in self.old) name.now)) ≡ true }
-        requires few { length self.old.types.items + length self.old.blocks.items < 16777216 }
-        ensures { Gives result (λ _. closed_in self.new)
-            (Ok (record (closed_in self.old) { blocks = self.old.blocks.items ++ block ∷ [] })) }
+        requires free { not (is_some (kind_named (library_in self.old) name.now)) ≡ true }
+        requires few { length self.old.types.items + length self.old.blocks.items < TEXT_LIMIT }
+        ensures { Fulfils (λ _. library_in self.new) fault_told
+            (Ok (record (library_in self.old) { blocks = self.old.blocks.items ++ block ∷ [] })) result }
     {
         // No name is in the list without its block where memory runs out.
         self.blocks.reserve(1)?;

@@ -1,5 +1,5 @@
 ghost use Rattle.std.specs.Prelude.{◌≡◌};
-ghost use Rattle.component_lang.specs.Meanings.{error_in};
+ghost use Rattle.component_lang.specs.inner.LineFaults.{error_in};
 ghost use Rattle.component_lang.specs.declared.line_error.LineError.TheVariants.{Memory};
 
 use crate::fault::{LangError, LangFault};

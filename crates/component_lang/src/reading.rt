@@ -1,56 +1,59 @@
-ghost use Rattle.std.specs.Prelude.{◌≡◌, ◌≤◌, length, IfOk, IfErr, Ok};
-ghost use Rattle.std.specs.Prelude.{◌+◌, ◌<◌, ◌∷◌, true};
+ghost use Rattle.std.specs.Prelude.{◌≡◌, ◌≤◌, ◌+◌, ◌<◌, ◌∷◌, length, true};
+ghost use Rattle.text_rules.specs.Expected.{Fulfils};
 ghost use Rattle.text_rules.specs.Tokens.{tokens_left};
 ghost use Rattle.device_model.specs.TruthTable.{has_few_ports};
-ghost use Rattle.component_lang.specs.Reading.{InType, Behind, at, type_line, top_line, outside, in_type, in_block, after_line, design};
-ghost use Rattle.component_lang.specs.Meanings.{Gives};
-ghost use Rattle.component_lang.specs.Views.{closed_in, draft_in, block_in};
-ghost use Rattle.component_lang.specs.Places.{place_in, reader_in};
-ghost use Rattle.component_lang.specs.Sound.{is_sound_draft, is_sound_open, is_sound, reader_size};
-ghost use Rattle.component_lang.specs.Faults.{IsFault};
+ghost use Rattle.component_lang.specs.Kinds.{InType, AfterTop};
+ghost use Rattle.component_lang.specs.DesignLines.{at, type_line, top_line, outside, in_type, in_block, after_line};
+ghost use Rattle.component_lang.specs.Reading.{design};
+ghost use Rattle.component_lang.specs.Faults.{told};
+ghost use Rattle.component_lang.specs.inner.LineFaults.{fault_told};
+ghost use Rattle.component_lang.specs.inner.Views.{library_in, open_type_in, block_in};
+ghost use Rattle.component_lang.specs.inner.Sections.{section_in, reader_in};
+ghost use Rattle.component_lang.specs.inner.Sound.{is_sound_type, is_sound_block, is_sound, reader_size};
 
 use crate::blocks::OpenBlock;
 use crate::design::{Design, UsedKind};
 use crate::fault::{LangError, LangFault};
-use crate::kinds::Closed;
+use crate::kinds::Library;
 use crate::line_error::LineError;
-use crate::types::Draft;
+use crate::types::OpenType;
 use crate::words::{is_plain_name, spells};
+use device_model::TYPE_PORT_LIMIT;
 use std::alloc::Global;
-use text_rules::{Lines, Tokens, uncommented};
+use text_rules::{Lines, TEXT_LIMIT, Tokens, uncommented};
 
 /// Where a line stands.
 #[derive(Drop)]
-enum Place<'a> {
+enum Section<'a> {
     Outside,
-    InType(Draft<'a>),
+    InType(OpenType<'a>),
     InBlock(OpenBlock<'a>),
     /// The block of this place is the top.
-    Behind(u32),
+    AfterTop(u32),
 }
 
 // Whether a type may have so many ports.
 fn has_few_ports(ports: usize) -> bool
     ensures { result ≡ has_few_ports ports }
 {
-    (1..=6).contains(&ports)
+    (1..=usize::from(TYPE_PORT_LIMIT)).contains(&ports)
 }
 
 // `type NAME PORT ..`
 fn start_type<'a>(
     alloc: Global,
-    closed: &Closed<'a>,
+    library: &Library<'a>,
     name: &'a [u8],
     words: Tokens<'a>,
-) -> Result<Draft<'a>, LineError>
-    ensures { Gives result (λ draft. at (closed_in closed.now) (InType (draft_in draft)))
-        (type_line (closed_in closed.now) name.now (tokens_left words.entry)) }
+) -> Result<OpenType<'a>, LineError>
+    ensures { Fulfils (λ open_type. at (library_in library.now) (InType (open_type_in open_type))) fault_told
+        (type_line (library_in library.now) name.now (tokens_left words.entry)) result }
 {
-    let ports = closed.ports_of(alloc, name, words)?.len();
+    let ports = library.ports_of(alloc, name, words)?.len();
     if !has_few_ports(ports) {
         return Err(LineError::Fault(LangFault::Ports));
     }
-    Ok(Draft {
+    Ok(OpenType {
         name,
         ports: ports as u8,
         ok: 0,
@@ -59,13 +62,14 @@ fn start_type<'a>(
 }
 
 // `top NAME`
-fn top_of(closed: &Closed<'_>, name: &[u8]) -> Result<u32, LineError>
-    ensures { Gives result (λ top. at (closed_in closed.now) (Behind top)) (top_line (closed_in closed.now) name.now) }
+fn top_of(library: &Library<'_>, name: &[u8]) -> Result<u32, LineError>
+    ensures { Fulfils (λ top. at (library_in library.now) (AfterTop top)) fault_told
+        (top_line (library_in library.now) name.now) result }
 {
     if !is_plain_name(name) {
         return Err(LineError::Fault(LangFault::Name));
     }
-    match closed.kind_named(name) {
+    match library.kind_named(name) {
         Some(UsedKind::Block(place)) => Ok(place),
         _ => Err(LineError::Fault(LangFault::Unknown)),
     }
@@ -74,24 +78,24 @@ fn top_of(closed: &Closed<'_>, name: &[u8]) -> Result<u32, LineError>
 // A line outside of types and blocks: its first word and what follows.
 fn outside<'a>(
     alloc: Global,
-    closed: &Closed<'a>,
+    library: &Library<'a>,
     word: &[u8],
     mut words: Tokens<'a>,
-) -> Result<Place<'a>, LineError>
-    requires { length (tokens_left words) ≤ 16777216 }
-    ensures { Gives result (reader_in closed.now)
-        (outside (closed_in closed.now) (word.now ∷ tokens_left words.entry)) }
+) -> Result<Section<'a>, LineError>
+    requires { length (tokens_left words) ≤ TEXT_LIMIT }
+    ensures { Fulfils (reader_in library.now) fault_told
+        (outside (library_in library.now) (word.now ∷ tokens_left words.entry)) result }
 {
     let Some(name) = words.next() else {
         return Err(LineError::Fault(LangFault::Line));
     };
     if spells(word, b"type") {
-        Ok(Place::InType(start_type(alloc, closed, name, words)?))
+        Ok(Section::InType(start_type(alloc, library, name, words)?))
     } else if spells(word, b"block") {
-        let ports = closed.ports_of(alloc, name, words)?;
-        Ok(Place::InBlock(OpenBlock::new(alloc, name, ports)))
+        let ports = library.ports_of(alloc, name, words)?;
+        Ok(Section::InBlock(OpenBlock::new(alloc, name, ports)))
     } else if spells(word, b"top") && words.next().is_none() {
-        Ok(Place::Behind(top_of(closed, name)?))
+        Ok(Section::AfterTop(top_of(library, name)?))
     } else {
         Err(LineError::Fault(LangFault::Line))
     }
@@ -100,29 +104,29 @@ fn outside<'a>(
 // A line in a type: its first word and what follows.
 fn in_type<'a>(
     alloc: Global,
-    closed: &mut Closed<'a>,
-    draft: Draft<'a>,
+    library: &mut Library<'a>,
+    open_type: OpenType<'a>,
     word: &[u8],
     mut words: Tokens<'_>,
-) -> Result<Place<'a>, LineError>
-    requires sound { is_sound_draft (closed_in closed.old) (draft_in draft) ≡ true }
-    requires few { reader_size (closed_in closed.old) < 16777216 }
-    ensures { Gives result (reader_in closed.new)
-        (in_type (closed_in closed.old) (draft_in draft.entry) (word.now ∷ tokens_left words.entry)) }
+) -> Result<Section<'a>, LineError>
+    requires sound { is_sound_type (library_in library.old) (open_type_in open_type) ≡ true }
+    requires few { reader_size (library_in library.old) < TEXT_LIMIT }
+    ensures { Fulfils (reader_in library.new) fault_told
+        (in_type (library_in library.old) (open_type_in open_type.entry) (word.now ∷ tokens_left words.entry)) result }
 {
     let Some(row) = words.next() else {
         if !spells(word, b"end") {
             return Err(LineError::Fault(LangFault::Line));
         }
-        closed.add_type(draft.name, draft.close(alloc)?)?;
-        return Ok(Place::Outside);
+        library.add_type(open_type.name, open_type.close(alloc)?)?;
+        return Ok(Section::Outside);
     };
     if words.next().is_some() {
         Err(LineError::Fault(LangFault::Line))
     } else if spells(word, b"ok") {
-        Ok(Place::InType(draft.with_ok(row)?))
+        Ok(Section::InType(open_type.with_ok(row)?))
     } else if spells(word, b"bad") {
-        Ok(Place::InType(draft.with_bad(row)?))
+        Ok(Section::InType(open_type.with_bad(row)?))
     } else {
         Err(LineError::Fault(LangFault::Line))
     }
@@ -131,31 +135,31 @@ fn in_type<'a>(
 // A line in a block: its first word and what follows.
 fn in_block<'a>(
     alloc: Global,
-    closed: &mut Closed<'a>,
+    library: &mut Library<'a>,
     block: OpenBlock<'a>,
     word: &[u8],
     mut words: Tokens<'a>,
-) -> Result<Place<'a>, LineError>
-    requires sound { is_sound_open (closed_in closed.old) (block_in block) ≡ true }
-    requires few { reader_size (closed_in closed.old) < 16777216 }
-    requires room { length block.wires.keys + length (tokens_left words) ≤ 16777216 }
-    ensures { Gives result (reader_in closed.new)
-        (in_block (closed_in closed.old) (block_in block.entry) (word.now ∷ tokens_left words.entry)) }
+) -> Result<Section<'a>, LineError>
+    requires sound { is_sound_block (library_in library.old) (block_in block) ≡ true }
+    requires few { reader_size (library_in library.old) < TEXT_LIMIT }
+    requires room { length block.wires.keys + length (tokens_left words) ≤ TEXT_LIMIT }
+    ensures { Fulfils (reader_in library.new) fault_told
+        (in_block (library_in library.old) (block_in block.entry) (word.now ∷ tokens_left words.entry)) result }
 {
     let Some(name) = words.next() else {
         if !spells(word, b"end") {
             return Err(LineError::Fault(LangFault::Line));
         }
-        closed.add_block(block.name, block.close(alloc)?)?;
-        return Ok(Place::Outside);
+        library.add_block(block.name, block.close(alloc)?)?;
+        return Ok(Section::Outside);
     };
     if spells(word, b"wire") {
-        return Ok(Place::InBlock(block.with_wires(name, words)?));
+        return Ok(Section::InBlock(block.with_wires(name, words)?));
     }
     match words.next() {
         Some(kind) if spells(word, b"part") => {
-            let block = block.with_part(alloc, closed, name, kind, words)?;
-            Ok(Place::InBlock(block))
+            let block = block.with_part(alloc, library, name, kind, words)?;
+            Ok(Section::InBlock(block))
         }
         _ => Err(LineError::Fault(LangFault::Line)),
     }
@@ -164,44 +168,44 @@ fn in_block<'a>(
 // Reads a line, and says where the next one stands.
 fn after_line<'a>(
     alloc: Global,
-    closed: &mut Closed<'a>,
-    place: Place<'a>,
+    library: &mut Library<'a>,
+    section: Section<'a>,
     line: &'a [u8],
-) -> Result<Place<'a>, LineError>
-    requires sound { is_sound (reader_in closed.old place) ≡ true }
-    requires few { reader_size (reader_in closed.old place) + length line.now ≤ 16777216 }
-    ensures { Gives result (reader_in closed.new) (after_line (reader_in closed.old place.entry) line.now) }
+) -> Result<Section<'a>, LineError>
+    requires sound { is_sound (reader_in library.old section) ≡ true }
+    requires few { reader_size (reader_in library.old section) + length line.now ≤ TEXT_LIMIT }
+    ensures { Fulfils (reader_in library.new) fault_told
+        (after_line (reader_in library.old section.entry) line.now) result }
 {
     let mut words = Tokens::words(uncommented(line));
     let Some(word) = words.next() else {
-        return Ok(place);
+        return Ok(section);
     };
-    match place {
-        Place::Outside => outside(alloc, closed, word, words),
-        Place::InType(draft) => in_type(alloc, closed, draft, word, words),
-        Place::InBlock(block) => in_block(alloc, closed, block, word, words),
-        Place::Behind(_) => Err(LineError::Fault(LangFault::AfterTop)),
+    match section {
+        Section::Outside => outside(alloc, library, word, words),
+        Section::InType(open_type) => in_type(alloc, library, open_type, word, words),
+        Section::InBlock(block) => in_block(alloc, library, block, word, words),
+        Section::AfterTop(_) => Err(LineError::Fault(LangFault::AfterTop)),
     }
 }
 
-/// Reads the design of a text of at most 16,777,216 bytes.
+/// Reads the design of a text.
 pub fn read_lang(alloc: Global, text: &[u8]) -> Result<Design, LangError>
-    requires { length text.now ≤ 16777216 }
-    ensures design { IfOk result (λ made. design text.now ≡ Ok made) }
-    ensures fault { IfErr result (λ error. IsFault error (design text.now)) }
+    requires { length text.now ≤ TEXT_LIMIT }
+    ensures read { Fulfils (λ made. made) told (design text.now) result }
 {
-    let mut closed = Closed::new(alloc);
-    let mut place = Place::Outside;
+    let mut library = Library::new(alloc);
+    let mut section = Section::Outside;
     let mut number = 0;
     for line in Lines::new(text) {
         number += 1;
-        place = match after_line(alloc, &mut closed, place, line) {
+        section = match after_line(alloc, &mut library, section, line) {
             Ok(next) => next,
             Err(error) => return Err(error.in_line(number)),
         };
     }
-    match place {
-        Place::Behind(top) => Ok(closed.into_design(top)),
+    match section {
+        Section::AfterTop(top) => Ok(library.into_design(top)),
         _ => Err(LangError::Bad {
             line: 0,
             what: LangFault::NoTop,

@@ -1,25 +1,24 @@
 ghost use Rattle.std.specs.Prelude.{◌≡◌, ◌≤◌, length};
 ghost use Rattle.std.specs.Option.{option_map};
+ghost use Rattle.text_rules.specs.Expected.{Fulfils};
 ghost use Rattle.text_rules.specs.Names.{same_name};
 ghost use Rattle.text_rules.specs.Tokens.{tokens_left};
 ghost use Rattle.component_lang.specs.Designs.{is_plain_name};
-ghost use Rattle.component_lang.specs.Words.{with_name, with_names, places_in};
-ghost use Rattle.component_lang.specs.Meanings.{Gives, names_in};
+ghost use Rattle.component_lang.specs.inner.LineFaults.{fault_told};
+ghost use Rattle.component_lang.specs.inner.NameSets.{names_in};
+ghost use Rattle.component_lang.specs.inner.Words.{with_name, with_names, places_among};
 
 use crate::fault::LangFault;
 use crate::line_error::LineError;
 use indexmap::IndexSet;
 use std::alloc::Global;
-use text_rules::{Tokens, is_name};
-
-/// The longest name, in bytes.
-const NAME_LIMIT: usize = 64;
+use text_rules::{TEXT_LIMIT, Tokens, is_short_name};
 
 /// Whether a word is a name: 1 to 64 bytes of names, without a dot.
 pub fn is_plain_name(word: &[u8]) -> bool
     ensures { result ≡ is_plain_name word.now }
 {
-    is_name(NAME_LIMIT, word) && !word.contains(&b'.')
+    is_short_name(word) && !word.contains(&b'.')
 }
 
 /// Whether a word is this one.
@@ -29,9 +28,9 @@ pub fn spells(word: &[u8], keyword: &[u8]) -> bool
     word == keyword
 }
 
-/// Puts a name behind those of a list, unless it stands there already, and says whether it is new.
+/// Puts a name at the end of a list, unless it stands there already, and says whether it is new.
 pub fn add_name<'a>(names: &mut IndexSet<&'a [u8]>, word: &'a [u8]) -> Result<bool, LineError>
-    ensures { Gives result (λ is_new. (names_in names.new, is_new)) (with_name (names_in names.old) word.now) }
+    ensures { Fulfils (λ is_new. (names_in names.new, is_new)) fault_told (with_name (names_in names.old) word.now) result }
 {
     if !is_plain_name(word) {
         return Err(LineError::Fault(LangFault::Name));
@@ -39,9 +38,9 @@ pub fn add_name<'a>(names: &mut IndexSet<&'a [u8]>, word: &'a [u8]) -> Result<bo
     Ok(names.insert(word)?)
 }
 
-/// Puts the names that follow in a line behind those of a list. None of them may stand there already, or twice.
+/// Puts the names that follow in a line at the end of a list. None of them may stand there already, or twice.
 pub fn add_names<'a>(names: &mut IndexSet<&'a [u8]>, words: Tokens<'a>) -> Result<(), LineError>
-    ensures { Gives result (λ _. names_in names.new) (with_names (names_in names.old) (tokens_left words.entry)) }
+    ensures { Fulfils (λ _. names_in names.new) fault_told (with_names (names_in names.old) (tokens_left words.entry)) result }
 {
     let mut are_new = true;
     for word in words {
@@ -60,8 +59,9 @@ pub fn places_of<'a>(
     names: &IndexSet<&'a [u8]>,
     words: Tokens<'a>,
 ) -> Result<Option<Vec<u32>>, LineError>
-    requires { length names.now.keys ≤ 16777216 }
-    ensures { Gives result (λ places. option_map (λ v. v.items) places) (places_in (names_in names.now) (tokens_left words.entry)) }
+    requires { length names.now.keys ≤ TEXT_LIMIT }
+    ensures { Fulfils (option_map (λ v. v.items)) fault_told
+        (places_among (tokens_left words.entry) (names_in names.now) (tokens_left words.entry)) result }
 {
     let mut places = Vec::new(alloc);
     let mut are_known = true;

@@ -1,3 +1,5 @@
 pub mod Words
+pub mod Describing
 pub mod Output
+pub mod Runs
 pub mod Refusals

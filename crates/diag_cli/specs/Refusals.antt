@@ -1,24 +1,23 @@
--- Why a file gives no device that is served, and what is told of it.
-use Rattle.std.specs.Prelude.{◌≡◌, ℕ, List, Result, Ok, Err}
+-- Why a file gives no device, and what is told of it.
+use Rattle.std.specs.Prelude.{ℕ, List, Option, Some, None, Result}
+use Rattle.text_rules.specs.Expected.{Fulfils}
 use Rattle.device_model.specs.Devices.{Device}
 use Rattle.diag_cli.specs.declared.refusal.Refusal.{Refusal}
 use Rattle.diag_cli.specs.declared.refusal.Refusal.TheVariants.{Fault, Above, NotYet, Memory}
-use Rattle.diag_cli.specs.Output.{Output, says, no_memory, fault_line, above_line, not_yet}
+use Rattle.diag_cli.specs.Describing.{fault_line, above_line, not_yet_line}
+use Rattle.diag_cli.specs.Output.{Output, says, no_memory}
 
-abbrev pub refusal_output : Refusal → Output
-refusal_output (Fault line number name) = says (fault_line line number name.now) 1
-refusal_output (Above what count limit) = says (above_line what.now count limit) 1
-refusal_output NotYet = says not_yet 1
-refusal_output Memory = no_memory
+-- the line of a refusal; want of memory is no refusal of the file
+abbrev pub line_of : Refusal → Option (List ℕ)
+line_of (Fault line number name) = Some (fault_line line number name.now)
+line_of (Above what count limit) = Some (above_line what.now count limit)
+line_of NotYet = Some not_yet_line
+line_of Memory = None
 
--- A refusal tells the line that is expected. Want of memory says nothing of what is expected.
-abbrev pub IsRefusal : Refusal → Result Device (List ℕ) → Type 0
-IsRefusal (Fault line number name) expected = expected ≡ Err (fault_line line number name.now)
-IsRefusal (Above what count limit) expected = expected ≡ Err (above_line what.now count limit)
-IsRefusal NotYet expected = expected ≡ Err not_yet
-IsRefusal Memory expected = Unit {0}
+abbrev pub output_by : Option (List ℕ) → Output
+output_by None = no_memory
+output_by (Some line) = says line 1
 
--- A device is the one that is expected.
-abbrev pub Finds : Result Device Refusal → Result Device (List ℕ) → Type 0
-Finds (Ok device) expected = expected ≡ Ok device
-Finds (Err refusal) expected = IsRefusal refusal expected
+-- A device is the one that is expected, or a refusal tells the line that is.
+abbrev pub Finds : Result Device (List ℕ) → Result Device Refusal → Type 0
+Finds expected result = Fulfils (λ device. device) line_of expected result

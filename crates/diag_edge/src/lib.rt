@@ -1,13 +1,14 @@
 //! What a program meets outside: a source of bytes, a shelf of named files, and a sink.
 //!
 //! The traits are `Source`, `Shelf` and `Sink`. `load` reads a whole file from a shelf, and
-//! `writing` has small writers to a sink. `MemSource`, `MemShelf` and `MemSink` are ends in
-//! memory, whose bytes and failures the caller chooses.
+//! `put_line` writes a line of words; longer texts are gathered in a `Chunk`. `MemSource`,
+//! `MemShelf` and `MemSink` are ends in memory, whose bytes and failures the caller chooses.
 //!
 //! Counts of faults and of calls are u64 and stop at the greatest one.
 #![tactic(auto)]
 
 mod calls;
+mod chunk;
 mod copying;
 mod loading;
 mod mem_shelf;
@@ -16,8 +17,8 @@ mod mem_source;
 mod outside;
 #[cfg(test)]
 mod tests;
-pub mod writing;
 
+pub use chunk::{Chunk, put_line};
 pub use loading::{LoadError, load};
 pub use mem_shelf::MemShelf;
 pub use mem_sink::MemSink;

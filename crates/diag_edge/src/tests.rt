@@ -1,5 +1,6 @@
-use crate::writing::{put_four, put_three, put_two};
-use crate::{LoadError, MemShelf, MemSink, MemSource, ReadFailed, Sink, Source, WriteFailed, load};
+use crate::{
+    LoadError, MemShelf, MemSink, MemSource, ReadFailed, Sink, Source, WriteFailed, load, put_line,
+};
 use std::alloc::{AllocError, Global};
 use std::test::Fail;
 
@@ -101,16 +102,27 @@ fn keeps_what_is_put(rt: HostRuntime) -> Result<(), Fail> {
     assert_eq!(rt; sink.put(b"abc"), Ok(()));
     assert_eq!(rt; sink.put(b"defg"), Err(WriteFailed));
     assert_eq!(rt; sink.as_slice(), "abcde".as_bytes());
-    assert_eq!(rt; put_two(&mut sink, b"f", b"g"), Ok(()));
+    assert_eq!(rt; sink.put(b"fg"), Ok(()));
     assert_eq!(rt; sink.put(b"hi"), Err(WriteFailed));
     assert_eq!(rt; sink.as_slice(), "abcdefgh".as_bytes());
+    Ok(())
+}
 
-    let Ok(mut wide) = MemSink::new(alloc, 100, Vec::new(alloc), 0) else {
+// Words longer than a chunk, and more of them than it has room for, are put all the same.
+#[test]
+fn puts_lines(rt: HostRuntime) -> Result<(), Fail> {
+    let alloc = rt.alloc();
+    let Ok(mut sink) = MemSink::new(alloc, 20000, Vec::new(alloc), 0) else {
         assert!(rt; false, "no memory");
         return Ok(());
     };
-    assert_eq!(rt; put_three(&mut wide, b"a", b"bc", b"d"), Ok(()));
-    assert_eq!(rt; put_four(&mut wide, b"e", b"f", b"", b"g"), Ok(()));
-    assert_eq!(rt; wide.as_slice(), "abcdefg".as_bytes());
+    let long = vec![in alloc; b'x'; 5000]?;
+    assert_eq!(rt; put_line(&mut sink, &[b"S", b"ok"]), Ok(()));
+    assert_eq!(rt; put_line(&mut sink, &[]), Ok(()));
+    assert_eq!(rt; put_line(&mut sink, &[b"a", &long, &long, b"b"]), Ok(()));
+    let text = sink.as_slice();
+    assert_eq!(rt; text.len(), 6 + 10_006);
+    assert!(rt; text.starts_with(b"S ok\n\na xx"));
+    assert!(rt; text.ends_with(b"xx b\n"));
     Ok(())
 }

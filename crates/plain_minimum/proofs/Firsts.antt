@@ -5,27 +5,27 @@ use Rattle.std.specs.List.{find, filter}
 use Rattle.std.proofs.lemmas.Bool.Decides.{nat_tests}
 use Rattle.ranking.specs.Bits.{lists_of_bits}
 use Rattle.ranking.specs.Ranking.{cost, Test, least, states, passing, least_with, is_at_most, diagnoses}
-use Rattle.plain_minimum.specs.Fronts.{lists_alike_below}
-use Rattle.plain_minimum.specs.Kept.{Kept, is_fewer, kept_after}
+use Rattle.plain_minimum.specs.inner.Completions.{completions}
+use Rattle.plain_minimum.specs.inner.Incumbents.{Incumbent, is_fewer, incumbent_after}
 use Rattle.plain_minimum.proofs.Lists.{filter-first}
-use Rattle.plain_minimum.proofs.Halves.{lists_alike_below-start}
+use Rattle.plain_minimum.proofs.Halves.{completions-start}
 
 -- what is kept of two: the second only where it has fewer
 abbrev is_less : Option ℕ → Option ℕ → Bool
 is_less None m = false
 is_less (Some n) m = is_fewer n m
 
-abbrev better : Kept → Kept → Kept
+abbrev better : Incumbent → Incumbent → Incumbent
 better a b = if is_less b.fewest a.fewest then b else a
 
-abbrev of_two : ℕ → List Bool → Option ℕ → List Bool → Kept
+abbrev of_two : ℕ → List Bool → Option ℕ → List Bool → Incumbent
 of_two n h m k = better (record { fewest = Some n; state = h }) (record { fewest = m; state = k })
 
 of_two-fewest : (n : ℕ) (h : List Bool) (m : Option ℕ) (k : List Bool) → (of_two n h m k).fewest ≡ least_with n m
 of_two-fewest n h None k = refl
 of_two-fewest n h (Some m) k = grind (arith, nat_tests)
 
-better_assoc : (a : Kept) (n : ℕ) (h : List Bool) (b : Kept) → better (better a (record { fewest = Some n; state = h })) b ≡ better a (better (record { fewest = Some n; state = h }) b)
+better_assoc : (a : Incumbent) (n : ℕ) (h : List Bool) (b : Incumbent) → better (better a (record { fewest = Some n; state = h })) b ≡ better a (better (record { fewest = Some n; state = h }) b)
 better_assoc a n h b = by_fewest a.fewest a.state b.fewest b.state where
   by_fewest : (p : Option ℕ) (g : List Bool) (m : Option ℕ) (k : List Bool)
       → better (better (record { fewest = p; state = g }) (record { fewest = Some n; state = h })) (record { fewest = m; state = k })
@@ -36,11 +36,11 @@ better_assoc a n h b = by_fewest a.fewest a.state b.fewest b.state where
   by_fewest (Some p) g (Some m) k = grind (arith, nat_tests)
 
 module _ (costs : List ℕ) where
-  abbrev alone : List Bool → Kept
+  abbrev alone : List Bool → Incumbent
   alone h = record { fewest = Some (cost costs h); state = h }
 
   -- the first of least cost
-  abbrev first_of : List (List Bool) → Kept
+  abbrev first_of : List (List Bool) → Incumbent
   first_of [] = record { fewest = None; state = [] }
   first_of (h ∷ hs) = better (alone h) (first_of hs)
 
@@ -61,9 +61,9 @@ module _ (costs : List ℕ) where
       by_test false less = grind (arith, nat_tests)
 
   -- Trying the states of a list keeps the better of what was kept and the first of least cost of those that pass.
-  kept-better : (test : Test) (k : Kept) (hs : List (List Bool)) → fold (kept_after costs test) k hs ≡ better k (first_of (filter test hs))
+  kept-better : (test : Test) (k : Incumbent) (hs : List (List Bool)) → fold (incumbent_after costs test) k hs ≡ better k (first_of (filter test hs))
   kept-better test k [] = refl
-  kept-better test k (h ∷ hs) = kept-better test (kept_after costs test k h) hs
+  kept-better test k (h ∷ hs) = kept-better test (incumbent_after costs test k h) hs
       ∙ by_tests (is_fewer (cost costs h) k.fewest) (test h) (better_assoc k (cost costs h) h (first_of (filter test hs))) where
         by_tests : (f t : Bool) → better (if f then alone h else k) (first_of (filter test hs)) ≡ better k (better (alone h) (first_of (filter test hs)))
             → better (if f && t then alone h else k) (first_of (filter test hs)) ≡ better k (first_of (cond t (h ∷ filter test hs) (filter test hs)))
@@ -73,7 +73,7 @@ module _ (costs : List ℕ) where
         by_tests false false e = refl
 
 -- what is kept of the states that pass, where there was another state before
-pub record IsFirst (costs : List ℕ) (passing : List (List Bool)) (before : List Bool) (kept : Kept) : Type 0 where
+pub record IsFirst (costs : List ℕ) (passing : List (List Bool)) (before : List Bool) (kept : Incumbent) : Type 0 where
   pub least : kept.fewest ≡ least costs passing
   pub first : IfSome kept.fewest (λ _. slice_get (diagnoses costs passing) 0 ≡ Some kept.state)
   pub none : IfNone kept.fewest (kept.state ≡ before)
@@ -91,14 +91,14 @@ IsFirst-first_of costs before hs = by_fewest (first_of costs hs).fewest (first_o
 
 -- Trying every state of a list keeps the first of the diagnoses among those that pass.
 IsFirst-fold : (costs : List ℕ) (test : Test) (before : List Bool) (hs : List (List Bool))
-    → IsFirst costs (filter test hs) before (fold (kept_after costs test) (record { fewest = None; state = before }) hs)
+    → IsFirst costs (filter test hs) before (fold (incumbent_after costs test) (record { fewest = None; state = before }) hs)
 IsFirst-fold costs test before hs = subst (IsFirst costs (filter test hs) before) (sym (kept-better costs test (record { fewest = None; state = before }) hs)) (IsFirst-first_of costs before (filter test hs))
 
 -- From the first place on every state is tried.
-pub IsFirst-start : (costs : List ℕ) (test : Test) (before bits : List Bool) (parts : ℕ) (kept : Kept)
-    → kept ≡ fold (kept_after costs test) (record { fewest = None; state = before }) (lists_alike_below bits 0) → length bits ≡ parts
+pub IsFirst-start : (costs : List ℕ) (test : Test) (before bits : List Bool) (parts : ℕ) (kept : Incumbent)
+    → kept ≡ fold (incumbent_after costs test) (record { fewest = None; state = before }) (completions bits 0) → length bits ≡ parts
     → IsFirst costs (passing parts test) before kept
 IsFirst-start costs test before bits parts kept e long = subst (IsFirst costs (passing parts test) before) (sym (e
-    ∙ (λ i. fold (kept_after costs test) (record { fewest = None; state = before }) (lists_alike_below-start bits i))
-    ∙ (λ i. fold (kept_after costs test) (record { fewest = None; state = before }) (lists_of_bits (long i)))))
+    ∙ (λ i. fold (incumbent_after costs test) (record { fewest = None; state = before }) (completions-start bits i))
+    ∙ (λ i. fold (incumbent_after costs test) (record { fewest = None; state = before }) (lists_of_bits (long i)))))
     (IsFirst-fold costs test before (states parts))

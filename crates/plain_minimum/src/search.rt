@@ -4,8 +4,8 @@ ghost use Rattle.ranking.specs.Cases.{agrees};
 ghost use Rattle.device_model.specs.Devices.{fits};
 ghost use Rattle.ranking.specs.Systems.{least_cost, all_diagnoses};
 ghost use Rattle.device_model.specs.Diagnosis.{is_consistent, device_system};
-ghost use Rattle.plain_minimum.specs.Fronts.{lists_alike_below};
-ghost use Rattle.plain_minimum.specs.Kept.{is_fewer, kept_of};
+ghost use Rattle.plain_minimum.specs.inner.Completions.{completions};
+ghost use Rattle.plain_minimum.specs.inner.Incumbents.{is_fewer, incumbent_of};
 
 use crate::gates::part_allows;
 use device_model::Device;
@@ -54,8 +54,8 @@ fn try_states(
     requires best { length best.old ≡ length device.now.parts }
     requires place { place ≤ length state.old }
     ensures kept { record { fewest = result; state = best.new }
-        ≡ kept_of device.now (record { seen = seen.now; held = held.now })
-        (record { fewest = fewest; state = best.old }) (lists_alike_below state.old place) }
+        ≡ incumbent_of device.now (record { seen = seen.now; held = held.now })
+        (record { fewest = fewest; state = best.old }) (completions state.old place) }
     ensures front { take place state.new ≡ take place state.old }
 {
     if place == state.len() {
@@ -81,7 +81,7 @@ fn try_state(
     requires state { length state.now ≡ length device.now.parts }
     requires best { length best.old ≡ length device.now.parts }
     ensures { record { fewest = result; state = best.new }
-        ≡ kept_of device.now (record { seen = seen.now; held = held.now })
+        ≡ incumbent_of device.now (record { seen = seen.now; held = held.now })
         (record { fewest = fewest; state = best.old }) (state.now ∷ []) }
 {
     let count = faults(state);
@@ -128,7 +128,7 @@ fn some_fit(
     requires place { place ≤ length wires.old }
     ensures found { result
         ≡ list_any (λ wires. agrees seen.now wires && fits device.now state.now wires)
-        (lists_alike_below wires.old place) }
+        (completions wires.old place) }
     ensures front { take place wires.new ≡ take place wires.old }
 {
     if place == wires.len() {

@@ -1,13 +1,15 @@
 -- What is asked has names that are names, and a count in its range.
-use Rattle.std.proofs.Common.{◌≡◌, ℕ, Bool, true, false, ◌&&◌, List, [], ◌∷◌, length, Option, Some, None, refl, inl, inr}
+use Rattle.std.proofs.Common.{◌≡◌, ℕ, Bool, true, false, cond, ◌&&◌, List, [], ◌∷◌, length, Option, Some, None, refl, inl, inr}
 use Rattle.std.specs.Prelude.{nat_le, nat_lt, if◌then◌else◌, codes}
 use Rattle.std.specs.List.{list_all}
 use Rattle.std.proofs.lemmas.Bool.{and_parts, and_from, cases_Bool}
-use Rattle.text_rules.specs.Names.{Name, same_name}
+use Rattle.std.specs.Map.{lookup}
+use Rattle.text_rules.specs.Names.{Name, same_name, is_short_name}
 use Rattle.text_rules.specs.Tokens.{words}
 use Rattle.text_rules.specs.Numbers.{number_in, value_behind, are_digits, has_leading_zero}
+use Rattle.script_lang.specs.declared.limits.TheConstants.{COUNT_LIMIT, LINE_LIMIT}
 use Rattle.script_lang.specs.Asked.{is_well_named, is_well_asked}
-use Rattle.script_lang.specs.Script.{Request, Start, Stop, See, Unsee, Hold, Unhold, Min, Next, Several, After, Probe, Probes, Blame, Dnnf, Line, Blank, Refused, is_session_name, is_script_name, on_session, on_name, on_value, on_pair, if_value, on_count, if_count, on_names, at_equals, value_in, read_as, commands, begins_comment, line_of_words, line_of}
+use Rattle.script_lang.specs.Script.{Request, Start, Stop, See, Unsee, Hold, Unhold, Min, Next, Several, After, Probe, Probes, Blame, Dnnf, Line, Blank, Refused, is_script_name, on_session, on_name, on_value, on_pair, if_value, on_count, if_count, on_names, at_equals, value_in, read_by, read_as, commands, begins_comment, line_of_words, line_of}
 
 choice : (test : Bool) (one other : Line) → (test ≡ true → is_well_asked one ≡ true) → is_well_asked other ≡ true → is_well_asked (if test then one else other) ≡ true
 choice true one other first second = first refl
@@ -15,27 +17,27 @@ choice false one other first second = second
 
 well-on_session : (request : Request) → is_well_named request ≡ true → (ws : List (List ℕ)) → is_well_asked (on_session request ws) ≡ true
 well-on_session request well [] = refl
-well-on_session request well (s ∷ []) = choice (is_session_name s) _ _ (λ named. and_from _ _ named well) refl
+well-on_session request well (s ∷ []) = choice (is_short_name s) _ _ (λ named. and_from _ _ named well) refl
 well-on_session request well (s ∷ t ∷ ws) = refl
 
 well-on_name : (request : Name → Request) → ((name : Name) → is_script_name name ≡ true → is_well_named (request name) ≡ true) → (ws : List (List ℕ)) → is_well_asked (on_name request ws) ≡ true
 well-on_name request well [] = refl
 well-on_name request well (s ∷ []) = refl
 well-on_name request well (s ∷ name ∷ []) =
-    choice (is_session_name s && is_script_name name) _ _
-    (λ named. let parts = and_parts (is_session_name s) (is_script_name name) named in and_from _ _ parts.0 (well name parts.1))
+    choice (is_short_name s && is_script_name name) _ _
+    (λ named. let parts = and_parts (is_short_name s) (is_script_name name) named in and_from _ _ parts.0 (well name parts.1))
     refl
 well-on_name request well (s ∷ name ∷ t ∷ ws) = refl
 
-well-if_value : (s : Name) (request : Bool → Request) → is_session_name s ≡ true → ((value : Bool) → is_well_named (request value) ≡ true) → (value : Option Bool) → is_well_asked (if_value s request value) ≡ true
+well-if_value : (s : Name) (request : Bool → Request) → is_short_name s ≡ true → ((value : Bool) → is_well_named (request value) ≡ true) → (value : Option Bool) → is_well_asked (if_value s request value) ≡ true
 well-if_value s request named well None = refl
 well-if_value s request named well (Some value) = and_from _ _ named (well value)
 
 well-on_pair : (one other : List ℕ) (request : Name → Bool → Request) → ((name : Name) (value : Bool) → is_script_name name ≡ true → is_well_named (request name value) ≡ true) → (s : Name) (pair : Option (List ℕ × List ℕ)) → is_well_asked (on_pair one other request s pair) ≡ true
 well-on_pair one other request well s None = refl
 well-on_pair one other request well s (Some pair) =
-    choice (is_session_name s && is_script_name pair.0) _ _
-    (λ named. let parts = and_parts (is_session_name s) (is_script_name pair.0) named in
+    choice (is_short_name s && is_script_name pair.0) _ _
+    (λ named. let parts = and_parts (is_short_name s) (is_script_name pair.0) named in
     well-if_value s (request pair.0) parts.0 (λ value. well pair.0 value parts.1) (value_in one other pair.1))
     refl
 
@@ -46,38 +48,44 @@ well-on_value one other request well (s ∷ pair ∷ []) = well-on_pair one othe
 well-on_value one other request well (s ∷ pair ∷ t ∷ ws) = refl
 
 -- a number that is read lies in its range
-chosen : (test : Bool) (n : ℕ) (s : Name) → is_session_name s ≡ true → (test ≡ true → is_well_named (Several n) ≡ true) → is_well_asked (if_count s Several (if test then Some n else None)) ≡ true
+chosen : (test : Bool) (n : ℕ) (s : Name) → is_short_name s ≡ true → (test ≡ true → is_well_named (Several n) ≡ true) → is_well_asked (if_count s Several (if test then Some n else None)) ≡ true
 chosen true n s named well = and_from _ _ named (well refl)
 chosen false n s named well = refl
 
-in_range : (word : List ℕ) (s : Name) → is_session_name s ≡ true → is_well_asked (if_count s Several (number_in 7 1 1000000 word)) ≡ true
+in_range : (word : List ℕ) (s : Name) → is_short_name s ≡ true → is_well_asked (if_count s Several (number_in 7 1 COUNT_LIMIT word)) ≡ true
 in_range word s named = elim (cases_Bool (are_digits 7 word)) [
-  | inl digits ↦ rw (digits, number_in) (chosen (nat_le 1 (value_behind 0 word) && nat_le (value_behind 0 word) 1000000) (value_behind 0 word) s named (λ within. within))
+  | inl digits ↦ rw (digits, number_in) (chosen (nat_le 1 (value_behind 0 word) && nat_le (value_behind 0 word) COUNT_LIMIT) (value_behind 0 word) s named (λ within. within))
   | inr other ↦ rw (other, number_in)
 ]
 
-well-count : (zero_first : Bool) (word : List ℕ) (s : Name) → is_session_name s ≡ true → is_well_asked (if_count s Several (if zero_first then None else number_in 7 1 1000000 word)) ≡ true
+well-count : (zero_first : Bool) (word : List ℕ) (s : Name) → is_short_name s ≡ true → is_well_asked (if_count s Several (if zero_first then None else number_in 7 1 COUNT_LIMIT word)) ≡ true
 well-count true word s named = refl
 well-count false word s named = in_range word s named
 
 well-on_count : (ws : List (List ℕ)) → is_well_asked (on_count Several ws) ≡ true
 well-on_count [] = refl
 well-on_count (s ∷ []) = refl
-well-on_count (s ∷ count ∷ []) = choice (is_session_name s) _ _ (λ named. well-count (has_leading_zero count) count s named) refl
+well-on_count (s ∷ count ∷ []) = choice (is_short_name s) _ _ (λ named. well-count (has_leading_zero count) count s named) refl
 well-on_count (s ∷ count ∷ t ∷ ws) = refl
 
 well-on_names : (ws : List (List ℕ)) → is_well_asked (on_names After ws) ≡ true
 well-on_names [] = refl
-well-on_names (s ∷ names) = choice (is_session_name s && list_all is_script_name names) _ _ (λ named. named) refl
+well-on_names (s ∷ names) = choice (is_short_name s && list_all is_script_name names) _ _ (λ named. named) refl
 
 -- each command reads well
 abbrev AllRead : List (List ℕ) → List (List ℕ × (List (List ℕ) → Line)) → Type 0
 AllRead ws [] = Unit {0}
 AllRead ws (command ∷ rest) = (is_well_asked (command.1 ws) ≡ true) × AllRead ws rest
 
-well-read_as : (word : List ℕ) (ws : List (List ℕ)) (known : List (List ℕ × (List (List ℕ) → Line))) → AllRead ws known → is_well_asked (read_as word ws known) ≡ true
-well-read_as word ws [] all = refl
-well-read_as word ws (command ∷ rest) all = choice (same_name word command.0) (command.1 ws) (read_as word ws rest) (λ _. all.0) (well-read_as word ws rest all.1)
+well-read_by : (word : List ℕ) (ws : List (List ℕ)) (known : List (List ℕ × (List (List ℕ) → Line))) → AllRead ws known
+    → is_well_asked (read_by (lookup (same_name word) known) ws) ≡ true
+well-read_by word ws [] all = refl
+well-read_by word ws (command ∷ rest) all = by (same_name word command.0) (well-read_by word ws rest all.1)
+  where
+    by : (b : Bool) → is_well_asked (read_by (lookup (same_name word) rest) ws) ≡ true
+        → is_well_asked (read_by (cond b (Some command.1) (lookup (same_name word) rest)) ws) ≡ true
+    by true later = all.0
+    by false later = later
 
 each_command : (ws : List (List ℕ)) → AllRead ws commands
 each_command ws = (
@@ -108,8 +116,8 @@ each_command ws = (
 
 well-line_of_words : (ws : List (List ℕ)) → is_well_asked (line_of_words ws) ≡ true
 well-line_of_words [] = refl
-well-line_of_words (word ∷ ws) = choice (begins_comment word) Blank (read_as word ws commands) (λ _. refl) (well-read_as word ws commands (each_command ws))
+well-line_of_words (word ∷ ws) = choice (begins_comment word) Blank (read_as word ws) (λ _. refl) (well-read_by word ws commands (each_command ws))
 
 -- what a line asks has names that are names, and a count from 1 to a million
 pub well_asked : (line : List ℕ) → is_well_asked (line_of line) ≡ true
-well_asked line = choice (nat_lt 1048576 (length line)) (Refused 5) (line_of_words (words line)) (λ _. refl) (well-line_of_words (words line))
+well_asked line = choice (nat_lt LINE_LIMIT (length line)) (Refused 5) (line_of_words (words line)) (λ _. refl) (well-line_of_words (words line))

@@ -23,18 +23,3 @@ meaning (line.Probes session) = script.Ask session.now script.Probes
 meaning (line.Blame session) = script.Ask session.now script.Blame
 meaning (line.Dnnf session) = script.Ask session.now script.Dnnf
 meaning (line.Refused number) = script.Refused number
-
--- what is asked by what was found, or the refusal with its number
-abbrev pub asked_by : {Found : Type 0} → (Found → script.Line) → Result Found ℕ → script.Line
-asked_by ask (Ok found) = ask found
-asked_by ask (Err number) = script.Refused number
-
--- the word of a text of one word
-abbrev pub only_word : List (List ℕ) → Option (List ℕ)
-only_word (word ∷ []) = Some word
-only_word ws = None
-
--- the words of a text of two words
-abbrev pub only_two_words : List (List ℕ) → Option (List ℕ × List ℕ)
-only_two_words (first ∷ second ∷ []) = Some (first, second)
-only_two_words ws = None

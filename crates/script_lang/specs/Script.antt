@@ -1,9 +1,13 @@
 -- The lines of a script, and what each asks.
 use Rattle.std.specs.Prelude.{ℕ, Bool, true, false, ◌&&◌, List, [], ◌∷◌, length, Option, Some, None, codes, ◌==◌, nat_lt, if◌then◌else◌}
 use Rattle.std.specs.List.{list_all}
-use Rattle.text_rules.specs.Names.{Name, same_name, is_name}
+use Rattle.std.specs.Map.{lookup}
+use Rattle.std.specs.Option.{option_map}
+use Rattle.text_rules.specs.Names.{Name, same_name, is_name, is_short_name}
 use Rattle.text_rules.specs.Tokens.{words}
 use Rattle.text_rules.specs.Numbers.{plain_number_in}
+use Rattle.device_model.specs.declared.limits.TheConstants.{NAME_LIMIT}
+use Rattle.script_lang.specs.declared.limits.TheConstants.{COUNT_LIMIT, LINE_LIMIT}
 
 -- what a line asks of a session
 pub data Request : Type 0 where
@@ -28,31 +32,24 @@ pub data Line : Type 0 where
   Refused : (number : ℕ) → Line
   Ask : (session : Name) (request : Request) → Line
 
-abbrev pub is_session_name : List ℕ → Bool
-is_session_name word = is_name 64 word
-
 -- a name of a wire or of a part
 abbrev pub is_script_name : List ℕ → Bool
-is_script_name word = is_name 255 word
+is_script_name word = is_name NAME_LIMIT word
 
 -- a session alone
 abbrev pub on_session : Request → List (List ℕ) → Line
-on_session request (s ∷ []) = if is_session_name s then Ask s request else Refused 3
+on_session request (s ∷ []) = if is_short_name s then Ask s request else Refused 3
 on_session request ws = Refused 2
 
 -- a session and a name
 abbrev pub on_name : (Name → Request) → List (List ℕ) → Line
-on_name request (s ∷ name ∷ []) = if is_session_name s && is_script_name name then Ask s (request name) else Refused 3
+on_name request (s ∷ name ∷ []) = if is_short_name s && is_script_name name then Ask s (request name) else Refused 3
 on_name request ws = Refused 2
-
-abbrev pub with_front : ℕ → Option (List ℕ × List ℕ) → Option (List ℕ × List ℕ)
-with_front b None = None
-with_front b (Some pair) = Some (b ∷ pair.0, pair.1)
 
 -- what stands before the first equals sign, and after it
 abbrev pub at_equals : List ℕ → Option (List ℕ × List ℕ)
 at_equals [] = None
-at_equals (b ∷ bytes) = if b == 61 then Some ([], bytes) else with_front b (at_equals bytes)
+at_equals (b ∷ bytes) = if b == 61 then Some ([], bytes) else option_map (λ (pair : List ℕ × List ℕ). (b ∷ pair.0, pair.1)) (at_equals bytes)
 
 -- one of two words, for 1 and for 0
 abbrev pub value_in : List ℕ → List ℕ → List ℕ → Option Bool
@@ -65,7 +62,7 @@ if_value s request (Some value) = Ask s (request value)
 abbrev pub on_pair : List ℕ → List ℕ → (Name → Bool → Request) → Name → Option (List ℕ × List ℕ) → Line
 on_pair one other request s None = Refused 2
 on_pair one other request s (Some pair) =
-    if is_session_name s && is_script_name pair.0 then if_value s (request pair.0) (value_in one other pair.1) else Refused 3
+    if is_short_name s && is_script_name pair.0 then if_value s (request pair.0) (value_in one other pair.1) else Refused 3
 
 -- a session, and a name with one of two values
 abbrev pub on_value : List ℕ → List ℕ → (Name → Bool → Request) → List (List ℕ) → Line
@@ -79,13 +76,13 @@ if_count s request (Some count) = Ask s (request count)
 -- a session and a count from 1 to a million
 abbrev pub on_count : (ℕ → Request) → List (List ℕ) → Line
 on_count request (s ∷ count ∷ []) =
-    if is_session_name s then if_count s request (plain_number_in 7 1 1000000 count) else Refused 3
+    if is_short_name s then if_count s request (plain_number_in 7 1 COUNT_LIMIT count) else Refused 3
 on_count request ws = Refused 2
 
 -- a session and any number of names
 abbrev pub on_names : (List Name → Request) → List (List ℕ) → Line
 on_names request [] = Refused 2
-on_names request (s ∷ names) = if is_session_name s && list_all is_script_name names then Ask s (request names) else Refused 3
+on_names request (s ∷ names) = if is_short_name s && list_all is_script_name names then Ask s (request names) else Refused 3
 
 -- the command words, and how the words behind each are read
 abbrev pub commands : List (List ℕ × (List (List ℕ) → Line))
@@ -106,9 +103,12 @@ commands = (codes "open", on_session Start)
     ∷ []
 
 -- a first word that is no command is refused
-abbrev pub read_as : List ℕ → List (List ℕ) → List (List ℕ × (List (List ℕ) → Line)) → Line
-read_as word ws [] = Refused 1
-read_as word ws (command ∷ rest) = if same_name word command.0 then command.1 ws else read_as word ws rest
+abbrev pub read_by : Option (List (List ℕ) → Line) → List (List ℕ) → Line
+read_by None ws = Refused 1
+read_by (Some reading) ws = reading ws
+
+abbrev pub read_as : List ℕ → List (List ℕ) → Line
+read_as word ws = read_by (lookup (same_name word) commands) ws
 
 -- a word that begins with a number sign begins a comment
 abbrev pub begins_comment : List ℕ → Bool
@@ -117,11 +117,11 @@ begins_comment (b ∷ bytes) = b == 35
 
 abbrev pub line_of_words : List (List ℕ) → Line
 line_of_words [] = Blank
-line_of_words (word ∷ ws) = if begins_comment word then Blank else read_as word ws commands
+line_of_words (word ∷ ws) = if begins_comment word then Blank else read_as word ws
 
 -- A line that is too long is refused, a comment too.
 abbrev pub line_of : List ℕ → Line
-line_of bytes = if nat_lt 1048576 (length bytes) then Refused 5 else line_of_words (words bytes)
+line_of bytes = if nat_lt LINE_LIMIT (length bytes) then Refused 5 else line_of_words (words bytes)
 
 -- what a refusal of a line says
 abbrev pub refusal_text : ℕ → List ℕ

@@ -1,7 +1,7 @@
 ghost use Rattle.std.specs.Prelude.{◌≡◌, [], ◌∷◌, MatchOption};
 ghost use Rattle.std.specs.Option.{option_copied, option_map};
 ghost use Rattle.text_rules.specs.Tokens.{words};
-ghost use Rattle.script_lang.specs.Meaning.{only_word, only_two_words};
+ghost use Rattle.script_lang.specs.inner.Found.{only_word, only_two_words};
 ghost use Rattle.script_lang.specs.Script.{at_equals};
 
 use text_rules::is_blank;

@@ -2,8 +2,10 @@
 #![tactic(auto)]
 
 mod cutting;
+mod limits;
 mod line;
 mod parsing;
 
+pub use limits::{COUNT_LIMIT, LINE_LIMIT};
 pub use line::Line;
 pub use parsing::parse_line;

@@ -2,15 +2,15 @@ ghost use Rattle.std.specs.Prelude.{◌≡◌, ℕ, Bool, List, codes};
 ghost use Rattle.std.specs.List.{list_all};
 ghost use Rattle.text_rules.specs.Names.{Name, same_name};
 ghost use Rattle.text_rules.specs.Tokens.{words};
-ghost use Rattle.script_lang.specs.Meaning.{meaning, asked_by};
-ghost use Rattle.script_lang.specs.Script.{Request, Ask, See, Hold, begins_comment, commands, is_session_name, is_script_name, line_of, on_session, on_name, on_value, on_count, on_names, read_as};
+ghost use Rattle.script_lang.specs.Meaning.{meaning};
+ghost use Rattle.script_lang.specs.inner.Found.{asked_by};
+ghost use Rattle.script_lang.specs.Script.{Request, Ask, See, Hold, begins_comment, is_script_name, line_of, on_session, on_name, on_value, on_count, on_names, read_as};
 
 use crate::cutting::{at_equals, one_word, split_word, two_words};
+use crate::limits::{COUNT_LIMIT, LINE_LIMIT};
 use crate::line::Line;
-use text_rules::{Tokens, is_name, plain_number};
-
-// The longest line, in bytes.
-const LINE_LIMIT: usize = 1048576;
+use device_model::NAME_LIMIT;
+use text_rules::{Tokens, is_name, is_short_name, plain_number};
 
 // The numbers of the refusals.
 const UNKNOWN_COMMAND: u8 = 1;
@@ -23,16 +23,10 @@ const BAD_VALUE: u8 = 4;
 
 const TOO_LONG: u8 = 5;
 
-fn is_session_name(word: &[u8]) -> bool
-    ensures { result ≡ is_session_name word.now }
-{
-    is_name(64, word)
-}
-
 fn is_script_name(word: &[u8]) -> bool
     ensures { result ≡ is_script_name word.now }
 {
-    is_name(255, word)
+    is_name(NAME_LIMIT, word)
 }
 
 // A session alone. What is asked of it does not matter to how it is read, here and below.
@@ -41,7 +35,7 @@ fn session_in(text: &[u8]) -> Result<&[u8], u8>
         → asked_by (λ session. Ask session.now request) result ≡ on_session request (words text.now) }
 {
     match one_word(text) {
-        Some(session) if is_session_name(session) => Ok(session),
+        Some(session) if is_short_name(session) => Ok(session),
         Some(_) => Err(BAD_NAME),
         None => Err(BAD_WORDS),
     }
@@ -54,7 +48,7 @@ fn name_in(text: &[u8]) -> Result<(&[u8], &[u8]), u8>
         ≡ on_name request (words text.now) }
 {
     match two_words(text) {
-        Some((session, name)) if is_session_name(session) && is_script_name(name) => {
+        Some((session, name)) if is_short_name(session) && is_script_name(name) => {
             Ok((session, name))
         }
         Some(_) => Err(BAD_NAME),
@@ -70,7 +64,7 @@ fn value_in<'a>(text: &'a [u8], one: &[u8], other: &[u8]) -> Result<(&'a [u8], &
 {
     let (session, pair) = two_words(text).ok_or(BAD_WORDS)?;
     let (name, value) = at_equals(pair).ok_or(BAD_WORDS)?;
-    if !is_session_name(session) || !is_script_name(name) {
+    if !is_short_name(session) || !is_script_name(name) {
         return Err(BAD_NAME);
     }
     if value == one {
@@ -89,10 +83,10 @@ fn count_in(text: &[u8]) -> Result<(&[u8], u32), u8>
         ≡ on_count request (words text.now) }
 {
     let (session, count) = two_words(text).ok_or(BAD_WORDS)?;
-    if !is_session_name(session) {
+    if !is_short_name(session) {
         return Err(BAD_NAME);
     }
-    match plain_number(7, 1, 1000000, count) {
+    match plain_number(7, 1, COUNT_LIMIT, count) {
         Some(count) => Ok((session, count as u32)),
         None => Err(BAD_VALUE),
     }
@@ -112,7 +106,7 @@ fn names_in(text: &[u8]) -> Result<(&[u8], &[u8]), u8>
         ≡ on_names request (words text.now) }
 {
     let (session, names) = split_word(text).ok_or(BAD_WORDS)?;
-    if is_session_name(session) && are_script_names(names) {
+    if is_short_name(session) && are_script_names(names) {
         Ok((session, names))
     } else {
         Err(BAD_NAME)
@@ -143,7 +137,7 @@ fn same_word(word: &[u8], other: &[u8]) -> bool
 
 // What a command and the text behind it say.
 fn read_command<'a>(command: &[u8], text: &'a [u8]) -> Result<Line<'a>, u8>
-    ensures { asked_by meaning result ≡ read_as command.now (words text.now) commands }
+    ensures { asked_by meaning result ≡ read_as command.now (words text.now) }
 {
     if same_word(command, b"open") {
         session_in(text).map(|session| Line::Start { session })

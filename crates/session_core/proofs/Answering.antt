@@ -20,7 +20,8 @@ use denote.Ref.{Bor}
 use Rattle.ranking.specs.Systems.{System, least_cost, all_diagnoses}
 use Rattle.device_model.specs.Diagnosis.{device_system}
 use Rattle.session_core.specs.Items.{line}
-use Rattle.session_core.specs.Sessions.{Entry, Table, Declined, outcome, answered, entry_of, with_seen, at_place, becomes, min_line}
+use Rattle.session_core.specs.Sessions.{Entry, Table, Declined, outcome, when_open, entry_of, with_seen, at_place, becomes}
+use Rattle.session_core.specs.Replies.{min_line}
 use Rattle.session_core.specs.FirstPath.{first_step, not_yet, if_built, unless_declined}
 use Rattle.session_core.specs.Services.{table_with, case_of, is_open_as}
 
@@ -72,7 +73,7 @@ min-closed system table session e = closed system table session Min (λ full. re
 open_entry : (session name : Name) (seen : List (Option Bool)) (parts : ℕ) → is_open_as session (table_with true name seen parts) ≡ true → is_eq (slice_cmp nat_cmp session name) ≡ true
 open_entry session name seen parts e = sym (is_some-cond (is_eq (slice_cmp nat_cmp session name)) (entry_with seen parts)) ∙ e
 
-step_by : (system : System) (table : Table) (session : Name) (request : Request) (entry : Option Entry) (found : Entry) → entry ≡ Some found → if_built true table session (outcome system session true entry request) ≡ unless_declined table session (answered system session found request)
+step_by : (system : System) (table : Table) (session : Name) (request : Request) (entry : Option Entry) (found : Entry) → entry ≡ Some found → if_built true table session (outcome system session true entry request) ≡ unless_declined table session (when_open system session found request)
 step_by system table session request entry found e = ap (λ o. if_built true table session (outcome system session true o request)) e
 
 module _ (system : System) (session name : Name) (seen : List (Option Bool)) (parts : ℕ) (opened : is_open_as session (table_with true name seen parts) ≡ true) where

@@ -8,9 +8,9 @@ use Rattle.text_rules.specs.TextLines.{last_line, whole_lines, all_lines}
 use Rattle.session_core.specs.Sessions.{Table, Step, run, after_lines}
 use Rattle.session_core.specs.Spelling.{Writes, WritesPart, Replies}
 use Rattle.session_core.specs.Serving.{Answers, BreaksOff}
-use Rattle.session_core.specs.Gathering.{ended_from, rest_from, IsCut, Fed}
+use Rattle.session_core.specs.inner.Gathering.{ended_from, rest_from, IsCut, Fed}
 use Rattle.session_core.proofs.Lines.{take-take-same, cut_push, ended_from-start, rest_from-start}
-use Rattle.session_core.proofs.Spellings.{writes_more, part_more, part_after, writes_none}
+use Rattle.session_core.proofs.Spellings.{writes_more, writes_none}
 
 pub run-append : (one : Table → List ℕ → Step) (t : Table) (ls ms : List (List ℕ)) → run one t (ls ++ ms) ≡ run one t ls ++ run one (after_lines one t ls) ms
 run-append one t [] ms = refl
@@ -191,14 +191,6 @@ breaks_after {one} {s} {t} {u} {ks} {ls} {a} {b} {c} first d =
       begun = subst (λ v. WritesPart d.middle c (one v d.line).items) there d.begun;
       table = d.table ∙ ap (λ v. (one v d.line).table) there;
     }
-
--- So what was written begins the replies to all the lines.
-breaks_part : {one : Table → List ℕ → Step} {s t : Table} {ls : List (List ℕ)} {a c : Option (List ℕ)} → BreaksOff one s t ls a c → WritesPart a c (run one s ls)
-breaks_part {one} {s} {t} {ls} {a} {c} d =
-    let v = after_lines one s d.answered in
-    let rest = run one (one v d.line).table d.others in
-    subst (WritesPart a c) (sym (ap (run one s) d.split ∙ run-append one s d.answered (d.line ∷ d.others)))
-    (part_after a d.middle c _ _ d.written (part_more d.middle c (one v d.line).items rest d.begun))
 
 -- the same lines, but for the first, of which no more than counts is the same
 abbrev FirstAlike : List (List ℕ) → List (List ℕ) → Type 0

@@ -8,7 +8,7 @@ use Rattle.script_lang.specs.Script.{line_of}
 use Rattle.script_lang.proofs.LineLemmas.{line_of-too_long}
 use Rattle.ranking.specs.Systems.{System}
 use Rattle.session_core.specs.FirstPath.{first_step, first_line}
-use Rattle.session_core.specs.Gathering.{ended_from, rest_from, IsCut}
+use Rattle.session_core.specs.inner.Gathering.{ended_from, rest_from, IsCut}
 
 onto : List ℕ → List (List ℕ) → List (List ℕ)
 onto line [] = []

@@ -1,9 +1,9 @@
 -- How a text spells items.
-use Rattle.std.proofs.Common.{ℕ, List, [], ◌∷◌, ◌++◌, Option, Result, Ok, Err, refl, sym, ◌∙◌, ap, subst, append_assoc, append-nil, inl, inr}
+use Rattle.std.proofs.Common.{ℕ, List, [], ◌∷◌, ◌++◌, Option, Result, Ok, Err, refl, sym, ◌∙◌, ap, subst, append_assoc, append-nil}
 use Rattle.diag_edge.specs.Edge.{Puts}
 use Rattle.diag_edge.proofs.Growing.{grows_more, grows_none}
 use Rattle.session_core.specs.Items.{Item}
-use Rattle.session_core.specs.Spelling.{Spelled, Spells, Begins, Writes, WritesPart, Replies}
+use Rattle.session_core.specs.Spelling.{Spelled, Spells, Writes, Replies}
 
 pub spells_one : (item : Item) (text : List ℕ) → Spelled item text → Spells (item ∷ []) text
 spells_one item text is = (text, [], sym (append-nil text), is, refl)
@@ -12,21 +12,6 @@ pub spells_more : (xs ys : List Item) (a b : List ℕ) → Spells xs a → Spell
 spells_more [] ys a b h k = subst (λ c. Spells ys (c ++ b)) (sym h) k
 spells_more (x ∷ xs) ys a b (front, rest, all, is, more) k =
     (front, rest ++ b, ap (λ c. c ++ b) all ∙ append_assoc front rest b, is, spells_more xs ys rest b more k)
-
-begins_nothing : (xs : List Item) → Begins xs []
-begins_nothing [] = refl
-begins_nothing (x ∷ xs) = inl (inl refl)
-
--- what begins some of the items begins them all
-pub begins_more : (xs ys : List Item) (a : List ℕ) → Begins xs a → Begins (xs ++ ys) a
-begins_more [] ys a h = subst (Begins ys) (sym h) (begins_nothing ys)
-begins_more (x ∷ xs) ys a (inl first) = inl first
-begins_more (x ∷ xs) ys a (inr (front, rest, all, is, more)) = inr (front, rest, all, is, begins_more xs ys rest more)
-
-pub begins_after : (xs ys : List Item) (a b : List ℕ) → Spells xs a → Begins ys b → Begins (xs ++ ys) (a ++ b)
-begins_after [] ys a b h k = subst (λ c. Begins ys (c ++ b)) (sym h) k
-begins_after (x ∷ xs) ys a b (front, rest, all, is, more) k =
-    inr (front, rest ++ b, ap (λ c. c ++ b) all ∙ append_assoc front rest b, is, begins_after xs ys rest b more k)
 
 pub writes_none : (a : Option (List ℕ)) → Writes a a []
 writes_none a = record { text = []; spelled = refl; grown = grows_none a }
@@ -38,25 +23,11 @@ writes_more a b c xs ys first second = record {
   grown = grows_more a b c first.text second.text first.grown second.grown;
 }
 
-pub part_more : (a b : Option (List ℕ)) (xs ys : List Item) → WritesPart a b xs → WritesPart a b (xs ++ ys)
-part_more a b xs ys part = record {
-  text = part.text;
-  begun = begins_more xs ys part.text part.begun;
-  grown = part.grown;
-}
-
-pub part_after : (a b c : Option (List ℕ)) (xs ys : List Item) → Writes a b xs → WritesPart b c ys → WritesPart a c (xs ++ ys)
-part_after a b c xs ys first second = record {
-  text = first.text ++ second.text;
-  begun = begins_after xs ys first.text second.text first.spelled second.begun;
-  grown = grows_more a b c first.text second.text first.grown second.grown;
-}
-
 -- one item was put
 pub replies_one : {T E : Type 0} (a b : Option (List ℕ)) (r : Result T E) (item : Item) (text : List ℕ) → Spelled item text → Puts a b r text → Replies a b r (item ∷ [])
 replies_one a b (Ok v) item text is put = record { text = text; spelled = spells_one item text is; grown = put }
 replies_one a b (Err e) item text is (part, rest, all, grown) = record {
   text = part;
-  begun = inl (inr (rest, subst (Spelled item) all is));
+  begun = (rest, spells_one item (part ++ rest) (subst (Spelled item) all is));
   grown = grown;
 }

@@ -1,18 +1,17 @@
 -- Sessions over a system, and the replies to the lines of a script.
-use Rattle.std.specs.Prelude.{ℕ, zero, suc, ◌+◌, Bool, true, false, not, List, [], ◌∷◌, ◌++◌, map, length, Option, Some, None, set, slice_index_or, codes, ◌==◌, nat_le, is_some, if◌then◌else◌}
+use Rattle.std.specs.Prelude.{ℕ, Bool, not, List, [], ◌∷◌, ◌++◌, map, length, Option, Some, None, set, codes, ◌==◌, nat_le, if◌then◌else◌}
 use Rattle.std.specs.Fmt.{decimal}
 use Rattle.std.specs.Ordering.{nat_cmp}
 use Rattle.std.specs.Cmp.Lexicographic.{slice_cmp}
-use Rattle.std.specs.List.{list_any, list_all, filter}
+use Rattle.std.specs.List.{list_all, filter}
 use Rattle.std.specs.FinMap.{find, put}
 use Rattle.text_rules.specs.Names.{Name, same_name, is_among}
-use Rattle.ranking.specs.Bits.{bit_in}
 use Rattle.ranking.specs.Cases.{Case, empty_case}
-use Rattle.ranking.specs.Ranking.{rest}
 use Rattle.device_model.specs.Devices.{place_of}
 use Rattle.script_lang.specs.Script.{Line, Blank, Refused, Ask, Request, Start, Stop, See, Unsee, Hold, Unhold, Min, Next, Several, After, Probe, Probes, Blame, Dnnf, line_of, refusal_text}
 use Rattle.ranking.specs.Systems.{System, least_cost, all_diagnoses}
 use Rattle.session_core.specs.Items.{Item, Projected, line}
+use Rattle.session_core.specs.Replies.{end_line, min_line, next_of, repeat_steps, probe_line, probe_lines, blame_lines, if_any}
 
 -- what a session knows, and the state after which it goes on
 pub record Entry : Type 0 where
@@ -72,143 +71,45 @@ with_seen entry wire bit = record { known = record entry.known { seen = set entr
 abbrev pub with_held : Entry → ℕ → Option Bool → Entry
 with_held entry part ok = record { known = record entry.known { held = set entry.known.held part ok }; point = None }
 
--- the names of the faulty parts
-abbrev pub faulty_names : List Name → List Bool → List Name
-faulty_names [] state = []
-faulty_names (name ∷ names) [] = []
-faulty_names (name ∷ names) (true ∷ state) = faulty_names names state
-faulty_names (name ∷ names) (false ∷ state) = name ∷ faulty_names names state
-
 -- the state whose faulty parts are those named
 abbrev pub state_of : List Name → List Name → List Bool
 state_of named parts = map (λ part. not (is_among named part)) parts
-
-abbrev pub inconsistent : Name → Item
-inconsistent session = line (session ∷ codes "inconsistent" ∷ [])
-
-abbrev pub end_line : Name → Item
-end_line session = line (session ∷ codes "end" ∷ [])
-
-abbrev pub count_text : Option ℕ → List ℕ
-count_text None = codes "-"
-count_text (Some n) = decimal n
-
--- the least cost, and one of the diagnoses
-abbrev pub min_line : System → Name → Option ℕ → List (List Bool) → Item
-min_line system session fewest [] = inconsistent session
-min_line system session fewest (state ∷ states) =
-    line (session ∷ codes "min" ∷ count_text fewest ∷ faulty_names system.parts state)
-
--- the state that comes next, the point after it, and whether there was one
-pub record Found : Type 0 where
-  pub item : Item
-  pub point : Option (List Bool)
-  pub more : Bool
-
--- the first of the states that come later, of all that there are
-abbrev pub found : Name → (List Bool → Item) → Option (List Bool) → List (List Bool) → List (List Bool) → Found
-found session shown point [] later = record { item = inconsistent session; point = point; more = false }
-found session shown point (d ∷ ds) [] = record { item = end_line session; point = point; more = false }
-found session shown point (d ∷ ds) (state ∷ later) = record { item = shown state; point = Some state; more = true }
-
-abbrev pub diagnosis_line : System → Name → List Bool → Item
-diagnosis_line system session state = line (session ∷ codes "diag" ∷ faulty_names system.parts state)
-
-abbrev pub next_of : System → Name → List (List Bool) → Option (List Bool) → Found
-next_of system session ds point = found session (diagnosis_line system session) point ds (rest ds point)
-
--- what some steps wrote, and the point after them
-pub record Listed : Type 0 where
-  pub items : List Item
-  pub point : Option (List Bool)
-
--- at most so many steps, up to the first that finds nothing
-abbrev pub repeated : (Option (List Bool) → Found) → ℕ → Option (List Bool) → Listed
-repeated next zero point = record { items = []; point = point }
-repeated next (suc n) point =
-    let f = next point in
-    elim f.more [
-      | true ↦ (let more = repeated next n f.point in record { items = f.item ∷ more.items; point = more.point })
-      | false ↦ record { items = f.item ∷ []; point = f.point }
-    ]
-
--- the least cost where a wire is seen so too, if that is not against what was seen
-abbrev pub least_at : System → Case → ℕ → Bool → Option Bool → Option ℕ
-least_at system known wire bit None = least_cost system (record known { seen = set known.seen wire (Some bit) })
-least_at system known wire true (Some true) = least_cost system known
-least_at system known wire false (Some false) = least_cost system known
-least_at system known wire true (Some false) = None
-least_at system known wire false (Some true) = None
-
-abbrev pub seen_at : Case → ℕ → Option Bool
-seen_at known wire = slice_index_or known.seen wire None
-
-abbrev pub probe_line : System → Name → Case → Name → ℕ → Item
-probe_line system session known name wire =
-    line (session ∷ codes "probe" ∷ name ∷ count_text (least_at system known wire false (seen_at known wire))
-    ∷ count_text (least_at system known wire true (seen_at known wire)) ∷ [])
-
--- a line for each wire that is not seen, from this place on
-abbrev pub probe_lines : System → Name → Case → ℕ → List Name → List Item
-probe_lines system session known wire [] = []
-probe_lines system session known wire (name ∷ names) =
-    elim (is_some (seen_at known wire)) [
-      | true ↦ probe_lines system session known (wire + 1) names
-      | false ↦ probe_line system session known name wire ∷ probe_lines system session known (wire + 1) names
-    ]
-
--- in all, in some but not all, or in none
-abbrev pub verdict : List Bool → List ℕ
-verdict faulty =
-    if list_all (λ b. b) faulty then codes "always" else if list_any (λ b. b) faulty then codes "sometimes" else codes "never"
-
--- a line for each part, from this place on
-abbrev pub blame_lines : Name → List (List Bool) → ℕ → List Name → List Item
-blame_lines session ds part [] = []
-blame_lines session ds part (name ∷ names) =
-    line (session ∷ codes "blame" ∷ name ∷ verdict (map (λ state. not (bit_in state part)) ds) ∷ [])
-    ∷ blame_lines session ds (part + 1) names
-
--- these items, or the one that says so where no state agrees
-abbrev pub if_any : Name → List (List Bool) → List Item → List Item
-if_any session [] items = inconsistent session ∷ []
-if_any session (state ∷ states) items = items
 
 -- the same session with another point
 abbrev pub moved : Entry → Option (List Bool) → List Item → Outcome
 moved entry point items = Done (Becomes (record entry { point = point })) items
 
 -- what an open session answers
-abbrev pub answered : System → Name → Entry → Request → Outcome
-answered system s entry Start = Declined 7
-answered system s entry Stop = Done Ends (line (s ∷ codes "closed" ∷ []) ∷ [])
-answered system s entry (See name bit) = at_wire system name (λ wire. becomes s (with_seen entry wire (Some bit)) (codes "ok"))
-answered system s entry (Unsee name) = at_wire system name (λ wire. becomes s (with_seen entry wire None) (codes "ok"))
-answered system s entry (Hold name ok) = at_part system name (λ part. becomes s (with_held entry part (Some ok)) (codes "ok"))
-answered system s entry (Unhold name) = at_part system name (λ part. becomes s (with_held entry part None) (codes "ok"))
-answered system s entry Min =
+abbrev pub when_open : System → Name → Entry → Request → Outcome
+when_open system s entry Start = Declined 7
+when_open system s entry Stop = Done Ends (line (s ∷ codes "closed" ∷ []) ∷ [])
+when_open system s entry (See name bit) = at_wire system name (λ wire. becomes s (with_seen entry wire (Some bit)) (codes "ok"))
+when_open system s entry (Unsee name) = at_wire system name (λ wire. becomes s (with_seen entry wire None) (codes "ok"))
+when_open system s entry (Hold name ok) = at_part system name (λ part. becomes s (with_held entry part (Some ok)) (codes "ok"))
+when_open system s entry (Unhold name) = at_part system name (λ part. becomes s (with_held entry part None) (codes "ok"))
+when_open system s entry Min =
     tells (min_line system s (least_cost system entry.known) (all_diagnoses system entry.known) ∷ [])
-answered system s entry Next =
+when_open system s entry Next =
     let f = next_of system s (all_diagnoses system entry.known) entry.point in moved entry f.point (f.item ∷ [])
-answered system s entry (Several count) =
+when_open system s entry (Several count) =
     let ds = all_diagnoses system entry.known in
-    let l = repeated (next_of system s ds) count entry.point in moved entry l.point l.items
-answered system s entry (After names) =
+    let l = repeat_steps (next_of system s ds) count entry.point in moved entry l.point l.items
+when_open system s entry (After names) =
     if list_all (λ name. is_among system.parts name) names
     then becomes s (record entry { point = Some (state_of names system.parts) }) (codes "ok")
     else Declined 10
-answered system s entry (Probe name) = at_wire system name (λ wire.
+when_open system s entry (Probe name) = at_wire system name (λ wire.
     tells (if_any s (system.consistent entry.known) (probe_line system s entry.known name wire ∷ [])))
-answered system s entry Probes =
+when_open system s entry Probes =
     tells (if_any s (system.consistent entry.known) (probe_lines system s entry.known 0 system.wires ++ end_line s ∷ []))
-answered system s entry Blame =
+when_open system s entry Blame =
     let ds = all_diagnoses system entry.known in tells (if_any s ds (blame_lines s ds 0 system.parts ++ end_line s ∷ []))
-answered system s entry Dnnf =
+when_open system s entry Dnnf =
     tells (line (s ∷ codes "dnnf" ∷ []) ∷ Projected (length system.parts) (system.consistent entry.known) ∷ [])
 
 -- What is answered hangs on the session's own entry alone, and where it is not open on whether there is room.
 abbrev pub outcome : System → Name → Bool → Option Entry → Request → Outcome
-outcome system s full (Some entry) request = answered system s entry request
+outcome system s full (Some entry) request = when_open system s entry request
 outcome system s full None Start = if full then Declined 8 else becomes s (new_entry system) (codes "open")
 outcome system s full None request = Declined 6
 
@@ -249,12 +150,12 @@ step system limit table (Ask session request) = carried table session (outcome_i
 
 -- what lines are answered one after the other, and the table that they leave
 abbrev pub run : (Table → List ℕ → Step) → Table → List (List ℕ) → List Item
-run one table [] = []
-run one table (l ∷ lines) = (one table l).items ++ run one (one table l).table lines
+run step_by table [] = []
+run step_by table (l ∷ lines) = (step_by table l).items ++ run step_by (step_by table l).table lines
 
 abbrev pub after_lines : (Table → List ℕ → Step) → Table → List (List ℕ) → Table
-after_lines one table [] = table
-after_lines one table (l ∷ lines) = after_lines one (one table l).table lines
+after_lines step_by table [] = table
+after_lines step_by table (l ∷ lines) = after_lines step_by (step_by table l).table lines
 
 -- the replies to the lines of a script
 abbrev pub replies : System → ℕ → Table → List (List ℕ) → List Item

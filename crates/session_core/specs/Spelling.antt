@@ -1,22 +1,20 @@
 -- Which bytes spell a list of items.
-use Rattle.std.specs.Prelude.{◌≡◌, ◌⊎◌, ℕ, Bool, true, false, not, ◌&&◌, List, [], ◌∷◌, ◌++◌, length, ◌==◌, Option, Result, MatchResult}
-use Rattle.std.specs.List.{list_any, list_all}
+use Rattle.std.specs.Prelude.{◌≡◌, ℕ, Bool, true, false, List, [], ◌∷◌, ◌++◌, length, Option, Result, MatchResult}
+use Rattle.std.specs.List.{list_any}
 use Rattle.std.specs.Io.KnownBytes.{Appends}
 use Rattle.text_rules.specs.Tokens.{is_neat}
-use Rattle.ranking.specs.Ranking.{is_before}
+use Rattle.std.specs.Cmp.Lexicographic.{pointwise}
+use Rattle.ranking.specs.Bits.{same_bit}
 use Rattle.graph_rules.specs.Graphs.{Decomposable, holds}
 use Rattle.graph_rules.specs.GraphTexts.{Parsed, Read, Refused, parsed}
 use Rattle.session_core.specs.Items.{Item, Plain, Projected}
-
-abbrev pub same_state : List Bool → List Bool → Bool
-same_state h k = (length h == length k) && (not (is_before h k) && not (is_before k h))
 
 -- a graph over so many parts, decomposable, and true for these states alone
 abbrev pub IsGraphOf : ℕ → List (List Bool) → Parsed → Type 0
 IsGraphOf parts states (Refused refusal) = false ≡ true
 IsGraphOf parts states (Read graph) =
     (graph.vars ≡ parts) × Decomposable graph.nodes
-    × ((h : List Bool) → length h ≡ parts → holds graph h ≡ list_any (same_state h) states)
+    × ((h : List Bool) → length h ≡ parts → holds graph h ≡ list_any (pointwise same_bit h) states)
 
 abbrev pub Spelled : Item → List ℕ → Type 0
 Spelled (Plain bytes) text = text ≡ bytes
@@ -28,16 +26,9 @@ Spells [] text = text ≡ []
 Spells (item ∷ items) text =
     (front : List ℕ) × (rest : List ℕ) × (text ≡ front ++ rest) × Spelled item front × Spells items rest
 
--- the text is nothing, or begins that of an item
-abbrev pub BeginsItem : Item → List ℕ → Type 0
-BeginsItem item text = (text ≡ []) ⊎ ((rest : List ℕ) × Spelled item (text ++ rest))
-
--- the text is those of some items, and begins that of the next
+-- some rest makes the text spell the items
 abbrev pub Begins : List Item → List ℕ → Type 0
-Begins [] text = text ≡ []
-Begins (item ∷ items) text =
-    BeginsItem item text
-    ⊎ ((front : List ℕ) × (rest : List ℕ) × (text ≡ front ++ rest) × Spelled item front × Begins items rest)
+Begins items text = (rest : List ℕ) × Spells items (text ++ rest)
 
 -- known bytes grew by a text that spells the items
 pub record Writes (before after : Option (List ℕ)) (items : List Item) : Type 0 where

@@ -4,10 +4,11 @@ ghost use Rattle.device_model.specs.Diagnosis.{device_system};
 ghost use Rattle.session_core.specs.FirstPath.{first_line};
 ghost use Rattle.session_core.specs.Spelling.{Replies};
 
-use crate::gathered::Gathered;
+use crate::line_buffer::LineBuffer;
 use crate::sessions::Sessions;
 use device_model::Device;
 use diag_edge::{Memory, Sink, WriteFailed};
+use plain_minimum::SIZE_LIMIT;
 use std::alloc::Global;
 use std::marker::Model;
 
@@ -16,7 +17,7 @@ use std::marker::Model;
 #[derive(Drop)]
 pub struct Service {
     pub(crate) sessions: Sessions,
-    pub(crate) gathered: Gathered,
+    pub(crate) gathered: LineBuffer,
 }
 
 impl Model for Service {
@@ -31,13 +32,13 @@ impl Service {
     /// A service over a device of at most 20 parts and wires together. No session is open, and at
     /// most one may be. `Err` means that memory ran out.
     pub fn new(alloc: Global, device: Device) -> Result<Service, Memory>
-        requires { length device.parts + length device.wires ≤ 20 }
+        requires { length device.parts + length device.wires ≤ SIZE_LIMIT }
         ensures { IfOk result (λ service. service ≡ record { device = device; table = [] }) }
     {
         let Ok(sessions) = Sessions::new(alloc, device) else {
             return Err(Memory);
         };
-        match Gathered::new(alloc) {
+        match LineBuffer::new(alloc) {
             Ok(gathered) => Ok(Service { sessions, gathered }),
             Err(_) => Err(Memory),
         }

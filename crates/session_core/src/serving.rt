@@ -5,9 +5,9 @@ ghost use Rattle.diag_edge.specs.Edge.{HasCause, RoseExactly};
 ghost use Rattle.device_model.specs.Diagnosis.{device_system};
 ghost use Rattle.session_core.specs.FirstPath.{first_line};
 ghost use Rattle.session_core.specs.Serving.{Answers, BreaksOff, Served};
-ghost use Rattle.session_core.specs.Gathering.{Fed, ended_from};
+ghost use Rattle.session_core.specs.inner.Gathering.{Fed, ended_from};
 
-use crate::gathered::Gathered;
+use crate::line_buffer::LineBuffer;
 use crate::service::Service;
 use crate::sessions::Sessions;
 use diag_edge::{Sink, Source, WriteFailed};
@@ -32,7 +32,7 @@ pub enum ServeEnd {
 // Takes one byte of the script: a line feed has the line answered.
 fn take_byte<O: Sink>(
     sessions: &mut Sessions,
-    gathered: &mut Gathered,
+    gathered: &mut LineBuffer,
     byte: u8,
     out: &mut O,
 ) -> Result<(), WriteFailed>
@@ -57,7 +57,7 @@ fn take_byte<O: Sink>(
 // Answers the lines that end in a piece of the script, and gathers what comes after the last.
 fn feed<O: Sink>(
     sessions: &mut Sessions,
-    gathered: &mut Gathered,
+    gathered: &mut LineBuffer,
     piece: &[u8],
     out: &mut O,
 ) -> Result<(), WriteFailed>
@@ -79,7 +79,7 @@ fn feed<O: Sink>(
 // A last line that no line feed ended, if there is one.
 fn finish<O: Sink>(
     sessions: &mut Sessions,
-    gathered: &Gathered,
+    gathered: &LineBuffer,
     out: &mut O,
 ) -> Result<(), WriteFailed>
     ensures ok { OnOk result (Answers (first_line (device_system sessions.old.device))
@@ -100,7 +100,7 @@ fn finish<O: Sink>(
 // Answers a script from the beginning of a line on.
 fn serve_from<I: Source, O: Sink>(
     sessions: &mut Sessions,
-    gathered: &mut Gathered,
+    gathered: &mut LineBuffer,
     input: &mut I,
     out: &mut O,
     limit: u64,

@@ -1,26 +1,23 @@
 ghost use Rattle.std.specs.Prelude.{◌≡◌, ◌≤◌, ◌<◌, ◌+◌, ◌&&◌, ℕ, List, Option, Some, None, Bool, [], ◌∷◌, ◌++◌, length, map, set, replicate, decimal, codes, true, IfOk};
-ghost use Rattle.text_rules.specs.Names.{same_name, is_name};
+ghost use Rattle.text_rules.specs.Names.{same_name, is_short_name};
 ghost use Rattle.device_model.specs.Devices.{part_names};
 ghost use Rattle.diag_edge.specs.Edge.{HasCause, Puts};
 ghost use Rattle.script_lang.specs.Script.{Ask, Start, See, Min};
 ghost use Rattle.ranking.specs.Systems.{least_cost, all_diagnoses};
 ghost use Rattle.device_model.specs.Diagnosis.{device_system};
-ghost use Rattle.session_core.specs.Sessions.{faulty_names, min_line};
+ghost use Rattle.session_core.specs.Replies.{faulty_names, min_line};
 ghost use Rattle.session_core.specs.FirstPath.{first_step, first_line, not_yet};
 ghost use Rattle.session_core.specs.Spelling.{Replies};
 ghost use Rattle.session_core.specs.Services.{case_of, spaced_before, is_open_as};
 
-use crate::writing::put_number;
-use device_model::{Component, Device};
-use diag_edge::writing::put_two;
-use diag_edge::{Sink, WriteFailed};
-use plain_minimum::{SIZE_LIMIT, first_diagnosis};
+use crate::replies::{put_min, put_not_yet};
+use device_model::Device;
+use diag_edge::{Sink, WriteFailed, put_line};
+use plain_minimum::SIZE_LIMIT;
 use script_lang::{Line, parse_line};
 use std::alloc::{AllocError, Global};
 use std::marker::Model;
-
-/// The longest name of a session, in bytes.
-const NAME_LIMIT: usize = 64;
+use text_rules::SHORT_NAME_LIMIT;
 
 /// The sessions over a device, of which one at most is open.
 #[derive(Drop)]
@@ -34,6 +31,7 @@ pub struct Sessions {
 impl Model for Sessions {
     ghost use Rattle.std.specs.Prelude.{◌≡◌, ◌≤◌, ◌+◌, vec_len, vec_capacity, length};
     ghost use Rattle.session_core.specs.Services.{Shown, table_with};
+    ghost use Rattle.plain_minimum.specs.declared.search.TheConstants.{SIZE_LIMIT};
 
     ghost Value = { Shown };
 
@@ -43,16 +41,16 @@ impl Model for Sessions {
     } };
 
     ghost invariant = { λ s. (vec_len s.seen ≡ length s.device.wires) × (64 ≤ vec_capacity s.name)
-        × (length s.device.parts + length s.device.wires ≤ 20) };
+        × (length s.device.parts + length s.device.wires ≤ SIZE_LIMIT) };
 }
 
 impl Sessions {
     /// No session is open. `Err` means that memory ran out.
     pub fn new(alloc: Global, device: Device) -> Result<Self, AllocError>
-        requires { length device.parts + length device.wires ≤ 20 }
+        requires { length device.parts + length device.wires ≤ SIZE_LIMIT }
         ensures { IfOk result (λ sessions. sessions ≡ record { device = device; table = [] }) }
     {
-        let name = Vec::with_capacity(alloc, NAME_LIMIT)?;
+        let name = Vec::with_capacity(alloc, SHORT_NAME_LIMIT)?;
         let seen = vec![in alloc; None; device.wires().len()]?;
         Ok(Sessions {
             device,
@@ -82,7 +80,7 @@ impl Sessions {
 
     // Opens the session where none is open.
     fn start<O: Sink>(&mut self, session: &[u8], out: &mut O) -> Result<(), WriteFailed>
-        requires { is_name 64 session.now ≡ true }
+        requires { is_short_name session.now ≡ true }
         ensures reply { Replies (O.got out.old) (O.got out.new) result
             (first_step (device_system self.old.device) self.old.table (Ask session.now Start)).items }
         ensures table { self.new.table ≡
@@ -97,7 +95,7 @@ impl Sessions {
         self.name.extend_from_slice(session).unwrap();
         forget(&mut self.seen);
         self.is_open = true;
-        put_two(out, session, b" open\n")
+        put_line(out, &[session, b"open"])
     }
 
     // Notes the bit of a wire where the session is open.
@@ -123,7 +121,7 @@ impl Sessions {
         match self.device.find_wire(name) {
             Some(wire) => {
                 self.seen[wire as usize] = Some(bit);
-                put_two(out, session, b" ok\n")
+                put_line(out, &[session, b"ok"])
             }
             None => put_not_yet(out),
         }
@@ -157,93 +155,4 @@ fn forget(seen: &mut [Option<bool>])
     ensures { seen.new ≡ replicate (length seen.old) None }
 {
     seen.fill(None);
-}
-
-// The reply to what is not built yet.
-fn put_not_yet<O: Sink>(out: &mut O) -> Result<(), WriteFailed>
-    ensures reply { Replies (O.got out.old) (O.got out.new) result (not_yet []).items }
-    ensures cause { HasCause (O.faults out.old) (O.faults out.new) result }
-{
-    out.put(b"not yet\n")
-}
-
-// The line of `min`, where nothing is held.
-fn put_min<O: Sink>(
-    out: &mut O,
-    session: &[u8],
-    device: &Device,
-    seen: &[Option<bool>],
-) -> Result<(), WriteFailed>
-    requires { length device.now.parts + length device.now.wires ≤ 20 }
-    ensures reply { let system = device_system device.now in
-        let known = case_of device.now seen.now in
-        Replies (O.got out.old) (O.got out.new) result
-        (min_line system session.now (least_cost system known) (all_diagnoses system known) ∷ []) }
-    ensures cause { HasCause (O.faults out.old) (O.faults out.new) result }
-{
-    let parts = device.parts();
-    let held = [None; SIZE_LIMIT];
-    let mut state = [false; SIZE_LIMIT];
-    let state = &mut state[..parts.len()];
-    match first_diagnosis(device, seen, &held[..parts.len()], state) {
-        None => put_two(out, session, b" inconsistent\n"),
-        Some(fewest) => put_diagnosis(out, session, fewest as u64, parts, state),
-    }
-}
-
-// The line of `min`, where a state agrees: the fewest faults, and the names of the faulty parts.
-#[tactic(auto, using(diag_edge::proofs::Growing::puts_on))]
-fn put_diagnosis<O: Sink>(
-    out: &mut O,
-    session: &[u8],
-    fewest: u64,
-    parts: &[Component],
-    state: &[bool],
-) -> Result<(), WriteFailed>
-    requires { length state.now ≡ length parts.now }
-    ensures text { Puts (O.got out.old) (O.got out.new) result
-        (((session.now ++ codes " min ") ++ decimal fewest)
-        ++ (spaced_before (faulty_names (part_names parts.now) state.now) ++ codes "\n")) }
-    ensures cause { HasCause (O.faults out.old) (O.faults out.new) result }
-{
-    put_front(out, session, fewest)?;
-    put_back(out, parts, state)
-}
-
-// That line up to the fewest faults.
-#[tactic(auto, using(diag_edge::proofs::Growing::puts_on))]
-fn put_front<O: Sink>(out: &mut O, session: &[u8], fewest: u64) -> Result<(), WriteFailed>
-    ensures text { Puts (O.got out.old) (O.got out.new) result
-        ((session.now ++ codes " min ") ++ decimal fewest) }
-    ensures cause { HasCause (O.faults out.old) (O.faults out.new) result }
-{
-    put_two(out, session, b" min ")?;
-    put_number(out, fewest)
-}
-
-// The rest of that line.
-#[tactic(auto, using(diag_edge::proofs::Growing::puts_on))]
-fn put_back<O: Sink>(out: &mut O, parts: &[Component], state: &[bool]) -> Result<(), WriteFailed>
-    requires { length state.now ≡ length parts.now }
-    ensures text { Puts (O.got out.old) (O.got out.new) result
-        (spaced_before (faulty_names (part_names parts.now) state.now) ++ codes "\n") }
-    ensures cause { HasCause (O.faults out.old) (O.faults out.new) result }
-{
-    put_faulty(out, parts, state)?;
-    out.put(b"\n")
-}
-
-// The names of the faulty parts, a space before each.
-fn put_faulty<O: Sink>(out: &mut O, parts: &[Component], state: &[bool]) -> Result<(), WriteFailed>
-    requires { length state.now ≡ length parts.now }
-    ensures text { Puts (O.got out.old) (O.got out.new) result
-        (spaced_before (faulty_names (part_names parts.now) state.now)) }
-    ensures cause { HasCause (O.faults out.old) (O.faults out.new) result }
-{
-    for (i, part) in parts.iter().enumerate() {
-        if !state[i] {
-            put_two(out, b" ", part.name.as_slice())?;
-        }
-    }
-    Ok(())
 }

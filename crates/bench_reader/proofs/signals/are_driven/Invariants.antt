@@ -1,13 +1,14 @@
-use Rattle.std.proofs.Common.{◌≡◌, drop}
+use Rattle.std.proofs.Common.{◌≡◌}
 use Rattle.std.specs.List.{filter, list_all}
 use Rattle.std.specs.Map.{keys_of}
 use Rattle.text_rules.specs.Names.{is_among}
 use Rattle.text_rules.specs.Tokens.{tokens_left}
-use Rattle.bench_reader.specs.Netlists.{is_word}
-use Rattle.bench_reader.specs.Meanings.{line_tokens, drivers_in}
+use Rattle.bench_reader.specs.Statements.{has_no_mark}
+use Rattle.bench_reader.specs.inner.Lines.{input_names}
+use Rattle.bench_reader.specs.inner.Steps.{signals_in}
 use Rattle.bench_reader.proofs.signals.are_driven.Given as goal
 
 abbrev pub invariant-loop-token : goal.invariant-loop-token
 invariant-loop-token l =
-    let driven = is_among (keys_of (drivers_in l.signals)) in
-    list_all driven (filter is_word (drop 4 (line_tokens l.fn.inputs.line.now))) ≡ list_all driven (filter is_word (tokens_left l.token-iterator))
+    let driven = is_among (keys_of (signals_in l.signals)) in
+    list_all driven (input_names l.fn.inputs) ≡ list_all driven (filter has_no_mark (tokens_left l.token-iterator))

@@ -1,37 +1,35 @@
-use Rattle.std.proofs.Common.{ap, ◌∙◌, drop}
-use Rattle.std.specs.List.{filter}
-use Rattle.bench_reader.specs.Netlists.{is_word}
-use Rattle.bench_reader.specs.Steps.{driven_more}
-use Rattle.bench_reader.specs.Meanings.{meaning, drivers_in, line_tokens}
+use Rattle.std.proofs.Common.{ap, ◌∙◌}
+use Rattle.bench_reader.specs.inner.Lines.{input_names, meaning}
+use Rattle.bench_reader.specs.inner.Steps.{driven_more, signals_in}
 use Rattle.bench_reader.proofs.Driving.{gate-free, gate-taken, input-free, input-again, input-gate}
 use Rattle.bench_reader.proofs.signals.drive.Goals as goal
 
 pub returns-in-None : goal.returns-in-None
 returns-in-None c =
     let k = c.in_ok-insert-in-Gate.ensures in
-    ap (λ s. driven_more (drivers_in c.args.signals.now) (c.args.said.now.line, meaning s)) c.in-Gate.is
-    ∙ gate-free c.args.said.now.line c.args.signals.now.entries c.insert.new.self.entries c.in-Gate.output _ k.old c.in-Gate.kind.now (filter is_word (drop 4 (line_tokens c.in-Gate.inputs.line.now))) c.in-None.is k.entries
+    ap (λ s. driven_more (signals_in c.args.signals.now) (c.args.numbered.now.line, meaning s)) c.in-Gate.is
+    ∙ gate-free c.args.numbered.now.line c.args.signals.now.entries c.insert.new.self.entries c.in-Gate.output _ k.old c.in-Gate.kind (input_names c.in-Gate.inputs) c.in-None.is k.entries
 
 pub returns-in-Some : goal.returns-in-Some
 returns-in-Some c =
     let k = c.in_ok-insert-in-Gate.ensures in
-    ap (λ s. driven_more (drivers_in c.args.signals.now) (c.args.said.now.line, meaning s)) c.in-Gate.is
-    ∙ gate-taken c.args.said.now.line c.args.signals.now.entries c.insert.new.self.entries c.in-Gate.output _ k.old c.in-Gate.kind.now (filter is_word (drop 4 (line_tokens c.in-Gate.inputs.line.now))) _ c.in-Some.is
+    ap (λ s. driven_more (signals_in c.args.signals.now) (c.args.numbered.now.line, meaning s)) c.in-Gate.is
+    ∙ gate-taken c.args.numbered.now.line c.args.signals.now.entries c.insert.new.self.entries c.in-Gate.output _ k.old c.in-Gate.kind (input_names c.in-Gate.inputs) _ c.in-Some.is
 
 pub returns-in-Some-Gate : goal.returns-in-Some-Gate
 returns-in-Some-Gate c =
     let k = c.in_ok-insert-in-Input.ensures in
-    ap (λ s. driven_more (drivers_in c.args.signals.now) (c.args.said.now.line, meaning s)) c.in-Input.is
-    ∙ input-gate c.args.said.now.line c.args.signals.now.entries c.insert-in-Input.new.self.entries c.in-Input.signal _ k.old _ c.in-Some-Gate.is c.in-Some-Gate.field-0-is
+    ap (λ s. driven_more (signals_in c.args.signals.now) (c.args.numbered.now.line, meaning s)) c.in-Input.is
+    ∙ input-gate c.args.numbered.now.line c.args.signals.now.entries c.insert-in-Input.new.self.entries c.in-Input.signal _ k.old _ c.in-Some-Gate.is c.in-Some-Gate.field-0-is
 
 pub returns-in-Some-Outside : goal.returns-in-Some-Outside
 returns-in-Some-Outside c =
     let k = c.in_ok-insert-in-Input.ensures in
-    ap (λ s. driven_more (drivers_in c.args.signals.now) (c.args.said.now.line, meaning s)) c.in-Input.is
-    ∙ input-again c.args.said.now.line c.args.signals.now.entries c.insert-in-Input.new.self.entries c.in-Input.signal _ k.old _ c.in-Some-Outside.is c.in-Some-Outside.field-0-is k.entries
+    ap (λ s. driven_more (signals_in c.args.signals.now) (c.args.numbered.now.line, meaning s)) c.in-Input.is
+    ∙ input-again c.args.numbered.now.line c.args.signals.now.entries c.insert-in-Input.new.self.entries c.in-Input.signal _ k.old _ c.in-Some-Outside.is c.in-Some-Outside.field-0-is k.entries
 
 pub returns-in-None-2 : goal.returns-in-None-2
 returns-in-None-2 c =
     let k = c.in_ok-insert-in-Input.ensures in
-    ap (λ s. driven_more (drivers_in c.args.signals.now) (c.args.said.now.line, meaning s)) c.in-Input.is
-    ∙ input-free c.args.said.now.line c.args.signals.now.entries c.insert-in-Input.new.self.entries c.in-Input.signal _ k.old c.in-None-2.is k.entries
+    ap (λ s. driven_more (signals_in c.args.signals.now) (c.args.numbered.now.line, meaning s)) c.in-Input.is
+    ∙ input-free c.args.numbered.now.line c.args.signals.now.entries c.insert-in-Input.new.self.entries c.in-Input.signal _ k.old c.in-None-2.is k.entries

@@ -1,10 +1,10 @@
 use Rattle.std.proofs.Common.{◌≡◌, map, drop}
 use Rattle.std.specs.Map.{keys_of}
-use Rattle.bench_reader.specs.Steps.{first_undriven}
-use Rattle.bench_reader.specs.Meanings.{numbered, drivers_in}
+use Rattle.bench_reader.specs.inner.Lines.{with_number}
+use Rattle.bench_reader.specs.inner.Steps.{first_undriven, signals_in}
 use Rattle.bench_reader.proofs.signals.first_undriven.Given as goal
 
-abbrev pub invariant-loop-said : goal.invariant-loop-said
-invariant-loop-said l =
-    let driven = keys_of (drivers_in l.signals) in
-    first_undriven driven (map numbered l.statements) ≡ first_undriven driven (map numbered (drop l.said-index l.statements))
+abbrev pub invariant-loop-numbered : goal.invariant-loop-numbered
+invariant-loop-numbered l =
+    let driven = keys_of (signals_in l.signals) in
+    first_undriven driven (map with_number l.statements) ≡ first_undriven driven (map with_number (drop l.numbered-index l.statements))

@@ -1,8 +1,8 @@
 use Rattle.std.proofs.Common.{◌≡◌, map, drop, []}
-use Rattle.bench_reader.specs.Steps.{drivers_from}
-use Rattle.bench_reader.specs.Meanings.{numbered, drivers_in}
+use Rattle.bench_reader.specs.inner.Lines.{with_number}
+use Rattle.bench_reader.specs.inner.Steps.{signals_from, signals_in}
 use Rattle.bench_reader.proofs.signals.signals_of.Given as goal
 
-abbrev pub invariant-loop-said : goal.invariant-loop-said
-invariant-loop-said l =
-    drivers_from [] (map numbered l.statements) ≡ drivers_from (drivers_in l.signals) (map numbered (drop l.said-index l.statements))
+abbrev pub invariant-loop-numbered : goal.invariant-loop-numbered
+invariant-loop-numbered l =
+    signals_from [] (map with_number l.statements) ≡ signals_from (signals_in l.signals) (map with_number (drop l.numbered-index l.statements))

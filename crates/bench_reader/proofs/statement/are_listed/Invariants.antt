@@ -1,6 +1,6 @@
 use Rattle.std.proofs.Common.{◌≡◌, ◌∷◌, is_some, length}
 use Rattle.text_rules.specs.Tokens.{tokens_left}
-use Rattle.bench_reader.specs.Netlists.{listed_from}
+use Rattle.bench_reader.specs.Statements.{listed_from}
 use Rattle.bench_reader.proofs.statement.are_listed.Given as goal
 
 abbrev pub invariant-loop-tokens : goal.invariant-loop-tokens

@@ -1,24 +1,23 @@
 use Rattle.std.proofs.Common.{◌∷◌, sym, ◌∙◌}
 use Rattle.std.proofs.lemmas.Result.{err_from_is_err_and}
 use Rattle.text_rules.specs.Tokens.{tokens_left}
-use Rattle.component_lang.specs.Reading.{InBlock, at, wire_line}
-use Rattle.component_lang.specs.Places.{reader_in}
-use Rattle.component_lang.specs.Views.{closed_in, block_in}
+use Rattle.component_lang.specs.DesignLines.{wire_line}
+use Rattle.component_lang.specs.inner.Views.{library_in, block_in}
 use Rattle.component_lang.proofs.LineForms.{in_block-wire}
-use Rattle.component_lang.proofs.Passing.{Gives-error}
+use Rattle.component_lang.proofs.Passing.{fault-passed}
 use Rattle.component_lang.proofs.reading.in_block.Goals as goal
 
 pub returns-in_err-with_wires : goal.returns-in_err-with_wires
 returns-in_err-with_wires c =
     let p = err_from_is_err_and c.from_residual-in_err-with_wires.result c.from_residual-in_err-with_wires.ensures.1 in
-    let reader = closed_in c.args.closed.now in
+    let reader = library_in c.args.library.now in
     let others = tokens_left c.next.new.self in
     let form = in_block-wire reader (block_in c.args.block) c.args.word.now c.in-Some.name.now (tokens_left c.args.words) others c.in-Some.ensures.steps (sym c.spells-2.ensures ∙ c.if-spells.true) in
-    rw (p.1, p.2) (Gives-error _ (λ b. at reader (InBlock (block_in b))) (reader_in c.args.closed.now) (wire_line reader (block_in c.args.block) (c.in-Some.name.now ∷ others)) _
+    rw (p.1, p.2) (fault-passed _ (wire_line reader (block_in c.args.block) (c.in-Some.name.now ∷ others)) _
     (c.in_err-with_wires.ensures reader) (λ what h. form ∙ h))
 
 pub returns-then-spells : goal.returns-then-spells
 returns-then-spells c =
-    let reader = closed_in c.args.closed.now in
+    let reader = library_in c.args.library.now in
     in_block-wire reader (block_in c.args.block) c.args.word.now c.in-Some.name.now (tokens_left c.args.words) (tokens_left c.next.new.self) c.in-Some.ensures.steps (sym c.spells-2.ensures ∙ c.if-spells.true)
     ∙ c.in_ok-with_wires.ensures reader

@@ -3,20 +3,22 @@ use Rattle.std.specs.List.{sum_by}
 use Rattle.std.proofs.lemmas.List.Sums.{sum_by-cons}
 use Rattle.text_rules.specs.TextLines.{all_lines}
 use Rattle.text_rules.proofs.LineLemmas.{sum-all_lines, length-all_lines}
-use Rattle.component_lang.specs.Reading.{Outside, at, design_from, unless_wrong, after_line}
-use Rattle.component_lang.specs.Places.{reader_in}
-use Rattle.component_lang.specs.Sound.{is_sound, reader_size}
+use Rattle.component_lang.specs.Kinds.{Outside}
+use Rattle.component_lang.specs.DesignLines.{at, after_line}
+use Rattle.component_lang.specs.Reading.{design_from, unless_wrong}
+use Rattle.component_lang.specs.inner.Sections.{reader_in}
+use Rattle.component_lang.specs.inner.Sound.{is_sound, reader_size}
 use Rattle.component_lang.proofs.Keeping.{Keeps, after_line-keeps}
 use Rattle.component_lang.proofs.reading.read_lang.Goals as goal
 
 pub loop-line-init : goal.loop-line-init
 loop-line-init c =
     let text = c.into_iter-line-iterator.ensures.into_iter_gives ∙ c.new-line-items.ensures in
-    let none = ap (λ r. at r Outside) c.new-closed.ensures in
+    let none = ap (λ r. at r Outside) c.new-library.ensures in
     record {
       can_next = tt;
       is_finite = tt;
-      same = ap (λ t. design_from 1 (all_lines t) (record { types = []; blocks = []; place = Outside })) (sym text)
+      same = ap (λ t. design_from 1 (all_lines t) (record { types = []; blocks = []; section = Outside })) (sym text)
           ∙ ap (design_from 1 (all_lines c.into_iter-line-iterator.result)) (sym none);
       sound = ap is_sound none;
       numbered = omega (arith, length-all_lines c.args.text.now, ap (λ t. length (all_lines t)) text, c.requires);
@@ -25,8 +27,8 @@ loop-line-init c =
 
 pub loop-line-preserved : goal.loop-line-preserved
 loop-line-preserved c =
-    let reader = reader_in c.loop-line.closed c.loop-line.place in
-    let next = reader_in c.after_line.new.closed c.in-Ok.next in
+    let reader = reader_in c.loop-line.library c.loop-line.section in
+    let next = reader_in c.after_line.new.library c.in-Ok.next in
     let left = all_lines c.next.new.self in
     let size = sum_by-cons length c.in-Some.line.now left in
     let lines = ap length c.in-Some.ensures.steps in

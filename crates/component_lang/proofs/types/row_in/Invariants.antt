@@ -1,7 +1,7 @@
 use Rattle.std.proofs.Common.{◌≡◌, take, true}
 use Rattle.std.specs.List.{list_all}
 use Rattle.std.specs.Prelude.{◌==◌, ◌||◌}
-use Rattle.component_lang.specs.Reading.{row_in}
+use Rattle.component_lang.specs.TypeRows.{row_in}
 use Rattle.component_lang.proofs.types.row_in.Given as goal
 
 abbrev pub invariant-loop-place : goal.invariant-loop-place

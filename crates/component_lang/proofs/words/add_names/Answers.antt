@@ -1,6 +1,6 @@
 use Rattle.std.proofs.Common.{ap, ◌∙◌}
 use Rattle.text_rules.specs.Tokens.{tokens_left}
-use Rattle.component_lang.specs.Meanings.{names_in}
+use Rattle.component_lang.specs.inner.NameSets.{names_in}
 use Rattle.component_lang.proofs.NameLists.{more_names, more_names-first}
 use Rattle.component_lang.proofs.words.add_names.Goals as goal
 

@@ -2,8 +2,9 @@ use Rattle.std.proofs.Common.{◌≡◌, true, ap, sym, ◌∙◌}
 use Rattle.text_rules.specs.Names.{same_name}
 use Rattle.text_rules.specs.Tokens.{tokens_left}
 use Rattle.component_lang.specs.Designs.{is_plain_name}
-use Rattle.component_lang.specs.Meanings.{names_in}
-use Rattle.component_lang.proofs.NameLists.{more_places, position-keys, more_places-known, more_places-unknown}
+use Rattle.component_lang.specs.inner.NameSets.{names_in}
+use Rattle.device_model.proofs.Tables.{position-map}
+use Rattle.component_lang.proofs.NameLists.{bytes, more_places, more_places-known, more_places-unknown}
 use Rattle.component_lang.proofs.words.places_of.Goals as goal
 
 pub loop-word-preserved-in-Continue-1 : goal.loop-word-preserved-in-Continue-1
@@ -17,7 +18,7 @@ loop-word-preserved-in-Continue-1 c =
       is_finite = tt;
       same = c.loop-word.invariant.same ∙ ap (more_places c.loop-word.are_known c.loop-word.places.items wires) c.in-Some.ensures.steps
           ∙ more_places-known c.loop-word.are_known c.loop-word.places.items wires word left c.in-Some-get_index_of.place plain
-          (sym (position-keys (same_name word) c.args.names.now.keys) ∙ sym c.get_index_of.ensures.index ∙ c.in-Some-get_index_of.is)
+          (sym (position-map bytes (same_name word) c.args.names.now.keys) ∙ sym c.get_index_of.ensures.index ∙ c.in-Some-get_index_of.is)
           ∙ ap (λ ps. more_places c.loop-word.are_known ps wires left) (sym c.in_ok-push.ensures.items);
     }
 
@@ -31,5 +32,5 @@ loop-word-preserved c =
       is_finite = tt;
       same = c.loop-word.invariant.same ∙ ap (more_places c.loop-word.are_known c.loop-word.places.items wires) c.in-Some.ensures.steps
           ∙ more_places-unknown c.loop-word.are_known c.loop-word.places.items wires word (tokens_left c.next.new.self) plain
-          (sym (position-keys (same_name word) c.args.names.now.keys) ∙ sym c.get_index_of.ensures.index ∙ c.in_default.is);
+          (sym (position-map bytes (same_name word) c.args.names.now.keys) ∙ sym c.get_index_of.ensures.index ∙ c.in_default.is);
     }

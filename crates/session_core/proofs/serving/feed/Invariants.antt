@@ -1,7 +1,7 @@
 use Rattle.std.proofs.Common.{◌≡◌, take}
 use Rattle.device_model.specs.Diagnosis.{device_system}
 use Rattle.session_core.specs.FirstPath.{first_line}
-use Rattle.session_core.specs.Gathering.{Fed}
+use Rattle.session_core.specs.inner.Gathering.{Fed}
 use Rattle.session_core.proofs.serving.feed.Given as goal
 
 -- the bytes so far were taken

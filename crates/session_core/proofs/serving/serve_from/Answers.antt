@@ -1,6 +1,6 @@
 use Rattle.std.proofs.Common.{arith, ◌≡◌, ◌∙◌, ◌++◌, take, drop, inl, inr, subst, length-append, length-take}
 use Rattle.std.proofs.lemmas.Grind.{common_steps}
-use Rattle.session_core.specs.Gathering.{Fed, ended_from}
+use Rattle.session_core.specs.inner.Gathering.{Fed, ended_from}
 use Rattle.session_core.specs.Serving.{BreaksOff}
 use Rattle.device_model.specs.Diagnosis.{device_system}
 use Rattle.session_core.specs.FirstPath.{first_line}

@@ -2,7 +2,7 @@ use Rattle.std.proofs.Common.{◌≡◌, ◌+◌, ◌-◌, ◌≤◌, ℕ, List,
 use Rattle.std.specs.Io.KnownBytes.{Consumes}
 use Rattle.device_model.specs.Diagnosis.{device_system}
 use Rattle.session_core.specs.FirstPath.{first_line}
-use Rattle.session_core.specs.Gathering.{Fed}
+use Rattle.session_core.specs.inner.Gathering.{Fed}
 use Rattle.session_core.proofs.serving.serve_from.Given as goal
 
 -- the bytes so far were taken and fed

@@ -1,5 +1,5 @@
-use Rattle.bench_reader.specs.Meanings.{line_tokens}
-use Rattle.bench_reader.proofs.Forms.{next_drops}
+use Rattle.bench_reader.specs.inner.Lines.{line_tokens}
+use Rattle.bench_reader.proofs.Parsing.{next_drops}
 use Rattle.bench_reader.proofs.statement.Inputs.tokens.Goals as goal
 
 pub loop-preserved : goal.loop-preserved

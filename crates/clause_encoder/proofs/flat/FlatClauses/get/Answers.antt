@@ -1,5 +1,5 @@
 use Rattle.std.proofs.Common.{rules, ◌≤◌, ◌-◌, length, take, drop, ap, ◌∙◌, arith}
-use Rattle.clause_encoder.specs.Flat.{start_at}
+use Rattle.clause_encoder.specs.inner.Flat.{start_at}
 use Rattle.clause_encoder.proofs.Pieces.{has_end, IsPiece, piece_at}
 use Rattle.clause_encoder.proofs.flat.FlatClauses.get.Goals as goal
 use Rattle.clause_encoder.proofs.flat.FlatClauses.get.Goals.{After-deref-2}

@@ -2,7 +2,7 @@ use Rattle.std.proofs.Common.{◌≡◌, ◌++◌, map, true, Bor}
 use Rattle.std.specs.List.{list_all}
 use Rattle.text_rules.specs.Names.{Name}
 use Rattle.component_lang.specs.Designs.{is_plain_name}
-use Rattle.component_lang.specs.Meanings.{names_in}
+use Rattle.component_lang.specs.inner.NameSets.{names_in}
 use Rattle.component_lang.proofs.blocks.OpenBlock.close.Given as goal
 
 abbrev pub invariant-loop-wire : goal.invariant-loop-wire

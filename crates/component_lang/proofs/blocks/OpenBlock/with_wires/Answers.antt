@@ -3,13 +3,13 @@ use Rattle.std.proofs.lemmas.List.{length-map}
 use Rattle.std.proofs.lemmas.Result.{err_from_is_err_and}
 use Rattle.text_rules.specs.Names.{Name}
 use Rattle.text_rules.specs.Tokens.{tokens_left}
-use Rattle.component_lang.specs.Reading.{InBlock, at, wire_line}
-use Rattle.component_lang.specs.Words.{with_names}
-use Rattle.component_lang.specs.Meanings.{names_in}
-use Rattle.component_lang.specs.Views.{block_in}
+use Rattle.component_lang.specs.DesignLines.{wire_line}
+use Rattle.component_lang.specs.inner.Words.{with_names}
+use Rattle.component_lang.specs.inner.NameSets.{names_in}
+use Rattle.component_lang.specs.inner.Views.{block_in}
 use Rattle.component_lang.proofs.NameLists.{more_names, more_names-first, more_names-fault, more_names-length, with_name-length}
 use Rattle.component_lang.proofs.LineForms.{wire_line-fault, wire_line-wires}
-use Rattle.component_lang.proofs.Passing.{Gives-error}
+use Rattle.component_lang.proofs.Passing.{fault-passed}
 use Rattle.component_lang.proofs.blocks.OpenBlock.with_wires.Goals as goal
 
 pub returns-in_err-add_names : goal.returns-in_err-add_names
@@ -18,7 +18,7 @@ returns-in_err-add_names c = λ reader.
     let others = tokens_left c.args.others in
     let names = c.args.first.now ∷ others in
     let added = names_in c.add_name.new.names in
-    rw (p.1, p.2) (Gives-error _ (λ _. names_in c.add_names.new.names) (λ block. at reader (InBlock (block_in block))) (with_names added others)
+    rw (p.1, p.2) (fault-passed _ (with_names added others)
     (wire_line reader (block_in c.args.self) names) c.in_err-add_names.ensures
     (λ what h. wire_line-fault reader (block_in c.args.self) names what
     (more_names-first true (names_in c.args.self.wires) c.args.first.now others added c.in_ok-is_new.is_new c.in_ok-is_new.ensures

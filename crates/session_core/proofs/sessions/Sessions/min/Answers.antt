@@ -2,7 +2,7 @@ use Rattle.std.proofs.Common.{◌≡◌, ◌∙◌, ◌∷◌, [], sym, ap, subs
 use Rattle.script_lang.specs.Script.{Ask, Min}
 use Rattle.ranking.specs.Systems.{least_cost, all_diagnoses}
 use Rattle.device_model.specs.Diagnosis.{device_system}
-use Rattle.session_core.specs.Sessions.{min_line}
+use Rattle.session_core.specs.Replies.{min_line}
 use Rattle.session_core.specs.FirstPath.{first_step}
 use Rattle.session_core.specs.Spelling.{Replies}
 use Rattle.session_core.specs.Services.{is_open_as, table_with, case_of}

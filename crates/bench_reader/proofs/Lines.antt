@@ -1,0 +1,84 @@
+-- What lines say, from line to line.
+use Rattle.std.proofs.Common.{◌≡◌, ℕ, ◌+◌, true, List, [], ◌∷◌, ◌++◌, map, drop, get_or, length, Option, Some, None, Ok, Err, append_assoc, refl, sym, ap, subst, ◌∙◌, ◌<◌, drop-drop}
+use Rattle.std.specs.Prelude.{Result, is_none}
+use Rattle.std.specs.List.{list_all, filter_map, enumerate_from, flat_map}
+use Rattle.std.proofs.lemmas.Bool.{and_parts, and_from}
+use Rattle.std.proofs.lemmas.List.{drop_more, map-append}
+use Rattle.text_rules.specs.Tokens.{tokens}
+use Rattle.text_rules.specs.TextLines.{uncommented}
+use Rattle.bench_reader.specs.declared.fault.BenchFault.{BenchFault}
+use Rattle.bench_reader.specs.Statements.{Statement, statement_of, statement_fault, unless_faulty, reading_of_statement, reading_of, reading}
+use Rattle.bench_reader.specs.Netlists.{fault_in, statement_in}
+use Rattle.bench_reader.specs.inner.Steps.{is_faultless}
+
+-- the readings of lines of which the first has a number
+abbrev pub readings_from : ℕ → List (List ℕ) → List (ℕ × Result (Option Statement) BenchFault)
+readings_from number lines = enumerate_from number (map reading lines)
+
+-- The faults of all lines are those of what is left, and the statements are these and then those of what is left.
+pub record IsReadTo (number : ℕ) (lines left : List (List ℕ)) (done : List (ℕ × Statement)) : Type 0 where
+  pub no_fault : filter_map fault_in (readings_from 1 lines) ≡ filter_map fault_in (readings_from number left)
+  pub so_far : filter_map statement_in (readings_from 1 lines) ≡ done ++ filter_map statement_in (readings_from number left)
+
+-- ---- statements without a fault
+
+-- a statement that a line makes has no fault
+read_is_faultless : (line : List ℕ) (s : Statement) → reading line ≡ Ok (Some s) → is_faultless s ≡ true
+read_is_faultless line s e = over (tokens true (uncommented line)) e
+  where
+    by : (f : Statement) (fault : Option BenchFault) → statement_fault f ≡ fault → unless_faulty f fault ≡ Ok (Some s) → is_faultless s ≡ true
+    by f None g h = let same : f ≡ s = cc in ap is_faultless (sym same) ∙ ap is_none g
+    by f (Some w) g h = cc
+
+    of_statement : (o : Option Statement) → reading_of_statement o ≡ Ok (Some s) → is_faultless s ≡ true
+    of_statement None h = cc
+    of_statement (Some f) h = by f (statement_fault f) refl h
+
+    over : (ts : List (List ℕ)) → reading_of ts ≡ Ok (Some s) → is_faultless s ≡ true
+    over [] h = cc
+    over (t ∷ ts) h = of_statement (statement_of (t ∷ ts)) h
+
+abbrev pub said : ℕ × Statement → Statement
+said s = s.1
+
+-- each statement that lines make has no fault
+pub read_are_faultless : (n : ℕ) (lines : List (List ℕ)) → list_all is_faultless (map said (filter_map statement_in (readings_from n lines))) ≡ true
+read_are_faultless n [] = refl
+read_are_faultless n (line ∷ lines) = by (reading line) refl (read_are_faultless (n + 1) lines)
+  where
+    by : (r : Result (Option Statement) BenchFault) → reading line ≡ r → list_all is_faultless (map said (filter_map statement_in (readings_from (n + 1) lines))) ≡ true
+        → list_all is_faultless (map said (filter_map statement_in ((n, r) ∷ readings_from (n + 1) lines))) ≡ true
+    by (Ok None) e h = h
+    by (Err what) e h = h
+    by (Ok (Some s)) e h = and_from _ _ (read_is_faultless line s e) h
+
+-- ---- statements one after the other
+
+-- what is left of statements passes, so the next one does and those behind it
+pub faultless_next : {S : Type 0} (means : S → Statement) (statements : List S) (i : ℕ) (default : S) → i < length statements → list_all is_faultless (map means (drop i statements)) ≡ true
+    → is_faultless (means (get_or statements i default)) ≡ true
+faultless_next means statements i default l h =
+    (and_parts (is_faultless (means (get_or statements i default))) (list_all is_faultless (map means (drop (i + 1) statements)))
+    (sym (ap (λ ss. list_all is_faultless (map means ss)) (drop_more statements i default l)) ∙ h)).0
+
+pub faultless_rest : {S : Type 0} (means : S → Statement) (statements : List S) (i : ℕ) → list_all is_faultless (map means (drop i statements)) ≡ true
+    → list_all is_faultless (map means (drop (i + 1) statements)) ≡ true
+faultless_rest means statements i h =
+    let e : drop 1 (drop i statements) ≡ drop (i + 1) statements = simp drop-drop refl in
+    subst (λ ss. list_all is_faultless (map means ss) ≡ true) e (by (drop i statements) h)
+  where
+    by : (ss : List _) → list_all is_faultless (map means ss) ≡ true → list_all is_faultless (map means (drop 1 ss)) ≡ true
+    by [] g = refl
+    by (s ∷ ss) g = (and_parts (is_faultless (means s)) (list_all is_faultless (map means ss)) g).1
+
+-- the next statement adds its items
+pub items-more : {S A B : Type 0} (items : Statement → List A) (shown : A → B) (means : S → Statement) (statements : List S) (i : ℕ) (default : S) (whole done found : List B)
+    → i < length statements → whole ≡ done ++ map shown (flat_map items (map means (drop i statements))) → found ≡ map shown (items (means (get_or statements i default)))
+    → whole ≡ (done ++ found) ++ map shown (flat_map items (map means (drop (i + 1) statements)))
+items-more items shown means statements i default whole done found l h e =
+    let here = items (means (get_or statements i default)) in
+    let rest = flat_map items (map means (drop (i + 1) statements)) in
+    h ∙ ap (λ ss. done ++ map shown (flat_map items (map means ss))) (drop_more statements i default l)
+    ∙ ap (λ xs. done ++ xs) (map-append shown here rest)
+    ∙ sym (append_assoc done (map shown here) (map shown rest))
+    ∙ ap (λ xs. (done ++ xs) ++ map shown rest) (sym e)

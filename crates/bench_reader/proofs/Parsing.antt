@@ -1,0 +1,115 @@
+-- What tokens make.
+use Rattle.std.proofs.Common.{◌≡◌, ℕ, ◌+◌, ◌<◌, ◌≤◌, Bool, true, false, List, [], ◌∷◌, length, get_or, Option, Some, None, codes, Bor, is_some, refl, sym, ap, ◌∙◌, drop, drop-drop, length-drop, arith}
+use Rattle.std.specs.Prelude.{◌&&◌, option_map, if◌then◌else◌}
+use Rattle.std.specs.List.{filter, list_all}
+use Rattle.std.proofs.lemmas.List.Sums.{length-filter, count_by-le-length}
+use Rattle.std.specs.Iterator.{YieldsFirstBy}
+use Rattle.text_rules.specs.Names.{Name, is_short_name}
+use Rattle.text_rules.specs.Tokens.{Uncut, tokens_left}
+use Rattle.text_rules.proofs.NameLemmas.{equal_if_same}
+use Rattle.text_rules.proofs.TokenLemmas.{length-tokens}
+use Rattle.bench_reader.specs.declared.fault.BenchFault.TheVariants.{Name as NoName}
+use Rattle.bench_reader.specs.declared.kinds.NamedKind.{NamedKind}
+use Rattle.bench_reader.specs.declared.statement.Inputs.{Inputs}
+use Rattle.bench_reader.specs.Statements.{Gate, has_no_mark, is_the_mark, listed_from, inputs_in, statement_of, kind_named, kind_fault, statement_fault}
+use Rattle.bench_reader.specs.inner.Lines.{input_names, input_tokens, line_tokens, count_names}
+
+-- ---- the tokens behind those that calls of `next` took
+
+drop_one_more : (k : ℕ) (xs : List (List ℕ)) → drop 1 (drop k xs) ≡ drop (k + 1) xs
+drop_one_more k xs = simp drop-drop refl
+
+pub next_drops : (k : ℕ) (xs : List (List ℕ)) (r : Option (Bor (List ℕ))) (left after : Uncut)
+    → YieldsFirstBy (λ (token : Bor (List ℕ)). token.now) tokens_left left r after → tokens_left left ≡ drop k xs → tokens_left after ≡ drop (k + 1) xs
+next_drops k xs None left after steps e = steps.1 ∙ sym (ap (drop 1) steps.0) ∙ ap (drop 1) e ∙ drop_one_more k xs
+next_drops k xs (Some t) left after steps e = sym (ap (drop 1) steps) ∙ ap (drop 1) e ∙ drop_one_more k xs
+
+-- ---- lists of inputs
+
+pub one_byte : (m : List ℕ) (k : ℕ) → 1 ≤ length m → length m < 2 → get_or m 0 0 ≡ k → m ≡ k ∷ []
+one_byte [] k h l e = absurd (omega arith)
+one_byte (b ∷ []) k h l e = ap (λ x. x ∷ []) e
+one_byte (b ∷ d ∷ m) k h l e = absurd (omega arith)
+
+some_with_first : (x : Name) (o : Option (List Name)) → is_some (option_map (λ (names : List Name). x ∷ names) o) ≡ is_some o
+some_with_first x None = refl
+some_with_first x (Some names) = refl
+
+-- A list goes on behind a word, a comma and the next word.
+pub listed_behind_comma : (x m y : Name) (left behind ts : List (List ℕ)) → has_no_mark x ≡ true → left ≡ m ∷ behind → m ≡ codes "," → behind ≡ y ∷ ts
+    → is_some (listed_from (x ∷ left)) ≡ is_some (listed_from (y ∷ ts))
+listed_behind_comma x m y left behind ts w l c b = rw (l, b, c, w) (some_with_first x (listed_from (y ∷ ts)))
+
+-- the names that are listed are the words among the tokens
+abbrev AreWords : List (List ℕ) → Option (List Name) → Type 0
+AreWords ts None = Unit {0}
+AreWords ts (Some names) = filter has_no_mark ts ≡ names
+
+with_more : (x mark : Name) (ts : List (List ℕ)) (o : Option (List Name)) → has_no_mark x ≡ true → mark ≡ codes "," → AreWords ts o → AreWords (x ∷ mark ∷ ts) (option_map (λ (names : List Name). x ∷ names) o)
+with_more x mark ts None w m h = tt
+with_more x mark ts (Some names) w m h = rw (m, w) (ap (λ (ns : List Name). x ∷ ns) h)
+
+listed_words : (ts : List (List ℕ)) → AreWords ts (listed_from ts)
+listed_words [] = tt
+listed_words (x ∷ []) = tt
+listed_words (x ∷ m ∷ []) = by (has_no_mark x) (is_the_mark (codes ")") m) refl refl
+  where
+    by : (b d : Bool) → has_no_mark x ≡ b → is_the_mark (codes ")") m ≡ d → AreWords (x ∷ m ∷ []) (if b && d then Some (x ∷ []) else None)
+    by true true w e = rw (equal_if_same m (codes ")") e, w) refl
+    by true false w e = tt
+    by false d w e = tt
+listed_words (x ∷ m ∷ y ∷ ts) = by (has_no_mark x) (is_the_mark (codes ",") m) refl refl (listed_words (y ∷ ts))
+  where
+    by : (b d : Bool) → has_no_mark x ≡ b → is_the_mark (codes ",") m ≡ d → AreWords (y ∷ ts) (listed_from (y ∷ ts))
+        → AreWords (x ∷ m ∷ y ∷ ts) (if b && d then option_map (λ (names : List Name). x ∷ names) (listed_from (y ∷ ts)) else None)
+    by true true w e h = with_more x m (y ∷ ts) (listed_from (y ∷ ts)) w (equal_if_same m (codes ",") e) h
+    by true false w e h = tt
+    by false d w e h = tt
+
+input_words : (ts : List (List ℕ)) → AreWords ts (inputs_in ts)
+input_words [] = tt
+input_words (m ∷ []) = by (is_the_mark (codes ")") m) refl
+  where
+    by : (b : Bool) → is_the_mark (codes ")") m ≡ b → AreWords (m ∷ []) (if b then Some [] else None)
+    by true e = rw (equal_if_same m (codes ")") e) refl
+    by false e = tt
+input_words (x ∷ y ∷ ts) = listed_words (x ∷ y ∷ ts)
+
+-- ---- gates
+
+gate_with : (output : Name) (kind : NamedKind) (ts : List (List ℕ)) (o : Option (List Name)) → AreWords ts o → is_some o ≡ true → option_map (Gate output kind) o ≡ Some (Gate output kind (filter has_no_mark ts))
+gate_with output kind ts None w h = cc
+gate_with output kind ts (Some names) w h = ap (λ (ns : List Name). Some (Gate output kind ns)) (sym w)
+
+gate_behind : (output kind : Name) (ts : List (List ℕ)) → has_no_mark output ≡ true → has_no_mark kind ≡ true → is_some (inputs_in ts) ≡ true
+    → statement_of (output ∷ codes "=" ∷ kind ∷ codes "(" ∷ ts) ≡ Some (Gate output (kind_named kind) (filter has_no_mark ts))
+gate_behind output kind [] o k h = cc
+gate_behind output kind (t ∷ ts) o k h = rw (o, k) (gate_with output (kind_named kind) (t ∷ ts) (inputs_in (t ∷ ts)) (input_words (t ∷ ts)) h)
+
+-- A line of two words with an equals sign between them, a bracket and a list makes a gate.
+pub statement_of_gate : (output kind bracket : Name) (line left behind ts : List (List ℕ)) → line ≡ output ∷ codes "=" ∷ left → left ≡ kind ∷ behind → behind ≡ bracket ∷ ts
+    → bracket ≡ codes "(" → has_no_mark output ≡ true → has_no_mark kind ≡ true → is_some (inputs_in ts) ≡ true
+    → Some (Gate output (kind_named kind) (filter has_no_mark (drop 4 line))) ≡ statement_of line
+statement_of_gate output kind bracket line left behind ts e f g b o k h =
+    let whole : line ≡ output ∷ codes "=" ∷ kind ∷ codes "(" ∷ ts = cc in
+    rw whole (sym (gate_behind output kind ts o k h))
+
+-- What is wrong with a gate whose output and inputs are names is wrong with its kind.
+pub fault_of_gate : (output : Name) (kind : NamedKind) (names : List Name) (count : ℕ) → Some count ≡ count_names names → is_short_name output ≡ true
+    → statement_fault (Gate output kind names) ≡ kind_fault count kind
+fault_of_gate output kind names count c o = rw o (by (list_all is_short_name names) c)
+  where
+    by : (b : Bool) → Some count ≡ (if b then Some (length names) else None)
+        → (if b then kind_fault (length names) kind else Some NoName) ≡ kind_fault count kind
+    by true e = cc
+    by false e = cc
+
+-- ---- so many inputs
+
+-- A line has no more inputs than bytes.
+pub inputs_fit : (inputs : Inputs) → length (input_names inputs) ≤ length inputs.line.now
+inputs_fit inputs =
+    omega (arith, length-filter has_no_mark (input_tokens inputs), count_by-le-length has_no_mark (input_tokens inputs), length-drop 4 (line_tokens inputs.line.now), length-tokens true inputs.line.now)
+
+pub word_behind : (token : List ℕ) (left behind : List (List ℕ)) → left ≡ token ∷ behind → has_no_mark token ≡ true → 1 ≤ length (filter has_no_mark left)
+word_behind token left behind e w = rw (e, w) (omega arith)

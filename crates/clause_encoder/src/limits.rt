@@ -1,0 +1,7 @@
+//! How large clause lists may be.
+
+/// The most clauses of a list, and of a device before any is left out.
+pub const CLAUSE_LIMIT: u32 = 262_144;
+
+/// There are fewer variables than this.
+pub const VARIABLE_LIMIT: u32 = 1 << 29;

@@ -1,0 +1,146 @@
+-- What each line of a design adds to what was read above it, or what its fault is.
+use Rattle.std.specs.Prelude.{ℕ, Bool, not, ◌&&◌, List, [], ◌∷◌, ◌++◌, map, length, Option, Some, None, Result, Ok, Err, codes, is_some, unwrap_or, if◌then◌else◌}
+use Rattle.std.specs.List.{list_any, list_all}
+use Rattle.text_rules.specs.Names.{Name, same_name, is_among}
+use Rattle.text_rules.specs.TextLines.{uncommented}
+use Rattle.text_rules.specs.Tokens.{words}
+use Rattle.device_model.specs.TruthTable.{has_few_ports}
+use Rattle.device_model.specs.Building.{place_in}
+use Rattle.component_lang.specs.declared.design.UsedKind.{UsedKind}
+use Rattle.component_lang.specs.declared.design.UsedKind.TheVariants.{Gate, Shape as OfShape, Block as OfBlock}
+use Rattle.component_lang.specs.declared.design.Used.{Used}
+use Rattle.component_lang.specs.declared.design.Block.{Block}
+use Rattle.component_lang.specs.declared.fault.LangFault.{LangFault}
+use Rattle.component_lang.specs.declared.fault.LangFault.TheVariants.{Line as NotHere, Name as NoName, Twice, Unknown, Ports, Row, AfterTop as PastTop}
+use Rattle.component_lang.specs.Designs.{is_plain_name, are_distinct, used_names, takes_args}
+use Rattle.component_lang.specs.Kinds.{OpenType, Section, Outside, InType, InBlock, AfterTop, Reader, kind_named}
+use Rattle.component_lang.specs.TypeRows.{is_row, row_in, with_row, shape_of}
+
+-- Of the tests of a line the first that fails is its fault. Where none does, the reader goes on.
+abbrev pub tested : List (Bool × LangFault) → Reader → Result Reader LangFault
+tested [] reader = Ok reader
+tested (t ∷ tests) reader = if t.0 then tested tests reader else Err t.1
+
+abbrev pub at : Reader → Section → Reader
+at reader section = record reader { section = section }
+
+-- ---- outside of types and blocks
+
+-- a name that is free for a type or a block, and ports that differ
+abbrev pub is_new : Reader → Name → List Name → Bool
+is_new reader name ports = not (is_some (kind_named reader name)) && are_distinct ports
+
+abbrev pub type_line : Reader → Name → List Name → Result Reader LangFault
+type_line reader name ports =
+    tested ((list_all is_plain_name (name ∷ ports), NoName) ∷ (is_new reader name ports, Twice) ∷ (has_few_ports (length ports), Ports) ∷ [])
+    (at reader (InType (record { name = name; ports = length ports; ok = 0; bad = None })))
+
+abbrev pub block_line : Reader → Name → List Name → Result Reader LangFault
+block_line reader name ports =
+    tested ((list_all is_plain_name (name ∷ ports), NoName) ∷ (is_new reader name ports, Twice) ∷ [])
+    (at reader (InBlock (record { name = name; ports = length ports; wires = ports; parts = [] })))
+
+-- the top has to be a block
+abbrev pub top_of_kind : Reader → Option UsedKind → Result Reader LangFault
+top_of_kind reader (Some (OfBlock place)) = Ok (at reader (AfterTop place))
+top_of_kind reader (Some (OfShape place)) = Err Unknown
+top_of_kind reader (Some (Gate kind)) = Err Unknown
+top_of_kind reader None = Err Unknown
+
+abbrev pub top_line : Reader → Name → Result Reader LangFault
+top_line reader name = if is_plain_name name then top_of_kind reader (kind_named reader name) else Err NoName
+
+abbrev pub outside : Reader → List (List ℕ) → Result Reader LangFault
+outside reader (word ∷ name ∷ []) =
+    if same_name word (codes "top") then top_line reader name
+    else if same_name word (codes "type") then type_line reader name []
+    else if same_name word (codes "block") then block_line reader name []
+    else Err NotHere
+outside reader (word ∷ name ∷ port ∷ ports) =
+    if same_name word (codes "type") then type_line reader name (port ∷ ports)
+    else if same_name word (codes "block") then block_line reader name (port ∷ ports)
+    else Err NotHere
+outside reader line = Err NotHere
+
+-- ---- in a type
+
+abbrev pub ok_line : Reader → OpenType → List ℕ → Result Reader LangFault
+ok_line reader open_type row =
+    tested ((is_row open_type.ports row, Row) ∷ [])
+    (at reader (InType (record open_type { ok = with_row open_type.ok (row_in row) })))
+
+abbrev pub bad_line : Reader → OpenType → List ℕ → Result Reader LangFault
+bad_line reader open_type row =
+    tested ((is_row open_type.ports row, Row) ∷ [])
+    (at reader (InType (record open_type { bad = Some (with_row (unwrap_or open_type.bad 0) (row_in row)) })))
+
+abbrev pub in_type : Reader → OpenType → List (List ℕ) → Result Reader LangFault
+in_type reader open_type (word ∷ []) =
+    if same_name word (codes "end") then Ok (record reader { types = reader.types ++ shape_of open_type ∷ []; section = Outside })
+    else Err NotHere
+in_type reader open_type (word ∷ row ∷ []) =
+    if same_name word (codes "ok") then ok_line reader open_type row
+    else if same_name word (codes "bad") then bad_line reader open_type row
+    else Err NotHere
+in_type reader open_type line = Err NotHere
+
+-- ---- in a block
+
+-- none of these names stands among those above, or twice
+abbrev pub are_new : List Name → List Name → Bool
+are_new above names = are_distinct names && not (list_any (is_among above) names)
+
+abbrev pub wire_line : Reader → Block → List Name → Result Reader LangFault
+wire_line reader block names =
+    tested ((list_all is_plain_name names, NoName) ∷ (are_new block.wires names, Twice) ∷ [])
+    (at reader (InBlock (record block { wires = block.wires ++ names })))
+
+-- the places of names among the wires of a block, if all are there
+abbrev pub places_in : List Name → List Name → Option (List ℕ)
+places_in wires names = if list_all (is_among wires) names then Some (map (place_in wires) names) else None
+
+-- The part of this name, kind and places. How many there are is asked only where all is known.
+abbrev pub part_of : Reader → Name → Option UsedKind → Option (List ℕ) → Result Used LangFault
+part_of reader name None places = Err Unknown
+part_of reader name (Some kind) None = Err Unknown
+part_of reader name (Some kind) (Some places) =
+    if takes_args reader.types reader.blocks kind (length places) then Ok (record { name = name; kind = kind; args = places }) else Err Ports
+
+abbrev pub with_part : Reader → Block → Result Used LangFault → Result Reader LangFault
+with_part reader block (Ok part) = Ok (at reader (InBlock (record block { parts = block.parts ++ part ∷ [] })))
+with_part reader block (Err what) = Err what
+
+abbrev pub part_line : Reader → Block → Name → Name → List Name → Result Reader LangFault
+part_line reader block name kind args =
+    if list_all is_plain_name (name ∷ kind ∷ args) then
+    (if is_among (used_names block.parts) name then Err Twice
+    else with_part reader block (part_of reader name (kind_named reader kind) (places_in block.wires args)))
+    else Err NoName
+
+abbrev pub in_block : Reader → Block → List (List ℕ) → Result Reader LangFault
+in_block reader block (word ∷ []) =
+    if same_name word (codes "end") then Ok (record reader { blocks = reader.blocks ++ block ∷ []; section = Outside })
+    else Err NotHere
+in_block reader block (word ∷ name ∷ []) =
+    if same_name word (codes "wire") then wire_line reader block (name ∷ []) else Err NotHere
+in_block reader block (word ∷ name ∷ second ∷ rest) =
+    if same_name word (codes "wire") then wire_line reader block (name ∷ second ∷ rest)
+    else if same_name word (codes "part") then part_line reader block name second rest
+    else Err NotHere
+in_block reader block line = Err NotHere
+
+-- ---- any line
+
+abbrev pub at_section : Reader → Section → List (List ℕ) → Result Reader LangFault
+at_section reader Outside line = outside reader line
+at_section reader (InType open_type) line = in_type reader open_type line
+at_section reader (InBlock block) line = in_block reader block line
+at_section reader (AfterTop top) line = Err PastTop
+
+-- a line without words does nothing
+abbrev pub after_words : Reader → List (List ℕ) → Result Reader LangFault
+after_words reader [] = Ok reader
+after_words reader (w ∷ ws) = at_section reader reader.section (w ∷ ws)
+
+abbrev pub after_line : Reader → List ℕ → Result Reader LangFault
+after_line reader line = after_words reader (words (uncommented line))

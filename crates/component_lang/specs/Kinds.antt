@@ -1,0 +1,48 @@
+-- What is closed above a line, and which kind of parts a name means there.
+use Rattle.std.specs.Prelude.{ℕ, ◌+◌, List, [], ◌∷◌, ◌++◌, codes, Option}
+use Rattle.std.specs.Map.{lookup}
+use Rattle.text_rules.specs.Names.{Name, same_name}
+use Rattle.device_model.specs.declared.component.Kind.TheVariants.{And, Or, Nand, Nor, Xor, Xnor, Not, Buff}
+use Rattle.component_lang.specs.declared.design.UsedKind.{UsedKind}
+use Rattle.component_lang.specs.declared.design.UsedKind.TheVariants.{Gate, Shape as OfShape, Block as OfBlock}
+use Rattle.component_lang.specs.declared.design.Shape.{Shape}
+use Rattle.component_lang.specs.declared.design.Block.{Block}
+
+-- A type while its lines are read. Without a line `bad` every row is allowed where the part is faulty.
+pub record OpenType : Type 0 where
+  pub name : Name
+  pub ports : ℕ
+  pub ok : ℕ
+  pub bad : Option ℕ
+
+-- where a line stands: outside, in a type, in a block, or after the top
+pub data Section : Type 0 where
+  Outside : Section
+  InType : (open_type : OpenType) → Section
+  InBlock : (block : Block) → Section
+  AfterTop : (top : ℕ) → Section
+
+-- what was closed above a line, and where the line stands
+pub record Reader : Type 0 where
+  pub types : List Shape
+  pub blocks : List Block
+  pub section : Section
+
+-- the names of gates
+abbrev pub gates : List (List ℕ × UsedKind)
+gates = (codes "AND", Gate And) ∷ (codes "OR", Gate Or) ∷ (codes "NAND", Gate Nand) ∷ (codes "NOR", Gate Nor)
+    ∷ (codes "XOR", Gate Xor) ∷ (codes "XNOR", Gate Xnor) ∷ (codes "NOT", Gate Not) ∷ (codes "BUFF", Gate Buff) ∷ []
+
+-- the names of types, each with its place
+abbrev pub types_from : ℕ → List Shape → List (List ℕ × UsedKind)
+types_from place [] = []
+types_from place (shape ∷ types) = (shape.name, OfShape place) ∷ types_from (place + 1) types
+
+-- the names of blocks, each with its place
+abbrev pub blocks_from : ℕ → List Block → List (List ℕ × UsedKind)
+blocks_from place [] = []
+blocks_from place (block ∷ blocks) = (block.name, OfBlock place) ∷ blocks_from (place + 1) blocks
+
+-- Gates, types and blocks share one set of names.
+abbrev pub kind_named : Reader → Name → Option UsedKind
+kind_named reader name = lookup (same_name name) (gates ++ (types_from 0 reader.types ++ blocks_from 0 reader.blocks))

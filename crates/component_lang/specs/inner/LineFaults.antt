@@ -1,0 +1,17 @@
+-- What is told where a line is not read.
+use Rattle.std.specs.Prelude.{ℕ, Option, Some, None}
+use Rattle.component_lang.specs.declared.fault.LangFault.{LangFault}
+use Rattle.component_lang.specs.declared.fault.LangError.{LangError}
+use Rattle.component_lang.specs.declared.fault.LangError.TheVariants.{Bad, Memory as NoMemory}
+use Rattle.component_lang.specs.declared.line_error.LineError.{LineError}
+use Rattle.component_lang.specs.declared.line_error.LineError.TheVariants.{Fault, Memory}
+
+-- An error of a line tells its fault, but for want of memory.
+abbrev pub fault_told : LineError → Option LangFault
+fault_told (Fault what) = Some what
+fault_told Memory = None
+
+-- the error of a text, by the number of the line
+abbrev pub error_in : ℕ → LineError → LangError
+error_in line (Fault what) = Bad line what
+error_in line Memory = NoMemory

@@ -110,8 +110,8 @@ impl GraphBuilder {
 
     /// Adds a node, and gives its number.
     ///
-    /// A literal has no child, and its variable is 1 to `vars`. The children of an And or an Or are nodes that are there, those
-    /// of an And share no variable, and there are fewer than 2,147,483,648 of them.
+    /// A literal has no child, and its variable is 1 to `vars`. The children of an And or an Or are nodes that are there, fewer
+    /// than `CHILD_LIMIT`, and those of an And share no variable.
     pub fn push(&mut self, what: NodeKind, kids: &[u32]) -> Result<u32, AllocError>
         requires fits { node_fits self.old.vars (length self.old.nodes)
             (record { what = what; kids = kids.now }) ≡ true }

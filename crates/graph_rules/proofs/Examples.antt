@@ -64,11 +64,11 @@ a_literal_over_a_node = refl
 
 -- ---- how a graph is written
 
-written_or : graph_text 1 either.nodes ≡ text (map codes ("nnf 3 2 1" ∷ "L 1" ∷ "L -1" ∷ "O 0 2 0 1" ∷ []))
+written_or : graph_text either ≡ text (map codes ("nnf 3 2 1" ∷ "L 1" ∷ "L -1" ∷ "O 0 2 0 1" ∷ []))
 unfolding digits
 written_or = refl
 
-over_more_variables : graph_text 12 (true_node ∷ []) ≡ text (map codes ("nnf 1 0 12" ∷ "A 0" ∷ []))
+over_more_variables : graph_text (record { nodes = true_node ∷ []; vars = 12 }) ≡ text (map codes ("nnf 1 0 12" ∷ "A 0" ∷ []))
 unfolding digits
 over_more_variables = refl
 

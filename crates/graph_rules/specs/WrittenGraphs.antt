@@ -4,7 +4,7 @@ use Rattle.std.specs.List.{flat_map}
 use Rattle.text_rules.specs.Tokens.{spaced}
 use Rattle.graph_rules.specs.declared.NodeKind.{NodeKind}
 use Rattle.graph_rules.specs.declared.NodeKind.TheVariants.{Literal, And, Or}
-use Rattle.graph_rules.specs.Graphs.{Node}
+use Rattle.graph_rules.specs.Graphs.{Node, Graph}
 use Rattle.graph_rules.specs.GraphTexts.{edges}
 
 -- a variable, behind a minus sign where it is negated
@@ -26,9 +26,9 @@ abbrev pub node_words : Node → List (List ℕ)
 node_words node = kind_words node.what node.kids
 
 -- the numbers of nodes, edges and variables
-abbrev pub header_words : ℕ → List Node → List (List ℕ)
-header_words vars nodes = codes "nnf" ∷ decimal (length nodes) ∷ decimal (edges nodes) ∷ decimal vars ∷ []
+abbrev pub header_words : Graph → List (List ℕ)
+header_words graph = codes "nnf" ∷ decimal (length graph.nodes) ∷ decimal (edges graph.nodes) ∷ decimal graph.vars ∷ []
 
 -- a line for the header, and one for each node
-abbrev pub graph_text : ℕ → List Node → List ℕ
-graph_text vars nodes = flat_map spaced (header_words vars nodes ∷ map node_words nodes)
+abbrev pub graph_text : Graph → List ℕ
+graph_text graph = flat_map spaced (header_words graph ∷ map node_words graph.nodes)

@@ -6,7 +6,7 @@ use Rattle.std.proofs.lemmas.Bool.{cond-false, cases_Bool, cases_lt, le-ltb, not
 use Rattle.graph_rules.specs.declared.TheConstants.{BITS_LIMIT}
 use Rattle.graph_rules.specs.Graphs.{Node, Graph, node_at, mentions, apart_at, nodes_fit, Decomposable}
 use Rattle.graph_rules.specs.GraphTexts.{Shared, read_unless, shares, shared_at, node_shared, all_shared, checked}
-use Rattle.nnf_text.specs.inner.Sharing.{AreVariables, first_of, IsFirstOf, FirstOf}
+use Rattle.nnf_text.specs.inner.Sharing.{AreVariables, first_of, FirstOf}
 use Rattle.nnf_text.proofs.Options.{chosen, none≢some}
 use Rattle.nnf_text.proofs.Mentions.{IsUsed-shared, IsUsed-range}
 use Rattle.nnf_text.proofs.Sparse.{Rises-from, find-sparse}

@@ -1,8 +1,9 @@
 -- The texts of lines, as they are written.
-use Rattle.std.proofs.Common.{◌≡◌, ℕ, List, [], ◌∷◌, ◌++◌, map, length, codes, refl, sym, ap, ◌∙◌, append_assoc}
+use Rattle.std.proofs.Common.{◌≡◌, ℕ, List, [], ◌∷◌, ◌++◌, map, length, codes, sym, ap, ◌∙◌, append_assoc}
 use Rattle.std.specs.Prelude.{decimal}
 use Rattle.std.specs.List.{flat_map}
 use Rattle.std.proofs.lemmas.List.Folds.{flat_map-map}
+use Rattle.diag_edge.proofs.Added.{spaced-first}
 use Rattle.graph_rules.specs.Graphs.{Node}
 use Rattle.graph_rules.specs.GraphTexts.{edges}
 use Rattle.text_rules.specs.Tokens.{spaced}
@@ -11,9 +12,7 @@ use Rattle.graph_rules.specs.WrittenGraphs.{kid_words, kind_words, node_words, g
 
 -- a word, numbers that stand behind a space each, and a line feed
 pub listed-spaced : (w : List ℕ) (ns : List ℕ) → w ++ (flat_map (λ n. 32 ∷ decimal n) ns ++ 10 ∷ []) ≡ spaced (w ∷ map decimal ns)
-listed-spaced w [] = refl
-listed-spaced w (n ∷ ns) =
-    ap (λ t. w ++ (32 ∷ t)) (append_assoc (decimal n) (flat_map (λ n. 32 ∷ decimal n) ns) (10 ∷ []) ∙ listed-spaced (decimal n) ns)
+listed-spaced w ns = ap (λ t. w ++ (t ++ 10 ∷ [])) (sym (flat_map-map (λ word. 32 ∷ word) decimal ns)) ∙ spaced-first w (map decimal ns)
 
 counted-spaced : (w kids : List ℕ) → w ++ ((32 ∷ decimal (length kids)) ++ (flat_map (λ n. 32 ∷ decimal n) kids ++ 10 ∷ [])) ≡ spaced (w ∷ kid_words kids)
 counted-spaced w kids =
@@ -33,5 +32,5 @@ abbrev pub lines : List Node → List ℕ
 lines nodes = flat_map (λ node. spaced (node_words node)) nodes
 
 -- make the text of a graph
-pub text-lines : (count kids vars : ℕ) (nodes : List Node) → count ≡ length nodes → kids ≡ edges nodes → header count kids vars ++ lines nodes ≡ graph_text vars nodes
+pub text-lines : (count kids vars : ℕ) (nodes : List Node) → count ≡ length nodes → kids ≡ edges nodes → header count kids vars ++ lines nodes ≡ graph_text (record { nodes = nodes; vars = vars })
 text-lines count kids vars nodes e f = (λ i. header (e i) (f i) vars ++ sym (flat_map-map spaced node_words nodes) i)

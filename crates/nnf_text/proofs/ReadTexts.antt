@@ -14,7 +14,7 @@ use Rattle.graph_rules.specs.declared.TheConstants.{BITS_LIMIT, CHILD_LIMIT}
 use Rattle.graph_rules.specs.declared.NodeKind.{NodeKind}
 use Rattle.graph_rules.specs.declared.NodeKind.TheVariants.{Literal, And, Or}
 use Rattle.graph_rules.specs.Graphs.{Node, Graph, kind_fits, node_fits, nodes_fit}
-use Rattle.graph_rules.specs.GraphTexts.{small_number, great_number, numbers, number_before, literal_of, literal_with, counted, or_of, node_of, node_fault, variable_fits, line_fault, fault_at, node_at_line, has_words, filled_lines, edges, Header, header_of, header_from, differs, Refusal, Parsed, read_unless, parsed_below, parsed_lines, parsed, TooLarge, all_shared, checked}
+use Rattle.graph_rules.specs.GraphTexts.{small_number, great_number, numbers, number_before, literal_of, literal_with, counted, or_of, node_of, node_fault, variable_fits, line_fault, fault_at, node_at_line, has_words, filled_lines, edges, Header, header_of, header_from, differs, Refusal, read_unless, parsed_below, parsed_lines, parsed, TooLarge, all_shared, checked}
 use Rattle.nnf_text.proofs.Options.{chosen, none≢some}
 
 -- ---- the node of a line

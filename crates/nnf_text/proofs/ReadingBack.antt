@@ -186,12 +186,12 @@ edges-le vars own (node ∷ nodes) are =
 
 -- ---- the whole text
 
-header-is_line : (vars : ℕ) (nodes : List Node) → length nodes < 2 ^ 32 → edges nodes < 2 ^ 64 → vars < 2 ^ 32 → is_word_line (header_words vars nodes) ≡ true
+header-is_line : (vars : ℕ) (nodes : List Node) → length nodes < 2 ^ 32 → edges nodes < 2 ^ 64 → vars < 2 ^ 32 → is_word_line (header_words (record { nodes = nodes; vars = vars })) ≡ true
 header-is_line vars nodes few small vars_fit =
     and_from _ _ (decimal-is_line_word (length nodes) (omega arith)) (and_from _ _ (decimal-is_line_word (edges nodes) small) (and_from _ _ (decimal-is_line_word vars (omega arith)) refl))
 
 header-read : (vars : ℕ) (nodes : List Node) → 0 < length nodes → length nodes < 2 ^ 32 → edges nodes < 2 ^ 64 → vars < 2 ^ 32
-    → header_of (header_words vars nodes) ≡ Some (record { nodes = length nodes; edges = edges nodes; vars = vars })
+    → header_of (header_words (record { nodes = nodes; vars = vars })) ≡ Some (record { nodes = length nodes; edges = edges nodes; vars = vars })
 header-read vars [] some few small vars_fit = absurd (omega arith)
 header-read vars (node ∷ nodes) some few small vars_fit =
     (λ i. header_from (small_number-decimal (length (node ∷ nodes)) few i) (great_number-decimal (edges (node ∷ nodes)) small i) (small_number-decimal vars vars_fit i))
@@ -220,15 +220,15 @@ module _ (vars : ℕ) (nodes : List Node) (is : IsList vars nodes) where
   few-edges : edges nodes < 2 ^ 64
   few-edges = omega (arith, edges-le vars 0 nodes is.fit, is.few)
 
-  all_lines-are : list_all is_word_line (header_words vars nodes ∷ map node_words nodes) ≡ true
+  all_lines-are : list_all is_word_line (header_words (record { nodes = nodes; vars = vars }) ∷ map node_words nodes) ≡ true
   all_lines-are = and_from _ _ (header-is_line vars nodes is.few few-edges is.vars_fit) (lines-are vars 0 nodes (omega (arith, is.few)) is.vars_fit is.fit)
 
-  pub graph_text-is_neat : is_neat (graph_text vars nodes) ≡ true
-  graph_text-is_neat = lines_are_neat (header_words vars nodes ∷ map node_words nodes) all_lines-are
+  pub graph_text-is_neat : is_neat (graph_text (record { nodes = nodes; vars = vars })) ≡ true
+  graph_text-is_neat = lines_are_neat (header_words (record { nodes = nodes; vars = vars }) ∷ map node_words nodes) all_lines-are
 
-  filled : filled_lines (graph_text vars nodes) ≡ enumerate_from 1 (header_words vars nodes ∷ map node_words nodes)
-  filled = ap (λ ls. filter has_words (enumerate_from 1 ls)) (words_of_lines (header_words vars nodes ∷ map node_words nodes) all_lines-are)
-      ∙ filled-all 1 (header_words vars nodes ∷ map node_words nodes) all_lines-are
+  filled : filled_lines (graph_text (record { nodes = nodes; vars = vars })) ≡ enumerate_from 1 (header_words (record { nodes = nodes; vars = vars }) ∷ map node_words nodes)
+  filled = ap (λ ls. filter has_words (enumerate_from 1 ls)) (words_of_lines (header_words (record { nodes = nodes; vars = vars }) ∷ map node_words nodes) all_lines-are)
+      ∙ filled-all 1 (header_words (record { nodes = nodes; vars = vars }) ∷ map node_words nodes) all_lines-are
 
   -- the lines below the header
   below : List (ℕ × List (List ℕ))
@@ -237,7 +237,7 @@ module _ (vars : ℕ) (nodes : List Node) (is : IsList vars nodes) where
   unfoldable read_below : List Node → List Refusal → Parsed
   read_below ns faults = read_unless (record { nodes = ns; vars = vars }) (faults ++ differs (length nodes) (length ns) ++ differs (edges nodes) (edges ns))
 
-  pub graph_text-read : parsed (graph_text vars nodes) ≡ Ok (record { nodes = nodes; vars = vars })
+  pub graph_text-read : parsed (graph_text (record { nodes = nodes; vars = vars })) ≡ Ok (record { nodes = nodes; vars = vars })
   unfolding read_below
   graph_text-read = ap parsed_lines filled
       ∙ ap (parsed_below (enumerate_from 2 (map node_words nodes))) (header-read vars nodes is.some is.few few-edges is.vars_fit)

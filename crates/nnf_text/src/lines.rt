@@ -13,7 +13,7 @@ use itoa::Integer;
 pub(crate) fn add_header<O: Sink>(
     chunk: &mut Chunk,
     out: &mut O,
-    nodes: u64,
+    nodes: u32,
     edges: u64,
     vars: u32,
 ) -> Result<(), WriteFailed>
@@ -22,7 +22,7 @@ pub(crate) fn add_header<O: Sink>(
     ensures cause { HasCause (O.faults out.old) (O.faults out.new) result }
 {
     chunk.add(out, b"nnf")?;
-    add_listed(chunk, out, &[nodes, edges, u64::from(vars)])
+    add_listed(chunk, out, &[u64::from(nodes), edges, u64::from(vars)])
 }
 
 // Adds the line of a node.
@@ -77,6 +77,7 @@ fn add_line<O: Sink>(
     add_end(chunk, out, number)
 }
 
+// Adds a number and a line feed.
 #[tactic(auto, using(diag_edge::proofs::Added::adds_on))]
 fn add_end<O: Sink>(chunk: &mut Chunk, out: &mut O, number: u32) -> Result<(), WriteFailed>
     ensures bytes { Adds (O.got out.old) (O.got out.new) chunk.old chunk.new result
@@ -104,6 +105,7 @@ fn add_kids<O: Sink>(
     add_counted(chunk, out, kids)
 }
 
+// Adds how many children there are and each of them, each number behind a space, and a line feed.
 #[tactic(auto, using(diag_edge::proofs::Added::adds_on))]
 fn add_counted<O: Sink>(chunk: &mut Chunk, out: &mut O, kids: &[u32]) -> Result<(), WriteFailed>
     ensures bytes { Adds (O.got out.old) (O.got out.new) chunk.old chunk.new result
@@ -130,6 +132,7 @@ fn add_listed<O: Sink, I: Integer>(
     chunk.add(out, b"\n")
 }
 
+// Adds numbers, each behind a space.
 #[tactic(auto, using(diag_edge::proofs::Added::adds_each))]
 fn add_each<O: Sink, I: Integer>(
     chunk: &mut Chunk,

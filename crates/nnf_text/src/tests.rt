@@ -30,13 +30,32 @@ fn refuses_the_first_fault(rt: HostRuntime) {
         ("nnf 9 9 1\nL -0\nX", NnfError::Variable { line: 2 }),
         ("nnf 2 0 1\nL 1", NnfError::Counts { said: 2, found: 1 }),
         ("nnf 1 1 1\nL 1", NnfError::Counts { said: 1, found: 0 }),
-        ("nnf 4294967295 0 1\nL 1", NnfError::Counts { said: 4294967295, found: 1 }),
-        ("nnf 1 0 2147483649\nA 0", NnfError::TooLarge { bits: 2147483649 }),
-        ("nnf 3 2 1\nL 1\nL -1\nA 2 0 1", NnfError::Shared { node: 2, var: 1 }),
-        ("nnf 2 2 1\nL 1\nA 2 0 0", NnfError::Shared { node: 1, var: 1 }),
+        (
+            "nnf 4294967295 0 1\nL 1",
+            NnfError::Counts {
+                said: 4294967295,
+                found: 1,
+            },
+        ),
+        (
+            "nnf 1 0 2147483649\nA 0",
+            NnfError::TooLarge { bits: 2147483649 },
+        ),
+        (
+            "nnf 3 2 1\nL 1\nL -1\nA 2 0 1",
+            NnfError::Shared { node: 2, var: 1 },
+        ),
+        (
+            "nnf 2 2 1\nL 1\nA 2 0 0",
+            NnfError::Shared { node: 1, var: 1 },
+        ),
     ];
     for (text, error) in rows {
-        assert_eq!(rt; refusal(&rt, rt.alloc(), text.as_bytes()), Some(error), "{text}");
+        assert_eq!(rt;
+            refusal(&rt, rt.alloc(), text.as_bytes()),
+            Some(error),
+            "{text}"
+        );
     }
 }
 
@@ -53,7 +72,10 @@ fn tells_the_first_node(rt: HostRuntime) -> Result<(), Fail> {
         text.extend_from_slice(format!(in alloc; " {node}")?.as_bytes())?;
     }
     text.extend_from_slice(b"\nA 0\nA 0\nA 2 0 66\nA 2 65 66\n")?;
-    assert_eq!(rt; refusal(&rt, alloc, &text), Some(NnfError::Shared { node: 69, var: 900 }));
+    assert_eq!(rt;
+        refusal(&rt, alloc, &text),
+        Some(NnfError::Shared { node: 69, var: 900 })
+    );
     Ok(())
 }
 
@@ -70,8 +92,14 @@ fn written(rt: &impl Abort, alloc: Global, text: &[u8]) -> Result<Vec<u8>, Fail>
 #[test]
 fn writes_what_was_read(rt: HostRuntime) -> Result<(), Fail> {
     let rows: [(&str, &str); 3] = [
-        ("nnf 3 2 1\nL 1\nL -1\nO 1 2 0 1", "nnf 3 2 1\nL 1\nL -1\nO 0 2 0 1\n"),
-        ("\nnnf 03 2 01\n\tL 1\n L -1\r\n \nO 9 2 00 1", "nnf 3 2 1\nL 1\nL -1\nO 0 2 0 1\n"),
+        (
+            "nnf 3 2 1\nL 1\nL -1\nO 1 2 0 1",
+            "nnf 3 2 1\nL 1\nL -1\nO 0 2 0 1\n",
+        ),
+        (
+            "\nnnf 03 2 01\n\tL 1\n L -1\r\n \nO 9 2 00 1",
+            "nnf 3 2 1\nL 1\nL -1\nO 0 2 0 1\n",
+        ),
         ("nnf 1 0 0\nO 0 0", "nnf 1 0 0\nO 0 0\n"),
     ];
     for (text, expected) in rows {

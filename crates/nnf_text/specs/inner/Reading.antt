@@ -1,5 +1,5 @@
 -- The steps from the lines of a text to nodes.
-use Rattle.std.specs.Prelude.{ℕ, List, [], ◌∷◌, ◌++◌, map, length}
+use Rattle.std.specs.Prelude.{ℕ, List, [], ◌++◌, map, length}
 use Rattle.std.specs.List.{filter, filter_map, enumerate_from}
 use Rattle.text_rules.specs.Tokens.{words}
 use Rattle.graph_rules.specs.declared.NodeKind.{NodeKind}

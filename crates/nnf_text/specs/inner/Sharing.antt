@@ -1,5 +1,5 @@
 -- Sets of variables, as bits of words: some variables of each node at a time.
-use Rattle.std.specs.Prelude.{◌≡◌, ℕ, ◌<◌, Bool, true, not, List, [], ◌∷◌, ◌++◌, map, length, Option, Some, None, ◌==◌, slice_index, nat_lt, if◌then◌else◌, MatchOption}
+use Rattle.std.specs.Prelude.{◌≡◌, ℕ, ◌<◌, Bool, not, List, [], ◌∷◌, ◌++◌, map, length, Option, Some, None, ◌==◌, slice_index, nat_lt, if◌then◌else◌, MatchOption}
 use Rattle.std.specs.Int.{bit_at}
 use Rattle.std.specs.List.{find, list_any, Contains}
 use Rattle.std.specs.List.Sorted.{IsStrictlyIncreasing}

@@ -1,4 +1,4 @@
-use Rattle.std.proofs.Common.{◌∷◌, ◌++◌, [], codes, ap, ◌∙◌}
+use Rattle.std.proofs.Common.{ℕ, List, ◌∷◌, ◌++◌, [], codes, ◌∙◌}
 use Rattle.std.specs.Prelude.{decimal}
 use Rattle.std.specs.List.{flat_map}
 use Rattle.text_rules.specs.Tokens.{spaced}
@@ -11,6 +11,7 @@ returns-in_err-add-clause-bytes g c = adds_first _ _ _ _ _ (codes "nnf") (32 ∷
 
 pub returns-clause-bytes : goal.returns-clause-bytes
 returns-clause-bytes g c =
-    adds_same _ _ _ _ _ _ _ (listed-spaced (codes "nnf") (c.args.nodes ∷ c.args.edges ∷ c.from.result ∷ [])
-    ∙ ap (λ n. spaced (codes "nnf" ∷ decimal c.args.nodes ∷ decimal c.args.edges ∷ decimal n ∷ [])) c.from.ensures)
-    (adds_second _ _ _ _ _ _ _ (codes "nnf") (flat_map (λ n. 32 ∷ decimal n) (c.args.nodes ∷ c.args.edges ∷ c.from.result ∷ []) ++ 10 ∷ []) c.in_ok-add.ensures.bytes c.add_listed.ensures.bytes)
+    let numbers : List ℕ = c.from.result ∷ c.args.edges ∷ c.from-2.result ∷ [] in
+    adds_same _ _ _ _ _ _ _
+    (listed-spaced (codes "nnf") numbers ∙ (λ i. spaced (codes "nnf" ∷ decimal (c.from.ensures i) ∷ decimal c.args.edges ∷ decimal (c.from-2.ensures i) ∷ [])))
+    (adds_second _ _ _ _ _ _ _ (codes "nnf") (flat_map (λ n. 32 ∷ decimal n) numbers ++ 10 ∷ []) c.in_ok-add.ensures.bytes c.add_listed.ensures.bytes)

@@ -1,7 +1,6 @@
 use Rattle.std.proofs.Common.{rules, ◌++◌, ◌∷◌, [], Ok, ap, sym, ◌∙◌}
 use Rattle.std.specs.Option.{option_map}
 use Rattle.text_rules.specs.Tokens.{tokens_left}
-use Rattle.graph_rules.specs.GraphTexts.{Parsed}
 use Rattle.nnf_text.specs.inner.Reading.{node_with}
 use Rattle.nnf_text.proofs.LineSteps.{line-child, line-right}
 use Rattle.nnf_text.proofs.node_lines.read_node.Goals as goal

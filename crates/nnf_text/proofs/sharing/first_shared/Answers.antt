@@ -1,4 +1,4 @@
-use Rattle.std.proofs.Common.{◌≡◌, ◌++◌, ◌+◌, ◌*◌, ◌-◌, ◌≤◌, ◌<◌, ℕ, List, length, take, drop, ap, sym, ◌∙◌, subst, arith}
+use Rattle.std.proofs.Common.{◌≡◌, ◌++◌, ◌+◌, ◌*◌, ◌-◌, ◌≤◌, length, take, drop, ap, sym, ◌∙◌, subst, arith}
 use Rattle.nnf_text.specs.inner.Sharing.{FirstOf}
 use Rattle.nnf_text.proofs.Marking.{earlier-first, take-window}
 use Rattle.nnf_text.proofs.FirstShared.{FirstOf-all}

@@ -1,4 +1,4 @@
-use Rattle.std.proofs.Common.{◌≤◌, ◌<◌, Ok, Err, length, refl, sym, arith, inl, inr}
+use Rattle.std.proofs.Common.{Ok, Err, refl, arith, inl, inr}
 use Rattle.std.proofs.lemmas.Bool.{cases_lt}
 use Rattle.std.proofs.lemmas.List.Sorted.{searched}
 use Rattle.nnf_text.proofs.Bits.{found-bit, no-bit, in_order}

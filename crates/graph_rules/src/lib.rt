@@ -1,4 +1,4 @@
-//! Graphs of literals, ands and ors: what they mean, and how they are read from `.nnf` text.
+//! Graphs of literals, ands and ors: what they mean, and how they are read from `.nnf` text and written as it.
 #![tactic(auto)]
 
 /// A node has fewer children than this: their number fits 32 bits.

@@ -7,6 +7,5 @@ mod service;
 mod serving;
 mod sessions;
 
-pub use plain_minimum::SIZE_LIMIT;
 pub use service::Service;
 pub use serving::ServeEnd;

@@ -16,9 +16,10 @@ use Rattle.session_core.specs.Items.{Item, Plain, line}
 use Rattle.session_core.specs.FirstPath.{first_replies}
 use Rattle.diag_cli.specs.declared.planning.Sizes.{Sizes}
 use Rattle.diag_cli.specs.declared.run.TheConstants.{SCRIPT_LIMIT}
-use Rattle.diag_cli.specs.Words.{Form, Serve, Plan}
+use Rattle.diag_cli.specs.Words.{Form, Serve, Plan, Check}
 use Rattle.diag_cli.specs.Output.{Output, says, no_memory}
 use Rattle.diag_cli.specs.Describing.{above_line, device_in, if_small}
+use Rattle.diag_cli.specs.Checking.{graph_in, checked}
 
 -- ---- a script is answered
 
@@ -103,3 +104,4 @@ abbrev pub course_of : Option Form → List ℕ → Course
 course_of None file = Tells (says (codes "error: usage\n") 2)
 course_of (Some (Serve path)) file = served_or_refused (if_small (device_in path file))
 course_of (Some (Plan path)) file = Tells (planned (sizes_in (device_in path file)))
+course_of (Some (Check path)) file = Tells (checked (graph_in file))

@@ -16,26 +16,42 @@ is_design_path path = ends_in (codes ".dev") path
 abbrev pub is_device_path : List ℕ → Bool
 is_device_path path = ends_in (codes ".bench") path || is_design_path path
 
+-- a graph
+abbrev pub is_graph_path : List ℕ → Bool
+is_graph_path path = ends_in (codes ".nnf") path
+
 -- the forms of the command line
 pub data Form : Type 0 where
   Serve : (path : List ℕ) → Form
   Plan : (path : List ℕ) → Form
+  Check : (path : List ℕ) → Form
 
 -- the file that a form names
 abbrev pub path_of : Form → List ℕ
 path_of (Serve path) = path
 path_of (Plan path) = path
+path_of (Check path) = path
 
 -- a command over a netlist or a design
-abbrev pub form_over : List ℕ → List ℕ → Option Form
-form_over command path =
+abbrev pub device_form : List ℕ → List ℕ → Option Form
+device_form command path =
     if same_name command (codes "serve") then Some (Serve path)
     else if same_name command (codes "plan") then Some (Plan path)
     else None
 
--- `serve FILE` or `plan FILE`
+-- a command over a graph
+abbrev pub graph_form : List ℕ → List ℕ → Option Form
+graph_form command path = if same_name command (codes "check") then Some (Check path) else None
+
+abbrev pub form_over : List ℕ → List ℕ → Option Form
+form_over command path =
+    if is_device_path path then device_form command path
+    else if is_graph_path path then graph_form command path
+    else None
+
+-- `serve FILE`, `plan FILE` or `check FILE`
 abbrev pub form_of : List (List ℕ) → Option Form
-form_of (command ∷ path ∷ []) = if is_device_path path then form_over command path else None
+form_of (command ∷ path ∷ []) = form_over command path
 form_of words = None
 
 -- the file that the words name, if they have a form

@@ -2,6 +2,7 @@
 #![tactic(auto)]
 
 mod adapters;
+mod checking;
 mod describing;
 mod planning;
 mod program;

@@ -3,12 +3,15 @@ ghost use Rattle.std.specs.Io.KnownBytes.{Appends};
 ghost use Rattle.diag_edge.specs.Edge.{HasCause, RoseExactly, Puts};
 ghost use Rattle.diag_cli.specs.Describing.{fault_line, above_line};
 ghost use Rattle.text_rules.specs.Tokens.{spaced};
+ghost use Rattle.graph_rules.specs.GraphTexts.{NoHeader, Counts, TooLarge, Shared};
+ghost use Rattle.diag_cli.specs.Checking.{graph_fault_line};
 ghost use Rattle.diag_cli.specs.Courses.{sum_above};
 ghost use Rattle.diag_cli.specs.Output.{Gives, says};
 ghost use Rattle.diag_cli.specs.Refusals.{told_by, or_memory};
 
 use crate::saying::say;
 use diag_edge::{Chunk, Sink, WriteFailed, put_line};
+use graph_rules::BITS_LIMIT;
 use itoa::Buffer;
 
 /// Why a file gives nothing of what the words ask for.
@@ -20,6 +23,14 @@ pub enum Refusal {
         number: u32,
         name: &'static str,
     },
+    /// A graph's text has no header.
+    Header,
+    /// The header says another number of nodes, or else of edges.
+    Counts { said: u64, found: u64 },
+    /// A graph has more nodes times variables than may be.
+    Bits { bits: u64 },
+    /// Two children of an and share a variable.
+    Shared { node: u32, variable: u32 },
     /// A count of a flat device is above its limit.
     Above {
         what: &'static str,
@@ -113,6 +124,88 @@ fn tell_sum<O: Sink>(out: &mut O, budget: u32) -> u8
     }
 }
 
+// Tells that there is no header and answers the status, or 5 where the write failed.
+fn tell_header<O: Sink>(out: &mut O) -> u8
+    requires faults { O.faults out.old < 2 ^ 64 - 1 }
+    ensures write_fault { RoseExactly (O.faults out.old) (O.faults out.new) (result ≡ 5) }
+    ensures either { (result ≡ 1) ⊎ (result ≡ 5) }
+    ensures said { result ≢ 5 → Gives (says (graph_fault_line NoHeader) 1) result (O.got out.old) (O.got out.new) }
+{
+    say(out, b"error: fault 1 header\n", 1)
+}
+
+// Tells numbers that are not those said and answers the status, or 5 where the write failed.
+fn tell_counts<O: Sink>(out: &mut O, said: u64, found: u64) -> u8
+    requires faults { O.faults out.old < 2 ^ 64 - 1 }
+    ensures write_fault { RoseExactly (O.faults out.old) (O.faults out.new) (result ≡ 5) }
+    ensures either { (result ≡ 1) ⊎ (result ≡ 5) }
+    ensures said { result ≢ 5 → Gives (says (graph_fault_line (Counts said found)) 1) result (O.got out.old) (O.got out.new) }
+{
+    match put_line(
+        out,
+        &[
+            b"error:",
+            b"fault",
+            b"5",
+            b"counts",
+            Buffer::new().format(said).as_bytes(),
+            Buffer::new().format(found).as_bytes(),
+        ],
+    ) {
+        Ok(()) => 1,
+        Err(_) => 5,
+    }
+}
+
+// Tells a graph that is too large and answers the status, or 5 where the write failed.
+fn tell_bits<O: Sink>(out: &mut O, bits: u64) -> u8
+    requires faults { O.faults out.old < 2 ^ 64 - 1 }
+    ensures write_fault { RoseExactly (O.faults out.old) (O.faults out.new) (result ≡ 5) }
+    ensures either { (result ≡ 1) ⊎ (result ≡ 5) }
+    ensures said { result ≢ 5 → Gives (says (graph_fault_line (TooLarge bits)) 1) result (O.got out.old) (O.got out.new) }
+{
+    match put_line(
+        out,
+        &[
+            b"error:",
+            b"fault",
+            b"6",
+            b"bits",
+            Buffer::new().format(bits).as_bytes(),
+            b"above",
+            Buffer::new().format(BITS_LIMIT).as_bytes(),
+        ],
+    ) {
+        Ok(()) => 1,
+        Err(_) => 5,
+    }
+}
+
+// Tells a shared variable and answers the status, or 5 where the write failed.
+fn tell_shared<O: Sink>(out: &mut O, node: u32, variable: u32) -> u8
+    requires faults { O.faults out.old < 2 ^ 64 - 1 }
+    ensures write_fault { RoseExactly (O.faults out.old) (O.faults out.new) (result ≡ 5) }
+    ensures either { (result ≡ 1) ⊎ (result ≡ 5) }
+    ensures said { result ≢ 5 → Gives (says (graph_fault_line (Shared node variable)) 1) result (O.got out.old) (O.got out.new) }
+{
+    match put_line(
+        out,
+        &[
+            b"error:",
+            b"fault",
+            b"7",
+            b"shared",
+            b"node",
+            Buffer::new().format(node).as_bytes(),
+            b"variable",
+            Buffer::new().format(variable).as_bytes(),
+        ],
+    ) {
+        Ok(()) => 1,
+        Err(_) => 5,
+    }
+}
+
 /// Tells a refusal and answers the status, or 5 where the write failed.
 pub(crate) fn tell<O: Sink>(out: &mut O, refusal: Refusal) -> u8
     requires faults { O.faults out.old < 2 ^ 64 - 1 }
@@ -124,6 +217,10 @@ pub(crate) fn tell<O: Sink>(out: &mut O, refusal: Refusal) -> u8
 {
     match refusal {
         Refusal::Fault { line, number, name } => tell_fault(out, line, number, name),
+        Refusal::Header => tell_header(out),
+        Refusal::Counts { said, found } => tell_counts(out, said, found),
+        Refusal::Bits { bits } => tell_bits(out, bits),
+        Refusal::Shared { node, variable } => tell_shared(out, node, variable),
         Refusal::Above { what, count, limit } => tell_above(out, what, count, limit),
         Refusal::Sum { budget } => tell_sum(out, budget),
         Refusal::NotYet => say(out, b"error: not yet\n", 1),

@@ -6,6 +6,7 @@ ghost use Rattle.diag_cli.specs.Courses.{course_of, served_or_refused};
 ghost use Rattle.diag_cli.specs.inner.Courses.{Follows, IsServed};
 ghost use Rattle.diag_cli.specs.inner.Forms.{meant};
 
+use crate::checking::check_file;
 use crate::describing::small_device;
 use crate::planning::plan_file;
 use crate::refusal::tell;
@@ -124,5 +125,6 @@ pub(crate) fn run_file<I: Source, O: Sink>(
     match form {
         Form::Serve { path } => serve_file(alloc, path, file, input, out),
         Form::Plan { path } => plan_file(alloc, path, file, out),
+        Form::Check { path: _ } => check_file(alloc, file, out),
     }
 }

@@ -1,6 +1,6 @@
 ghost use Rattle.std.specs.Prelude.{◌≡◌, map, string_bytes};
 ghost use Rattle.std.specs.Option.{option_map};
-ghost use Rattle.diag_cli.specs.Words.{form_of, form_over, path_of, ends_in, is_design_path, is_device_path};
+ghost use Rattle.diag_cli.specs.Words.{form_of, device_form, graph_form, path_of, ends_in, is_design_path, is_device_path, is_graph_path};
 ghost use Rattle.diag_cli.specs.inner.Forms.{meant};
 
 /// What the words of the command line ask for.
@@ -10,6 +10,8 @@ pub enum Form<'a> {
     Serve { path: &'a str },
     /// `plan FILE`: tells how large a device is, and the sum that the budget limits.
     Plan { path: &'a str },
+    /// `check FILE`: tells whether the text of a file is a decomposable graph.
+    Check { path: &'a str },
 }
 
 impl<'a> Form<'a> {
@@ -18,7 +20,7 @@ impl<'a> Form<'a> {
         ensures { result.now ≡ path_of (meant self.entry) }
     {
         match self {
-            Form::Serve { path } | Form::Plan { path } => path,
+            Form::Serve { path } | Form::Plan { path } | Form::Check { path } => path,
         }
     }
 }
@@ -44,13 +46,30 @@ fn is_device_path(path: &str) -> bool
     ends_in(b".bench", path) || is_design_path(path)
 }
 
+// Whether a file is a graph by its ending.
+fn is_graph_path(path: &str) -> bool
+    ensures { result ≡ is_graph_path path.now }
+{
+    ends_in(b".nnf", path)
+}
+
 // The form of a command over a netlist or a design.
-fn form_over<'a>(command: &str, path: &'a str) -> Option<Form<'a>>
-    ensures { option_map meant result ≡ form_over command.now path.now }
+fn device_form<'a>(command: &str, path: &'a str) -> Option<Form<'a>>
+    ensures { option_map meant result ≡ device_form command.now path.now }
 {
     match command {
         "serve" => Some(Form::Serve { path }),
         "plan" => Some(Form::Plan { path }),
+        _ => None,
+    }
+}
+
+// The form of a command over a graph.
+fn graph_form<'a>(command: &str, path: &'a str) -> Option<Form<'a>>
+    ensures { option_map meant result ≡ graph_form command.now path.now }
+{
+    match command {
+        "check" => Some(Form::Check { path }),
         _ => None,
     }
 }
@@ -64,7 +83,9 @@ pub fn form_of(words: &[String]) -> Option<Form<'_>>
     };
     let path = path.as_str();
     if is_device_path(path) {
-        form_over(command.as_str(), path)
+        device_form(command.as_str(), path)
+    } else if is_graph_path(path) {
+        graph_form(command.as_str(), path)
     } else {
         None
     }

@@ -1,0 +1,45 @@
+-- What is told of a graph in `.nnf` text.
+use Rattle.std.specs.Prelude.{ℕ, List, [], ◌∷◌, length, Result, Ok, Err, codes, nat_le, ◌==◌, if◌then◌else◌}
+use Rattle.std.specs.Fmt.{decimal}
+use Rattle.text_rules.specs.declared.text_lines.TheConstants.{TEXT_LIMIT}
+use Rattle.text_rules.specs.Tokens.{spaced}
+use Rattle.graph_rules.specs.declared.TheConstants.{BITS_LIMIT}
+use Rattle.graph_rules.specs.Graphs.{Graph}
+use Rattle.graph_rules.specs.GraphTexts.{Refusal, NoHeader, AtLine, Counts, TooLarge, Shared, edges, verdict}
+use Rattle.diag_cli.specs.declared.checking.GraphSizes.{GraphSizes}
+use Rattle.diag_cli.specs.Output.{Output, says}
+use Rattle.diag_cli.specs.Describing.{fault_line, long_file_line}
+
+-- the faults of one line, by their numbers
+abbrev pub line_fault_name : ℕ → List ℕ
+line_fault_name number = if number == 2 then codes "line" else if number == 3 then codes "child" else codes "variable"
+
+-- the line that tells why a text gives no decomposable graph
+abbrev pub graph_fault_line : Refusal → List ℕ
+graph_fault_line NoHeader = spaced (codes "error:" ∷ codes "fault" ∷ codes "1" ∷ codes "header" ∷ [])
+graph_fault_line (AtLine line number) = fault_line line number (line_fault_name number)
+graph_fault_line (Counts said found) =
+    spaced (codes "error:" ∷ codes "fault" ∷ codes "5" ∷ codes "counts" ∷ decimal said ∷ decimal found ∷ [])
+graph_fault_line (TooLarge bits) =
+    spaced (codes "error:" ∷ codes "fault" ∷ codes "6" ∷ codes "bits" ∷ decimal bits ∷ codes "above" ∷ decimal BITS_LIMIT ∷ [])
+graph_fault_line (Shared node variable) =
+    spaced (codes "error:" ∷ codes "fault" ∷ codes "7" ∷ codes "shared" ∷ codes "node" ∷ decimal node
+    ∷ codes "variable" ∷ decimal variable ∷ [])
+
+-- the sizes of the graph of a text, or the output that refuses it
+abbrev pub sizes_by_verdict : Result Graph Refusal → Result GraphSizes Output
+sizes_by_verdict (Ok graph) = Ok (record { nodes = length graph.nodes; edges = edges graph.nodes; vars = graph.vars })
+sizes_by_verdict (Err refusal) = Err (says (graph_fault_line refusal) 1)
+
+-- the same of a file, which may be too long
+abbrev pub graph_in : List ℕ → Result GraphSizes Output
+graph_in file = if nat_le (length file) TEXT_LIMIT then sizes_by_verdict (verdict file) else Err (says long_file_line 1)
+
+-- the line that tells a decomposable graph
+abbrev pub decomposable_line : GraphSizes → List ℕ
+decomposable_line sizes =
+    spaced (codes "decomposable" ∷ decimal sizes.nodes ∷ decimal sizes.edges ∷ decimal sizes.vars ∷ [])
+
+abbrev pub checked : Result GraphSizes Output → Output
+checked (Ok sizes) = says (decomposable_line sizes) 0
+checked (Err output) = output

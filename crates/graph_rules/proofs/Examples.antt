@@ -1,40 +1,42 @@
 -- Worked rows: what texts read as, and what graphs mean.
 use Rattle.std.proofs.Common.{◌≡◌, ℕ, true, false, List, [], ◌∷◌, ◌++◌, refl, map}
-use Rattle.std.specs.Prelude.{codes}
+use Rattle.std.specs.Prelude.{codes, Ok, Err}
+use Rattle.std.specs.Fmt.{digits}
 use Rattle.graph_rules.specs.declared.NodeKind.TheVariants.{Literal, And, Or}
-use Rattle.graph_rules.specs.Graphs.{Graph, holds, mentions, apart_at}
-use Rattle.graph_rules.specs.GraphTexts.{parsed, Read, Refused, NoHeader, AtLine, Counts}
+use Rattle.graph_rules.specs.Graphs.{Graph, literal_node, true_node, holds, mentions, apart_at, node_fits, nodes_fit}
+use Rattle.graph_rules.specs.GraphTexts.{parsed, verdict, NoHeader, AtLine, Counts, TooLarge, Shared}
+use Rattle.graph_rules.specs.WrittenGraphs.{graph_text}
 
 abbrev text : List (List ℕ) → List ℕ
 text [] = []
 text (l ∷ ls) = l ++ (10 ∷ text ls)
 
 abbrev either : Graph
-either = record { nodes = record { what = Literal 1 true; kids = [] } ∷ record { what = Literal 1 false; kids = [] } ∷ record { what = Or; kids = 0 ∷ 1 ∷ [] } ∷ []; vars = 1 }
+either = record { nodes = literal_node 1 true ∷ literal_node 1 false ∷ record { what = Or; kids = 0 ∷ 1 ∷ [] } ∷ []; vars = 1 }
 
 -- the number behind O is left out
-an_or : parsed (text (map codes ("nnf 3 2 1" ∷ "L 1" ∷ "L -1" ∷ "O 1 2 0 1" ∷ []))) ≡ Read either
+an_or : parsed (text (map codes ("nnf 3 2 1" ∷ "L 1" ∷ "L -1" ∷ "O 1 2 0 1" ∷ []))) ≡ Ok either
 an_or = refl
 
-no_byte : parsed [] ≡ Refused NoHeader
+no_byte : parsed [] ≡ Err NoHeader
 no_byte = refl
 
-counts : parsed (text (map codes ("nnf 2 0 1" ∷ "L 1" ∷ []))) ≡ Refused (Counts 2 1)
+counts : parsed (text (map codes ("nnf 2 0 1" ∷ "L 1" ∷ []))) ≡ Err (Counts 2 1)
 counts = refl
 
-child : parsed (text (map codes ("nnf 2 1 1" ∷ "A 1 1" ∷ "L 1" ∷ []))) ≡ Refused (AtLine 2 3)
+child : parsed (text (map codes ("nnf 2 1 1" ∷ "A 1 1" ∷ "L 1" ∷ []))) ≡ Err (AtLine 2 3)
 child = refl
 
-variable : parsed (text (map codes ("nnf 1 0 1" ∷ "L 2" ∷ []))) ≡ Refused (AtLine 2 4)
+variable : parsed (text (map codes ("nnf 1 0 1" ∷ "L 2" ∷ []))) ≡ Err (AtLine 2 4)
 variable = refl
 
-no_form : parsed (text (map codes ("nnf 1 0 1" ∷ "X 1" ∷ []))) ≡ Refused (AtLine 2 2)
+no_form : parsed (text (map codes ("nnf 1 0 1" ∷ "X 1" ∷ []))) ≡ Err (AtLine 2 2)
 no_form = refl
 
-many_kids : parsed (text (map codes ("nnf 1 0 1" ∷ "A 4294967295 0" ∷ []))) ≡ Refused (AtLine 2 2)
+many_kids : parsed (text (map codes ("nnf 1 0 1" ∷ "A 4294967295 0" ∷ []))) ≡ Err (AtLine 2 2)
 many_kids = refl
 
-great_header : parsed (text (map codes ("nnf 4294967296 0 1" ∷ "A 0" ∷ []))) ≡ Refused NoHeader
+great_header : parsed (text (map codes ("nnf 4294967296 0 1" ∷ "A 0" ∷ []))) ≡ Err NoHeader
 great_header = refl
 
 always_true : holds either (true ∷ []) ≡ true
@@ -46,3 +48,108 @@ shares = refl
 
 shares_with_itself : apart_at (mentions either.nodes 1) And (0 ∷ 0 ∷ []) ≡ false
 shares_with_itself = refl
+
+-- a kid comes before its parent, a variable is there, and a literal has no kid
+an_earlier_kid : nodes_fit 1 0 either.nodes ≡ true
+an_earlier_kid = refl
+
+a_kid_of_its_own : node_fits 1 2 (record { what = And; kids = 2 ∷ [] }) ≡ false
+a_kid_of_its_own = refl
+
+a_variable_above : node_fits 1 0 (literal_node 2 true) ≡ false
+a_variable_above = refl
+
+a_literal_over_a_node : node_fits 1 1 (record { what = Literal 1 true; kids = 0 ∷ [] }) ≡ false
+a_literal_over_a_node = refl
+
+-- ---- how a graph is written
+
+written_or : graph_text 1 either.nodes ≡ text (map codes ("nnf 3 2 1" ∷ "L 1" ∷ "L -1" ∷ "O 0 2 0 1" ∷ []))
+unfolding digits
+written_or = refl
+
+over_more_variables : graph_text 12 (true_node ∷ []) ≡ text (map codes ("nnf 1 0 12" ∷ "A 0" ∷ []))
+unfolding digits
+over_more_variables = refl
+
+-- ---- verdicts
+
+shared : verdict (text (map codes ("nnf 3 2 1" ∷ "L 1" ∷ "L -1" ∷ "A 2 0 1" ∷ []))) ≡ Err (Shared 2 1)
+shared = refl
+
+a_kid_named_twice : verdict (text (map codes ("nnf 2 2 1" ∷ "L 1" ∷ "A 2 0 0" ∷ []))) ≡ Err (Shared 1 1)
+a_kid_named_twice = refl
+
+too_large : verdict (text (map codes ("nnf 1 0 2147483649" ∷ "A 0" ∷ []))) ≡ Err (TooLarge 2147483649)
+too_large = refl
+
+accepted : verdict (text (map codes ("nnf 3 2 1" ∷ "L 1" ∷ "L -1" ∷ "O 1 2 0 1" ∷ []))) ≡ Ok (either)
+accepted = refl
+
+-- ---- refused texts
+
+blank_lines_alone : verdict (text (map codes ("" ∷ " " ∷ []))) ≡ Err NoHeader
+blank_lines_alone = refl
+
+no_nodes_said : verdict (text (map codes ("nnf 0 0 1" ∷ []))) ≡ Err NoHeader
+no_nodes_said = refl
+
+-- blank lines are counted
+line_behind_blank_ones : verdict (text (map codes ("" ∷ "nnf 1 0 1" ∷ " " ∷ "" ∷ "L 1 1" ∷ []))) ≡ Err (AtLine 5 2)
+line_behind_blank_ones = refl
+
+-- the form is told before a child
+form_before_child : verdict (text (map codes ("nnf 1 0 1" ∷ "A 3 7" ∷ []))) ≡ Err (AtLine 2 2)
+form_before_child = refl
+
+own_child : verdict (text (map codes ("nnf 1 1 1" ∷ "A 1 0" ∷ []))) ≡ Err (AtLine 2 3)
+own_child = refl
+
+variable_0 : verdict (text (map codes ("nnf 1 0 1" ∷ "L -0" ∷ []))) ≡ Err (AtLine 2 4)
+variable_0 = refl
+
+-- the first line with a fault, and lines before counts
+first_fault : verdict (text (map codes ("nnf 9 9 1" ∷ "L 2" ∷ "X" ∷ []))) ≡ Err (AtLine 2 4)
+first_fault = refl
+
+far_fewer_nodes : verdict (text (map codes ("nnf 4294967295 0 1" ∷ "L 1" ∷ []))) ≡ Err (Counts 4294967295 1)
+far_fewer_nodes = refl
+
+-- nodes are counted before edges
+fewer_edges : verdict (text (map codes ("nnf 2 2 1" ∷ "L 1" ∷ "A 1 0" ∷ []))) ≡ Err (Counts 2 1)
+fewer_edges = refl
+
+most_variables : verdict (text (map codes ("nnf 1 0 4294967295" ∷ "A 0" ∷ []))) ≡ Err (TooLarge 4294967295)
+most_variables = refl
+
+-- a false node without variables
+accepted_false : verdict (text (map codes ("nnf 1 0 0" ∷ "O 0 0" ∷ []))) ≡ Ok (record { nodes = record { what = Or; kids = [] } ∷ []; vars = 0 })
+accepted_false = refl
+
+-- zeros before a number, and what stands behind O
+accepted_spellings : verdict (text (map codes ("nnf 02 0000000000000000001 01" ∷ "L 0000000001" ∷ "O 4294967295 1 00" ∷ [])))
+    ≡ Ok (record { nodes = literal_node 1 true ∷ record { what = Or; kids = 0 ∷ [] } ∷ []; vars = 1 })
+accepted_spellings = refl
+
+-- ---- numbers past their widths
+
+eleven_digits : verdict (text (map codes ("nnf 1 0 1" ∷ "L 00000000001" ∷ []))) ≡ Err (AtLine 2 2)
+eleven_digits = refl
+
+variable_past_32_bits : verdict (text (map codes ("nnf 1 0 1" ∷ "L -4294967296" ∷ []))) ≡ Err (AtLine 2 2)
+variable_past_32_bits = refl
+
+greatest_variable : verdict (text (map codes ("nnf 1 0 1" ∷ "L 4294967295" ∷ []))) ≡ Err (AtLine 2 4)
+greatest_variable = refl
+
+two_signs : verdict (text (map codes ("nnf 1 0 1" ∷ "L --1" ∷ []))) ≡ Err (AtLine 2 2)
+two_signs = refl
+
+edges_past_64_bits : verdict (text (map codes ("nnf 1 18446744073709551616 1" ∷ "A 0" ∷ []))) ≡ Err NoHeader
+edges_past_64_bits = refl
+
+most_edges : verdict (text (map codes ("nnf 1 18446744073709551615 1" ∷ "A 0" ∷ []))) ≡ Err (Counts 18446744073709551615 0)
+most_edges = refl
+
+five_words_of_a_header : verdict (text (map codes ("nnf 1 0 1 0" ∷ "A 0" ∷ []))) ≡ Err NoHeader
+five_words_of_a_header = refl

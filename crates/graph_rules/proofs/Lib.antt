@@ -1,1 +1,3 @@
 mod Examples
+pub mod NodeValues
+pub mod NodesFit

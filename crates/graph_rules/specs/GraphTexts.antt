@@ -1,14 +1,15 @@
 -- Graphs in `.nnf` text: the graph that a text gives, or the first reason why it gives none.
-use Rattle.std.specs.Prelude.{ℕ, zero, suc, ◌-◌, ◌^◌, Bool, true, false, not, ◌&&◌, List, [], ◌∷◌, ◌++◌, map, length, Option, Some, None, codes, ◌==◌, nat_lt, nat_le, if◌then◌else◌, sum_by}
-use Rattle.std.specs.List.{list_all, filter, filter_map, enumerate_from}
+use Rattle.std.specs.Prelude.{ℕ, zero, suc, ◌-◌, ◌*◌, ◌^◌, Bool, true, false, not, ◌&&◌, List, [], ◌∷◌, ◌++◌, map, length, Option, Some, None, Result, Ok, Err, codes, ◌==◌, nat_lt, nat_le, if◌then◌else◌, sum_by}
+use Rattle.std.specs.List.{list_all, find, filter, filter_map, enumerate_from, range_with_len}
 use Rattle.std.specs.Option.{option_map}
 use Rattle.text_rules.specs.Names.{same_name}
 use Rattle.text_rules.specs.TextLines.{all_lines}
 use Rattle.text_rules.specs.Tokens.{words}
 use Rattle.text_rules.specs.Numbers.{number_in}
+use Rattle.graph_rules.specs.declared.TheConstants.{BITS_LIMIT}
 use Rattle.graph_rules.specs.declared.NodeKind.{NodeKind}
 use Rattle.graph_rules.specs.declared.NodeKind.TheVariants.{Literal, And, Or}
-use Rattle.graph_rules.specs.Graphs.{Node, Graph}
+use Rattle.graph_rules.specs.Graphs.{Node, Graph, mentions, apart_at}
 
 -- up to ten digits, and up to twenty
 abbrev pub small_number : List ℕ → Option ℕ
@@ -121,24 +122,54 @@ abbrev pub node_at_line : ℕ × List (List ℕ) → Option Node
 node_at_line l = node_of l.1
 
 -- a graph, or a refusal
-pub data Parsed : Type 0 where
-  Read : (graph : Graph) → Parsed
-  Refused : (refusal : Refusal) → Parsed
+abbrev pub Parsed : Type 0
+Parsed = Result Graph Refusal
 
 abbrev pub read_unless : Graph → List Refusal → Parsed
-read_unless graph [] = Read graph
-read_unless graph (r ∷ rest) = Refused r
+read_unless graph [] = Ok graph
+read_unless graph (r ∷ rest) = Err r
 
 abbrev pub parsed_below : List (ℕ × List (List ℕ)) → Option Header → Parsed
-parsed_below lines None = Refused NoHeader
+parsed_below lines None = Err NoHeader
 parsed_below lines (Some header) =
     let nodes = filter_map node_at_line lines in
     read_unless (record { nodes = nodes; vars = header.vars })
     (filter_map (line_fault header.vars) (enumerate_from 0 lines) ++ differs header.nodes (length nodes) ++ differs header.edges (edges nodes))
 
 abbrev pub parsed_lines : List (ℕ × List (List ℕ)) → Parsed
-parsed_lines [] = Refused NoHeader
+parsed_lines [] = Err NoHeader
 parsed_lines (first ∷ rest) = parsed_below rest (header_of first.1)
 
 abbrev pub parsed : List ℕ → Parsed
 parsed text = parsed_lines (filled_lines text)
+
+-- two kids of an and share a variable
+abbrev pub shares : List Node → Node → ℕ → Bool
+shares nodes node v = not (apart_at (mentions nodes v) node.what node.kids)
+
+-- the node of this number, where its kids share this variable
+abbrev pub shared_at : ℕ → Option ℕ → Option Refusal
+shared_at own None = None
+shared_at own (Some v) = Some (Shared own v)
+
+-- the least variable that kids of a node share
+abbrev pub node_shared : Graph → ℕ × Node → Option Refusal
+node_shared graph n = shared_at n.0 (find (shares graph.nodes n.1) (range_with_len 1 graph.vars))
+
+-- of each node that has one
+abbrev pub all_shared : Graph → List Refusal
+all_shared graph = filter_map (node_shared graph) (enumerate_from 0 graph.nodes)
+
+-- The sets of variables are to fit memory, and the graph is to be decomposable.
+abbrev pub checked : Graph → Parsed
+checked graph =
+    let bits = length graph.nodes * graph.vars in
+    if nat_lt BITS_LIMIT bits then Err (TooLarge bits) else read_unless graph (all_shared graph)
+
+abbrev pub checked_if : Parsed → Parsed
+checked_if (Err refusal) = Err refusal
+checked_if (Ok graph) = checked graph
+
+-- the graph of a text, or the first reason why it gives none or its graph is not decomposable
+abbrev pub verdict : List ℕ → Parsed
+verdict text = checked_if (parsed text)

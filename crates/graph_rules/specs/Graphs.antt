@@ -1,9 +1,10 @@
 -- Graphs of literals, ands and ors, each over earlier nodes.
-use Rattle.std.specs.Prelude.{◌≡◌, ℕ, ◌-◌, Bool, true, false, not, List, [], ◌∷◌, ◌++◌, map, length, ◌==◌}
+use Rattle.std.specs.Prelude.{◌≡◌, ℕ, ◌+◌, ◌-◌, ◌^◌, ◌<◌, Bool, true, false, not, ◌&&◌, List, [], ◌∷◌, map, length, slice_index_or, ◌==◌, nat_lt, nat_le}
 use Rattle.std.specs.List.{list_all, list_any, AllByRecursion}
 use Rattle.ranking.specs.Bits.{bit_in, same_bit}
 use Rattle.ranking.specs.Assignments.{Assignment, assignment}
 use Rattle.ranking.specs.Values.{values}
+use Rattle.graph_rules.specs.declared.TheConstants.{CHILD_LIMIT}
 use Rattle.graph_rules.specs.declared.NodeKind.{NodeKind}
 use Rattle.graph_rules.specs.declared.NodeKind.TheVariants.{Literal, And, Or}
 
@@ -16,6 +17,17 @@ at_most_one (false ∷ bs) = at_most_one bs
 pub record Node : Type 0 where
   pub what : NodeKind
   pub kids : List ℕ
+
+abbrev pub literal_node : ℕ → Bool → Node
+literal_node var positive = record { what = Literal var positive; kids = [] }
+
+-- an and without kids is true
+abbrev pub true_node : Node
+true_node = record { what = And; kids = [] }
+
+-- the node of a number, and a true one past the end
+abbrev pub node_at : List Node → ℕ → Node
+node_at nodes number = slice_index_or nodes number true_node
 
 -- the last node is the root; the variables are 1 to vars
 pub record Graph : Type 0 where
@@ -59,3 +71,29 @@ Decomposable nodes =
 -- the last node under bits for the variables
 abbrev pub holds : Graph → List Bool → Bool
 holds graph bits = is_true graph.nodes (length graph.nodes - 1) (assignment bits)
+
+-- a literal has a variable from 1 to the greatest and no kids; an and or an or has fewer kids than the limit
+abbrev pub kind_fits : ℕ → NodeKind → List ℕ → Bool
+kind_fits vars (Literal var positive) kids = (length kids == 0) && (nat_le 1 var && nat_le var vars)
+kind_fits vars And kids = nat_lt (length kids) CHILD_LIMIT
+kind_fits vars Or kids = nat_lt (length kids) CHILD_LIMIT
+
+-- and the kids of the node with this number come before it
+abbrev pub node_fits : ℕ → ℕ → Node → Bool
+node_fits vars own node = list_all (λ kid. nat_lt kid own) node.kids && kind_fits vars node.what node.kids
+
+-- so stand all nodes, of which the first has this number
+abbrev pub nodes_fit : ℕ → ℕ → List Node → Bool
+nodes_fit vars own [] = true
+nodes_fit vars own (node ∷ nodes) = node_fits vars own node && nodes_fit vars (own + 1) nodes
+
+-- kids come before their parents and have variables that are there, and an and joins what shares none
+pub record AreNodes (vars : ℕ) (nodes : List Node) : Type 0 where
+  pub fit : nodes_fit vars 0 nodes ≡ true
+  pub apart : Decomposable nodes
+
+-- what holds of every graph: it has such nodes, at least one, and their numbers fit 32 bits
+pub record IsGraph (graph : Graph) : Type 0 where
+  pub some : 0 < length graph.nodes
+  pub few : length graph.nodes < 2 ^ 32
+  pub nodes : AreNodes graph.vars graph.nodes

@@ -1,18 +1,18 @@
 -- Which bytes spell a list of items.
-use Rattle.std.specs.Prelude.{◌≡◌, ℕ, Bool, true, false, List, [], ◌∷◌, ◌++◌, length, Option, Result, MatchResult}
+use Rattle.std.specs.Prelude.{◌≡◌, ℕ, Bool, true, false, List, [], ◌∷◌, ◌++◌, length, Option, Result, MatchResult, Ok, Err}
 use Rattle.std.specs.List.{list_any}
 use Rattle.std.specs.Io.KnownBytes.{Appends}
 use Rattle.text_rules.specs.Tokens.{is_neat}
 use Rattle.std.specs.Cmp.Lexicographic.{pointwise}
 use Rattle.ranking.specs.Bits.{same_bit}
 use Rattle.graph_rules.specs.Graphs.{Decomposable, holds}
-use Rattle.graph_rules.specs.GraphTexts.{Parsed, Read, Refused, parsed}
+use Rattle.graph_rules.specs.GraphTexts.{Parsed, parsed}
 use Rattle.session_core.specs.Items.{Item, Plain, Projected}
 
 -- a graph over so many parts, decomposable, and true for these states alone
 abbrev pub IsGraphOf : ℕ → List (List Bool) → Parsed → Type 0
-IsGraphOf parts states (Refused refusal) = false ≡ true
-IsGraphOf parts states (Read graph) =
+IsGraphOf parts states (Err refusal) = false ≡ true
+IsGraphOf parts states (Ok graph) =
     (graph.vars ≡ parts) × Decomposable graph.nodes
     × ((h : List Bool) → length h ≡ parts → holds graph h ≡ list_any (pointwise same_bit h) states)
 

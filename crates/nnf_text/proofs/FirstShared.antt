@@ -1,0 +1,107 @@
+-- The first shared variable is the one of the verdict.
+use Rattle.std.proofs.Common.{◌≡◌, ℕ, zero, suc, ◌+◌, ◌*◌, ◌<◌, ◌≤◌, Bool, true, false, List, [], ◌∷◌, length, Option, Some, None, Ok, Err, refl, sym, ap, ◌∙◌, subst, arith, inl, inr}
+use Rattle.std.specs.Prelude.{◌⊎◌}
+use Rattle.std.specs.List.{find, filter_map, cons_option, enumerate_from, range_with_len, AllByRecursion}
+use Rattle.std.proofs.lemmas.Bool.{cond-false, cases_Bool, cases_lt, le-ltb, not-false}
+use Rattle.graph_rules.specs.declared.TheConstants.{BITS_LIMIT}
+use Rattle.graph_rules.specs.Graphs.{Node, Graph, node_at, mentions, apart_at, nodes_fit, Decomposable}
+use Rattle.graph_rules.specs.GraphTexts.{Shared, read_unless, shares, shared_at, node_shared, all_shared, checked}
+use Rattle.nnf_text.specs.inner.Sharing.{AreVariables, first_of, IsFirstOf, FirstOf}
+use Rattle.nnf_text.proofs.Options.{chosen, none≢some}
+use Rattle.nnf_text.proofs.Mentions.{IsUsed-shared, IsUsed-range}
+use Rattle.nnf_text.proofs.Sparse.{Rises-from, find-sparse}
+
+-- ---- all variables, by those that literals have
+
+module _ (vars : ℕ) (nodes : List Node) (variables : List ℕ) (fit : nodes_fit vars 0 nodes ≡ true) (are : AreVariables nodes variables) where
+  -- what is shared is in range
+  in_range : (k v : ℕ) → shares nodes (node_at nodes k) v ≡ true → v < 0 + (vars + 1)
+  in_range k v shared = let range = IsUsed-range vars nodes v fit (IsUsed-shared nodes (node_at nodes k) v shared) in omega (arith, range.high)
+
+  zero_unshared : (k : ℕ) → shares nodes (node_at nodes k) 0 ≡ false
+  zero_unshared k = elim (cases_Bool (shares nodes (node_at nodes k) 0)) [
+    | inl shared ↦ (let range = IsUsed-range vars nodes 0 fit (IsUsed-shared nodes (node_at nodes k) 0 shared) in absurd (omega (arith, range.low)))
+    | inr none ↦ none
+  ]
+
+  first_of-all : (k : ℕ) → first_of nodes variables k ≡ first_of nodes (range_with_len 1 vars) k
+  first_of-all k =
+      let next : vars + 1 ≡ suc vars = omega arith in
+      find-sparse (shares nodes (node_at nodes k)) variables 0 (vars + 1) (Rises-from variables are.rise) (in_range k)
+      (λ v le shared. let used = IsUsed-shared nodes (node_at nodes k) v shared in are.all used.at v used.positive used.inside used.literal)
+      ∙ ap (λ n. find (shares nodes (node_at nodes k)) (range_with_len 0 n)) next
+      ∙ cond-false _ _ _ (zero_unshared k)
+
+  pub FirstOf-all : (found : Option (ℕ × ℕ)) → FirstOf nodes variables found → FirstOf nodes (range_with_len 1 vars) found
+  FirstOf-all None none = λ k h. sym (first_of-all k) ∙ none k h
+  FirstOf-all (Some n) first = record {
+    inside = first.inside;
+    found = sym (first_of-all n.0) ∙ first.found;
+    before = λ k h. sym (first_of-all k) ∙ first.before k h;
+  }
+
+-- ---- the reasons against a graph
+
+none-shared : (graph : Graph) (own : ℕ) (nodes : List Node) → ((k : ℕ) → k < length nodes → find (shares graph.nodes (node_at nodes k)) (range_with_len 1 graph.vars) ≡ None) → filter_map (node_shared graph) (enumerate_from own nodes) ≡ []
+none-shared graph own [] none = refl
+none-shared graph own (node ∷ nodes) none =
+    ap (λ o. cons_option (shared_at own o) (filter_map (node_shared graph) (enumerate_from (own + 1) nodes))) (none 0 (omega arith))
+    ∙ none-shared graph (own + 1) nodes (λ k h. none (suc k) (omega arith))
+
+first-refused : (graph : Graph) (own : ℕ) (nodes : List Node) (node var : ℕ) → node < length nodes → find (shares graph.nodes (node_at nodes node)) (range_with_len 1 graph.vars) ≡ Some var
+    → ((k : ℕ) → k < node → find (shares graph.nodes (node_at nodes k)) (range_with_len 1 graph.vars) ≡ None)
+    → read_unless graph (filter_map (node_shared graph) (enumerate_from own nodes)) ≡ Err (Shared (own + node) var)
+first-refused graph own [] node var inside found before = absurd (omega arith)
+first-refused graph own (n ∷ nodes) zero var inside found before =
+    let here : own ≡ own + 0 = omega arith in
+    ap (λ o. read_unless graph (cons_option (shared_at own o) (filter_map (node_shared graph) (enumerate_from (own + 1) nodes)))) found ∙ ap (λ k. Err (Shared k var)) here
+first-refused graph own (n ∷ nodes) (suc node) var inside found before =
+    let next : (own + 1) + node ≡ own + suc node = omega arith in
+    ap (λ o. read_unless graph (cons_option (shared_at own o) (filter_map (node_shared graph) (enumerate_from (own + 1) nodes)))) (before 0 (omega arith))
+    ∙ first-refused graph (own + 1) nodes node var (omega arith) found (λ k h. before (suc k) (omega arith))
+    ∙ ap (λ k. Err (Shared k var)) next
+
+-- ---- a graph without any
+
+passed_over : (p : ℕ → Bool) (start len : ℕ) → find p (range_with_len start len) ≡ None → (v : ℕ) → start ≤ v → v < start + len → p v ≡ false
+passed_over p start zero e v low high = absurd (omega arith)
+passed_over p start (suc len) e v low high = elim (chosen (p start) (Some start) (find p (range_with_len (start + 1) len)) None e) [
+  | inl here ↦ absurd (none≢some start (sym here.1))
+  | inr later ↦ by_place (cases_lt start v) later.0 (passed_over p (start + 1) len later.1)
+] where
+  by_place : (start < v) ⊎ (v ≤ start) → p start ≡ false → ((u : ℕ) → start + 1 ≤ u → u < (start + 1) + len → p u ≡ false) → p v ≡ false
+  by_place (inl above) first rest = rest v (omega arith) (omega arith)
+  by_place (inr here) first rest = let same : start ≡ v = omega arith in subst (λ u. p u ≡ false) same first
+
+all_at : (P : Node → Type 0) (nodes : List Node) → ((k : ℕ) → k < length nodes → P (node_at nodes k)) → AllByRecursion P nodes
+all_at P [] each = tt
+all_at P (node ∷ nodes) each = (each 0 (omega arith), all_at P nodes (λ k h. each (suc k) (omega arith)))
+
+module _ (vars : ℕ) (nodes : List Node) (fit : nodes_fit vars 0 nodes ≡ true) (none : FirstOf nodes (range_with_len 1 vars) None) where
+  none_at : (v k : ℕ) → k < length nodes → shares nodes (node_at nodes k) v ≡ false
+  none_at v k h = elim (cases_Bool (shares nodes (node_at nodes k) v)) [
+    | inl shared ↦ (
+        let range = IsUsed-range vars nodes v fit (IsUsed-shared nodes (node_at nodes k) v shared) in
+        passed_over (shares nodes (node_at nodes k)) 1 vars (none k h) v range.low (omega (arith, range.high)))
+    | inr other ↦ other
+  ]
+
+  pub Decomposable-none : Decomposable nodes
+  Decomposable-none v = all_at (λ (n : Node). apart_at (mentions nodes v) n.what n.kids ≡ true) nodes (λ k h. not-false _ (none_at v k h))
+
+-- ---- a check
+
+module _ (vars : ℕ) (nodes : List Node) (small : length nodes * vars ≤ BITS_LIMIT) where
+  abbrev graph : Graph
+  graph = record { nodes = nodes; vars = vars }
+
+  small-bits : checked graph ≡ read_unless graph (all_shared graph)
+  small-bits = cond-false _ _ _ (le-ltb BITS_LIMIT (length nodes * vars) small)
+
+  pub checked-none : FirstOf nodes (range_with_len 1 vars) None → checked graph ≡ Ok graph
+  checked-none none = small-bits ∙ ap (read_unless graph) (none-shared graph 0 nodes none)
+
+  pub checked-shared : (node var : ℕ) → FirstOf nodes (range_with_len 1 vars) (Some (node, var)) → checked graph ≡ Err (Shared node var)
+  checked-shared node var first =
+      let here : 0 + node ≡ node = omega arith in
+      small-bits ∙ first-refused graph 0 nodes node var first.inside first.found first.before ∙ ap (λ k. Err (Shared k var)) here

@@ -1,0 +1,10 @@
+pub mod Options
+pub mod ReadTexts
+pub mod LineSteps
+pub mod LineTexts
+pub mod ReadingBack
+pub mod Mentions
+pub mod Sparse
+pub mod Bits
+pub mod Marking
+pub mod FirstShared

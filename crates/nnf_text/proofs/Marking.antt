@@ -1,0 +1,150 @@
+-- What the words of a column say of the nodes.
+use Rattle.std.proofs.Common.{◌≡◌, ◌≢◌, ℕ, zero, suc, ◌+◌, ◌-◌, ◌^◌, ◌<◌, ◌≤◌, Bool, true, false, not, cond, ◌==◌, List, ◌++◌, map, min, length, take, drop, Option, Some, None, get_or, set, w64, All, refl, sym, ap, ◌∙◌, subst, arith, inl, inr}
+use Rattle.std.specs.Prelude.{◌⊎◌, nat_lt}
+use Rattle.std.specs.Int.{bit_at, trailing_zeros}
+use Rattle.std.specs.List.{find}
+use Rattle.std.specs.Option.{option_or}
+use Rattle.std.proofs.lemmas.Bool.{eq-eqb, cases_lt, ltb-true, ltb-false}
+use Rattle.std.proofs.lemmas.Nat.Bits.{bit_at-trailing_zeros}
+use Rattle.std.proofs.lemmas.List.{get_or-set_same, get_or-set_other, get_or_past, take_all, length-drop}
+use Rattle.std.proofs.Math.Seq.{take-add}
+use Rattle.std.proofs.lemmas.List.Folds.{find-append}
+use Rattle.graph_rules.specs.declared.NodeKind.{NodeKind}
+use Rattle.graph_rules.specs.Graphs.{Node, node_at, mention_by, mentions, nodes_fit}
+use Rattle.graph_rules.specs.GraphTexts.{shares}
+use Rattle.graph_rules.proofs.NodeValues.{map-below, below-each, value_of-at}
+use Rattle.graph_rules.proofs.NodesFit.{fits-at, apart_at-below}
+use Rattle.nnf_text.specs.inner.Sharing.{has_bit, has, IsWord, first_of, IsFirstOf, FirstOf, earlier}
+use Rattle.nnf_text.proofs.Bits.{has_bit-zero}
+use Rattle.nnf_text.proofs.Mentions.{unshared-0}
+use Rattle.nnf_text.proofs.Sparse.{find-none_at, find-first_at}
+
+-- kids of the node of a number share a variable
+abbrev pub share : List Node → ℕ → ℕ → Bool
+share nodes k v = shares nodes (node_at nodes k) v
+
+-- the nodes before a number have their words, and none of them has kids that share
+pub record IsMarked (nodes : List Node) (variables : List ℕ) (i : ℕ) (column : List ℕ) : Type 0 where
+  pub words : (k b : ℕ) → k < i → b < 64 → has column b k ≡ mentions nodes (get_or variables b 0) k
+  pub none : (k b : ℕ) → k < i → b < 64 → share nodes k (get_or variables b 0) ≡ false
+
+-- the kids of a node have words
+pub have_words : (vars : ℕ) (nodes : List Node) (i len : ℕ) (kids : List ℕ) → nodes_fit vars 0 nodes ≡ true → i < length nodes → i ≤ len → kids ≡ (node_at nodes i).kids → All (λ kid. kid < len) kids
+have_words vars nodes i len kids fit inside le is k d h =
+    let below = below-each i (node_at nodes i).kids (fits-at vars nodes i fit inside).below in
+    omega (arith, subst (All (λ kid. kid < i)) (sym is) below k d h)
+
+-- the word of a node, by what it is and its kids
+pub IsWord-of : (column kids : List ℕ) (what : NodeKind) (node : Node) (variables : List ℕ) (word twice : ℕ) → what ≡ node.what → kids ≡ node.kids → IsWord column what kids variables word twice → IsWord column node.what node.kids variables word twice
+IsWord-of column kids what node variables word twice e f is = subst (λ ks. IsWord column node.what ks variables word twice) f (subst (λ w. IsWord column w kids variables word twice) e is)
+
+module _ (vars : ℕ) (nodes : List Node) (variables : List ℕ) (i : ℕ) (column : List ℕ) (marked : IsMarked nodes variables i column) (fit : nodes_fit vars 0 nodes ≡ true) (lt : i < length nodes) (long : length column ≡ length nodes)
+    (word twice : ℕ) (is : IsWord column (node_at nodes i).what (node_at nodes i).kids variables word twice) where
+  word-right : (b : ℕ) → b < 64 → has_bit word b ≡ mentions nodes (get_or variables b 0) i
+  word-right b small =
+      let below = (fits-at vars nodes i fit lt).below in
+      is.some b small
+      ∙ ap (mention_by (get_or variables b 0) (node_at nodes i).what) (map-below (has column b) (mentions nodes (get_or variables b 0)) i (node_at nodes i).kids below (λ k h. marked.words k b h small))
+      ∙ sym (value_of-at (mention_by (get_or variables b 0)) nodes i lt below)
+
+  twice-right : (b : ℕ) → b < 64 → has_bit twice b ≡ share nodes i (get_or variables b 0)
+  twice-right b small =
+      is.more b small
+      ∙ ap not (apart_at-below (has column b) (mentions nodes (get_or variables b 0)) i (node_at nodes i).what (node_at nodes i).kids (fits-at vars nodes i fit lt).below (λ k h. marked.words k b h small))
+
+  word-at : (k b : ℕ) → b < 64 → (k < i) ⊎ (k ≡ i) → has (set column i word) b k ≡ mentions nodes (get_or variables b 0) k
+  word-at k b small (inl before) = let other : k ≢ i = omega arith in ap (λ n. has_bit n b) (get_or-set_other column i k word 0 other) ∙ marked.words k b before small
+  word-at k b small (inr here) =
+      ap (has (set column i word) b) here ∙ ap (λ n. has_bit n b) (get_or-set_same column i word 0 (omega (arith, long))) ∙ word-right b small ∙ ap (mentions nodes (get_or variables b 0)) (sym here)
+
+  none-at : twice ≡ 0 → (k b : ℕ) → b < 64 → (k < i) ⊎ (k ≡ i) → share nodes k (get_or variables b 0) ≡ false
+  none-at zero_twice k b small (inl before) = marked.none k b before small
+  none-at zero_twice k b small (inr here) = ap (λ n. share nodes n (get_or variables b 0)) here ∙ sym (twice-right b small) ∙ ap (λ n. has_bit n b) zero_twice ∙ has_bit-zero b
+
+  before_or_here : (k : ℕ) → k < i + 1 → (k < i) ⊎ (k ≡ i)
+  before_or_here k h = elim (cases_lt k i) [ inl below ↦ inl below | inr not_below ↦ inr (omega arith) ]
+
+  -- the next node has no kids that share
+  pub marked_more : twice ≡ 0 → IsMarked nodes variables (i + 1) (set column i word)
+  marked_more zero_twice = record {
+    words = λ k b h small. word-at k b small (before_or_here k h);
+    none = λ k b h small. none-at zero_twice k b small (before_or_here k h);
+  }
+
+  module _ (short : length variables ≤ 64) (some : 0 < twice) (fits : twice < 2 ^ 64) (place : ℕ) (e : place ≡ trailing_zeros w64 twice) where
+    in_word : place < 64
+    in_word = omega (arith, e, (bit_at-trailing_zeros w64 twice some fits).0)
+
+    is_shared : share nodes i (get_or variables place 0) ≡ true
+    is_shared = sym (twice-right place in_word) ∙ eq-eqb (bit_at twice place) 1 (ap (bit_at twice) e ∙ (bit_at-trailing_zeros w64 twice some fits).1)
+
+    -- or it has: one of the variables
+    pub marked_inside : place < length variables
+    marked_inside = elim (cases_lt place (length variables)) [
+      | inl inside ↦ inside
+      | inr past ↦ (
+          let zero_shared : share nodes i 0 ≡ true = ap (share nodes i) (sym (get_or_past variables place 0 past)) ∙ is_shared in
+          absurd (let no : true ≡ false = sym zero_shared ∙ unshared-0 vars nodes (node_at nodes i) fit in cc))
+    ]
+
+    -- which is the first
+    pub marked_first : IsFirstOf nodes variables i (get_or variables place 0)
+    marked_first = record {
+      inside = lt;
+      found = find-first_at (share nodes i) variables place marked_inside is_shared (λ b h.
+          let unset : bit_at twice b ≡ 0 = (bit_at-trailing_zeros w64 twice some fits).2 b (omega (arith, e)) in
+          sym (twice-right b (omega (arith, in_word))) ∙ ap (λ n. n == 1) unset);
+      before = λ k h. find-none_at (share nodes k) variables (λ b g. marked.none k b h (omega arith));
+    }
+
+-- no node has kids that share
+pub marked_all : (nodes : List Node) (variables : List ℕ) (i : ℕ) (column : List ℕ) → length variables ≤ 64 → length nodes ≤ i → IsMarked nodes variables i column → FirstOf nodes variables None
+marked_all nodes variables i column short past marked k h = find-none_at (share nodes k) variables (λ b g. marked.none k b (omega arith) (omega arith))
+
+-- ---- some variables after others
+
+module _ (nodes : List Node) (xs ys : List ℕ) where
+  not_first : (k : ℕ) → first_of nodes xs k ≡ None → first_of nodes (xs ++ ys) k ≡ first_of nodes ys k
+  not_first k none = find-append (share nodes k) xs ys ∙ ap (λ o. option_or o (first_of nodes ys k)) none
+
+  first_here : (k v : ℕ) → first_of nodes xs k ≡ Some v → first_of nodes (xs ++ ys) k ≡ Some v
+  first_here k v found = find-append (share nodes k) xs ys ∙ ap (λ o. option_or o (first_of nodes ys k)) found
+
+  pub earlier-first : (a b : Option (ℕ × ℕ)) → FirstOf nodes xs a → FirstOf nodes ys b → FirstOf nodes (xs ++ ys) (earlier a b)
+  earlier-first None None none more = λ k h. not_first k (none k h) ∙ more k h
+  earlier-first None (Some b) none more = record {
+    inside = more.inside;
+    found = not_first b.0 (none b.0 more.inside) ∙ more.found;
+    before = λ k h. not_first k (none k (omega (arith, more.inside))) ∙ more.before k h;
+  }
+  earlier-first (Some a) None one none = record {
+    inside = one.inside;
+    found = first_here a.0 a.1 one.found;
+    before = λ k h. not_first k (one.before k h) ∙ none k (omega (arith, one.inside));
+  }
+  earlier-first (Some a) (Some b) one more = by_nodes (nat_lt b.0 a.0) refl where
+    by_nodes : (c : Bool) → nat_lt b.0 a.0 ≡ c → FirstOf nodes (xs ++ ys) (cond c (Some b) (Some a))
+    by_nodes true e =
+        let first : b.0 < a.0 = ltb-true b.0 a.0 e in
+        record {
+          inside = more.inside;
+          found = not_first b.0 (one.before b.0 first) ∙ more.found;
+          before = λ k h. not_first k (one.before k (omega arith)) ∙ more.before k h;
+        }
+    by_nodes false e =
+        let first : a.0 ≤ b.0 = ltb-false b.0 a.0 e in
+        record {
+          inside = one.inside;
+          found = first_here a.0 a.1 one.found;
+          before = λ k h. not_first k (one.before k h) ∙ more.before k (omega arith);
+        }
+
+-- ---- the next variables
+
+pub take-window : {A : Type 0} (xs : List A) (start end : ℕ) → start ≤ length xs → end ≡ min (start + 64) (length xs) → take (start + 64) xs ≡ take start xs ++ take (end - start) (drop start xs)
+take-window xs start end within is = take-add start 64 xs ∙ ap (λ t. take start xs ++ t) (by (cases_lt (length xs) (start + 64))) where
+  by : (length xs < start + 64) ⊎ (start + 64 ≤ length xs) → take 64 (drop start xs) ≡ take (end - start) (drop start xs)
+  by (inl short) =
+      let long = length-drop start xs in
+      take_all 64 (drop start xs) (omega arith) ∙ sym (take_all (end - start) (drop start xs) (omega arith))
+  by (inr enough) = let count : 64 ≡ end - start = omega arith in ap (λ n. take n (drop start xs)) count

@@ -1,0 +1,31 @@
+-- The steps from the lines of a text to nodes.
+use Rattle.std.specs.Prelude.{ℕ, List, [], ◌∷◌, ◌++◌, map, length}
+use Rattle.std.specs.List.{filter, filter_map, enumerate_from}
+use Rattle.text_rules.specs.Tokens.{words}
+use Rattle.graph_rules.specs.declared.NodeKind.{NodeKind}
+use Rattle.graph_rules.specs.Graphs.{Node}
+use Rattle.graph_rules.specs.GraphTexts.{Header, Parsed, read_unless, has_words, node_at_line, line_fault, edges, differs}
+use Rattle.nnf_text.specs.declared.header.Header.{Header as DeclaredHeader}
+
+-- a node over these kids
+abbrev pub node_with : List ℕ → NodeKind → Node
+node_with kids kind = record { what = kind; kids = kids }
+
+abbrev pub childless : NodeKind → Node
+childless kind = node_with [] kind
+
+abbrev pub said_by : DeclaredHeader → Header
+said_by header = record { nodes = header.nodes; edges = header.edges; vars = header.vars }
+
+-- of lines, the first of which has this number, those that have words, as words, each with its number
+abbrev pub filled_from : ℕ → List (List ℕ) → List (ℕ × List (List ℕ))
+filled_from number lines = filter has_words (enumerate_from number (map words lines))
+
+-- these nodes and those of lines behind them, or the first refusal of such a line
+abbrev pub nodes_behind : ℕ → List Node → List (ℕ × List (List ℕ)) → Parsed
+nodes_behind vars nodes lines =
+    read_unless (record { nodes = nodes ++ filter_map node_at_line lines; vars = vars }) (filter_map (line_fault vars) (enumerate_from (length nodes) lines))
+
+-- the graph of these nodes, or the first number that is another than the header says
+abbrev pub if_counted : Header → List Node → Parsed
+if_counted header nodes = read_unless (record { nodes = nodes; vars = header.vars }) (differs header.nodes (length nodes) ++ differs header.edges (edges nodes))

@@ -1,0 +1,18 @@
+//! Graphs as `.nnf` text: read from it, and written as it.
+#![tactic(auto)]
+
+mod checking;
+mod error;
+mod header;
+mod lines;
+mod node_lines;
+mod numbers;
+mod reading;
+mod sharing;
+#[cfg(test)]
+mod tests;
+mod writing;
+
+pub use error::NnfError;
+pub use reading::read_nnf;
+pub use writing::write_nnf;

@@ -1,0 +1,133 @@
+ghost use Rattle.std.specs.Prelude.{◌≡◌, ◌==◌, ◌≤◌, ◌<◌, ℕ, length, slice_index, All, true, IfOk, OnOk};
+ghost use Rattle.std.specs.List.{range_with_len};
+ghost use Rattle.std.specs.List.Sorted.{IsStrictlyIncreasing};
+ghost use Rattle.graph_rules.specs.Graphs.{kind_fits, nodes_fit};
+ghost use Rattle.nnf_text.specs.inner.Sharing.{has_bit, IsJoined, IsWord, AreVariables, AddsVariable, FirstOf, earlier};
+
+use graph_rules::NodeKind;
+use node_store::Nodes;
+use std::alloc::{AllocError, Global};
+use text_rules::TEXT_LIMIT;
+
+/// How many variables have a bit in a word.
+const WIDTH: usize = 64;
+
+// The first node of which two children share a variable, and the least such variable.
+//
+// Each pass over the nodes looks at the next 64 of the variables that literals have, so there are few passes also where
+// the variables are great.
+pub(crate) fn first_shared(
+    alloc: Global,
+    vars: u32,
+    nodes: &Nodes,
+) -> Result<Option<(u32, u32)>, AllocError>
+    requires fit { nodes_fit vars 0 nodes.now ≡ true }
+    requires few { length nodes.now ≤ TEXT_LIMIT }
+    ensures { IfOk result (FirstOf nodes.now (range_with_len 1 vars)) }
+{
+    let variables = variables_of(alloc, nodes)?;
+    let mut column = vec![in alloc; 0; nodes.len()]?;
+    let mut first = None;
+    for pass in 0..variables.len().div_ceil(WIDTH) {
+        let start = WIDTH * pass;
+        let end = (start + WIDTH).min(variables.len());
+        first = earlier(first, mark(nodes, &variables[start..end], &mut column));
+    }
+    Ok(first)
+}
+
+// The variables of literals, in order and each once.
+fn variables_of(alloc: Global, nodes: &Nodes) -> Result<Vec<u32>, AllocError>
+    ensures { IfOk result (λ variables. AreVariables nodes.now variables.items) }
+{
+    let mut variables = Vec::new(alloc);
+    for node in 0..nodes.len() {
+        push_variable(&mut variables, nodes.what(node))?;
+    }
+    variables.sort_unstable();
+    variables.dedup();
+    Ok(variables)
+}
+
+// Adds the variable of a literal.
+fn push_variable(variables: &mut Vec<u32>, what: NodeKind) -> Result<(), AllocError>
+    ensures { OnOk result (AddsVariable variables.old.items what variables.new.items) }
+{
+    match what {
+        NodeKind::Literal { var, .. } => Ok(variables.push(var)?),
+        NodeKind::And | NodeKind::Or => Ok(()),
+    }
+}
+
+// The one of two that has the lower node, and the first where neither has.
+fn earlier(first: Option<(u32, u32)>, second: Option<(u32, u32)>) -> Option<(u32, u32)>
+    ensures { result ≡ earlier first second }
+{
+    match (first, second) {
+        (Some(a), Some(b)) => Some(if b.0 < a.0 { b } else { a }),
+        (Some(a), None) => Some(a),
+        (None, other) => other,
+    }
+}
+
+// Gives each node the word of the variables that it mentions, up to the first node of which two children share one.
+fn mark(nodes: &Nodes, variables: &[u32], column: &mut [u64]) -> Option<(u32, u32)>
+    requires long { length column.old ≡ length nodes.now }
+    requires fit { (vars : ℕ) × (nodes_fit vars 0 nodes.now ≡ true) }
+    requires few { length nodes.now ≤ TEXT_LIMIT }
+    requires rise { IsStrictlyIncreasing variables.now }
+    requires short { length variables.now ≤ WIDTH }
+    ensures { FirstOf nodes.now variables.now result }
+{
+    for i in 0..nodes.len() {
+        let (word, twice) = word_of(nodes.what(i), nodes.kids(i), variables, column);
+        column[i] = word;
+        if twice != 0 {
+            return Some((i as u32, variables[twice.trailing_zeros() as usize]));
+        }
+    }
+    None
+}
+
+// The variables that a node mentions, and those that two of its children do.
+fn word_of(what: NodeKind, kids: &[u32], variables: &[u32], column: &[u64]) -> (u64, u64)
+    requires kids { All (λ kid. kid < length column.now) kids.now }
+    requires fits { (vars : ℕ) × (kind_fits vars what kids.now ≡ true) }
+    requires rise { IsStrictlyIncreasing variables.now }
+    requires short { length variables.now ≤ WIDTH }
+    ensures { IsWord column.now what kids.now variables.now result.0 result.1 }
+{
+    match what {
+        NodeKind::Literal { var, .. } => (literal_word(var, variables), 0),
+        NodeKind::And => joined(column, kids),
+        NodeKind::Or => (joined(column, kids).0, 0),
+    }
+}
+
+// The bit of a variable, if it has one.
+fn literal_word(var: u32, variables: &[u32]) -> u64
+    requires some { 0 < var }
+    requires rise { IsStrictlyIncreasing variables.now }
+    requires short { length variables.now ≤ WIDTH }
+    ensures { (b : ℕ) → b < 64 → has_bit result b ≡ (var == slice_index variables.now b) }
+{
+    match variables.binary_search(&var) {
+        Ok(place) => 1 << place,
+        Err(_) => 0,
+    }
+}
+
+// The bits that some word of the children has, and those that two of them have.
+fn joined(column: &[u64], kids: &[u32]) -> (u64, u64)
+    requires { All (λ kid. kid < length column.now) kids.now }
+    ensures { IsJoined column.now kids.now result.0 result.1 }
+{
+    let mut any = 0;
+    let mut twice = 0;
+    for kid in kids {
+        let word = column[*kid as usize];
+        twice |= any & word;
+        any |= word;
+    }
+    (any, twice)
+}

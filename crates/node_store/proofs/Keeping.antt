@@ -1,0 +1,109 @@
+-- Two nodes are equal where the kept ones are.
+use Rattle.std.proofs.Common.{◌≡◌, ℕ, zero, suc, Bool, true, false, ◌&&◌, List, [], ◌∷◌, ◌++◌, map, Some, cond, ap, refl, sym, ◌∙◌, subst, inl, inr}
+use Rattle.std.specs.Prelude.{slice_get, nat_eq}
+use Rattle.std.specs.List.{list_any, IsDistinct, AllByRecursion}
+use Rattle.std.specs.Cmp.Lexicographic.{pointwise, same_text}
+use Rattle.std.proofs.lemmas.Cmp.{nat_list_eq_equiv}
+use Rattle.std.proofs.lemmas.Bool.{and_parts, and_from, eqb-true, eq-eqb}
+use Rattle.smallvec.specs.SmallVec.{SmallVec}
+use Rattle.indexmap.specs.IndexSet.{insert_key}
+use Rattle.graph_rules.specs.declared.NodeKind.{NodeKind}
+use Rattle.graph_rules.specs.declared.NodeKind.TheVariants.{Literal, And, Or}
+use Rattle.graph_rules.specs.Graphs.{Node}
+use Rattle.node_store.specs.declared.store.Kept.{Kept}
+use Rattle.node_store.specs.inner.Keeping.{shown}
+use Rattle.node_store.specs.Stores.{EachOnce, AddsAtMost}
+use Rattle.node_store.specs.contracts.store.KeptPartialEq.TheImpl.{eq-value}
+
+abbrev kept : NodeKind → SmallVec ℕ → Kept
+kept what kids = record { what = what; kids = kids }
+
+literals_same : (var var' : ℕ) (positive positive' : Bool) (k l : SmallVec ℕ) → eq-value.it (kept (Literal var positive) k) (kept (Literal var' positive') l) ≡ true → shown (kept (Literal var positive) k) ≡ shown (kept (Literal var' positive') l)
+literals_same var var' true true k l e =
+    let parts = and_parts (nat_eq var var' && true) (pointwise nat_eq k.items l.items) e in
+    let v = eqb-true var var' (and_parts (nat_eq var var') true parts.0).0 in
+    let ks = same_text k.items l.items (sym parts.1) in
+    λ i. record { what = Literal (v i) true; kids = ks i }
+literals_same var var' false false k l e =
+    let parts = and_parts (nat_eq var var' && true) (pointwise nat_eq k.items l.items) e in
+    let v = eqb-true var var' (and_parts (nat_eq var var') true parts.0).0 in
+    let ks = same_text k.items l.items (sym parts.1) in
+    λ i. record { what = Literal (v i) false; kids = ks i }
+literals_same var var' true false k l e = absurd (no (nat_eq var var') e) where
+  no : (b : Bool) → ((b && false) && pointwise nat_eq k.items l.items) ≡ true → ⊥
+  no true e = (cc)
+  no false e = (cc)
+literals_same var var' false true k l e = absurd (no (nat_eq var var') e) where
+  no : (b : Bool) → ((b && false) && pointwise nat_eq k.items l.items) ≡ true → ⊥
+  no true e = (cc)
+  no false e = (cc)
+
+same_of : (w z : NodeKind) (k l : SmallVec ℕ) → eq-value.it (kept w k) (kept z l) ≡ true → shown (kept w k) ≡ shown (kept z l)
+same_of (Literal var positive) (Literal var' positive') k l e = literals_same var var' positive positive' k l e
+same_of And And k l e = let ks = same_text k.items l.items (sym e) in λ i. record { what = And; kids = ks i }
+same_of Or Or k l e = let ks = same_text k.items l.items (sym e) in λ i. record { what = Or; kids = ks i }
+same_of (Literal var positive) And k l e = absurd (cc)
+same_of (Literal var positive) Or k l e = absurd (cc)
+same_of And (Literal var' positive') k l e = absurd (cc)
+same_of And Or k l e = absurd (cc)
+same_of Or (Literal var' positive') k l e = absurd (cc)
+same_of Or And k l e = absurd (cc)
+
+pub same_shown : (x y : Kept) → eq-value.it x y ≡ true → shown x ≡ shown y
+same_shown x y e = same_of x.what y.what x.kids y.kids e
+
+items_eq : (xs ys : List ℕ) → xs ≡ ys → pointwise nat_eq xs ys ≡ true
+items_eq xs ys e = subst (λ zs. pointwise nat_eq xs zs ≡ true) e (nat_list_eq_equiv.refl xs)
+
+eq_of : (w z : NodeKind) (k l : SmallVec ℕ) → shown (kept w k) ≡ shown (kept z l) → eq-value.it (kept w k) (kept z l) ≡ true
+eq_of (Literal var true) (Literal var' true) k l e =
+    let what : Literal var true ≡ Literal var' true = ap (λ (n : Node). n.what) e in
+    let kids : k.items ≡ l.items = ap (λ (n : Node). n.kids) e in
+    and_from (nat_eq var var' && true) (pointwise nat_eq k.items l.items) (and_from (nat_eq var var') true (eq-eqb var var' (cc)) refl) (items_eq k.items l.items kids)
+eq_of (Literal var false) (Literal var' false) k l e =
+    let what : Literal var false ≡ Literal var' false = ap (λ (n : Node). n.what) e in
+    let kids : k.items ≡ l.items = ap (λ (n : Node). n.kids) e in
+    and_from (nat_eq var var' && true) (pointwise nat_eq k.items l.items) (and_from (nat_eq var var') true (eq-eqb var var' (cc)) refl) (items_eq k.items l.items kids)
+eq_of (Literal var true) (Literal var' false) k l e = let what : Literal var true ≡ Literal var' false = ap (λ (n : Node). n.what) e in absurd (cc)
+eq_of (Literal var false) (Literal var' true) k l e = let what : Literal var false ≡ Literal var' true = ap (λ (n : Node). n.what) e in absurd (cc)
+eq_of And And k l e = items_eq k.items l.items (ap (λ (n : Node). n.kids) e)
+eq_of Or Or k l e = items_eq k.items l.items (ap (λ (n : Node). n.kids) e)
+eq_of (Literal var positive) And k l e = let what : Literal var positive ≡ And = ap (λ (n : Node). n.what) e in absurd (cc)
+eq_of (Literal var positive) Or k l e = let what : Literal var positive ≡ Or = ap (λ (n : Node). n.what) e in absurd (cc)
+eq_of And (Literal var' positive') k l e = let what : And ≡ Literal var' positive' = ap (λ (n : Node). n.what) e in absurd (cc)
+eq_of And Or k l e = let what : And ≡ Or = ap (λ (n : Node). n.what) e in absurd (cc)
+eq_of Or (Literal var' positive') k l e = let what : Or ≡ Literal var' positive' = ap (λ (n : Node). n.what) e in absurd (cc)
+eq_of Or And k l e = let what : Or ≡ And = ap (λ (n : Node). n.what) e in absurd (cc)
+
+eq_shown : (x y : Kept) → shown x ≡ shown y → eq-value.it x y ≡ true
+eq_shown x y e = eq_of x.what y.what x.kids y.kids e
+
+-- no node after the first is shown as it is
+first_apart : (x : Kept) (xs : List Kept) (i : ℕ) → AllByRecursion (λ y. eq-value.it x y ≡ false) xs → slice_get (map shown xs) i ≡ Some (shown x) → ⊥
+first_apart x [] i all e = (cc)
+first_apart x (y ∷ xs) zero all e = let s : shown y ≡ shown x = cc in let t = eq_shown x y (sym s) in let f = all.0 in (cc)
+first_apart x (y ∷ xs) (suc i) all e = first_apart x xs i all.1 e
+
+pub once_shown : (xs : List Kept) → IsDistinct eq-value.it xs → EachOnce (map shown xs)
+unfolding IsDistinct
+once_shown [] apart i j node e f = absurd (cc)
+once_shown (x ∷ xs) apart zero zero node e f = refl
+once_shown (x ∷ xs) apart zero (suc j) node e f = let s : shown x ≡ node = cc in absurd (first_apart x xs j apart.0 (f ∙ ap Some (sym s)))
+once_shown (x ∷ xs) apart (suc i) zero node e f = let s : shown x ≡ node = cc in absurd (first_apart x xs i apart.0 (e ∙ ap Some (sym s)))
+once_shown (x ∷ xs) apart (suc i) (suc j) node e f = ap suc (once_shown xs apart.1 i j node e f)
+
+map-push : (xs : List Kept) (x : Kept) → map shown (xs ++ x ∷ []) ≡ map shown xs ++ shown x ∷ []
+map-push [] x = refl
+map-push (y ∷ xs) x = ap (λ ns. shown y ∷ ns) (map-push xs x)
+
+-- an insert leaves the nodes, or adds the node behind them
+pub holds_shown : (xs ys : List Kept) (x : Kept) → ys ≡ insert_key eq-value.it xs x → AddsAtMost (map shown xs) (shown x) (map shown ys)
+holds_shown xs ys x e = by (list_any (eq-value.it x) xs) refl where
+  by : (b : Bool) → list_any (eq-value.it x) xs ≡ b → AddsAtMost (map shown xs) (shown x) (map shown ys)
+  by true f = inl (ap (map shown) (e ∙ ap (λ b. cond b xs (xs ++ x ∷ [])) f))
+  by false f = inr (ap (map shown) (e ∙ ap (λ b. cond b xs (xs ++ x ∷ [])) f) ∙ map-push xs x)
+
+pub there_shown : (xs : List Kept) (i : ℕ) (x k : Kept) → slice_get xs i ≡ Some k → eq-value.it x k ≡ true → slice_get (map shown xs) i ≡ Some (shown x)
+there_shown [] i x k e t = absurd (cc)
+there_shown (y ∷ xs) zero x k e t = let s : y ≡ k = cc in ap Some (ap shown s ∙ sym (same_shown x k t))
+there_shown (y ∷ xs) (suc i) x k e t = there_shown xs i x k e t

@@ -1,0 +1,8 @@
+mod Examples
+pub mod Pieces
+pub mod Meaning
+pub mod Keeping
+pub mod Literals
+pub mod Adding
+pub mod Copying
+pub mod Marking

@@ -1,0 +1,151 @@
+-- The literals that a new store holds.
+use Rattle.std.proofs.Common.{◌≡◌, ℕ, zero, suc, ◌+◌, ◌-◌, ◌*◌, ◌<◌, ◌≤◌, Bool, true, false, not, List, [], ◌∷◌, ◌++◌, length, Some, refl, ap, sym, ◌∙◌, subst, arith, inl, inr, length-append, zero-add}
+use Rattle.std.specs.Prelude.{slice_get, nat_le, ◌==◌, ◌⊎◌}
+use Rattle.std.proofs.lemmas.Bool.{and_from, le-leb}
+use Rattle.std.proofs.lemmas.List.Sums.{sum_by-append}
+use Rattle.graph_rules.specs.declared.NodeKind.{NodeKind}
+use Rattle.graph_rules.specs.declared.NodeKind.TheVariants.{Literal, And, Or}
+use mir.Val.{bool_byte}
+use Rattle.ranking.specs.Bits.{same_bit}
+use Rattle.ranking.specs.Assignments.{Assignment}
+use Rattle.graph_rules.specs.Graphs.{Node, literal_node, truth_by, mention_by, is_true, mentions, AreNodes, node_fits}
+use Rattle.graph_rules.specs.GraphTexts.{edges}
+use Rattle.node_store.specs.declared.store.TheConstants.{VARIABLE_LIMIT}
+use Rattle.node_store.specs.Stores.{Stored, IsStore, EachOnce, IsNew, literals, literal_place}
+use Rattle.graph_rules.proofs.NodeValues.{value_of-get}
+use Rattle.graph_rules.proofs.NodesFit.{fits-get, AreNodes-push}
+
+pub slice_get-before : (xs ys : List Node) (i : ℕ) (x : Node) → slice_get xs i ≡ Some x → slice_get (xs ++ ys) i ≡ Some x
+slice_get-before [] ys i x e = absurd (cc)
+slice_get-before (y ∷ xs) ys zero x e = e
+slice_get-before (y ∷ xs) ys (suc i) x e = slice_get-before xs ys i x e
+
+slice_get-behind : (xs ys : List Node) (i : ℕ) → slice_get (xs ++ ys) (length xs + i) ≡ slice_get ys i
+slice_get-behind [] ys i = ap (slice_get ys) (zero-add i)
+slice_get-behind (x ∷ xs) ys i =
+    let next : suc (length xs) + i ≡ suc (length xs + i) = omega arith in
+    ap (slice_get (x ∷ (xs ++ ys))) next ∙ slice_get-behind xs ys i
+
+slice_get-parts : (xs ys : List Node) (i : ℕ) (x : Node) → slice_get (xs ++ ys) i ≡ Some x → (slice_get xs i ≡ Some x) ⊎ ((j : ℕ) × (slice_get ys j ≡ Some x))
+slice_get-parts [] ys i x e = inr (i, e)
+slice_get-parts (y ∷ xs) ys zero x e = inl e
+slice_get-parts (y ∷ xs) ys (suc i) x e = slice_get-parts xs ys i x e
+
+abbrev var_in : NodeKind → ℕ
+var_in (Literal var positive) = var
+var_in And = 0
+var_in Or = 0
+
+same_var : (m n : Node) → Some m ≡ Some n → var_in m.what ≡ var_in n.what
+same_var m n e = let s : m ≡ n = cc in ap (λ (x : Node). var_in x.what) s
+
+literals_below : (n i v : ℕ) (positive : Bool) → slice_get (literals n) i ≡ Some (literal_node v positive) → v ≤ n
+literals_below zero i v positive e = absurd (cc)
+literals_below (suc n) i v positive e = by (slice_get-parts (literals n) (literal_node (n + 1) true ∷ literal_node (n + 1) false ∷ []) i (literal_node v positive) e) (literals_below n i v positive) where
+  last : (j : ℕ) → slice_get (literal_node (n + 1) true ∷ literal_node (n + 1) false ∷ []) j ≡ Some (literal_node v positive) → v ≤ suc n
+  last zero f = omega (arith, same_var (literal_node (n + 1) true) (literal_node v positive) f)
+  last (suc zero) f = omega (arith, same_var (literal_node (n + 1) false) (literal_node v positive) f)
+  last (suc (suc j)) f = absurd (cc)
+
+  by : (slice_get (literals n) i ≡ Some (literal_node v positive)) ⊎ ((j : ℕ) × (slice_get (literal_node (n + 1) true ∷ literal_node (n + 1) false ∷ []) j ≡ Some (literal_node v positive)))
+      → (slice_get (literals n) i ≡ Some (literal_node v positive) → v ≤ n) → v ≤ suc n
+  by (inl f) before = let h = before f in omega arith
+  by (inr f) before = last f.0 f.1
+
+pub first_new : (n : ℕ) → IsNew (literals n) (literal_node (n + 1) true)
+first_new n i e = let h = literals_below n i (n + 1) true e in omega arith
+
+pub second_new : (n : ℕ) → IsNew (literals n ++ literal_node (n + 1) true ∷ []) (literal_node (n + 1) false)
+second_new n i e = by (slice_get-parts (literals n) (literal_node (n + 1) true ∷ []) i (literal_node (n + 1) false) e) where
+  differ : Some (literal_node (n + 1) true) ≡ Some (literal_node (n + 1) false) → ⊥
+  differ f =
+      let s : literal_node (n + 1) true ≡ literal_node (n + 1) false = cc in
+      let w : Literal (n + 1) true ≡ Literal (n + 1) false = ap (λ (x : Node). x.what) s in
+      (cc)
+
+  last : (j : ℕ) → slice_get (literal_node (n + 1) true ∷ []) j ≡ Some (literal_node (n + 1) false) → ⊥
+  last zero f = differ f
+  last (suc j) f = (cc)
+
+  by : (slice_get (literals n) i ≡ Some (literal_node (n + 1) false)) ⊎ ((j : ℕ) × (slice_get (literal_node (n + 1) true ∷ []) j ≡ Some (literal_node (n + 1) false))) → ⊥
+  by (inl f) = let h = literals_below n i (n + 1) false f in omega arith
+  by (inr f) = last f.0 f.1
+
+two-more : (xs : List Node) (a b : Node) → (xs ++ a ∷ []) ++ b ∷ [] ≡ xs ++ (a ∷ b ∷ [])
+two-more [] a b = refl
+two-more (x ∷ xs) a b = ap (λ ns. x ∷ ns) (two-more xs a b)
+
+-- the literals of one more variable
+pub literals_more : (n : ℕ) (xs ys zs : List Node) → xs ≡ literals n → ys ≡ xs ++ literal_node (n + 1) true ∷ [] → zs ≡ ys ++ literal_node (n + 1) false ∷ [] → zs ≡ literals (n + 1)
+literals_more n xs ys zs e f g =
+    let next : suc n ≡ n + 1 = omega arith in
+    g ∙ ap (λ ns. ns ++ literal_node (n + 1) false ∷ []) (f ∙ ap (λ ns. ns ++ literal_node (n + 1) true ∷ []) e) ∙ two-more (literals n) (literal_node (n + 1) true) (literal_node (n + 1) false) ∙ ap literals next
+
+length-literals : (n : ℕ) → length (literals n) ≡ 2 * n
+length-literals zero = refl
+length-literals (suc n) = omega (arith, length-append (literals n) (literal_node (n + 1) true ∷ literal_node (n + 1) false ∷ []), length-literals n)
+
+edges-literals : (n : ℕ) → edges (literals n) ≡ 0
+edges-literals zero = refl
+edges-literals (suc n) =
+    let two : edges (literal_node (n + 1) true ∷ literal_node (n + 1) false ∷ []) ≡ 0 = refl in
+    omega (arith, sum_by-append (λ (x : Node). length x.kids) (literals n) (literal_node (n + 1) true ∷ literal_node (n + 1) false ∷ []), two, edges-literals n)
+
+are_literals : (vars n : ℕ) → n ≤ vars → AreNodes vars (literals n)
+are_literals vars zero h = record { fit = refl; apart = λ v. tt }
+are_literals vars (suc n) h =
+    let fits : (positive : Bool) (own : ℕ) → node_fits vars own (literal_node (n + 1) positive) ≡ true =
+    λ positive own. and_from (nat_le 1 (n + 1)) (nat_le (n + 1) vars) (le-leb 1 (n + 1) (omega arith)) (le-leb (n + 1) vars (omega arith)) in
+    let first = AreNodes-push vars (literals n) (literal_node (n + 1) true) (are_literals vars n (omega arith)) (fits true (length (literals n))) (λ v. refl) in
+    let second = AreNodes-push vars (literals n ++ literal_node (n + 1) true ∷ []) (literal_node (n + 1) false) first (fits false (length (literals n ++ literal_node (n + 1) true ∷ []))) (λ v. refl) in
+    subst (AreNodes vars) (two-more (literals n) (literal_node (n + 1) true) (literal_node (n + 1) false)) second
+
+literals_at : (n v : ℕ) (positive : Bool) → 1 ≤ v → v ≤ n → slice_get (literals n) (literal_place v positive) ≡ Some (literal_node v positive)
+literals_at zero v positive some h = absurd (omega arith)
+literals_at (suc n) v positive some h = by (last_or_before v n h) (literals_at n v positive some) where
+  last_or_before : (v n : ℕ) → v ≤ suc n → (v ≤ n) ⊎ (v ≡ n + 1)
+  last_or_before v n h = grind arith
+
+  here : (positive : Bool) → slice_get (literals (suc n)) (literal_place (n + 1) positive) ≡ Some (literal_node (n + 1) positive)
+  here true =
+      let place : literal_place (n + 1) true ≡ length (literals n) + 0 = omega (arith, length-literals n) in
+      ap (slice_get (literals (suc n))) place ∙ slice_get-behind (literals n) (literal_node (n + 1) true ∷ literal_node (n + 1) false ∷ []) 0
+  here false =
+      let place : literal_place (n + 1) false ≡ length (literals n) + 1 = omega (arith, length-literals n) in
+      ap (slice_get (literals (suc n))) place ∙ slice_get-behind (literals n) (literal_node (n + 1) true ∷ literal_node (n + 1) false ∷ []) 1
+
+  by : (v ≤ n) ⊎ (v ≡ n + 1) → (v ≤ n → slice_get (literals n) (literal_place v positive) ≡ Some (literal_node v positive)) → slice_get (literals (suc n)) (literal_place v positive) ≡ Some (literal_node v positive)
+  by (inl g) before = slice_get-before (literals n) (literal_node (n + 1) true ∷ literal_node (n + 1) false ∷ []) (literal_place v positive) (literal_node v positive) (before g)
+  by (inr e) before = subst (λ u. slice_get (literals (suc n)) (literal_place u positive) ≡ Some (literal_node u positive)) (sym e) (here positive)
+
+pub literals_store : (vars : ℕ) (nodes : List Node) → nodes ≡ literals vars → vars < VARIABLE_LIMIT → EachOnce nodes → IsStore (record { nodes = nodes; vars = vars; made = 0; handed = 0 })
+literals_store vars nodes e few once = record {
+  nodes = subst (AreNodes vars) (sym e) (are_literals vars vars (omega arith));
+  once = once;
+  literals = λ v positive some within. ap (λ ns. slice_get ns (literal_place v positive)) e ∙ literals_at vars v positive some within;
+  few = omega (arith, ap length e, length-literals vars);
+  few_edges = omega (arith, ap edges e, edges-literals vars);
+  few_made = omega arith;
+  few_handed = omega arith;
+  few_vars = few;
+}
+
+-- what stands at the place of a literal
+pub record IsLiteral (nodes : List Node) (at var : ℕ) (positive : Bool) : Type 0 where
+  pub there : slice_get nodes at ≡ Some (literal_node var positive)
+  pub truth : (a : Assignment) → is_true nodes at a ≡ same_bit positive (a var)
+  pub variables : (v : ℕ) → mentions nodes v at ≡ (var == v)
+
+place_of : (var : ℕ) (positive : Bool) (r : ℕ) → r ≡ bool_byte (not positive) → 2 * (var - 1) + r ≡ literal_place var positive
+place_of var true r e = ap (λ r. 2 * (var - 1) + r) e
+place_of var false r e = ap (λ r. 2 * (var - 1) + r) e
+
+pub literal_found : (store : Stored) (var : ℕ) (positive : Bool) (r : ℕ) → IsStore store → 1 ≤ var → var ≤ store.vars → r ≡ bool_byte (not positive) → IsLiteral store.nodes (2 * (var - 1) + r) var positive
+literal_found store var positive r is some within e =
+    let there = ap (slice_get store.nodes) (place_of var positive r e) ∙ is.literals var positive some within in
+    let below = (fits-get store.vars store.nodes (2 * (var - 1) + r) (literal_node var positive) is.nodes.fit there).below in
+    record {
+      there = there;
+      truth = λ a. value_of-get (truth_by a) store.nodes (2 * (var - 1) + r) (literal_node var positive) there below;
+      variables = λ v. value_of-get (mention_by v) store.nodes (2 * (var - 1) + r) (literal_node var positive) there below;
+    }

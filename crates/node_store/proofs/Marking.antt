@@ -1,0 +1,45 @@
+-- Marks of the nodes below a root.
+use Rattle.std.proofs.Common.{◌≡◌, ℕ, zero, suc, ◌+◌, ◌<◌, ◌≤◌, Bool, true, List, [], ◌∷◌, ◌++◌, map, length, take, drop, get_or, Some, All, refl, ap, sym, ◌∙◌, subst, arith, inl, inr}
+use Rattle.std.specs.Prelude.{slice_get, ◌⊎◌}
+use Rattle.std.proofs.lemmas.List.{take_all, append-nil}
+use Rattle.std.proofs.Math.ListN.{drop_of_length-le, length-map}
+use Rattle.ranking.specs.Bits.{bit_in}
+use Rattle.graph_rules.specs.Graphs.{Node}
+use Rattle.node_store.specs.declared.store.Kept.{Kept}
+use Rattle.node_store.specs.inner.Keeping.{shown}
+use Rattle.node_store.specs.inner.Freezing.{AreBefore, IsClosedFrom, Marks}
+
+pub written_bits : (len : ℕ) (new old : List Bool) → length new ≡ length old → len ≡ length old → take len (new ++ drop (length new) old) ≡ new
+written_bits len new old e f =
+    (λ j. take len (new ++ drop_of_length-le old {i = length new} (omega arith) j)) ∙ ap (take len) (append-nil new) ∙ take_all len new (omega arith)
+
+pub shown_at : (xs : List Kept) (i : ℕ) (x : Kept) → i < length xs → x ≡ get_or xs i x → slice_get (map shown xs) i ≡ Some (shown x)
+shown_at [] i x h e = absurd (omega arith)
+shown_at (y ∷ xs) zero x h e = ap (λ k. Some (shown k)) (sym e)
+shown_at (y ∷ xs) (suc i) x h e = shown_at xs i x (omega arith) e
+
+pub the_at : (xs : List Node) (i : ℕ) → i < length xs → (x : Node) × (slice_get xs i ≡ Some x)
+the_at [] i h = absurd (omega arith)
+the_at (x ∷ xs) zero h = (x, refl)
+the_at (x ∷ xs) (suc i) h = the_at xs i (omega arith)
+
+pub length-shown : (xs : List Kept) → length (map shown xs) ≡ length xs
+length-shown xs = length-map xs shown
+
+-- one more node from the end on
+pub marks_more : (nodes : List Node) (old new : List Bool) (from at root : ℕ) (kids : List ℕ) (node : Node) → at + 1 ≡ from → slice_get nodes at ≡ Some node → kids ≡ node.kids → Marks old at kids new → IsClosedFrom from nodes old → AreBefore nodes → IsClosedFrom at nodes new
+marks_more nodes old new from at root kids node e there same marks closed before_ i n le m f = by (at_or_above at i le) where
+  at_or_above : (a b : ℕ) → a ≤ b → (a ≡ b) ⊎ (a + 1 ≤ b)
+  at_or_above a b h = grind arith
+
+  by : (at ≡ i) ⊎ (at + 1 ≤ i) → All (λ k. bit_in new k ≡ true) n.kids
+  by (inl q) =
+      let s : Some node ≡ Some n = sym there ∙ (ap (slice_get nodes) q ∙ f) in
+      let same_node : node ≡ n = cc in
+      subst (λ (x : Node). All (λ k. bit_in new k ≡ true) x.kids) same_node (subst (All (λ k. bit_in new k ≡ true)) same (marks.marked (sym (marks.above at (omega arith)) ∙ ap (bit_in new) q ∙ m)))
+  by (inr h) = let old_all = closed i n (omega arith) (sym (marks.above i (omega arith)) ∙ m) f in λ k d lt. marks.kept (get_or n.kids k d) (old_all k d lt)
+
+pub shown_get : (xs : List Kept) (i : ℕ) (r : Kept) → i < length xs → slice_get (map shown xs) i ≡ Some (shown (get_or xs i r))
+shown_get [] i r h = absurd (omega arith)
+shown_get (y ∷ xs) zero r h = refl
+shown_get (y ∷ xs) (suc i) r h = shown_get xs i r (omega arith)

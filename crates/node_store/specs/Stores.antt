@@ -1,0 +1,70 @@
+-- Nodes that are shared: what a store holds and counts, and what one more node adds.
+use Rattle.std.specs.Prelude.{◌≡◌, ℕ, zero, suc, ◌+◌, ◌-◌, ◌*◌, ◌<◌, ◌≤◌, Bool, true, false, List, [], ◌∷◌, ◌++◌, map, length, slice_get, Some, ◌⊎◌, if◌then◌else◌}
+use Rattle.ranking.specs.Assignments.{Assignment}
+use Rattle.graph_rules.specs.declared.TheConstants.{CHILD_LIMIT}
+use Rattle.graph_rules.specs.declared.NodeKind.{NodeKind}
+use Rattle.graph_rules.specs.Graphs.{Node, Graph, literal_node, truth_by, is_true, mention_by, mentions, AreNodes}
+use Rattle.graph_rules.specs.GraphTexts.{edges}
+use Rattle.node_store.specs.declared.store.TheConstants.{MADE_LIMIT, VARIABLE_LIMIT}
+
+-- The nodes, whose numbers are their places; how often one was made, and how many kids were handed in for all of these.
+pub record Stored : Type 0 where
+  pub nodes : List Node
+  pub vars : ℕ
+  pub made : ℕ
+  pub handed : ℕ
+
+-- the two literals of each variable, first the one that is true where the variable is
+abbrev pub literals : ℕ → List Node
+literals zero = []
+literals (suc n) = literals n ++ (literal_node (n + 1) true ∷ literal_node (n + 1) false ∷ [])
+
+-- where a literal stands
+abbrev pub literal_place : ℕ → Bool → ℕ
+literal_place var positive = 2 * (var - 1) + (if positive then 0 else 1)
+
+-- no two nodes have one kind and the same kids
+abbrev pub EachOnce : List Node → Type 0
+EachOnce nodes = (i j : ℕ) (node : Node) → slice_get nodes i ≡ Some node → slice_get nodes j ≡ Some node → i ≡ j
+
+-- what holds of every store
+pub record IsStore (store : Stored) : Type 0 where
+  pub nodes : AreNodes store.vars store.nodes
+  pub once : EachOnce store.nodes
+  pub literals : (v : ℕ) (positive : Bool) → 1 ≤ v → v ≤ store.vars → slice_get store.nodes (literal_place v positive) ≡ Some (literal_node v positive)
+  pub few : length store.nodes ≤ store.made + 2 * store.vars
+  pub few_edges : edges store.nodes ≤ store.handed
+  pub few_made : store.made ≤ MADE_LIMIT
+  pub few_handed : store.handed ≤ store.made * CHILD_LIMIT
+  pub few_vars : store.vars < VARIABLE_LIMIT
+
+-- nodes stay, and this one may have come behind them
+abbrev pub AddsAtMost : List Node → Node → List Node → Type 0
+AddsAtMost old node new = (new ≡ old) ⊎ (new ≡ old ++ node ∷ [])
+
+-- A node was made, or the equal one taken. Its number is where it stands, every node that was there stays, and the counts
+-- rise in either case.
+pub record Makes (old new : Stored) (kind : NodeKind) (kids : List ℕ) (number : ℕ) : Type 0 where
+  pub there : slice_get new.nodes number ≡ Some (record { what = kind; kids = kids })
+  pub nodes : AddsAtMost old.nodes (record { what = kind; kids = kids }) new.nodes
+  pub vars : new.vars ≡ old.vars
+  pub made : new.made ≡ old.made + 1
+  pub handed : new.handed ≡ old.handed + length kids
+
+-- The node is true by its kind and the truth of its kids, and its variables are theirs. What the nodes before it mean stays.
+pub record Means (old new : List Node) (kind : NodeKind) (kids : List ℕ) (number : ℕ) : Type 0 where
+  pub truth : (a : Assignment) → is_true new number a ≡ truth_by a kind (map (λ k. is_true old k a) kids)
+  pub variables : (v : ℕ) → mentions new v number ≡ mention_by v kind (map (mentions old v) kids)
+  pub true_before : (k : ℕ) (a : Assignment) → k < length old → is_true new k a ≡ is_true old k a
+  pub variables_before : (k v : ℕ) → k < length old → mentions new v k ≡ mentions old v k
+
+-- no node is this one
+abbrev pub IsNew : List Node → Node → Type 0
+IsNew nodes node = (i : ℕ) → slice_get nodes i ≡ Some node → ⊥
+
+-- The graph of a node and of those below it: its root is true where the node is.
+pub record IsFrozen (store : Stored) (root : ℕ) (graph : Graph) : Type 0 where
+  pub vars : graph.vars ≡ store.vars
+  pub truth : (a : Assignment) → is_true graph.nodes (length graph.nodes - 1) a ≡ is_true store.nodes root a
+  pub few : length graph.nodes ≤ store.made + 2 * store.vars
+  pub few_edges : edges graph.nodes ≤ store.handed

@@ -1,0 +1,44 @@
+-- The nodes below a root, and their copies.
+use Rattle.std.specs.Prelude.{◌≡◌, ℕ, ◌+◌, ◌<◌, ◌≤◌, Bool, true, List, length, take, slice_get, slice_index, Some, All}
+use Rattle.ranking.specs.Bits.{bit_in}
+use Rattle.ranking.specs.Assignments.{Assignment}
+use Rattle.graph_rules.specs.Graphs.{Node, is_true, mentions, AreNodes}
+use Rattle.graph_rules.specs.GraphTexts.{edges}
+
+-- kids come before their parents
+abbrev pub AreBefore : List Node → Type 0
+AreBefore nodes = (i : ℕ) (node : Node) → slice_get nodes i ≡ Some node → All (λ k. k < i) node.kids
+
+-- from a place on, the kids of what is marked are marked
+abbrev pub IsClosedFrom : ℕ → List Node → List Bool → Type 0
+IsClosedFrom from nodes marks = (i : ℕ) (node : Node) → from ≤ i → bit_in marks i ≡ true → slice_get nodes i ≡ Some node → All (λ k. bit_in marks k ≡ true) node.kids
+
+abbrev pub IsClosed : List Node → List Bool → Type 0
+IsClosed nodes marks = IsClosedFrom 0 nodes marks
+
+-- the root is marked, and the kids of what is marked are
+pub record IsBelow (nodes : List Node) (root : ℕ) (marks : List Bool) : Type 0 where
+  pub long : length marks ≡ root + 1
+  pub has : bit_in marks root ≡ true
+  pub closed : IsClosed nodes marks
+
+-- the kids of a node are marked if it is, and no node from it on
+pub record Marks (old : List Bool) (at : ℕ) (kids : List ℕ) (new : List Bool) : Type 0 where
+  pub kept : (i : ℕ) → bit_in old i ≡ true → bit_in new i ≡ true
+  pub above : (i : ℕ) → at ≤ i → bit_in new i ≡ bit_in old i
+  pub marked : bit_in old at ≡ true → All (λ k. bit_in new k ≡ true) kids
+
+-- one node means what another does
+pub record IsCopy (nodes : List Node) (k : ℕ) (copies : List Node) (number : ℕ) : Type 0 where
+  pub within : number < length copies
+  pub truth : (a : Assignment) → is_true copies number a ≡ is_true nodes k a
+  pub variables : (v : ℕ) → mentions copies v number ≡ mentions nodes v k
+
+-- the marked ones of the first nodes are copied, and these are their numbers
+pub record IsCopied (vars : ℕ) (nodes : List Node) (marks : List Bool) (copies : List Node) (numbers : List ℕ) (count : ℕ) : Type 0 where
+  pub long : length numbers ≡ count
+  pub are : AreNodes vars copies
+  pub few : length copies ≤ count
+  pub few_edges : edges copies ≤ edges (take count nodes)
+  pub same : (k : ℕ) → k < count → bit_in marks k ≡ true → IsCopy nodes k copies (slice_index numbers k)
+  pub last : (k : ℕ) → k + 1 ≡ count → bit_in marks k ≡ true → slice_index numbers k + 1 ≡ length copies

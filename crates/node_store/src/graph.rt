@@ -1,0 +1,150 @@
+ghost use Rattle.std.specs.Prelude.{◌≡◌, ℕ, ◌<◌, ◌++◌, [], ◌∷◌, true, length, IfOk, IfErr, OnOk, OnErr};
+ghost use Rattle.graph_rules.specs.Graphs.{node_at, mentions, apart_at, node_fits, IsGraph};
+ghost use Rattle.graph_rules.specs.GraphTexts.{edges};
+
+use crate::flat::Nodes;
+use graph_rules::NodeKind;
+use std::alloc::{AllocError, Global};
+use std::marker::Model;
+
+/// A builder takes at most so many nodes.
+pub const NODE_LIMIT: usize = 2_147_483_648;
+
+/// A graph of literals, ands and ors, each over earlier nodes. The last node is the root.
+///
+/// It has a node, the variable of each literal is 1 to `vars`, and no two children of one And share a variable.
+#[derive(Debug, Drop)]
+pub struct Graph {
+    nodes: Nodes,
+    vars: u32,
+}
+
+impl Model for Graph {
+    ghost use Rattle.graph_rules.specs.Graphs.{Graph as Shown, IsGraph};
+
+    ghost Value = { Shown };
+
+    ghost view = { λ g. record { nodes = g.nodes; vars = g.vars } };
+
+    ghost invariant = { λ g. IsGraph (record { nodes = g.nodes; vars = g.vars }) };
+}
+
+impl Graph {
+    /// Nodes that are a graph, as one.
+    pub fn new(nodes: Nodes, vars: u32) -> Graph
+        requires { IsGraph (record { nodes = nodes; vars = vars }) }
+        ensures { result ≡ record { nodes = nodes; vars = vars } }
+    {
+        Graph { nodes, vars }
+    }
+
+    /// The number of nodes.
+    pub fn len(&self) -> u32
+        ensures len { result ≡ length self.now.nodes }
+        ensures valid { IsGraph self.now }
+    {
+        self.nodes.len() as u32
+    }
+
+    /// The number of children of all nodes.
+    pub fn edges(&self) -> u64
+        ensures { result ≡ edges self.now.nodes }
+    {
+        self.nodes.edges() as u64
+    }
+
+    /// The greatest variable.
+    pub fn vars(&self) -> u32
+        ensures vars { result ≡ self.now.vars }
+        ensures valid { IsGraph self.now }
+    {
+        self.vars
+    }
+
+    /// What a node is.
+    pub fn what(&self, node: u32) -> NodeKind
+        requires { node < length self.now.nodes }
+        ensures { result ≡ (node_at self.now.nodes node).what }
+    {
+        self.nodes.what(node as usize)
+    }
+
+    /// The children of a node.
+    pub fn kids(&self, node: u32) -> &[u32]
+        requires { node < length self.now.nodes }
+        ensures { result.now ≡ (node_at self.now.nodes node).kids }
+    {
+        self.nodes.kids(node as usize)
+    }
+}
+
+/// A graph that is built node by node.
+#[derive(Debug, Drop)]
+pub struct GraphBuilder {
+    nodes: Nodes,
+    vars: u32,
+}
+
+impl Model for GraphBuilder {
+    ghost use Rattle.std.specs.Prelude.{◌≤◌, length};
+    ghost use Rattle.graph_rules.specs.Graphs.{Graph as Shown, AreNodes};
+    ghost use Rattle.node_store.specs.declared.graph.TheConstants.{NODE_LIMIT};
+
+    ghost Value = { Shown };
+
+    ghost view = { λ b. record { nodes = b.nodes; vars = b.vars } };
+
+    ghost invariant = { λ b. AreNodes b.vars b.nodes × (length b.nodes ≤ NODE_LIMIT) };
+}
+
+impl GraphBuilder {
+    /// A builder with no node.
+    pub fn new(alloc: Global, vars: u32) -> GraphBuilder
+        ensures { result ≡ record { nodes = []; vars = vars } }
+    {
+        GraphBuilder {
+            nodes: Nodes::new(alloc),
+            vars,
+        }
+    }
+
+    /// Adds a node, and gives its number.
+    ///
+    /// A literal has no child, and its variable is 1 to `vars`. The children of an And or an Or are nodes that are there, fewer
+    /// than `CHILD_LIMIT`, and those of an And share no variable.
+    pub fn push(&mut self, what: NodeKind, kids: &[u32]) -> Result<u32, AllocError>
+        requires fits { node_fits self.old.vars (length self.old.nodes)
+            (record { what = what; kids = kids.now }) ≡ true }
+        requires apart { (v : ℕ) → apart_at (mentions self.old.nodes v) what kids.now ≡ true }
+        requires few { length self.old.nodes < NODE_LIMIT }
+
+        ensures number { IfOk result (λ number. number ≡ length self.old.nodes) }
+        ensures ok { OnOk result (self.new
+            ≡ record self.old { nodes = self.old.nodes ++ record { what = what; kids = kids.now } ∷ [] }) }
+        ensures err { OnErr result (self.new ≡ self.old) }
+    {
+        let number = self.nodes.len() as u32;
+        self.nodes.push(what, kids)?;
+        Ok(number)
+    }
+
+    /// The graph of these nodes; or the builder, exactly where it has none.
+    pub fn finish(self) -> Result<Graph, GraphBuilder>
+        ensures ok { IfOk result (λ graph. graph ≡ self) }
+        ensures some { OnOk result (0 < length self.nodes) }
+        ensures err { IfErr result (λ builder. builder ≡ self) }
+        ensures none { OnErr result (self.nodes ≡ []) }
+    {
+        if self.nodes.is_empty() {
+            return Err(self);
+        }
+        Ok(self.into_graph())
+    }
+
+    fn into_graph(self) -> Graph
+        requires { 0 < length self.nodes }
+        ensures { result ≡ self }
+    {
+        Graph::new(self.nodes, self.vars)
+    }
+}

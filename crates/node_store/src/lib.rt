@@ -1,0 +1,12 @@
+//! Nodes of graphs: a store that shares equal ones, the graphs that it is frozen to, and a builder that takes nodes as they come.
+#![tactic(auto)]
+
+mod flat;
+mod graph;
+mod store;
+#[cfg(test)]
+mod tests;
+
+pub use flat::Nodes;
+pub use graph::{Graph, GraphBuilder, NODE_LIMIT};
+pub use store::{MADE_LIMIT, Store, VARIABLE_LIMIT};

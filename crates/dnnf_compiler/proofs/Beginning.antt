@@ -12,10 +12,10 @@ use Rattle.node_store.specs.Stores.{Stored, IsStore, Makes, Means, literals}
 use Rattle.branch_states.specs.Branches.{order, place, left, is_left, is_touched, is_covered, is_open, is_dead, some_passes, size, bits_of, words_of, state_of, IsLiving}
 use Rattle.dnnf_compiler.specs.declared.walk.Entry.{Entry}
 use Rattle.dnnf_compiler.specs.declared.walk.Walk.{Walk}
-use Rattle.dnnf_compiler.specs.Bits.{tries, was_tried}
-use Rattle.dnnf_compiler.specs.Caches.{Cached, node_of}
-use Rattle.dnnf_compiler.specs.Meaning.{HasState, left_holds}
-use Rattle.dnnf_compiler.specs.Walking.{IsWalk, IsEntry, LeadsTo, AreCached, IsConstant, done, tried}
+use Rattle.dnnf_compiler.specs.inner.Bits.{tries, was_tried}
+use Rattle.dnnf_compiler.specs.inner.Caches.{Cached, node_of}
+use Rattle.dnnf_compiler.specs.inner.Meaning.{HasState, left_holds}
+use Rattle.dnnf_compiler.specs.inner.Walking.{IsWalk, IsEntry, LeadsTo, AreCached, IsConstant, done, tried}
 use Rattle.std.proofs.lemmas.Option.{slice_get_within}
 use Rattle.branch_states.proofs.Counting.{first-living, first-states, living-at}
 use Rattle.dnnf_compiler.proofs.Entries.{constant_grows}

@@ -13,10 +13,10 @@ use Rattle.clause_encoder.specs.Clauses.{Clause, ClauseList}
 use Rattle.branch_states.specs.Branches.{order, size, words_of, branch, state_of, is_dead, sum_of, Standing, IsLiving}
 use Rattle.dnnf_compiler.specs.declared.walk.Entry.{Entry}
 use Rattle.dnnf_compiler.specs.declared.walk.Walk.{Walk}
-use Rattle.dnnf_compiler.specs.Caches.{Cached, node_of}
-use Rattle.dnnf_compiler.specs.Leaving.{Leaves}
-use Rattle.dnnf_compiler.specs.Meaning.{left_holds, HasState, IsNodeOf}
-use Rattle.dnnf_compiler.specs.Walking.{AtEnd, IsWalk, IsRoot, IsEntry, LeadsBy, FailsBy, IsNodeAfter, still}
+use Rattle.dnnf_compiler.specs.inner.Caches.{Cached, node_of}
+use Rattle.dnnf_compiler.specs.inner.Leaving.{Leaves}
+use Rattle.dnnf_compiler.specs.inner.Meaning.{left_holds, HasState, IsNodeOf}
+use Rattle.dnnf_compiler.specs.inner.Walking.{AtEnd, IsWalk, IsRoot, IsEntry, LeadsBy, FailsBy, IsNodeAfter, still}
 use Rattle.branch_states.proofs.Counting.{next-living, length-words}
 use Rattle.dnnf_compiler.proofs.Expanding.{expand, dead_fails, last_holds}
 use Rattle.dnnf_compiler.proofs.Walks.{finished, root, entered}

@@ -13,10 +13,10 @@ use Rattle.graph_rules.specs.Graphs.{Node, at_most_one, truth_by, mention_by, is
 use Rattle.clause_encoder.specs.Clauses.{Clause}
 use Rattle.branch_states.specs.Branches.{order, place, branch, is_dead}
 use Rattle.dnnf_compiler.specs.declared.walk.Entry.{Entry}
-use Rattle.dnnf_compiler.specs.Bits.{after, was_tried, tries}
-use Rattle.dnnf_compiler.specs.Caches.{Cached, node_of}
-use Rattle.dnnf_compiler.specs.Meaning.{left_holds, HasState, IsNodeOf}
-use Rattle.dnnf_compiler.specs.Walking.{IsEntry, LeadsBy, LeadsTo, FailsBy, IsNodeAfter, AreCached, IsConstant}
+use Rattle.dnnf_compiler.specs.inner.Bits.{after, was_tried, tries}
+use Rattle.dnnf_compiler.specs.inner.Caches.{Cached, node_of}
+use Rattle.dnnf_compiler.specs.inner.Meaning.{left_holds, HasState, IsNodeOf}
+use Rattle.dnnf_compiler.specs.inner.Walking.{IsEntry, LeadsBy, LeadsTo, FailsBy, IsNodeAfter, AreCached, IsConstant}
 use Rattle.dnnf_compiler.proofs.Orders.{place_in_order}
 use Rattle.dnnf_compiler.proofs.Expanding.{expand}
 

@@ -7,7 +7,7 @@ use Rattle.ranking.specs.Bits.{same_bit}
 use Rattle.ranking.specs.Assignments.{Assignment}
 use Rattle.clause_encoder.specs.Clauses.{Clause, var_of, is_positive, is_true_clause, all_hold}
 use Rattle.branch_states.specs.Branches.{order, place, is_true_by, has_true, is_left, left, is_covered, some_passes, is_dead, without, branch, IsLiving}
-use Rattle.dnnf_compiler.specs.Meaning.{rest_holds, left_holds}
+use Rattle.dnnf_compiler.specs.inner.Meaning.{rest_holds, left_holds}
 use Rattle.branch_states.proofs.Holding.{nothing-left}
 use Rattle.dnnf_compiler.proofs.Orders.{place_in_order, at_place}
 

@@ -16,9 +16,9 @@ use Rattle.node_store.specs.Stores.{Stored, IsStore, Makes, Means, AddsAtMost}
 use Rattle.branch_states.specs.Branches.{order, branch, sum_of}
 use Rattle.dnnf_compiler.specs.declared.walk.Entry.{Entry}
 use Rattle.dnnf_compiler.specs.declared.walk.Walk.{Walk}
-use Rattle.dnnf_compiler.specs.Bits.{after, was_tried, tries}
-use Rattle.dnnf_compiler.specs.Meaning.{HasState, left_holds, IsNodeOf}
-use Rattle.dnnf_compiler.specs.Walking.{AtEnd, IsWalk, IsEntry, FailsBy, IsNodeAfter, still}
+use Rattle.dnnf_compiler.specs.inner.Bits.{after, was_tried, tries}
+use Rattle.dnnf_compiler.specs.inner.Meaning.{HasState, left_holds, IsNodeOf}
+use Rattle.dnnf_compiler.specs.inner.Walking.{AtEnd, IsWalk, IsEntry, FailsBy, IsNodeAfter, still}
 use Rattle.dnnf_compiler.proofs.Expanding.{expand}
 use Rattle.dnnf_compiler.proofs.Entries.{Grows, grows_not, skipped, added, moved, tries-after, both_apart}
 use Rattle.dnnf_compiler.proofs.Orders.{order_fits}

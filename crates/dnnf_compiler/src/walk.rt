@@ -1,9 +1,10 @@
 ghost use Rattle.std.specs.Prelude.{◌≡◌, ℕ, ◌+◌, ◌<◌, ◌≤◌, ◌≢◌, true, List, Bool, Option, Some, length, slice_get, IfOk, IfSome, OnOk, MatchOption, None, [], slice_index_or};
-ghost use Rattle.dnnf_compiler.specs.Bits.{after};
-ghost use Rattle.dnnf_compiler.specs.Leaving.{Leaves};
+ghost use Rattle.dnnf_compiler.specs.inner.Bits.{after};
+ghost use Rattle.dnnf_compiler.specs.inner.Leaving.{Leaves};
 ghost use Rattle.branch_states.specs.Branches.{order, branch, is_dead, sum_of};
-ghost use Rattle.dnnf_compiler.specs.Caches.{node_of};
-ghost use Rattle.dnnf_compiler.specs.Meaning.{HasState, IsNodeOf};
+ghost use Rattle.branch_states.specs.declared.measuring.TheConstants.{BUDGET_LIMIT};
+ghost use Rattle.dnnf_compiler.specs.inner.Caches.{node_of};
+ghost use Rattle.dnnf_compiler.specs.inner.Meaning.{HasState, IsNodeOf};
 
 use crate::caches::Caches;
 use branch_states::Branches;
@@ -36,7 +37,7 @@ pub(crate) struct Walk<'a> {
 }
 
 impl<'a> Walk<'a> {
-    ghost use Rattle.dnnf_compiler.specs.Walking.{IsWalk, IsRoot, still, LeadsBy, FailsBy, IsNodeAfter, AtEnd};
+    ghost use Rattle.dnnf_compiler.specs.inner.Walking.{IsWalk, IsRoot, still, LeadsBy, FailsBy, IsNodeAfter, AtEnd};
 
     // At level 0, where all clauses are left.
     pub(crate) fn new(alloc: Global, cnf: &'a Cnf) -> Result<Walk<'a>, AllocError>
@@ -72,7 +73,7 @@ impl<'a> Walk<'a> {
     // One step on the way: the node of all clauses, if that was the last.
     pub(crate) fn step(&mut self, alloc: Global, cnf: &Cnf) -> Result<Option<u32>, AllocError>
         requires walk { IsWalk cnf.now 0 self.old }
-        requires few { sum_of cnf.now.clauses ≤ 8388608 }
+        requires few { sum_of cnf.now.clauses ≤ BUDGET_LIMIT }
         ensures { IfOk result (λ root. MatchOption root (IsWalk cnf.now 0 self.new × (still cnf.now self.new < still cnf.now self.old))
             (IsRoot cnf.now self.new.store)) }
     {
@@ -95,7 +96,7 @@ impl<'a> Walk<'a> {
     // Tries the next bit at the end of the path.
     fn descend(&mut self, alloc: Global, cnf: &Cnf, bit: bool) -> Result<(), AllocError>
         requires walk { IsWalk cnf.now 0 self.old }
-        requires few { sum_of cnf.now.clauses ≤ 8388608 }
+        requires few { sum_of cnf.now.clauses ≤ BUDGET_LIMIT }
         requires level { self.old.branches.level < length (order cnf.now.clauses) }
         requires next { AtEnd self.old (λ e. e.next ≡ Some bit) }
         ensures { OnOk result (IsWalk cnf.now 0 self.new × (still cnf.now self.new < still cnf.now self.old)) }
@@ -129,7 +130,7 @@ impl<'a> Walk<'a> {
     // What the bit leaves has this node.
     fn take(&mut self, cnf: &Cnf, bit: bool, node: u32) -> Result<(), AllocError>
         requires walk { IsWalk cnf.now 0 self.old }
-        requires few { sum_of cnf.now.clauses ≤ 8388608 }
+        requires few { sum_of cnf.now.clauses ≤ BUDGET_LIMIT }
         requires level { self.old.branches.level < length (order cnf.now.clauses) }
         requires node { AtEnd self.old (λ e. IsNodeAfter cnf.now.clauses self.old.branches.level e bit self.old.store.nodes node) }
         ensures { OnOk result (IsWalk cnf.now 0 self.new × (still cnf.now self.new < still cnf.now self.old)) }
@@ -144,7 +145,7 @@ impl<'a> Walk<'a> {
     // The same, and the node is not that which is nowhere true.
     fn add(&mut self, cnf: &Cnf, bit: bool, node: u32) -> Result<(), AllocError>
         requires walk { IsWalk cnf.now 0 self.old }
-        requires few { sum_of cnf.now.clauses ≤ 8388608 }
+        requires few { sum_of cnf.now.clauses ≤ BUDGET_LIMIT }
         requires level { self.old.branches.level < length (order cnf.now.clauses) }
         requires node { AtEnd self.old (λ e. IsNodeAfter cnf.now.clauses self.old.branches.level e bit self.old.store.nodes node) }
         ensures { OnOk result (IsWalk cnf.now 0 self.new × (still cnf.now self.new < still cnf.now self.old)) }
@@ -179,7 +180,7 @@ impl<'a> Walk<'a> {
     // The node of the last state of the path, whose bits were tried.
     fn join(&mut self, cnf: &Cnf) -> Result<u32, AllocError>
         requires walk { IsWalk cnf.now 0 self.old }
-        requires few { sum_of cnf.now.clauses ≤ 8388608 }
+        requires few { sum_of cnf.now.clauses ≤ BUDGET_LIMIT }
         requires level { self.old.branches.level < length (order cnf.now.clauses) }
         requires next { AtEnd self.old (λ e. e.next ≡ None) }
         ensures walk { OnOk result (IsWalk cnf.now 1 self.new) }
@@ -201,7 +202,7 @@ impl<'a> Walk<'a> {
     fn finish(&mut self, cnf: &Cnf, node: u32) -> Result<Option<u32>, AllocError>
         requires walk { IsWalk cnf.now 1 self.old }
         requires node { AtEnd self.old (λ e. IsNodeOf cnf.now.clauses self.old.branches.level e.state.items self.old.store.nodes node) }
-        requires few { sum_of cnf.now.clauses ≤ 8388608 }
+        requires few { sum_of cnf.now.clauses ≤ BUDGET_LIMIT }
         ensures { IfOk result (λ root. MatchOption root (IsWalk cnf.now 0 self.new × (still cnf.now self.new < still cnf.now self.old))
             (IsRoot cnf.now self.new.store)) }
     {

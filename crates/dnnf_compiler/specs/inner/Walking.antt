@@ -10,9 +10,9 @@ use Rattle.branch_states.specs.Branches.{order, place, size, is_dead, branch, st
 use Rattle.node_store.specs.Stores.{Stored, IsStore}
 use Rattle.dnnf_compiler.specs.declared.walk.Entry.{Entry}
 use Rattle.dnnf_compiler.specs.declared.walk.Walk.{Walk}
-use Rattle.dnnf_compiler.specs.Bits.{was_tried, tries}
-use Rattle.dnnf_compiler.specs.Caches.{Cached, node_of}
-use Rattle.dnnf_compiler.specs.Meaning.{left_holds, HasState, IsNodeOf}
+use Rattle.dnnf_compiler.specs.inner.Bits.{was_tried, tries}
+use Rattle.dnnf_compiler.specs.inner.Caches.{Cached, node_of}
+use Rattle.dnnf_compiler.specs.inner.Meaning.{left_holds, HasState, IsNodeOf}
 
 -- an entry of the path at a level: its nodes are those of the bits that were tried
 pub record IsEntry (clauses : List Clause) (nodes : List Node) (cached : Cached) (i : ℕ) (e : Entry) : Type 0 where
@@ -99,11 +99,3 @@ pub record IsRoot (cnf : ClauseList) (store : Stored) (node : ℕ) : Type 0 wher
   pub truth : (a : Assignment) → is_true store.nodes node a ≡ all_hold a cnf.clauses
   pub made : store.made ≤ 3 * sum_of cnf.clauses + 2
   pub handed : store.handed ≤ 6 * sum_of cnf.clauses
-
--- the graph of a clause list
-pub record IsCompiled (cnf : ClauseList) (graph : Graph) (made : ℕ) : Type 0 where
-  pub vars : graph.vars ≡ cnf.vars
-  pub truth : (a : Assignment) → is_true graph.nodes (length graph.nodes - 1) a ≡ all_hold a cnf.clauses
-  pub few_made : made ≤ 3 * sum_of cnf.clauses + 2
-  pub nodes : length graph.nodes ≤ made + 2 * cnf.vars
-  pub edges : edges graph.nodes ≤ 6 * (sum_of cnf.clauses + 1)

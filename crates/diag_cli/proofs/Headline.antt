@@ -12,7 +12,7 @@ use Rattle.diag_edge.specs.declared.loading.LoadError.{LoadError}
 use Rattle.diag_edge.specs.declared.loading.LoadError.TheVariants.{Failed as LoadFailed, Long}
 use Rattle.device_model.specs.Devices.{Device}
 use Rattle.diag_cli.specs.declared.run.TheConstants.{SCRIPT_LIMIT}
-use Rattle.diag_cli.specs.Words.{Form, Serve, Plan, Check, path_of}
+use Rattle.diag_cli.specs.Words.{Form, Serve, Plan, Check, Compile, path_of}
 use Rattle.diag_cli.specs.Describing.{long_file_line, device_in}
 use Rattle.diag_cli.specs.Output.{Output, Gives, GivesUnlessMemory, says, no_memory}
 use Rattle.diag_cli.specs.Courses.{End, Ended, Failed, Cut, Course, Tells, Serves, read_error, served, wholly_served, end_of, served_or_refused, course_of}
@@ -152,6 +152,7 @@ long_course form file long = by form
     by (Serve path) = rw no_more
     by (Plan path) = rw no_more
     by (Check path) = rw no_more
+    by (Compile path budget) = rw no_more
 
 -- and so it is right to tell that
 pub long_is_right : (form : Form) (told : Option (List ℕ)) → IfSome told (λ file. TEXT_LIMIT < length file) → IfSome told (IsRight form (says long_file_line 1))

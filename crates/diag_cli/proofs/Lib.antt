@@ -2,3 +2,4 @@ pub mod Running
 pub mod Faults
 pub mod Headline
 pub mod Adapting
+pub mod WholeGraphs

@@ -1,5 +1,5 @@
 -- What a run comes to by its words and its file: an output, or a script that is answered over a device.
-use Rattle.std.specs.Prelude.{ℕ, List, [], ◌∷◌, ◌++◌, length, take, Option, Some, None, Result, Ok, Err, codes, nat_lt, if◌then◌else◌}
+use Rattle.std.specs.Prelude.{ℕ, ◌+◌, ◌*◌, List, [], ◌∷◌, ◌++◌, length, take, Option, Some, None, Result, Ok, Err, codes, nat_lt, if◌then◌else◌}
 use Rattle.std.specs.Fmt.{decimal}
 use Rattle.text_rules.specs.TextLines.{whole_lines, all_lines}
 use Rattle.text_rules.specs.Tokens.{spaced}
@@ -12,11 +12,11 @@ use Rattle.clause_encoder.specs.Clauses.{ClauseList}
 use Rattle.clause_encoder.specs.Encoding.{encoded}
 use Rattle.branch_states.specs.declared.measuring.TheConstants.{BUDGET_LIMIT}
 use Rattle.branch_states.specs.Branches.{sum_of}
-use Rattle.session_core.specs.Items.{Item, Plain, line}
+use Rattle.session_core.specs.Items.{Item, Plain, Whole, line}
 use Rattle.session_core.specs.FirstPath.{first_replies}
 use Rattle.diag_cli.specs.declared.planning.Sizes.{Sizes}
 use Rattle.diag_cli.specs.declared.run.TheConstants.{SCRIPT_LIMIT}
-use Rattle.diag_cli.specs.Words.{Form, Serve, Plan, Check}
+use Rattle.diag_cli.specs.Words.{Form, Serve, Plan, Check, Compile}
 use Rattle.diag_cli.specs.Output.{Output, says, no_memory}
 use Rattle.diag_cli.specs.Describing.{above_line, device_in, if_small}
 use Rattle.diag_cli.specs.Checking.{graph_in, checked}
@@ -75,20 +75,36 @@ abbrev pub not_encoded : EncodeError → Output
 not_encoded (TooManyClauses count) = says (above_line (codes "clauses") count CLAUSE_LIMIT) 1
 not_encoded Memory = no_memory
 
--- the numbers of parts, wires and clauses, and the sum of the clauses, where no limit is passed
-abbrev pub sizes_by : Device → Result ClauseList EncodeError → Result Sizes Output
+-- the clauses of a device, whose sum is within a budget
+abbrev pub within : ℕ → Result ClauseList EncodeError → Result ClauseList Output
+within budget (Ok cnf) = if nat_lt budget (sum_of cnf.clauses) then Err (sum_above budget) else Ok cnf
+within budget (Err error) = Err (not_encoded error)
+
+-- the numbers of parts, wires and clauses, and the sum of the clauses
+abbrev pub sizes_by : Device → Result ClauseList Output → Result Sizes Output
 sizes_by device (Ok cnf) =
-    if nat_lt BUDGET_LIMIT (sum_of cnf.clauses) then Err (sum_above BUDGET_LIMIT)
-    else Ok (record { parts = length device.parts; wires = length device.wires; clauses = length cnf.clauses; sum = sum_of cnf.clauses })
-sizes_by device (Err error) = Err (not_encoded error)
+    Ok (record { parts = length device.parts; wires = length device.wires; clauses = length cnf.clauses; sum = sum_of cnf.clauses })
+sizes_by device (Err output) = Err output
 
 abbrev pub sizes_in : Result Device Output → Result Sizes Output
-sizes_in (Ok device) = sizes_by device (encoded device)
+sizes_in (Ok device) = sizes_by device (within BUDGET_LIMIT (encoded device))
 sizes_in (Err output) = Err output
 
 abbrev pub planned : Result Sizes Output → Output
 planned (Ok sizes) = record { items = size_lines sizes; status = 0 }
 planned (Err output) = output
+
+-- ---- a device is compiled
+
+-- its graph, over the variables of the clauses, with at most so many nodes
+abbrev pub graph_by : Device → Result ClauseList Output → Output
+graph_by device (Ok cnf) =
+    record { items = Whole device cnf.vars (3 * sum_of cnf.clauses + 2 * cnf.vars + 2) ∷ []; status = 0 }
+graph_by device (Err output) = output
+
+abbrev pub compiled : ℕ → Result Device Output → Output
+compiled budget (Ok device) = graph_by device (within budget (encoded device))
+compiled budget (Err output) = output
 
 -- ---- all forms
 
@@ -105,3 +121,4 @@ course_of None file = Tells (says (codes "error: usage\n") 2)
 course_of (Some (Serve path)) file = served_or_refused (if_small (device_in path file))
 course_of (Some (Plan path)) file = Tells (planned (sizes_in (device_in path file)))
 course_of (Some (Check path)) file = Tells (checked (graph_in file))
+course_of (Some (Compile path budget)) file = Tells (compiled budget (device_in path file))

@@ -2,6 +2,9 @@
 use Rattle.std.specs.Prelude.{ℕ, Bool, ◌&&◌, ◌||◌, nat_lt, ◌-◌, List, [], ◌∷◌, length, drop, Option, Some, None, if◌then◌else◌, codes}
 use Rattle.std.specs.Option.{option_map}
 use Rattle.text_rules.specs.Names.{same_name}
+use Rattle.text_rules.specs.Numbers.{plain_number_in}
+use Rattle.branch_states.specs.declared.measuring.TheConstants.{BUDGET_LIMIT}
+use Rattle.diag_cli.specs.declared.words.TheConstants.{DEFAULT_BUDGET}
 use Rattle.diag_edge.specs.Edge.{Holding, told_bytes}
 
 -- something stands before the ending
@@ -25,18 +28,21 @@ pub data Form : Type 0 where
   Serve : (path : List ℕ) → Form
   Plan : (path : List ℕ) → Form
   Check : (path : List ℕ) → Form
+  Compile : (path : List ℕ) (budget : ℕ) → Form
 
 -- the file that a form names
 abbrev pub path_of : Form → List ℕ
 path_of (Serve path) = path
 path_of (Plan path) = path
 path_of (Check path) = path
+path_of (Compile path budget) = path
 
 -- a command over a netlist or a design
 abbrev pub device_form : List ℕ → List ℕ → Option Form
 device_form command path =
     if same_name command (codes "serve") then Some (Serve path)
     else if same_name command (codes "plan") then Some (Plan path)
+    else if same_name command (codes "compile") then Some (Compile path DEFAULT_BUDGET)
     else None
 
 -- a command over a graph
@@ -49,10 +55,28 @@ form_over command path =
     else if is_graph_path path then graph_form command path
     else None
 
--- `serve FILE`, `plan FILE` or `check FILE`
+-- a command over a netlist or a design, with a budget
+abbrev pub budget_form : List ℕ → List ℕ → ℕ → Option Form
+budget_form command path budget =
+    if is_device_path path && same_name command (codes "compile") then Some (Compile path budget) else None
+
+-- an option that gives the budget, without a zero before another digit
+abbrev pub budget_in : List ℕ → List ℕ → Option ℕ
+budget_in option value = if same_name option (codes "--budget") then plain_number_in 7 1 BUDGET_LIMIT value else None
+
+abbrev pub form_within : List ℕ → List ℕ → Option ℕ → Option Form
+form_within command path None = None
+form_within command path (Some budget) = budget_form command path budget
+
+-- the form of words with an option
+abbrev pub longer_form : List (List ℕ) → Option Form
+longer_form (command ∷ path ∷ option ∷ value ∷ []) = form_within command path (budget_in option value)
+longer_form words = None
+
+-- `serve FILE`, `plan FILE`, `check FILE`, or `compile FILE`, which `--budget N` may follow
 abbrev pub form_of : List (List ℕ) → Option Form
 form_of (command ∷ path ∷ []) = form_over command path
-form_of words = None
+form_of words = longer_form words
 
 -- the file that the words name, if they have a form
 abbrev pub named_file : Option Form → Option (List ℕ)

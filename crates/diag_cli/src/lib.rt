@@ -3,12 +3,14 @@
 
 mod adapters;
 mod checking;
+mod compiling;
 mod describing;
 mod planning;
 mod program;
 mod refusal;
 mod run;
 mod saying;
+mod weighing;
 mod words;
 
 pub use adapters::{FileShelf, StdSink, StdSource};

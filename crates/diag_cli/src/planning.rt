@@ -3,14 +3,14 @@ ghost use Rattle.diag_edge.specs.Edge.{HasCause, RoseExactly};
 ghost use Rattle.clause_encoder.specs.Encoding.{encoded};
 ghost use Rattle.diag_cli.specs.Describing.{device_in};
 ghost use Rattle.diag_cli.specs.Output.{Gives, GivesUnlessMemory};
-ghost use Rattle.diag_cli.specs.Courses.{count_line, size_lines, sizes_by, sizes_in, planned};
+ghost use Rattle.diag_cli.specs.Courses.{count_line, size_lines, within, sizes_by, sizes_in, planned};
 ghost use Rattle.session_core.specs.Spelling.{Writes};
 ghost use Rattle.diag_cli.specs.Refusals.{Finds};
 
-use crate::describing::{above, described};
+use crate::describing::described;
 use crate::refusal::{Refusal, tell};
-use branch_states::{BUDGET_LIMIT, MeasureError, measure};
-use clause_encoder::{CLAUSE_LIMIT, EncodeError, encode};
+use crate::weighing::clauses_within;
+use branch_states::BUDGET_LIMIT;
 use device_model::Device;
 use diag_edge::{Sink, WriteFailed, put_line};
 use itoa::Buffer;
@@ -27,27 +27,15 @@ pub(crate) struct Sizes {
 }
 
 fn sizes_of(alloc: Global, device: &Device) -> Result<Sizes, Refusal>
-    ensures { Finds (sizes_by device.now (encoded device.now)) result }
+    ensures { Finds (sizes_by device.now (within BUDGET_LIMIT (encoded device.now))) result }
 {
-    let cnf = match encode(alloc, device) {
-        Ok(cnf) => cnf,
-        Err(EncodeError::TooManyClauses { count }) => {
-            return Err(above("clauses", count, CLAUSE_LIMIT as usize));
-        }
-        Err(EncodeError::Memory) => return Err(Refusal::Memory),
-    };
-    match measure(alloc, &cnf, BUDGET_LIMIT) {
-        Ok(sum) => Ok(Sizes {
-            parts: device.parts().len() as u64,
-            wires: device.wires().len() as u64,
-            clauses: u64::from(cnf.len()),
-            sum: u64::from(sum),
-        }),
-        Err(MeasureError::Above) => Err(Refusal::Sum {
-            budget: BUDGET_LIMIT,
-        }),
-        Err(MeasureError::Memory) => Err(Refusal::Memory),
-    }
+    let (cnf, sum) = clauses_within(alloc, device, BUDGET_LIMIT)?;
+    Ok(Sizes {
+        parts: device.parts().len() as u64,
+        wires: device.wires().len() as u64,
+        clauses: u64::from(cnf.len()),
+        sum: u64::from(sum),
+    })
 }
 
 fn sizes_in(alloc: Global, path: &str, file: &[u8]) -> Result<Sizes, Refusal>

@@ -4,9 +4,10 @@ ghost use Rattle.diag_edge.specs.Edge.{HasCause, Puts, RoseExactly};
 ghost use Rattle.diag_cli.specs.Describing.{device_in, if_small};
 ghost use Rattle.diag_cli.specs.Courses.{course_of, served_or_refused};
 ghost use Rattle.diag_cli.specs.inner.Courses.{Follows, IsServed};
-ghost use Rattle.diag_cli.specs.inner.Forms.{meant};
+ghost use Rattle.diag_cli.specs.inner.Forms.{meant, HasSmallBudget};
 
 use crate::checking::check_file;
+use crate::compiling::compile_file;
 use crate::describing::small_device;
 use crate::planning::plan_file;
 use crate::refusal::tell;
@@ -108,6 +109,7 @@ pub(crate) fn run_file<I: Source, O: Sink>(
     input: &mut I,
     out: &mut O,
 ) -> u8
+    requires budget { HasSmallBudget (meant form) }
     requires short { length file.now ≤ TEXT_LIMIT }
     requires taken { I.taken input.old < 2 ^ 62 }
     requires reads { I.faults input.old < 2 ^ 64 - 1 }
@@ -126,5 +128,6 @@ pub(crate) fn run_file<I: Source, O: Sink>(
         Form::Serve { path } => serve_file(alloc, path, file, input, out),
         Form::Plan { path } => plan_file(alloc, path, file, out),
         Form::Check { path: _ } => check_file(alloc, file, out),
+        Form::Compile { path, budget } => compile_file(alloc, path, file, budget, out),
     }
 }

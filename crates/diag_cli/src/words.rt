@@ -1,7 +1,13 @@
-ghost use Rattle.std.specs.Prelude.{◌≡◌, map, string_bytes};
+ghost use Rattle.std.specs.Prelude.{◌≡◌, ◌≤◌, map, string_bytes, IfSome};
 ghost use Rattle.std.specs.Option.{option_map};
-ghost use Rattle.diag_cli.specs.Words.{form_of, device_form, graph_form, path_of, ends_in, is_design_path, is_device_path, is_graph_path};
-ghost use Rattle.diag_cli.specs.inner.Forms.{meant};
+ghost use Rattle.diag_cli.specs.Words.{form_of, longer_form, form_over, form_within, device_form, graph_form, budget_form, budget_in, path_of, ends_in, is_design_path, is_device_path, is_graph_path};
+ghost use Rattle.diag_cli.specs.inner.Forms.{meant, HasSmallBudget};
+
+use branch_states::BUDGET_LIMIT;
+use text_rules::plain_number;
+
+/// The budget where the words give none.
+pub const DEFAULT_BUDGET: u32 = 2_097_152;
 
 /// What the words of the command line ask for.
 #[derive(Clone, Copy, Debug)]
@@ -12,6 +18,8 @@ pub enum Form<'a> {
     Plan { path: &'a str },
     /// `check FILE`: tells whether the text of a file is a decomposable graph.
     Check { path: &'a str },
+    /// `compile FILE`: writes the graph of a device whose sum is within a budget.
+    Compile { path: &'a str, budget: u32 },
 }
 
 impl<'a> Form<'a> {
@@ -21,6 +29,7 @@ impl<'a> Form<'a> {
     {
         match self {
             Form::Serve { path } | Form::Plan { path } | Form::Check { path } => path,
+            Form::Compile { path, budget: _ } => path,
         }
     }
 }
@@ -55,18 +64,24 @@ fn is_graph_path(path: &str) -> bool
 
 // The form of a command over a netlist or a design.
 fn device_form<'a>(command: &str, path: &'a str) -> Option<Form<'a>>
-    ensures { option_map meant result ≡ device_form command.now path.now }
+    ensures form { option_map meant result ≡ device_form command.now path.now }
+    ensures budget { IfSome result (λ form. HasSmallBudget (meant form)) }
 {
     match command {
         "serve" => Some(Form::Serve { path }),
         "plan" => Some(Form::Plan { path }),
+        "compile" => Some(Form::Compile {
+            path,
+            budget: DEFAULT_BUDGET,
+        }),
         _ => None,
     }
 }
 
 // The form of a command over a graph.
 fn graph_form<'a>(command: &str, path: &'a str) -> Option<Form<'a>>
-    ensures { option_map meant result ≡ graph_form command.now path.now }
+    ensures form { option_map meant result ≡ graph_form command.now path.now }
+    ensures budget { IfSome result (λ form. HasSmallBudget (meant form)) }
 {
     match command {
         "check" => Some(Form::Check { path }),
@@ -74,19 +89,81 @@ fn graph_form<'a>(command: &str, path: &'a str) -> Option<Form<'a>>
     }
 }
 
-/// The form of the words, if they have one.
-pub fn form_of(words: &[String]) -> Option<Form<'_>>
-    ensures { option_map meant result ≡ form_of (map string_bytes words.now) }
+// The form of a command over a file.
+fn form_over<'a>(command: &str, path: &'a str) -> Option<Form<'a>>
+    ensures form { option_map meant result ≡ form_over command.now path.now }
+    ensures budget { IfSome result (λ form. HasSmallBudget (meant form)) }
 {
-    let [command, path] = words else {
-        return None;
-    };
-    let path = path.as_str();
     if is_device_path(path) {
-        device_form(command.as_str(), path)
+        device_form(command, path)
     } else if is_graph_path(path) {
-        graph_form(command.as_str(), path)
+        graph_form(command, path)
     } else {
         None
     }
+}
+
+// The budget that an option gives.
+fn budget_in(option: &str, value: &str) -> Option<u32>
+    ensures given { result ≡ budget_in option.now value.now }
+    ensures small { IfSome result (λ budget. budget ≤ BUDGET_LIMIT) }
+{
+    if option != "--budget" {
+        return None;
+    }
+    match plain_number(7, 1, u64::from(BUDGET_LIMIT), value.as_bytes()) {
+        Some(budget) => Some(budget as u32),
+        None => None,
+    }
+}
+
+// The form of a command over a netlist or a design, with a budget.
+fn budget_form<'a>(command: &str, path: &'a str, budget: u32) -> Option<Form<'a>>
+    requires { budget ≤ BUDGET_LIMIT }
+    ensures form { option_map meant result ≡ budget_form command.now path.now budget }
+    ensures budget { IfSome result (λ form. HasSmallBudget (meant form)) }
+{
+    if is_device_path(path) && command == "compile" {
+        Some(Form::Compile { path, budget })
+    } else {
+        None
+    }
+}
+
+// The form of a command over a file and an option.
+fn form_within<'a>(command: &str, path: &'a str, option: &str, value: &str) -> Option<Form<'a>>
+    ensures form { option_map meant result ≡ form_within command.now path.now (budget_in option.now value.now) }
+    ensures budget { IfSome result (λ form. HasSmallBudget (meant form)) }
+{
+    match budget_in(option, value) {
+        Some(budget) => budget_form(command, path, budget),
+        None => None,
+    }
+}
+
+// The form of words with an option.
+fn longer_form(words: &[String]) -> Option<Form<'_>>
+    ensures form { option_map meant result ≡ longer_form (map string_bytes words.now) }
+    ensures budget { IfSome result (λ form. HasSmallBudget (meant form)) }
+{
+    let [command, path, option, value] = words else {
+        return None;
+    };
+    form_within(
+        command.as_str(),
+        path.as_str(),
+        option.as_str(),
+        value.as_str(),
+    )
+}
+
+/// The form of the words, if they have one.
+pub fn form_of(words: &[String]) -> Option<Form<'_>>
+    ensures form { option_map meant result ≡ form_of (map string_bytes words.now) }
+    ensures budget { IfSome result (λ form. HasSmallBudget (meant form)) }
+{
+    let [command, path] = words else {
+        return longer_form(words);
+    };
+    form_over(command.as_str(), path.as_str())
 }

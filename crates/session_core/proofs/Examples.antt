@@ -7,7 +7,7 @@ use Rattle.device_model.specs.declared.component.Kind.{Kind}
 use Rattle.device_model.specs.declared.component.Kind.TheVariants.{Nand, Buff, Table}
 use Rattle.device_model.specs.Devices.{Device}
 use Rattle.device_model.specs.Diagnosis.{device_system}
-use Rattle.session_core.specs.Items.{Item, Plain, Projected, line}
+use Rattle.session_core.specs.Items.{Item, Plain, Projected, Whole, line}
 use Rattle.session_core.specs.Sessions.{replies}
 use Rattle.session_core.specs.FirstPath.{first_replies}
 
@@ -16,6 +16,7 @@ abbrev text_of : List Item → List ℕ
 text_of [] = []
 text_of (Plain bytes ∷ items) = bytes ++ text_of items
 text_of (Projected parts states ∷ items) = text_of items
+text_of (Whole device vars most ∷ items) = text_of items
 
 -- lines, each with its line feed
 abbrev text : List (List ℕ) → List ℕ

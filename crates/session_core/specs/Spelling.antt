@@ -1,5 +1,5 @@
 -- Which bytes spell a list of items.
-use Rattle.std.specs.Prelude.{◌≡◌, ℕ, Bool, true, false, List, [], ◌∷◌, ◌++◌, length, Option, Result, MatchResult, Ok, Err}
+use Rattle.std.specs.Prelude.{◌≡◌, ◌≤◌, ℕ, Bool, true, false, List, [], ◌∷◌, ◌++◌, length, Option, Result, MatchResult, Ok, Err}
 use Rattle.std.specs.List.{list_any}
 use Rattle.std.specs.Io.KnownBytes.{Appends}
 use Rattle.text_rules.specs.Tokens.{is_neat}
@@ -7,7 +7,9 @@ use Rattle.std.specs.Cmp.Lexicographic.{pointwise}
 use Rattle.ranking.specs.Bits.{same_bit}
 use Rattle.graph_rules.specs.Graphs.{Decomposable, holds}
 use Rattle.graph_rules.specs.GraphTexts.{Parsed, parsed}
-use Rattle.session_core.specs.Items.{Item, Plain, Projected}
+use Rattle.device_model.specs.Devices.{Device}
+use Rattle.dnnf_compiler.specs.Compiled.{IsGraphOf as MeansDevice}
+use Rattle.session_core.specs.Items.{Item, Plain, Projected, Whole}
 
 -- a graph over so many parts, decomposable, and true for these states alone
 abbrev pub IsGraphOf : ℕ → List (List Bool) → Parsed → Type 0
@@ -16,9 +18,16 @@ IsGraphOf parts states (Ok graph) =
     (graph.vars ≡ parts) × Decomposable graph.nodes
     × ((h : List Bool) → length h ≡ parts → holds graph h ≡ list_any (pointwise same_bit h) states)
 
+-- a graph over so many variables, decomposable, with at most so many nodes, that means a device
+abbrev pub IsWholeOf : Device → ℕ → ℕ → Parsed → Type 0
+IsWholeOf device vars most (Err refusal) = false ≡ true
+IsWholeOf device vars most (Ok graph) =
+    (graph.vars ≡ vars) × Decomposable graph.nodes × (length graph.nodes ≤ most) × MeansDevice device graph
+
 abbrev pub Spelled : Item → List ℕ → Type 0
 Spelled (Plain bytes) text = text ≡ bytes
 Spelled (Projected parts states) text = (is_neat text ≡ true) × IsGraphOf parts states (parsed text)
+Spelled (Whole device vars most) text = (is_neat text ≡ true) × IsWholeOf device vars most (parsed text)
 
 -- the text is those of the items, one after the other
 abbrev pub Spells : List Item → List ℕ → Type 0

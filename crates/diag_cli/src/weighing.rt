@@ -1,0 +1,40 @@
+ghost use Rattle.std.specs.Prelude.{◌≡◌, ◌≤◌, Ok, IfOk};
+ghost use Rattle.text_rules.specs.Expected.{Fulfils};
+ghost use Rattle.clause_encoder.specs.Encoding.{encoded, Describes};
+ghost use Rattle.branch_states.specs.Branches.{sum_of};
+ghost use Rattle.diag_cli.specs.Courses.{within};
+ghost use Rattle.diag_cli.specs.Refusals.{told_by};
+
+use crate::describing::above;
+use crate::refusal::Refusal;
+use branch_states::{BUDGET_LIMIT, MeasureError, measure};
+use clause_encoder::{CLAUSE_LIMIT, Cnf, EncodeError, encode};
+use device_model::Device;
+use std::alloc::Global;
+
+/// The clauses of a device and their sum, where it is within a budget.
+pub(crate) fn clauses_within(
+    alloc: Global,
+    device: &Device,
+    budget: u32,
+) -> Result<(Cnf, u32), Refusal>
+    requires { budget ≤ BUDGET_LIMIT }
+    ensures list { Fulfils (λ found. found.0) told_by (within budget (encoded device.now)) result }
+    ensures sum { IfOk result (λ found. found.1 ≡ sum_of found.0.clauses) }
+    ensures small { IfOk result (λ found. found.1 ≤ budget) }
+    ensures encoded { IfOk result (λ found. encoded device.now ≡ Ok found.0) }
+    ensures describes { IfOk result (λ found. Describes found.0 device.now) }
+{
+    let cnf = match encode(alloc, device) {
+        Ok(cnf) => cnf,
+        Err(EncodeError::TooManyClauses { count }) => {
+            return Err(above("clauses", count, CLAUSE_LIMIT as usize));
+        }
+        Err(EncodeError::Memory) => return Err(Refusal::Memory),
+    };
+    match measure(alloc, &cnf, budget) {
+        Ok(sum) => Ok((cnf, sum)),
+        Err(MeasureError::Above) => Err(Refusal::Sum { budget }),
+        Err(MeasureError::Memory) => Err(Refusal::Memory),
+    }
+}

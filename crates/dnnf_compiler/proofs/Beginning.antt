@@ -1,16 +1,15 @@
 -- The way at its beginning.
-use Rattle.std.proofs.Common.{◌≡◌, ℕ, zero, suc, ◌+◌, ◌-◌, ◌*◌, ◌/◌, ◌^◌, ◌<◌, ◌≤◌, Bool, true, false, not, ◌&&◌, ◌||◌, cond, List, [], ◌∷◌, ◌++◌, map, length, get_or, set, take, Some, None, Option, refl, ap, sym, ◌∙◌, subst, arith}
-use Rattle.std.specs.Prelude.{slice_get, slice_index, slice_index_or, replicate, sum_by, nat_lt, nat_le, nat_eq, MatchOption}
-use Rattle.std.specs.List.{filter, list_any, list_all, IsDistinct}
+use Rattle.std.proofs.Common.{◌≡◌, ℕ, zero, suc, ◌+◌, ◌<◌, ◌≤◌, Bool, true, false, ◌&&◌, List, [], ◌∷◌, map, length, get_or, set, Some, None, Option, refl, ap, sym, ◌∙◌, subst, arith}
+use Rattle.std.specs.Prelude.{slice_get, slice_index, replicate, nat_eq, MatchOption}
+use Rattle.std.specs.List.{list_any, IsDistinct}
 use Rattle.std.specs.Cmp.Lexicographic.{pointwise}
-use Rattle.std.proofs.lemmas.Bool.{ltb-true}
 use Rattle.std.proofs.lemmas.List.Folds.{sum_by-replicate}
 use Rattle.std.proofs.lemmas.List.Sums.{sum_by-cons}
 use Rattle.graph_rules.specs.declared.NodeKind.TheVariants.{And, Or}
-use Rattle.graph_rules.specs.Graphs.{Node, is_true, mentions}
-use Rattle.clause_encoder.specs.Clauses.{Clause, ClauseList, var_of, is_clause, is_clause_list}
+use Rattle.graph_rules.specs.Graphs.{is_true, mentions}
+use Rattle.clause_encoder.specs.Clauses.{ClauseList, is_clause_list}
 use Rattle.node_store.specs.Stores.{Stored, IsStore, Makes, Means, literals}
-use Rattle.branch_states.specs.Branches.{order, place, left, is_left, is_touched, is_covered, is_open, is_dead, some_passes, size, bits_of, words_of, state_of, IsLiving}
+use Rattle.branch_states.specs.Branches.{order, left, state_of, IsLiving}
 use Rattle.dnnf_compiler.specs.declared.walk.Entry.{Entry}
 use Rattle.dnnf_compiler.specs.declared.walk.Walk.{Walk}
 use Rattle.dnnf_compiler.specs.inner.Bits.{tries, was_tried}

@@ -1,15 +1,13 @@
 -- What the steps at the end of the path ask and leave.
-use Rattle.std.proofs.Common.{◌≡◌, ℕ, zero, suc, ◌+◌, ◌-◌, ◌*◌, ◌^◌, ◌<◌, ◌≤◌, Bool, true, false, not, cond, List, [], ◌∷◌, ◌++◌, map, length, take, drop, get_or, set, Some, None, Option, refl, ap, sym, ◌∙◌, subst, arith, inl, inr, length-append}
-use Rattle.std.specs.Prelude.{slice_get, slice_set, slice_index, slice_index_or, nat_eq, IfSome, Vec, IsSome, is_some}
+use Rattle.std.proofs.Common.{◌≡◌, ℕ, zero, suc, ◌+◌, ◌-◌, ◌<◌, ◌≤◌, Bool, true, false, not, cond, List, [], ◌∷◌, ◌++◌, length, take, drop, get_or, set, Some, None, Option, refl, ap, sym, ◌∙◌, subst, arith, length-append}
+use Rattle.std.specs.Prelude.{slice_get, nat_eq, IfSome, Vec, IsSome, is_some}
 use Rattle.std.specs.Bool.{OnTrue}
 use Rattle.std.specs.declared.alloc.Global.{Global}
 use Rattle.std.specs.Cmp.Lexicographic.{pointwise, same_text}
 use Rattle.std.proofs.lemmas.Option.{slice_get_read}
 use Rattle.std.proofs.lemmas.List.{take_all, set-get_or, get_or-set_other}
 use Rattle.std.proofs.Math.ListN.{drop_of_length-le}
-use Rattle.ranking.specs.Assignments.{Assignment}
-use Rattle.graph_rules.specs.Graphs.{Node}
-use Rattle.clause_encoder.specs.Clauses.{Clause, ClauseList}
+use Rattle.clause_encoder.specs.Clauses.{ClauseList}
 use Rattle.branch_states.specs.Branches.{order, size, branch, state_of, is_dead, Standing, IsLiving}
 use Rattle.branch_states.proofs.Counting.{next-living, length-words}
 use Rattle.dnnf_compiler.specs.declared.walk.Entry.{Entry}
@@ -20,7 +18,7 @@ use Rattle.dnnf_compiler.specs.inner.Meaning.{left_holds, HasState, IsNodeOf}
 use Rattle.dnnf_compiler.specs.inner.Walking.{AtEnd, IsWalk, IsRoot, LeadsBy, LeadsTo, FailsBy, IsNodeAfter, pending_of, still}
 use Rattle.dnnf_compiler.proofs.Expanding.{expand, dead_fails, last_holds}
 use Rattle.dnnf_compiler.proofs.Walks.{finished, root, entered}
-use Rattle.dnnf_compiler.proofs.Steps.{at_end, to_end, read_end, the_end}
+use Rattle.dnnf_compiler.proofs.Steps.{at_end, to_end, the_end}
 
 -- a level that is read
 met_read : (ls : List Met) (k : ℕ) (m : Met) → m ≡ get_or ls k m → k < length ls → m ≡ met_at ls k

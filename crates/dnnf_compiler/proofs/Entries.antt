@@ -1,23 +1,22 @@
 -- What holds of one entry of the path, while nodes come.
-use Rattle.std.proofs.Common.{◌≡◌, ℕ, zero, suc, ◌+◌, ◌<◌, ◌≤◌, Bool, true, false, not, ◌&&◌, ◌||◌, List, [], ◌∷◌, ◌++◌, map, length, get_or, All, Some, None, Option, refl, ap, sym, ◌∙◌, subst, arith, length-append}
-use Rattle.std.specs.Prelude.{slice_get, slice_index, ◌==◌}
+use Rattle.std.proofs.Common.{◌≡◌, ℕ, zero, suc, ◌+◌, ◌<◌, Bool, true, false, ◌&&◌, ◌||◌, List, [], ◌∷◌, ◌++◌, length, All, Some, refl, ap, sym, ◌∙◌, subst, arith, length-append}
+use Rattle.std.specs.Prelude.{slice_index, ◌==◌}
 use Rattle.std.proofs.lemmas.Bool.{eqb-true}
 use Rattle.smallvec.specs.SmallVec.{SmallVec}
-use Rattle.graph_rules.specs.declared.NodeKind.TheVariants.{And}
 use Rattle.std.specs.List.{list_any}
 use Rattle.std.proofs.lemmas.List.Folds.{list_any-append}
 use Rattle.std.proofs.lemmas.List.Elements.{All-append}
 use Rattle.ranking.specs.Bits.{same_bit}
 use Rattle.ranking.specs.Assignments.{Assignment}
-use Rattle.graph_rules.specs.Graphs.{Node, at_most_one, truth_by, mention_by, is_true, mentions}
+use Rattle.graph_rules.specs.Graphs.{Node, at_most_one, is_true, mentions}
 use Rattle.clause_encoder.specs.Clauses.{Clause}
-use Rattle.branch_states.specs.Branches.{order, place, branch, is_dead}
+use Rattle.branch_states.specs.Branches.{order, place, branch}
 use Rattle.dnnf_compiler.specs.declared.walk.Entry.{Entry}
 use Rattle.dnnf_compiler.specs.inner.Bits.{after, was_tried, tries}
 use Rattle.dnnf_compiler.specs.inner.Joining.{Grows, IsConstant, IsBoth}
-use Rattle.dnnf_compiler.specs.inner.Levels.{Done, node_of}
-use Rattle.dnnf_compiler.specs.inner.Meaning.{left_holds, HasState, IsNodeOf}
-use Rattle.dnnf_compiler.specs.inner.Walking.{IsEntry, LeadsBy, LeadsTo, FailsBy, IsNodeAfter, AreDone}
+use Rattle.dnnf_compiler.specs.inner.Levels.{Done}
+use Rattle.dnnf_compiler.specs.inner.Meaning.{left_holds, IsNodeOf}
+use Rattle.dnnf_compiler.specs.inner.Walking.{IsEntry, FailsBy, IsNodeAfter, AreDone}
 use Rattle.dnnf_compiler.proofs.Orders.{place_in_order}
 use Rattle.dnnf_compiler.proofs.Expanding.{expand}
 

@@ -1,5 +1,5 @@
 -- How a level keeps its states and their nodes.
-use Rattle.std.proofs.Common.{◌≡◌, ℕ, zero, suc, ◌+◌, ◌<◌, ◌≤◌, Bool, true, false, not, ◌||◌, cond, List, [], ◌∷◌, ◌++◌, map, length, get_or, Option, Some, None, Bor, refl, ap, sym, ◌∙◌, arith}
+use Rattle.std.proofs.Common.{◌≡◌, ℕ, suc, ◌+◌, ◌≤◌, Bool, true, false, not, ◌||◌, cond, List, [], ◌∷◌, ◌++◌, map, length, get_or, Option, Some, None, Bor, refl, ap, sym, ◌∙◌, arith}
 use Rattle.std.specs.Prelude.{nat_eq, slice_get, nat_lt, is_some, IfSome, MatchOption, if◌then◌else◌}
 use Rattle.std.specs.Option.{option_copied}
 use Rattle.std.proofs.lemmas.Option.{slice_get_past, slice_get_read}
@@ -9,7 +9,7 @@ use Rattle.std.specs.Cmp.Lexicographic.{pointwise}
 use Rattle.indexmap.specs.IndexSet.{insert_key}
 use Rattle.branch_states.proofs.Ordering.{one_more}
 use Rattle.smallvec.specs.SmallVec.{SmallVec}
-use Rattle.dnnf_compiler.specs.inner.Levels.{Done, node_of, Met, met_of}
+use Rattle.dnnf_compiler.specs.inner.Levels.{node_of, met_of}
 
 abbrev pub items : SmallVec ℕ → List ℕ
 items s = s.items

@@ -1,7 +1,6 @@
 -- From what the calls say to the next way.
-use Rattle.std.proofs.Common.{◌≡◌, ℕ, zero, suc, ◌+◌, ◌-◌, ◌*◌, ◌^◌, ◌<◌, ◌≤◌, Bool, true, false, ◌&&◌, ◌||◌, List, [], ◌∷◌, ◌++◌, map, length, get_or, set, All, Some, None, Option, refl, ap, sym, ◌∙◌, subst, arith, inl, inr, length-append}
-use Rattle.std.specs.Prelude.{slice_get, slice_index, slice_index_or, IfSome, Vec, ◌==◌}
-use Rattle.std.specs.declared.alloc.Global.{Global}
+use Rattle.std.proofs.Common.{◌≡◌, ℕ, zero, suc, ◌+◌, ◌<◌, ◌≤◌, Bool, true, false, ◌&&◌, ◌||◌, List, [], ◌∷◌, ◌++◌, map, length, get_or, set, All, Some, None, Option, refl, ap, sym, ◌∙◌, subst, arith, inl, inr, length-append}
+use Rattle.std.specs.Prelude.{slice_get, slice_index, IfSome, ◌==◌}
 use Rattle.std.specs.Vec.{with_item}
 use Rattle.std.proofs.lemmas.Option.{slice_get_read, slice_get_within}
 use Rattle.std.specs.List.{list_any}
@@ -11,18 +10,18 @@ use Rattle.graph_rules.specs.declared.NodeKind.TheVariants.{And, Or}
 use Rattle.graph_rules.specs.declared.NodeKind.{NodeKind}
 use Rattle.ranking.specs.Assignments.{Assignment}
 use Rattle.graph_rules.specs.Graphs.{Node, at_most_one, is_true, mentions}
-use Rattle.clause_encoder.specs.Clauses.{Clause, ClauseList}
+use Rattle.clause_encoder.specs.Clauses.{ClauseList}
 use Rattle.node_store.specs.Stores.{Stored, IsStore, Makes, Means, AddsAtMost}
-use Rattle.branch_states.specs.Branches.{order, branch, sum_of}
+use Rattle.branch_states.specs.Branches.{order, branch}
 use Rattle.dnnf_compiler.specs.declared.walk.Entry.{Entry}
 use Rattle.dnnf_compiler.specs.declared.walk.Walk.{Walk}
 use Rattle.dnnf_compiler.specs.inner.Bits.{after, was_tried, tries}
-use Rattle.dnnf_compiler.specs.inner.Meaning.{HasState, left_holds, IsNodeOf}
+use Rattle.dnnf_compiler.specs.inner.Meaning.{left_holds, IsNodeOf}
 use Rattle.dnnf_compiler.specs.inner.Walking.{AtEnd, IsWalk, IsEntry, FailsBy, IsNodeAfter, pending_of, still}
 use Rattle.dnnf_compiler.specs.inner.Levels.{met_at}
 use Rattle.dnnf_compiler.specs.inner.Joining.{Grows, IsConstant, IsBoth, AddsBoth}
 use Rattle.dnnf_compiler.proofs.Expanding.{expand}
-use Rattle.dnnf_compiler.proofs.Entries.{grows_not, skipped, added, moved, tries-after, both_apart}
+use Rattle.dnnf_compiler.proofs.Entries.{grows_not, skipped, added, tries-after, both_apart}
 use Rattle.dnnf_compiler.proofs.Orders.{order_fits}
 use Rattle.dnnf_compiler.proofs.Walks.{rewritten, stored, tries_few}
 

@@ -1,4 +1,4 @@
-use Rattle.std.proofs.Common.{◌≡◌, ◌≤◌, ◌+◌, None, [], ◌∷◌, ◌++◌, length, map, ap, ◌∙◌, arith}
+use Rattle.std.proofs.Common.{◌≤◌, ◌+◌, None, [], ◌∷◌, ◌++◌, length, map, ap, ◌∙◌, arith}
 use Rattle.dnnf_compiler.specs.inner.Levels.{Met, met_of}
 use Rattle.dnnf_compiler.proofs.Meeting.{items, length-items, met_filled}
 use Rattle.dnnf_compiler.proofs.level.Level.fill.Goals as goal

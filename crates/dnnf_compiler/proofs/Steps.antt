@@ -19,7 +19,7 @@ use Rattle.dnnf_compiler.specs.inner.Bits.{after, was_tried, tries}
 use Rattle.dnnf_compiler.specs.inner.Meaning.{left_holds, IsNodeOf}
 use Rattle.dnnf_compiler.specs.inner.Walking.{AtEnd, IsWalk, IsEntry, FailsBy, IsNodeAfter, pending_of, still}
 use Rattle.dnnf_compiler.specs.inner.Levels.{met_at}
-use Rattle.dnnf_compiler.specs.inner.Joining.{Grows, IsConstant, IsBoth, AddsBoth}
+use Rattle.dnnf_compiler.specs.inner.Joining.{Grows, IsBoth, AddsBoth}
 use Rattle.dnnf_compiler.proofs.Expanding.{expand}
 use Rattle.dnnf_compiler.proofs.Entries.{grows_not, skipped, added, tries-after, both_apart}
 use Rattle.dnnf_compiler.proofs.Orders.{order_fits}
@@ -73,18 +73,6 @@ fails_by_node cnf w bit node is h none all =
 pub grows_by : (old new : List Node) (kind : NodeKind) (kids : List ℕ) (number : ℕ) → AddsAtMost old (record { what = kind; kids = kids }) new → Means old new kind kids number → Grows old new
 grows_by old new kind kids number (inl e) means = record { longer = omega (arith, ap length e); truth = λ k a h. means.true_before k a h; variables = λ k v h. means.variables_before k v h }
 grows_by old new kind kids number (inr e) means = record { longer = omega (arith, ap length e, length-append old (record { what = kind; kids = kids } ∷ [])); truth = λ k a h. means.true_before k a h; variables = λ k v h. means.variables_before k v h }
-
--- the literal alone, where the node is everywhere true
-pub literal_both : (nodes : List Node) (literal always : ℕ) → literal < length nodes → IsConstant nodes true always → IsBoth nodes nodes literal always literal
-literal_both nodes literal always within is = record {
-  grows = grows_not nodes;
-  within = within;
-  truth = λ a. sym (and_true (is_true nodes literal a)) ∙ ap (λ b. is_true nodes literal a && b) (sym (is.truth a));
-  variables = λ v lit node. lit;
-} where
-  and_true : (b : Bool) → (b && true) ≡ b
-  and_true true = refl
-  and_true false = refl
 
 -- an and of the literal and the node
 pub made_both : (old new : Stored) (literal node both : ℕ) → Makes old new And (literal ∷ node ∷ []) both → Means old.nodes new.nodes And (literal ∷ node ∷ []) both → IsBoth old.nodes new.nodes literal node both
@@ -171,9 +159,6 @@ module _ (cnf : ClauseList) (w : Walk) (l : ℕ) (e : Entry) (kids : List ℕ) (
     joined cnf w s.nodes e node is at none (slice_get_within s.nodes node (record { what = Or; kids = kids }) makes.there)
         (λ a. means.truth a ∙ any-map (λ k. is_true w.store.nodes k a) kids ∙ ap (list_any (λ k. is_true w.store.nodes k a)) all) (λ v. means.variables v ∙ any-map (mentions w.store.nodes v) kids ∙ ap (list_any (mentions w.store.nodes v)) all),
   )
-
-pub weaken : (cnf : ClauseList) (w : Walk) → IsWalk cnf 0 w → IsWalk cnf 1 w
-weaken cnf w is = stored cnf w w.store is (grows_not w.store.nodes) is.store refl (omega arith) (omega arith)
 
 -- ---- what `and` and `literal` ask
 

@@ -1,30 +1,24 @@
 -- What holds of one entry of the path, while nodes come.
-use Rattle.std.proofs.Common.{◌≡◌, ℕ, zero, suc, ◌+◌, ◌<◌, ◌≤◌, Bool, true, false, not, ◌&&◌, ◌||◌, List, [], ◌∷◌, ◌++◌, map, length, get_or, All, Some, None, Option, refl, ap, sym, ◌∙◌, subst, arith, length-append}
-use Rattle.std.specs.Prelude.{slice_get, slice_index, ◌==◌}
+use Rattle.std.proofs.Common.{◌≡◌, ℕ, zero, suc, ◌+◌, ◌<◌, Bool, true, false, ◌&&◌, ◌||◌, List, [], ◌∷◌, ◌++◌, length, All, Some, refl, ap, sym, ◌∙◌, subst, arith, length-append}
+use Rattle.std.specs.Prelude.{slice_index, ◌==◌}
 use Rattle.std.proofs.lemmas.Bool.{eqb-true}
 use Rattle.smallvec.specs.SmallVec.{SmallVec}
-use Rattle.graph_rules.specs.declared.NodeKind.TheVariants.{And}
 use Rattle.std.specs.List.{list_any}
 use Rattle.std.proofs.lemmas.List.Folds.{list_any-append}
 use Rattle.std.proofs.lemmas.List.Elements.{All-append}
 use Rattle.ranking.specs.Bits.{same_bit}
 use Rattle.ranking.specs.Assignments.{Assignment}
-use Rattle.graph_rules.specs.Graphs.{Node, at_most_one, truth_by, mention_by, is_true, mentions}
+use Rattle.graph_rules.specs.Graphs.{Node, at_most_one, is_true, mentions}
 use Rattle.clause_encoder.specs.Clauses.{Clause}
-use Rattle.branch_states.specs.Branches.{order, place, branch, is_dead}
+use Rattle.branch_states.specs.Branches.{order, place, branch}
 use Rattle.dnnf_compiler.specs.declared.walk.Entry.{Entry}
 use Rattle.dnnf_compiler.specs.inner.Bits.{after, was_tried, tries}
-use Rattle.dnnf_compiler.specs.inner.Caches.{Cached, node_of}
-use Rattle.dnnf_compiler.specs.inner.Meaning.{left_holds, HasState, IsNodeOf}
-use Rattle.dnnf_compiler.specs.inner.Walking.{IsEntry, LeadsBy, LeadsTo, FailsBy, IsNodeAfter, AreCached, IsConstant}
+use Rattle.dnnf_compiler.specs.inner.Joining.{Grows, IsConstant, IsBoth}
+use Rattle.dnnf_compiler.specs.inner.Levels.{Done}
+use Rattle.dnnf_compiler.specs.inner.Meaning.{left_holds, IsNodeOf}
+use Rattle.dnnf_compiler.specs.inner.Walking.{IsEntry, FailsBy, IsNodeAfter, AreDone}
 use Rattle.dnnf_compiler.proofs.Orders.{place_in_order}
 use Rattle.dnnf_compiler.proofs.Expanding.{expand}
-
--- Nodes that were there mean what they meant.
-pub record Grows (old new : List Node) : Type 0 where
-  pub longer : length old ≤ length new
-  pub truth : (k : ℕ) (a : Assignment) → k < length old → is_true new k a ≡ is_true old k a
-  pub variables : (k v : ℕ) → k < length old → mentions new v k ≡ mentions old v k
 
 pub grows_not : (nodes : List Node) → Grows nodes nodes
 grows_not nodes = record { longer = omega arith; truth = λ k a h. refl; variables = λ k v h. refl }
@@ -40,8 +34,8 @@ node_grows clauses i state old new node g is = record {
   variables = λ v h. g.variables node v is.within ∙ is.variables v h;
 }
 
-pub entry_grows : (clauses : List Clause) (old new : List Node) (cached : Cached) (i : ℕ) (e : Entry) → Grows old new → IsEntry clauses old cached i e → IsEntry clauses new cached i e
-entry_grows clauses old new cached i e g is = record {
+pub entry_grows : (clauses : List Clause) (old new : List Node) (done : Done) (i : ℕ) (state : List ℕ) (e : Entry) → Grows old new → IsEntry clauses old done i state e → IsEntry clauses new done i state e
+entry_grows clauses old new done i state e g is = record {
   list = is.list;
   has = is.has;
   absent = is.absent;
@@ -51,8 +45,8 @@ entry_grows clauses old new cached i e g is = record {
   variables = λ v h. any_same (length old) (mentions new v) (mentions old v) (λ k below. g.variables k v below) e.kids.items is.kids ∙ is.variables v h;
 }
 
-pub cached_grows : (clauses : List Clause) (old new : List Node) (i : ℕ) (cached : Cached) → Grows old new → AreCached clauses old i cached → AreCached clauses new i cached
-cached_grows clauses old new i cached g are = record {
+pub done_grows : (clauses : List Clause) (old new : List Node) (i : ℕ) (done : Done) → Grows old new → AreDone clauses old i done → AreDone clauses new i done
+done_grows clauses old new i done g are = record {
   apart = are.apart;
   right = λ j s n e. let r = are.right j s n e in (r.0, r.1, node_grows clauses i s old new n g r.2);
 }
@@ -97,10 +91,10 @@ tries-after false = refl
 
 -- the entry after a bit
 abbrev pub moved : Entry → Bool → Entry
-moved e bit = record { state = e.state; next = after bit; kids = e.kids }
+moved e bit = record { next = after bit; kids = e.kids }
 
-pub skipped : (clauses : List Clause) (nodes : List Node) (cached : Cached) (i : ℕ) (e : Entry) (bit : Bool) → IsEntry clauses nodes cached i e → FailsBy clauses i e bit → IsEntry clauses nodes cached i (moved e bit)
-skipped clauses nodes cached i e bit is fails = record {
+pub skipped : (clauses : List Clause) (nodes : List Node) (done : Done) (i : ℕ) (state : List ℕ) (e : Entry) (bit : Bool) → IsEntry clauses nodes done i state e → FailsBy clauses i state e bit → IsEntry clauses nodes done i state (moved e bit)
+skipped clauses nodes done i state e bit is fails = record {
   list = is.list;
   has = is.has;
   absent = is.absent;
@@ -130,10 +124,6 @@ both_apart clauses i nodes literal node h lit below v = by (slice_index (order c
     alone true = refl
     alone false = refl
 
-and_true : (b : Bool) → (b && true) ≡ b
-and_true true = refl
-and_true false = refl
-
 false_or : (a b : Bool) → a ≡ false → b ≡ false → (a || b) ≡ false
 false_or true b e f = absurd (cc)
 false_or false b e f = f
@@ -144,35 +134,34 @@ apart_var clauses i v h below = by (slice_index (order clauses) i == v) refl whe
   by true e = let s : slice_index (order clauses) i ≡ v = eqb-true _ _ e in absurd (omega (arith, ap (place (order clauses)) s, place_in_order clauses i h))
   by false e = refl
 
-pub added : (clauses : List Clause) (old new : List Node) (cached : Cached) (i : ℕ) (e : Entry) (bit : Bool) (literal node made : ℕ) (kids : SmallVec ℕ) → i < length (order clauses)
-    → IsEntry clauses old cached i e → IsNodeAfter clauses i e bit old node → Grows old new → made < length new
+pub added : (clauses : List Clause) (old new : List Node) (done : Done) (i : ℕ) (state : List ℕ) (e : Entry) (bit : Bool) (literal node both : ℕ) (kids : SmallVec ℕ) → i < length (order clauses)
+    → IsEntry clauses old done i state e → IsNodeAfter clauses i state e bit old node → IsBoth old new literal node both
     → ((a : Assignment) → is_true old literal a ≡ same_bit bit (a (slice_index (order clauses) i))) → ((v : ℕ) → mentions old v literal ≡ (slice_index (order clauses) i == v))
-    → ((a : Assignment) → is_true new made a ≡ truth_by a And (map (λ k. is_true old k a) (literal ∷ node ∷ []))) → ((v : ℕ) → mentions new v made ≡ mention_by v And (map (mentions old v) (literal ∷ node ∷ [])))
-    → kids.items ≡ e.kids.items ++ made ∷ [] → IsEntry clauses new cached i (record { state = e.state; next = after bit; kids = kids })
-added clauses old new cached i e bit literal node made kids h is after_ g within lit lit_vars truth vars all = record {
+    → kids.items ≡ e.kids.items ++ both ∷ [] → IsEntry clauses new done i state (record { next = after bit; kids = kids })
+added clauses old new done i state e bit literal node both kids h is after_ is_both lit lit_vars all = record {
   list = is.list;
   has = is.has;
   absent = is.absent;
-  kids = subst (All (λ k. k < length new)) (sym all) (All-append (λ k. k < length new) e.kids.items (made ∷ []) was.kids (one within));
-  few = omega (arith, is.few, ap tries after_.next, tries-after bit, ap length all, length-append e.kids.items (made ∷ []));
+  kids = subst (All (λ k. k < length new)) (sym all) (All-append (λ k. k < length new) e.kids.items (both ∷ []) was.kids (one is_both.within));
+  few = omega (arith, is.few, ap tries after_.next, tries-after bit, ap length all, length-append e.kids.items (both ∷ []));
   truth = λ list has a.
       let x = a (slice_index (order clauses) i) in
       let h' = left_holds clauses i a list in
       let n = is_true old node a in
       let same : x ≡ bit → n ≡ h' = λ q. after_.right.truth (branch clauses i list bit) (after_.has list has) a ∙ (λ j. left_holds clauses (i + 1) a (branch clauses i list (sym q j))) ∙ sym (expand clauses i a list h) in
-      let made_is : is_true new made a ≡ (same_bit bit x && h') = truth a ∙ (λ j. lit a j && and_true n j) ∙ under bit x h' n same in
-      (λ j. list_any (λ k. is_true new k a) (all j)) ∙ list_any-append (λ k. is_true new k a) e.kids.items (made ∷ [])
-      ∙ (λ j. (was.truth list has a ∙ ap (λ n. was_tried n x && h') after_.next) j || or_nothing (is_true new made a) j) ∙ tried_more bit x h' (is_true new made a) made_is;
+      let both_is : is_true new both a ≡ (same_bit bit x && h') = is_both.truth a ∙ (λ j. lit a j && n) ∙ under bit x h' n same in
+      (λ j. list_any (λ k. is_true new k a) (all j)) ∙ list_any-append (λ k. is_true new k a) e.kids.items (both ∷ [])
+      ∙ (λ j. (was.truth list has a ∙ ap (λ n. was_tried n x && h') after_.next) j || or_nothing (is_true new both a) j) ∙ tried_more bit x h' (is_true new both a) both_is;
   variables = λ v below.
       let lit_not : mentions old v literal ≡ false = lit_vars v ∙ apart_var clauses i v h below in
       let node_not : mentions old v node ≡ false = after_.right.variables v (omega arith) in
-      let made_not : mentions new v made ≡ false = vars v ∙ false_or (mentions old v literal) (mentions old v node || false) lit_not (or_nothing (mentions old v node) ∙ node_not) in
-      (λ j. list_any (mentions new v) (all j)) ∙ list_any-append (mentions new v) e.kids.items (made ∷ [])
-      ∙ false_or (list_any (mentions new v) e.kids.items) (mentions new v made || false) (was.variables v below) (or_nothing (mentions new v made) ∙ made_not);
+      let both_not : mentions new v both ≡ false = is_both.variables v lit_not node_not in
+      (λ j. list_any (mentions new v) (all j)) ∙ list_any-append (mentions new v) e.kids.items (both ∷ [])
+      ∙ false_or (list_any (mentions new v) e.kids.items) (mentions new v both || false) (was.variables v below) (or_nothing (mentions new v both) ∙ both_not);
 } where
-  one : made < length new → All (λ k. k < length new) (made ∷ [])
+  one : both < length new → All (λ k. k < length new) (both ∷ [])
   one h zero d k = h
   one h (suc j) d k = absurd (omega arith)
 
-  was : IsEntry clauses new cached i e
-  was = entry_grows clauses old new cached i e g is
+  was : IsEntry clauses new done i state e
+  was = entry_grows clauses old new done i state e is_both.grows is

@@ -1,16 +1,16 @@
 -- A graph that was compiled from the clauses of a device means the device.
-use Rattle.std.proofs.Common.{◌≡◌, ◌||◌, ℕ, ◌+◌, ◌-◌, ◌≤◌, Bool, true, false, List, [], ◌∷◌, ◌++◌, length, refl, ap, sym, ◌∙◌, subst, arith, Result, Ok, Err}
+use Rattle.std.proofs.Common.{◌≡◌, ◌||◌, ◌+◌, ◌-◌, ◌≤◌, Bool, true, false, List, [], ◌∷◌, ◌++◌, length, refl, ap, sym, ◌∙◌, arith, Ok, Err}
 use Rattle.std.specs.Prelude.{nat_lt, if◌then◌else◌}
 use Rattle.std.specs.List.{list_any}
 use Rattle.ranking.specs.Bits.{lists_of_bits}
 use Rattle.ranking.specs.Assignments.{assignment}
 use Rattle.graph_rules.specs.Graphs.{Graph, holds}
-use Rattle.device_model.specs.Devices.{Device, fits}
+use Rattle.device_model.specs.Devices.{Device}
 use Rattle.clause_encoder.specs.Clauses.{ClauseList, all_hold}
 use Rattle.clause_encoder.specs.declared.encoding.EncodeError.TheVariants.{TooManyClauses}
 use Rattle.clause_encoder.specs.declared.limits.TheConstants.{CLAUSE_LIMIT}
 use Rattle.clause_encoder.specs.Encoding.{encoded, clause_list, raw_count, Describes}
-use Rattle.dnnf_compiler.specs.Compiled.{SaysAll, holds_for, IsGraphOf}
+use Rattle.dnnf_compiler.specs.Compiled.{SaysAll, IsGraphOf}
 
 any_same : (f g : List Bool → Bool) → ((bits : List Bool) → f bits ≡ g bits) → (lists : List (List Bool)) → list_any f lists ≡ list_any g lists
 any_same f g same [] = refl

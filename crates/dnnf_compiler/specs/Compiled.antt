@@ -1,5 +1,5 @@
 -- What a graph says that was compiled: of clauses, and of the device that they are of.
-use Rattle.std.specs.Prelude.{◌≡◌, ℕ, ◌+◌, ◌-◌, ◌≤◌, Bool, List, ◌++◌, length}
+use Rattle.std.specs.Prelude.{◌≡◌, ◌+◌, ◌-◌, ◌≤◌, Bool, List, ◌++◌, length}
 use Rattle.std.specs.List.{list_any}
 use Rattle.ranking.specs.Bits.{lists_of_bits}
 use Rattle.ranking.specs.Assignments.{Assignment}

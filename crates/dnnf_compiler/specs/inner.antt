@@ -1,7 +1,7 @@
 -- What only private contracts cite.
 pub mod Bits
-pub mod Caches
-pub mod Caching
+pub mod Joining
+pub mod Levels
 pub mod Leaving
 pub mod Meaning
 pub mod Walking

@@ -28,34 +28,26 @@ pub record IsIdle (before after : Reading) : Type 0 where
 pub record IsRun (form : Option Form) (held : List ℕ → Holding) (shelf new_shelf input new_input : Reading) (out new_out : Writing) (status : ℕ) : Type 0 where
   -- The status is 5 exactly where a write failed.
   pub write_fault : RoseExactly out.faults new_out.faults (status ≡ 5)
-
   -- Otherwise it is 4 exactly where a read failed.
   pub read_fault : status ≢ 5 → (status ≡ 4) ↔ ((shelf.faults < new_shelf.faults) ⊎ (input.faults < new_input.faults))
-
   -- Otherwise it is 2 exactly where the words have no form.
   pub usage : status ≢ 5 → (status ≡ 2) ↔ (form ≡ None)
-
   -- Where no file is named, nothing is read of the shelf.
   pub no_name : form ≡ None → IsIdle shelf new_shelf
-
   -- A file that is absent cannot be read. Where the file is not read, the script is not begun, and one line is written.
   pub absent_file : IfSome (named_file form) (λ name. held name ≡ absent → status ≢ 5 → status ≡ 4)
   pub no_file : shelf.faults < new_shelf.faults → IsIdle input new_input × (status ≢ 5 → Gives (says read_error 4) status out.got new_out.got)
-
   -- Where no script is to be answered, none is read, and what is written is the output for the words and the file, unless
   -- memory ran out.
   pub told : IfSome (told_file held form) (λ file. (output : Output) → course_of form file ≡ Tells output →
       IsIdle input new_input × (status ≢ 5 → status ≢ 4 → GivesUnlessMemory output status out.got new_out.got))
-
   -- Where a script is answered, what is written is the output for the device and the script, unless memory ran out.
   pub answer : IfSome (told_file held form) (λ file. (device : Device) → course_of form file ≡ Serves device →
       IfSome input.left (λ script. status ≢ 5 → status ≢ 4 → GivesUnlessMemory (wholly_served device script) status out.got new_out.got))
-
   -- Where a read of the script failed, the lines that a line feed had ended were answered before.
   pub script_fault : IfSome (told_file held form) (λ file. (device : Device) → course_of form file ≡ Serves device →
       input.faults < new_input.faults → status ≢ 5 →
       (bytes : List ℕ) × Consumes input.left new_input.left bytes × Gives (served device bytes Failed) status out.got new_out.got)
-
   -- With status 0 a script that is answered was read to its end, and with status 7 exactly the limit was taken of it.
   pub all_read : IfSome (told_file held form) (λ file. (device : Device) → course_of form file ≡ Serves device → status ≡ 0 → IsAtEnd new_input.left)
   pub cut : status ≡ 7 → new_input.taken ≡ input.taken + SCRIPT_LIMIT

@@ -26,11 +26,19 @@ pub enum Refusal {
     /// A graph's text has no header.
     Header,
     /// The header says another number of nodes, or else of edges.
-    Counts { said: u64, found: u64 },
+    Counts {
+        said: u64,
+        found: u64,
+    },
     /// A graph has more nodes times variables than may be.
-    Bits { bits: u64 },
+    Bits {
+        bits: u64,
+    },
     /// Two children of an and share a variable.
-    Shared { node: u32, variable: u32 },
+    Shared {
+        node: u32,
+        variable: u32,
+    },
     /// A count of a flat device is above its limit.
     Above {
         what: &'static str,
@@ -38,7 +46,9 @@ pub enum Refusal {
         limit: u64,
     },
     /// The sum of the clauses is above the budget.
-    Sum { budget: u32 },
+    Sum {
+        budget: u32,
+    },
     /// There are more parts and wires than can be tried.
     NotYet,
     /// There was no memory.
@@ -82,7 +92,15 @@ fn put_sum_above<O: Sink>(out: &mut O, budget: u32) -> Result<(), WriteFailed>
         (spaced (codes "error:" ∷ codes "sum" ∷ codes "above" ∷ decimal budget ∷ [])) }
     ensures cause { HasCause (O.faults out.old) (O.faults out.new) result }
 {
-    put_line(out, &[b"error:", b"sum", b"above", Buffer::new().format(budget).as_bytes()])
+    put_line(
+        out,
+        &[
+            b"error:",
+            b"sum",
+            b"above",
+            Buffer::new().format(budget).as_bytes(),
+        ],
+    )
 }
 
 // Tells a fault and answers the status, or 5 where the write failed.

@@ -159,7 +159,10 @@ const WRONG: [&[&str]; 8] = [
 fn answers_rows(rt: HostRuntime) -> Result<(), Fail> {
     for piece in [1, 7, 4096] {
         for row in &ROWS {
-            let meeting = Meeting { piece, ..NOTHING_FAILS };
+            let meeting = Meeting {
+                piece,
+                ..NOTHING_FAILS
+            };
             assert!(rt; 0 < meeting.piece);
             let ran = run(rt.alloc(), row.file, row.words, row.script, &meeting)?;
             let words = row.words;

@@ -9,7 +9,7 @@ struct Row {
     status: u8,
 }
 
-const ROWS: [Row; 13] = [
+const ROWS: [Row; 18] = [
     // The inputs are 0, so 22 and 23 are to be 0. One of 10 and 22 explains the 1, and the first of them is named.
     Row {
         file: File {
@@ -141,10 +141,62 @@ const ROWS: [Row; 13] = [
         out: "error: read\n",
         status: 4,
     },
+    // Of the states of its levels one, two, two and two are living, of one word each.
+    Row {
+        file: File {
+            name: "not.bench",
+            text: "INPUT(a)\ny = NOT(a)\n",
+        },
+        words: &["plan", "not.bench"],
+        script: "open S\n",
+        out: "parts 1\nwires 2\nclauses 2\nsum 7\n",
+        status: 0,
+    },
+    Row {
+        file: File {
+            name: "not.bench",
+            text: "INPUT(a)\ny = NOT(a)\n",
+        },
+        words: &["compile", "not.bench", "--budget", "6"],
+        script: "open S\n",
+        out: "error: sum above 6\n",
+        status: 3,
+    },
+    Row {
+        file: File {
+            name: "either.nnf",
+            text: "nnf 3 2 1\nL 1\nL -1\nO 1 2 0 1\n",
+        },
+        words: &["check", "either.nnf"],
+        script: "open S\n",
+        out: "decomposable 3 2 1\n",
+        status: 0,
+    },
+    // Both children of the and are the literal of variable 1.
+    Row {
+        file: File {
+            name: "twice.nnf",
+            text: "nnf 2 2 1\nL 1\nA 2 0 0\n",
+        },
+        words: &["check", "twice.nnf"],
+        script: "open S\n",
+        out: "error: fault 7 shared node 1 variable 1\n",
+        status: 1,
+    },
+    Row {
+        file: File {
+            name: "late.nnf",
+            text: "nnf 2 1 1\nA 1 1\nL 1\n",
+        },
+        words: &["check", "late.nnf"],
+        script: "open S\n",
+        out: "error: line 2: fault 3 child\n",
+        status: 1,
+    },
 ];
 
 // Words that ask for nothing that the program does.
-const WRONG: [&[&str]; 8] = [
+const WRONG: [&[&str]; 13] = [
     &[],
     &["serve"],
     &["--help"],
@@ -153,6 +205,11 @@ const WRONG: [&[&str]; 8] = [
     &["serve", ".dev"],
     &["serve", "c17.bench", "x"],
     &["answer", "c17.bench"],
+    &["check", "c17.bench"],
+    &["plan", "c17.nnf"],
+    &["plan", "c17.bench", "--budget", "7"],
+    &["compile", "c17.bench", "--budget", "0"],
+    &["compile", "c17.bench", "--budget", "8388609"],
 ];
 
 #[test]
@@ -183,6 +240,21 @@ fn refuses_words(rt: HostRuntime) -> Result<(), Fail> {
             "{words:?}"
         );
         assert_eq!(rt; ran.status, 2, "{words:?}");
+    }
+    Ok(())
+}
+
+// The text of a compiled graph is left open, but for its header.
+#[test]
+fn compiles(rt: HostRuntime) -> Result<(), Fail> {
+    const COMPILED: [&[&str]; 2] = [
+        &["compile", "chain.bench"],
+        &["compile", "chain.bench", "--budget", "12"],
+    ];
+    for words in COMPILED {
+        let ran = run(rt.alloc(), CHAIN, words, "open S\n", &NOTHING_FAILS)?;
+        assert!(rt; ran.out.as_slice().starts_with(b"nnf "), "{words:?}");
+        assert_eq!(rt; ran.status, 0, "{words:?}");
     }
     Ok(())
 }

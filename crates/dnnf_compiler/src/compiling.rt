@@ -20,7 +20,7 @@ pub struct Compiled {
 
 /// The decomposable graph that is true exactly where all clauses are.
 ///
-/// The sum of the clause list is at most `BUDGET_LIMIT`. The graph and the work grow with that sum alone.
+/// The sum of the clause list is at most `BUDGET_LIMIT`. That sum bounds how often a node is made, and so the size of the graph.
 pub fn compile(alloc: Global, cnf: &Cnf) -> Result<Compiled, AllocError>
     requires { sum_of cnf.now.clauses ≤ BUDGET_LIMIT }
 

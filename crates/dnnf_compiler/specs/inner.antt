@@ -4,4 +4,5 @@ pub mod Joining
 pub mod Levels
 pub mod Leaving
 pub mod Meaning
+pub mod States
 pub mod Walking

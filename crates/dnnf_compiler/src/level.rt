@@ -1,31 +1,27 @@
 ghost use Rattle.std.specs.Prelude.{◌≡◌, List, ℕ, ◌++◌, [], ◌∷◌, Option, Some, None, IsSome, MatchOption, IfOk, OnOk};
 ghost use Rattle.dnnf_compiler.specs.inner.Levels.{node_of, none_met};
 
-use indexmap::IndexSet;
-use smallvec::SmallVec;
+use crate::states::States;
 use std::alloc::{AllocError, Global};
 use std::marker::Model;
-
-/// The words of a state. Up to two need no block of memory of their own.
-type State = SmallVec<u64, 2>;
 
 /// The states of a level that were met, in this order, and the nodes of those that are done: of all, or of all but the last,
 /// which is pending then.
 #[derive(Drop)]
 pub(crate) struct Level {
-    states: IndexSet<State>,
+    states: States,
     nodes: Vec<u32>,
 }
 
 impl Model for Level {
-    ghost use Rattle.std.specs.Prelude.{map};
     ghost use Rattle.dnnf_compiler.specs.inner.Levels.{Met, met_of, IsMet};
+    ghost use Rattle.dnnf_compiler.specs.inner.States.{states_of};
 
     ghost Value = { Met };
 
-    ghost view = { λ l. met_of (map (λ s. s.items) l.states.keys) l.nodes.items };
+    ghost view = { λ l. met_of (states_of l.states) l.nodes.items };
 
-    ghost invariant = { λ l. IsMet l.states.keys l.nodes.items };
+    ghost invariant = { λ l. IsMet (states_of l.states) l.nodes.items };
 }
 
 impl Level {
@@ -34,7 +30,7 @@ impl Level {
         ensures { result ≡ none_met }
     {
         Level {
-            states: IndexSet::new(alloc),
+            states: States::new(alloc),
             nodes: Vec::new(alloc),
         }
     }
@@ -44,7 +40,7 @@ impl Level {
         requires { IsSome self.now.pending }
         ensures { self.now.pending ≡ Some result.now }
     {
-        self.states.as_slice()[self.nodes.len()].as_slice()
+        self.states.at(self.nodes.len())
     }
 
     /// The node of a state, if it is done. If not, the state is pending from now on.
@@ -54,8 +50,7 @@ impl Level {
         ensures met { IfOk result (λ node. MatchOption node (self.new ≡ record self.old { pending = Some state.now })
             (λ _. self.new ≡ self.old)) }
     {
-        let state = SmallVec::from_slice(alloc, state)?;
-        let (place, _) = self.states.insert_full(state)?;
+        let place = self.states.add(alloc, state)?;
         Ok(self.nodes.get(place).copied())
     }
 

@@ -101,7 +101,6 @@ impl<'a> Walk<'a> {
         ensures { OnOk result (IsWalk cnf.now 0 self.new × (still cnf.now self.new < still cnf.now self.old)) }
     {
         let level = self.branches.level() as usize;
-        self.next.clear();
         self.next.resize(self.branches.after() as usize, 0)?;
         let state = self.levels[level].pending();
         if !self.branches.step(state, bit, &mut self.next) {

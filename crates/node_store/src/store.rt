@@ -21,11 +21,14 @@ pub const MADE_LIMIT: u64 = 2_147_483_648;
 /// A store has fewer variables than this.
 pub const VARIABLE_LIMIT: u32 = 536_870_912;
 
-// A node as it is kept. A short list of children needs no memory of its own.
+// Children as they are kept. Two need no memory of their own.
+type Kids = SmallVec<u32, 2>;
+
+// A node as it is kept.
 #[derive(Debug, PartialEq, Eq, Hash, Drop)]
 struct Kept {
     what: NodeKind,
-    kids: SmallVec<u32, 4>,
+    kids: Kids,
 }
 
 /// Nodes that are shared: each stands once, and its number is its place.
@@ -191,9 +194,19 @@ fn insert(
     ensures once { OnOk result (EachOnce (map shown nodes.new.keys)) }
     ensures err { OnErr result (map shown nodes.new.keys ≡ map shown nodes.old.keys) }
 {
-    let kids = SmallVec::from_slice(alloc, kids)?;
+    let kids = kept_kids(alloc, kids)?;
     let (place, _) = nodes.insert_full(Kept { what, kids })?;
     Ok(place)
+}
+
+// Children as they are kept. Most nodes have two, and then nothing is copied in a loop.
+fn kept_kids(alloc: Global, kids: &[u32]) -> Result<Kids, AllocError>
+    ensures { IfOk result (λ kept. kept.items ≡ kids.now) }
+{
+    match kids {
+        [first, second] => Ok(SmallVec::from_buf(alloc, [*first, *second])),
+        _ => SmallVec::from_slice(alloc, kids),
+    }
 }
 
 // Adds a literal that is not there yet.

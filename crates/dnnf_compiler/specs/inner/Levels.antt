@@ -22,7 +22,7 @@ abbrev pub met_of : List (List ℕ) → List ℕ → Met
 met_of states nodes = record { done = zip states nodes; pending = slice_get states (length nodes) }
 
 -- all states but the last have nodes, or all have
-pub record IsMet {S : Type 0} (states : List S) (nodes : List ℕ) : Type 0 where
+pub record IsMet (states : List (List ℕ)) (nodes : List ℕ) : Type 0 where
   pub few : length nodes ≤ length states
   pub many : length states ≤ length nodes + 1
 

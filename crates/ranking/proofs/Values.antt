@@ -8,11 +8,11 @@ module _ {N A : Type 0} (f : N → List A → A) where
   length-values_after es [] = omega arith
   length-values_after es (n ∷ ns) = omega (arith, length-values_after (es ++ f n es ∷ []) ns, length_push es (f n es))
 
-  values_after-append : (es : List A) (ms ns : List N) → values_after f es (ms ++ ns) ≡ values_after f (values_after f es ms) ns
+  pub values_after-append : (es : List A) (ms ns : List N) → values_after f es (ms ++ ns) ≡ values_after f (values_after f es ms) ns
   values_after-append es [] ns = refl
   values_after-append es (m ∷ ms) ns = values_after-append (es ++ f m es ∷ []) ms ns
 
-  values_after-keeps : (es : List A) (ns : List N) (k : ℕ) (d : A) → k < length es → get_or (values_after f es ns) k d ≡ get_or es k d
+  pub values_after-keeps : (es : List A) (ns : List N) (k : ℕ) (d : A) → k < length es → get_or (values_after f es ns) k d ≡ get_or es k d
   values_after-keeps es [] k d l = refl
   values_after-keeps es (n ∷ ns) k d l =
       values_after-keeps (es ++ f n es ∷ []) ns k d (omega (arith, length_push es (f n es))) ∙ get_or_append_left es (f n es ∷ []) d k l

@@ -1,0 +1,381 @@
+-- Which nodes make the root true at its least cost.
+use Rattle.std.proofs.Common.{◌≡◌, ℕ, zero, suc, ◌+◌, ◌-◌, ◌<◌, ◌≤◌, Bool, true, false, cond, eqb, ◌&&◌, ◌||◌, List, [], ◌∷◌, map, length, get_or, take, Option, Some, None, refl, ap, sym, ◌∙◌, subst, arith, inl, inr, ⊎_elim}
+use Rattle.std.specs.Prelude.{slice_get, nat_lt}
+use Rattle.std.specs.List.{list_all, list_any}
+use Rattle.std.proofs.lemmas.Bool.{and_parts, cases_lt, false≢true, eqb-true, eq-eqb, ltb-true}
+use Rattle.std.proofs.lemmas.List.{get_or_past}
+use Rattle.std.proofs.lemmas.Option.{get_or_from_slice_get, slice_get_within, same_Some}
+use Rattle.ranking.specs.Bits.{same_bit}
+use Rattle.ranking.specs.Assignments.{Assignment}
+use Rattle.ranking.specs.Values.{values}
+use Rattle.ranking.proofs.Values.{length-values_after, values-at, values-before}
+use Rattle.graph_rules.specs.declared.NodeKind.{NodeKind}
+use Rattle.graph_rules.specs.declared.NodeKind.TheVariants.{Literal, And, Or}
+use Rattle.graph_rules.specs.Graphs.{at_most_one, Node, Graph, truth, truth_by, mention, mention_by, mentions, is_true, IsGraph}
+use Rattle.graph_rules.proofs.NodeValues.{are_below, map-below, value_of-get}
+use Rattle.graph_rules.proofs.NodesFit.{fits-get, apart-get}
+use Rattle.conditioner.specs.Words.{leaf_of}
+use Rattle.minimiser.specs.Costs.{part_cost, known_at, cost_at, sum_costs, cheapest, node_cost, cost_by, literal_cost}
+use Rattle.minimiser.proofs.Totals.{total-le, add-le-total, le-total}
+use Rattle.minimiser.proofs.Costs.{fault, false_is, IsCost, Below, Agrees, faults_in, all_faults, and_left, and_right, both, joins, from_add, Below-min_left, Below-min_right, or_left, or_right, apart_sum}
+use Rattle.minimiser.proofs.Nodes.{nodes_are, kids_and, at_most_one-tail, not_both}
+use Rattle.minimiser.proofs.Apart.{decomposed}
+use Rattle.minimiser.proofs.Members.{In}
+use Rattle.minimiser.proofs.Whole.{part_cost-none}
+
+-- ---- the cost at a node, by those of its kids
+
+cost_at-get : (xs : List (Option ℕ)) (i : ℕ) → cost_at xs i ≡ get_or xs i None
+cost_at-get [] i = refl
+cost_at-get (x ∷ xs) zero = refl
+cost_at-get (x ∷ xs) (suc i) = cost_at-get xs i
+
+cost-at : (by : NodeKind → List (Option ℕ) → Option ℕ) (nodes : List Node) (i : ℕ) (n : Node) → slice_get nodes i ≡ Some n → are_below i n.kids ≡ true
+    → cost_at (values (λ (node : Node) earlier. by node.what (map (cost_at earlier) node.kids)) nodes) i
+    ≡ by n.what (map (cost_at (values (λ (node : Node) earlier. by node.what (map (cost_at earlier) node.kids)) nodes)) n.kids)
+cost-at by nodes i n e below =
+    let f : Node → List (Option ℕ) → Option ℕ = λ node earlier. by node.what (map (cost_at earlier) node.kids) in
+    let inside : i < length nodes = slice_get_within nodes i n e in
+    let es : List (Option ℕ) = values f (take i nodes) in
+    cost_at-get (values f nodes) i ∙ values-at f nodes i n inside None ∙ (λ j. f (get_or_from_slice_get nodes i n n e j) es)
+    ∙ ap (by n.what) (map-below (cost_at es) (cost_at (values f nodes)) i n.kids below
+    (λ k h. cost_at-get es k ∙ values-before f nodes i n inside k None h ∙ sym (cost_at-get (values f nodes) k)))
+
+-- ---- members of the kids
+
+pub any-kid : (f : ℕ → Bool) (kids : List ℕ) (k : ℕ) → In k kids → f k ≡ true → list_any (λ b. b) (map f kids) ≡ true
+any-kid f [] k m e = absurd m
+any-kid f (j ∷ kids) k (inl q) e = or_left _ _ (ap f (sym q) ∙ e)
+any-kid f (j ∷ kids) k (inr r) e = or_right (f j) _ (any-kid f kids k r e)
+
+pub record KidWith (f : ℕ → Bool) (kids : List ℕ) : Type 0 where
+  pub kid : ℕ
+  pub is_in : In kid kids
+  pub has : f kid ≡ true
+
+pub kid-with : (f : ℕ → Bool) (kids : List ℕ) → list_any (λ b. b) (map f kids) ≡ true → KidWith f kids
+kid-with f [] e = absurd (cc)
+kid-with f (j ∷ kids) e = by_test (kid-with f kids) (f j) refl e where
+  by_test : (list_any (λ b. b) (map f kids) ≡ true → KidWith f kids) → (b : Bool) → f j ≡ b → (b || list_any (λ b. b) (map f kids)) ≡ true → KidWith f (j ∷ kids)
+  by_test more true q e = record { kid = j; is_in = inl refl; has = q }
+  by_test more false q e = let r = more e in record { kid = r.kid; is_in = inr r.is_in; has = r.has }
+
+all-kid : (f : ℕ → Bool) (kids : List ℕ) (k : ℕ) → In k kids → list_all (λ b. b) (map f kids) ≡ true → f k ≡ true
+all-kid f [] k m e = absurd m
+all-kid f (j ∷ kids) k (inl q) e = ap f q ∙ and_left _ _ e
+all-kid f (j ∷ kids) k (inr r) e = all-kid f kids k r (and_right (f j) _ e)
+
+pub all-below : (n : ℕ) (kids : List ℕ) (k : ℕ) → are_below n kids ≡ true → In k kids → k < n
+all-below n [] k all m = absurd m
+all-below n (j ∷ kids) k all (inl q) = subst (λ x. x < n) (sym q) (ltb-true j n (and_parts (nat_lt j n) (are_below n kids) all).0)
+all-below n (j ∷ kids) k all (inr r) = all-below n kids k (and_parts (nat_lt j n) (are_below n kids) all).1 r
+
+-- an or costs no more than a kid
+pub cheapest-kid : (C : ℕ → Option ℕ) (kids : List ℕ) (j d : ℕ) → In j kids → C j ≡ Some d → Below (cheapest (map C kids)) d
+cheapest-kid C [] j d m e = absurd m
+cheapest-kid C (i ∷ kids) j d (inl q) e = Below-min_left (C i) (cheapest (map C kids)) d (subst (λ o. Below o d) (sym (ap C (sym q) ∙ e)) (omega arith))
+cheapest-kid C (i ∷ kids) j d (inr r) e = Below-min_right (C i) (cheapest (map C kids)) d (cheapest-kid C kids j d r e)
+
+module _ (graph : Graph) (words costs : List ℕ) (ok : IsGraph graph) where
+  abbrev kn : ℕ → Option Bool
+  kn v = known_at words v
+
+  abbrev price : ℕ → ℕ
+  price v = part_cost costs v
+
+  abbrev n : ℕ
+  n = length costs
+
+  abbrev T : Assignment → ℕ → Bool
+  T a k = is_true graph.nodes k a
+
+  abbrev M : ℕ → ℕ → Bool
+  M v k = mentions graph.nodes v k
+
+  -- the least cost at a node
+  abbrev pub C : ℕ → Option ℕ
+  C k = cost_at (values (node_cost (known_at words) (part_cost costs)) graph.nodes) k
+
+  abbrev root : ℕ
+  root = length graph.nodes - 1
+
+  is_cost : (k : ℕ) → IsCost kn price n (λ a. T a k) (λ v. M v k) (C k)
+  is_cost k = nodes_are kn price n (part_cost-none costs) graph.nodes (λ a. []) (λ v. []) []
+      (λ k. false_is kn price n) (record { truths = λ a. refl; mentioned = λ v. refl }) (decomposed graph.vars graph.nodes ok.nodes) k
+
+  pub below : (i : ℕ) (node : Node) → slice_get graph.nodes i ≡ Some node → are_below i node.kids ≡ true
+  below i node e = (fits-get graph.vars graph.nodes i node ok.nodes.fit e).below
+
+  true-at : (i : ℕ) (node : Node) → slice_get graph.nodes i ≡ Some node → (a : Assignment) → T a i ≡ truth_by a node.what (map (T a) node.kids)
+  true-at i node e a = value_of-get (truth_by a) graph.nodes i node e (below i node e)
+
+  mention-at : (i : ℕ) (node : Node) → slice_get graph.nodes i ≡ Some node → (v : ℕ) → M v i ≡ mention_by v node.what (map (M v) node.kids)
+  mention-at i node e v = value_of-get (mention_by v) graph.nodes i node e (below i node e)
+
+  pub costs-at : (i : ℕ) (node : Node) → slice_get graph.nodes i ≡ Some node → C i ≡ cost_by kn price node.what (map C node.kids)
+  costs-at i node e = cost-at (cost_by kn price) graph.nodes i node e (below i node e)
+
+  apart-kids : (i : ℕ) (kids : List ℕ) → slice_get graph.nodes i ≡ Some (record { what = And; kids = kids }) → (v : ℕ) → at_most_one (map (M v) kids) ≡ true
+  apart-kids i kids e v = apart-get (mentions graph.nodes v) graph.nodes i (record { what = And; kids = kids }) (ok.nodes.apart v) e
+
+  abbrev TA : List ℕ → Assignment → Bool
+  TA kids a = list_all (λ b. b) (map (T a) kids)
+
+  abbrev MA : List ℕ → ℕ → Bool
+  MA kids v = list_any (λ b. b) (map (M v) kids)
+
+  abbrev SA : List ℕ → Option ℕ
+  SA kids = sum_costs (map C kids)
+
+  Apart : List ℕ → Type 0
+  Apart kids = (v : ℕ) → at_most_one (map (M v) kids) ≡ true
+
+  kids-cost : (kids : List ℕ) → Apart kids → IsCost kn price n (TA kids) (MA kids) (SA kids)
+  unfolding Apart
+  kids-cost kids apart = kids_and kn price n (part_cost-none costs) (λ a. values (truth a) graph.nodes) (λ v. values (mention v) graph.nodes) (values (node_cost kn price) graph.nodes) is_cost kids apart
+
+  apart-tail : (j : ℕ) (kids : List ℕ) → Apart (j ∷ kids) → Apart kids
+  unfolding Apart
+  apart-tail j kids apart v = at_most_one-tail (M v j) (map (M v) kids) (apart v)
+
+  apart-both : (j : ℕ) (kids : List ℕ) → Apart (j ∷ kids) → (v : ℕ) → (M v j && MA kids v) ≡ false
+  unfolding Apart
+  apart-both j kids apart v = not_both (M v j) (map (M v) kids) (apart v)
+
+  -- ---- from the root to a node
+
+  -- an assignment that makes a node true at a cost, and costs nothing elsewhere
+  pub record Achieves (k c : ℕ) (a : Assignment) : Type 0 where
+    pub agrees : Agrees (known_at words) (part_cost costs) (length costs) a
+    pub holds : is_true graph.nodes k a ≡ true
+    pub cheap : all_faults (known_at words) (part_cost costs) (length costs) a ≤ c
+
+  -- it goes on to the root: there is one that makes the root true at its least cost, with the same bits of the node's variables
+  pub record Extends (k : ℕ) (a : Assignment) : Type 0 where
+    pub least : ℕ
+    pub is : cost_at (values (node_cost (known_at words) (part_cost costs)) graph.nodes) (length graph.nodes - 1) ≡ Some least
+    pub by : Assignment
+    pub achieves : Achieves (length graph.nodes - 1) least by
+    pub same : (v : ℕ) → mentions graph.nodes v k ≡ true → by v ≡ a v
+
+  -- the node is part of making the root true at its least cost
+  abbrev pub Useful : ℕ → Type 0
+  Useful k = (c : ℕ) → C k ≡ Some c → (a : Assignment) → Achieves k c a → Extends k a
+
+  pub useful-root : Useful root
+  useful-root c e a h = record { least = c; is = e; by = a; achieves = h; same = λ v m. refl }
+
+  record KidsBy (kids : List ℕ) (k c : ℕ) (a : Assignment) : Type 0 where
+    by : Assignment
+    agrees : Agrees kn price n by
+    holds : TA kids by ≡ true
+    cheap : all_faults kn price n by ≤ c
+    same : (v : ℕ) → M v k ≡ true → by v ≡ a v
+
+  kids-by : (kids : List ℕ) → Apart kids → (k : ℕ) → In k kids → (d : ℕ) → C k ≡ Some d → (a : Assignment) → Achieves k d a → (c : ℕ) → SA kids ≡ Some c → KidsBy kids k c a
+  kids-by [] apart k m d e a h c s = absurd m
+  kids-by (j ∷ kids) apart k (inl q) d e a h c s =
+      let sum = from_add (C j) (SA kids) c s in
+      let same_cost : d ≡ sum.left = same_Some d sum.left (sym e ∙ ap C q ∙ sum.left_is) in
+      let r = (kids-cost kids (apart-tail j kids apart)).reached sum.right sum.right_is in
+      let x = joins kn price n (λ b. T b j) (TA kids) (λ v. M v j) (MA kids) (C j) (SA kids) (is_cost j) (kids-cost kids (apart-tail j kids apart)) (apart-both j kids apart) a r.by h.agrees r.agrees
+      (subst (λ i. T a i ≡ true) q h.holds) r.holds in
+      record {
+        by = x.by;
+        agrees = x.agrees;
+        holds = both _ _ x.left x.right;
+        cheap = omega (arith, x.cheap, h.cheap, r.cheap, sum.sum_is, same_cost);
+        same = λ v m. x.as_left v (subst (λ i. M v i ≡ true) q m);
+      }
+  kids-by (j ∷ kids) apart k (inr m) d e a h c s =
+      let sum = from_add (C j) (SA kids) c s in
+      let more = kids-by kids (apart-tail j kids apart) k m d e a h sum.right sum.right_is in
+      let r = (is_cost j).reached sum.left sum.left_is in
+      let x = joins kn price n (λ b. T b j) (TA kids) (λ v. M v j) (MA kids) (C j) (SA kids) (is_cost j) (kids-cost kids (apart-tail j kids apart)) (apart-both j kids apart) r.by more.by r.agrees more.agrees
+      r.holds more.holds in
+      record {
+        by = x.by;
+        agrees = x.agrees;
+        holds = both _ _ x.left x.right;
+        cheap = omega (arith, x.cheap, r.cheap, more.cheap, sum.sum_is);
+        same = λ v t. x.as_right v (any-kid (M v) kids k m t) ∙ more.same v t;
+      }
+
+  -- the kids of an and
+  pub useful-and : (p : ℕ) (kids : List ℕ) (c : ℕ) → slice_get graph.nodes p ≡ Some (record { what = And; kids = kids }) → C p ≡ Some c → Useful p → (k : ℕ) → In k kids → Useful k
+  unfolding Apart
+  useful-and p kids c e is useful k m d f a h =
+      let b = kids-by kids (apart-kids p kids e) k m d f a h c (sym (costs-at p _ e) ∙ is) in
+      let x = useful c is b.by (record { agrees = b.agrees; holds = true-at p _ e b.by ∙ b.holds; cheap = b.cheap }) in
+      record { least = x.least; is = x.is; by = x.by; achieves = x.achieves; same = λ v t. x.same v (mention-at p _ e v ∙ any-kid (M v) kids k m t) ∙ b.same v t }
+
+  -- the kids of an or that cost as much
+  pub useful-or : (p : ℕ) (kids : List ℕ) (c : ℕ) → slice_get graph.nodes p ≡ Some (record { what = Or; kids = kids }) → C p ≡ Some c → Useful p → (k : ℕ) → In k kids → C k ≡ Some c → Useful k
+  useful-or p kids c e is useful k m s d f a h =
+      let same_cost : d ≡ c = same_Some d c (sym f ∙ s) in
+      let x = useful c is a (record { agrees = h.agrees; holds = true-at p _ e a ∙ any-kid (T a) kids k m h.holds; cheap = omega (arith, h.cheap, same_cost) }) in
+      record { least = x.least; is = x.is; by = x.by; achieves = x.achieves; same = λ v t. x.same v (mention-at p _ e v ∙ any-kid (M v) kids k m t) }
+
+  -- an assignment that makes the root true at its least cost, with a false variable
+  pub record FalseAt (var : ℕ) : Type 0 where
+    pub least : ℕ
+    pub is : cost_at (values (node_cost (known_at words) (part_cost costs)) graph.nodes) (length graph.nodes - 1) ≡ Some least
+    pub by : Assignment
+    pub achieves : Achieves (length graph.nodes - 1) least by
+    pub at : by var ≡ false
+
+  -- the variable of a useful literal that says faulty can be false
+  pub useful-literal : (k var : ℕ) (kids : List ℕ) → slice_get graph.nodes k ≡ Some (record { what = Literal var false; kids = kids }) → known_at words var ≡ None → Useful k → FalseAt var
+  useful-literal k var kids e open_ useful =
+      let is : C k ≡ Some (price var) = costs-at k _ e ∙ (λ i. literal_cost (leaf_of false (open_ i)) (price var) false) in
+      let r = (is_cost k).reached (price var) is in
+      let x = useful (price var) is r.by (record { agrees = r.agrees; holds = r.holds; cheap = r.cheap }) in
+      record { least = x.least; is = x.is; by = x.by; achieves = x.achieves; at = x.same var (mention-at k _ e var ∙ eq-eqb var var refl) ∙ is_false (r.by var) (sym (true-at k _ e r.by) ∙ r.holds) } where
+        is_false : (b : Bool) → same_bit false b ≡ true → b ≡ false
+        is_false true q = absurd (cc)
+        is_false false q = refl
+
+  -- ---- from the root to a fault
+
+  pub node-there : (k : ℕ) (a : Assignment) → T a k ≡ true → k < length graph.nodes
+  node-there k a h = ⊎_elim (λ p. p) (λ p. absurd (false≢true (sym (get_or_past (values (truth a) graph.nodes) k false (omega (arith, length-values_after (truth a) [] graph.nodes))) ∙ h))) (cases_lt k (length graph.nodes))
+
+  module _ (a : Assignment) (agree : Agrees (known_at words) (part_cost costs) (length costs) a) (p : ℕ) (low : 1 ≤ p) (high : p < 1 + length costs) (false_at : a p ≡ false)
+      (dear : 0 < fault (known_at words p) (part_cost costs p) (a p)) where
+    abbrev fl : ℕ → ℕ
+    fl v = fault (kn v) (price v) (a v)
+
+    abbrev faults : (ℕ → Bool) → ℕ
+    faults m = faults_in kn price n m a
+
+    cond-le : (x y : Bool) (w : ℕ) → (x ≡ true → y ≡ true) → cond x w 0 ≤ cond y w 0
+    cond-le true true w h = omega arith
+    cond-le true false w h = absurd (false≢true (h refl))
+    cond-le false y w h = omega arith
+
+    faults-le : (m o : ℕ → Bool) → ((v : ℕ) → m v ≡ true → o v ≡ true) → faults m ≤ faults o
+    faults-le m o h = total-le _ _ (λ v. cond-le (m v) (o v) (fl v) (h v)) 1 n
+
+    -- variables among which the faulty one is cost more than those among which it is not
+    faults-lt : (m o : ℕ → Bool) → ((v : ℕ) → m v ≡ true → o v ≡ true) → m p ≡ false → o p ≡ true → faults m < faults o
+    faults-lt m o h e f = omega (arith, add-le-total (λ v. cond (m v) (fl v) 0) (λ v. cond (eqb p v) (fl v) 0) (λ v. cond (o v) (fl v) 0) each 1 n, le-total (λ v. cond (eqb p v) (fl v) 0) p 1 n low high, own) where
+      own : fl p ≤ cond (eqb p p) (fl p) 0
+      own = rw (eq-eqb p p refl) (omega arith)
+
+      each : (v : ℕ) → cond (m v) (fl v) 0 + cond (eqb p v) (fl v) 0 ≤ cond (o v) (fl v) 0
+      each v = by_test (eqb p v) refl where
+        by_test : (b : Bool) → eqb p v ≡ b → cond (m v) (fl v) 0 + cond b (fl v) 0 ≤ cond (o v) (fl v) 0
+        by_test true q =
+            let at : p ≡ v = eqb-true _ _ q in
+            rw (sym (ap m at) ∙ e, sym (ap o at) ∙ f) (omega arith)
+        by_test false q = omega (arith, cond-le (m v) (o v) (fl v) (h v))
+
+    bound-at : (k c : ℕ) → T a k ≡ true → C k ≡ Some c → c ≤ faults (λ v. M v k)
+    bound-at k c h e = subst (λ o. Below o (faults (λ v. M v k))) e ((is_cost k).bound a agree h)
+
+    -- a node that is true, costs no more than it has to, and has the faulty variable below it
+    pub record OnFault (k : ℕ) : Type 0 where
+      pub holds : is_true graph.nodes k a ≡ true
+      pub has : mentions graph.nodes p k ≡ true
+      pub cost : ℕ
+      pub is : cost_at (values (node_cost (known_at words) (part_cost costs)) graph.nodes) k ≡ Some cost
+      pub tight : faults_in (known_at words) (part_cost costs) (length costs) (λ v. mentions graph.nodes v k) a ≤ cost
+
+    pub on-root : (c : ℕ) → C root ≡ Some c → T a root ≡ true → all_faults kn price n a ≤ c → OnFault root
+    on-root c e h cheap = record { holds = h; has = by_test (M p root) refl; cost = c; is = e; tight = omega (arith, faults-le (λ v. M v root) (λ v. true) (λ v q. refl)) } where
+      by_test : (b : Bool) → M p root ≡ b → b ≡ true
+      by_test true q = refl
+      by_test false q = absurd (omega (arith, bound-at root c h e, faults-lt (λ v. M v root) (λ v. true) (λ v r. refl) q refl))
+
+    pub record KidOnFault (kids : List ℕ) : Type 0 where
+      pub kid : ℕ
+      pub is_in : In kid kids
+      pub on : OnFault kid
+
+    -- each kid costs no more than it has to
+    tight-kids : (kids : List ℕ) → Apart kids → TA kids a ≡ true → (c : ℕ) → SA kids ≡ Some c → faults (MA kids) ≤ c → (j : ℕ) → In j kids → M p j ≡ true → OnFault j
+    tight-kids [] apart h c s t j m e = absurd m
+    tight-kids (i ∷ kids) apart h c s t j m e =
+        let sum = from_add (C i) (SA kids) c s in
+        let here : T a i ≡ true = and_left _ _ h in
+        let there : TA kids a ≡ true = and_right (T a i) _ h in
+        let low_here = bound-at i sum.left here sum.left_is in
+        let low_there : sum.right ≤ faults (MA kids) = subst (λ o. Below o (faults (MA kids))) sum.right_is ((kids-cost kids (apart-tail i kids apart)).bound a agree there) in
+        let all = add-le-total (λ v. cond (M v i) (fl v) 0) (λ v. cond (MA kids v) (fl v) 0) (λ v. cond (MA (i ∷ kids) v) (fl v) 0) (λ v. apart_sum (M v i) (MA kids v) (fl v) (apart-both i kids apart v)) 1 n in
+        by_place (tight-kids kids (apart-tail i kids apart) there sum.right sum.right_is (omega (arith, all, low_here, low_there, sum.sum_is)) j) m
+        (λ q. record { holds = here; has = q; cost = sum.left; is = sum.left_is; tight = omega (arith, all, low_there, sum.sum_is) }) where
+          by_place : (In j kids → M p j ≡ true → OnFault j) → In j (i ∷ kids) → ((M p i ≡ true) → OnFault i) → OnFault j
+          by_place more (inl q) one = subst OnFault (sym q) (one (subst (λ x. M p x ≡ true) q e))
+          by_place more (inr r) one = more r e
+
+    -- some kid of an and
+    on-and : (k : ℕ) (kids : List ℕ) → slice_get graph.nodes k ≡ Some (record { what = And; kids = kids }) → OnFault k → KidOnFault kids
+    unfolding Apart
+    on-and k kids e on =
+        let j = kid-with (M p) kids (sym (mention-at k _ e p) ∙ on.has) in
+        record {
+          kid = j.kid;
+          is_in = j.is_in;
+          on = tight-kids kids (apart-kids k kids e) (sym (true-at k _ e a) ∙ on.holds) on.cost (sym (costs-at k _ e) ∙ on.is)
+              (omega (arith, on.tight, faults-le (MA kids) (λ v. M v k) (λ v q. mention-at k _ e v ∙ q))) j.kid j.is_in j.has;
+        }
+
+    -- some kid of an or, that costs as much
+    pub record CheapKid (kids : List ℕ) (cost : ℕ) : Type 0 where
+      pub kid : ℕ
+      pub is_in : In kid kids
+      pub same : cost_at (values (node_cost (known_at words) (part_cost costs)) graph.nodes) kid ≡ Some cost
+      pub on : OnFault kid
+
+    on-or : (k : ℕ) (kids : List ℕ) → slice_get graph.nodes k ≡ Some (record { what = Or; kids = kids }) → (on : OnFault k) → CheapKid kids on.cost
+    on-or k kids e on = let j = kid-with (T a) kids (sym (true-at k _ e a) ∙ on.holds) in
+        by_cost j.kid j.is_in j.has (C j.kid) refl ((is_cost j.kid).bound a agree j.has) where
+          by_cost : (j : ℕ) → In j kids → T a j ≡ true → (o : Option ℕ) → C j ≡ o → Below o (faults (λ v. M v j)) → CheapKid kids on.cost
+          by_cost j m h None q b = absurd b
+          by_cost j m h (Some d) q b =
+              let inside : (v : ℕ) → M v j ≡ true → M v k ≡ true = λ v r. mention-at k _ e v ∙ any-kid (M v) kids j m r in
+              let most : on.cost ≤ d = subst (λ o. Below o d) (sym (costs-at k _ e) ∙ on.is) (cheapest-kid C kids j d m q) in
+              let less = faults-le (λ v. M v j) (λ v. M v k) inside in
+              let cost_is : C j ≡ Some on.cost = q ∙ ap Some (omega (arith, b, less, on.tight, most)) in
+              record { kid = j; is_in = m; same = cost_is; on = record { holds = h; has = by_test (M p j) refl; cost = on.cost; is = cost_is; tight = omega (arith, less, on.tight) } } where
+                by_test : (x : Bool) → M p j ≡ x → x ≡ true
+                by_test true r = refl
+                by_test false r = absurd (omega (
+                  arith,
+                  b,
+                  on.tight,
+                  subst (λ o. Below o d) (sym (costs-at k _ e) ∙ on.is) (cheapest-kid C kids j d m q),
+                  faults-lt (λ v. M v j) (λ v. M v k) (λ v s. mention-at k _ e v ∙ any-kid (M v) kids j m s) r on.has,
+                ))
+
+    -- Marks that go from the root to all kids of an and and to the cheap kids of an or come to a literal that says faulty.
+    module _ (Marked : ℕ → Type 0)
+        (ands : (k : ℕ) (kids : List ℕ) (c : ℕ) → slice_get graph.nodes k ≡ Some (record { what = And; kids = kids })
+        → cost_at (values (node_cost (known_at words) (part_cost costs)) graph.nodes) k ≡ Some c → Marked k → (j : ℕ) → In j kids → Marked j)
+        (ors : (k : ℕ) (kids : List ℕ) (c : ℕ) → slice_get graph.nodes k ≡ Some (record { what = Or; kids = kids })
+        → cost_at (values (node_cost (known_at words) (part_cost costs)) graph.nodes) k ≡ Some c → Marked k → (j : ℕ) → In j kids
+        → cost_at (values (node_cost (known_at words) (part_cost costs)) graph.nodes) j ≡ Some c → Marked j) where
+      pub record MarkedLiteral : Type 0 where
+        pub node : ℕ
+        pub kids : List ℕ
+        pub is : slice_get graph.nodes node ≡ Some (record { what = Literal p false; kids = kids })
+        pub marked : Marked node
+
+      got : (nodes : List Node) (k : ℕ) → k < length nodes → (node : Node) × (slice_get nodes k ≡ Some node)
+      got [] k h = absurd (omega arith)
+      got (x ∷ nodes) zero h = (x, refl)
+      got (x ∷ nodes) (suc k) h = got nodes k (omega arith)
+
+      pub descend : (fuel k : ℕ) → k < fuel → Marked k → OnFault k → MarkedLiteral
+      descend zero k h mark on = absurd (omega arith)
+      descend (suc fuel) k h mark on = let x = got graph.nodes k (node-there k a on.holds) in by_kind (descend fuel) x.0.what x.0.kids x.1 where
+        by_kind : ((j : ℕ) → j < fuel → Marked j → OnFault j → MarkedLiteral) → (what : NodeKind) (kids : List ℕ) → slice_get graph.nodes k ≡ Some (record { what = what; kids = kids }) → MarkedLiteral
+        by_kind more (Literal var positive) kids e =
+            let at : var ≡ p = eqb-true _ _ (sym (mention-at k _ e p) ∙ on.has) in
+            record { node = k; kids = kids; is = e ∙ (λ i. Some (record { what = Literal (at i) (says positive (a var) (sym (true-at k _ e a) ∙ on.holds) (ap a at ∙ false_at) i); kids = kids })); marked = mark } where
+              says : (b x : Bool) → same_bit b x ≡ true → x ≡ false → b ≡ false
+              says true true q r = absurd (cc)
+              says true false q r = absurd (cc)
+              says false x q r = refl
+        by_kind more And kids e = let x = on-and k kids e on in more x.kid (omega (arith, all-below k kids x.kid (below k _ e) x.is_in)) (ands k kids on.cost e on.is mark x.kid x.is_in) x.on
+        by_kind more Or kids e = let x = on-or k kids e on in more x.kid (omega (arith, all-below k kids x.kid (below k _ e) x.is_in)) (ors k kids on.cost e on.is mark x.kid x.is_in x.same) x.on

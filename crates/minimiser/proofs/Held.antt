@@ -1,0 +1,40 @@
+-- The cost of the parts that are held to be faulty, one after the other; and what all parts cost.
+use Rattle.std.proofs.Common.{◌≡◌, ℕ, zero, suc, ◌+◌, ◌<◌, ◌≤◌, List, [], ◌∷◌, length, get_or, drop, refl, arith, add-one}
+use Rattle.std.proofs.lemmas.List.Sums.{sum_by-cons, sum_by-drop_more}
+use Rattle.conditioner.specs.Models.{total_cost}
+use Rattle.ranking.proofs.Drops.{drop-item, drop-past}
+use Rattle.conditioner.specs.Words.{known_of}
+use Rattle.minimiser.specs.Costs.{held_one, held_cost, part_cost}
+use Rattle.minimiser.proofs.Totals.{total}
+
+pub held-drop : (costs words : List ℕ) (i : ℕ) → i < length costs → i < length words
+    → held_cost (drop i costs) (drop i words) ≡ held_one (get_or costs i 0) (known_of (get_or words i 0)) + held_cost (drop (i + 1) costs) (drop (i + 1) words)
+held-drop costs words i h g = rw (add-one i, drop-item costs i 0 h, drop-item words i 0 g) refl
+
+pub held-end : (costs words : List ℕ) (i : ℕ) → length costs ≤ i → held_cost (drop i costs) (drop i words) ≡ 0
+held-end costs words i h = rw (drop-past costs i h) refl
+
+pub total-drop : (costs : List ℕ) (i : ℕ) → i < length costs → total_cost (drop i costs) ≡ get_or costs i 0 + total_cost (drop (i + 1) costs)
+total-drop costs i h = sum_by-drop_more (λ c. c) costs i 0 h
+
+pub ruleset held_steps = (held-drop, held-end, total-drop)
+
+total_is : (f : ℕ → ℕ) (a : ℕ) (costs : List ℕ) → ((i : ℕ) → i < length costs → f (a + i) ≡ get_or costs i 0) → total f a (length costs) ≡ total_cost costs
+total_is f a [] h = refl
+total_is f a (c ∷ costs) h =
+    let here : f a ≡ c = let e : a + 0 ≡ a = omega arith in rw e at (h zero (omega arith)) in
+    let rest = total_is f (a + 1) costs (λ i g. let e : a + suc i ≡ a + 1 + i = omega arith in rw e at (h (suc i) (omega arith))) in
+    omega (arith, here, rest, sum_by-cons (λ (x : ℕ). x) c costs)
+
+-- the parts' own costs, summed over their variables
+pub full_cost-is : (costs : List ℕ) → total (part_cost costs) 1 (length costs) ≡ total_cost costs
+full_cost-is costs = total_is (part_cost costs) 1 costs at_part where
+  at_part : (i : ℕ) → i < length costs → part_cost costs (1 + i) ≡ get_or costs i 0
+  at_part i h = let e : 1 + i ≡ suc i = omega arith in rw e refl
+
+-- no part costs more than all together
+pub part_cost-le : (costs : List ℕ) (v : ℕ) → part_cost costs v ≤ total_cost costs
+part_cost-le costs zero = omega arith
+part_cost-le [] (suc i) = omega arith
+part_cost-le (c ∷ costs) (suc zero) = omega (arith, sum_by-cons (λ (x : ℕ). x) c costs)
+part_cost-le (c ∷ costs) (suc (suc i)) = omega (arith, part_cost-le costs (suc i), sum_by-cons (λ (x : ℕ). x) c costs)

@@ -1,0 +1,13 @@
+pub mod Totals
+pub mod Costs
+pub mod Nodes
+pub mod Apart
+pub mod Members
+pub mod Held
+pub mod Sums
+pub mod Whole
+pub mod Passes
+pub mod Models
+pub mod Derivations
+pub mod Sweeping
+mod Examples

@@ -1,0 +1,149 @@
+-- The states that a graph allows, as words are changed.
+use Rattle.std.proofs.Common.{◌≡◌, ◌≢◌, ℕ, zero, suc, ◌-◌, ◌<◌, ◌≤◌, Bool, true, false, eqb, ◌&&◌, List, [], ◌∷◌, ◌++◌, length, get_or, Option, Some, None, refl, ap, sym, ◌∙◌, subst, arith, inl, inr, ⊎_elim, length-append}
+use Rattle.std.specs.Prelude.{◌⊎◌}
+use Rattle.std.proofs.lemmas.Bool.{eqb-true, eqb-false, cases_lt, leb-true, le-leb}
+use Rattle.ranking.specs.Bits.{bit_in, lists_of_bits}
+use Rattle.ranking.specs.Cases.{agrees_at}
+use Rattle.ranking.specs.Ranking.{cost, least, least_with, is_at_most, states}
+use Rattle.graph_rules.specs.Graphs.{Graph, holds}
+use Rattle.conditioner.specs.Words.{known_of, word_of}
+use Rattle.conditioner.specs.Models.{has_model, fits_words, models, least_under, diagnoses_under}
+use Rattle.minimiser.proofs.Costs.{and_left, and_right, both}
+use Rattle.minimiser.proofs.Members.{In, In-filter, In-filtered, bits_in, bits_length, any_from, any_in, AtMost, least-below, least-from}
+use Rattle.minimiser.proofs.Whole.{agrees_to, agrees_from, bit_in-front, from_bounds, AtMost-le}
+use Rattle.minimiser.specs.Suspects.{Passes}
+
+pub same_or_not : (k i : ℕ) → (k ≡ i) ⊎ (k ≢ i)
+same_or_not k i = by_test (eqb k i) refl where
+  by_test : (b : Bool) → eqb k i ≡ b → (k ≡ i) ⊎ (k ≢ i)
+  by_test true e = inl (eqb-true _ _ e)
+  by_test false e = inr (eqb-false _ _ e)
+
+-- a bit that agrees with a word
+abbrev pub Agree : ℕ → Bool → Type 0
+Agree word bit = agrees_at (known_of word) bit ≡ true
+
+pub Agree-bit : (b bit : Bool) → Agree (word_of b) bit → bit ≡ b
+Agree-bit true true e = refl
+Agree-bit true false e = absurd (cc)
+Agree-bit false true e = absurd (cc)
+Agree-bit false false e = refl
+
+pub Agree-same : (bit : Bool) → Agree (word_of bit) bit
+Agree-same true = refl
+Agree-same false = refl
+
+-- words that say as much, or more of open parts
+pub record Refines (parts : ℕ) (old new : List ℕ) : Type 0 where
+  pub long : length new ≡ length old
+  pub kept : (k : ℕ) → get_or old k 0 ≢ 0 → get_or new k 0 ≡ get_or old k 0
+  pub others : (k : ℕ) → parts ≤ k → get_or new k 0 ≡ get_or old k 0
+
+abbrev pub LeastIs : Graph → List ℕ → List ℕ → ℕ → Type 0
+LeastIs graph costs words most = least_under graph words costs ≡ Some most
+
+-- some state passes
+pub record HasState (graph : Graph) (words costs : List ℕ) (most : ℕ) : Type 0 where
+  pub state : List Bool
+  pub passes : Passes graph words costs most state
+
+module _ (graph : Graph) (costs : List ℕ) (within : length costs ≤ graph.vars) where
+  -- what the words say of the parts is so in a state that they allow
+  pub model-agrees : (words : List ℕ) (h : List Bool) → length words ≡ graph.vars → length h ≡ length costs → has_model graph (fits_words words) (length costs) h ≡ true
+      → (i : ℕ) → i < length costs → Agree (get_or words i 0) (bit_in h i)
+  model-agrees words h long l m i lt =
+      let r = any_from (λ others. fits_words words (h ++ others) && holds graph (h ++ others)) (lists_of_bits (graph.vars - length costs)) m in
+      let len : length r.item ≡ graph.vars - length costs = bits_length (graph.vars - length costs) r.item r.is_in in
+      subst (λ b. Agree (get_or words i 0) b) (bit_in-front h r.item i (omega arith))
+      (agrees_to words (h ++ r.item) (omega (arith, length-append h r.item)) (and_left _ _ r.passes) i)
+
+  -- a state that the words allow is allowed by others that say the same of the other variables, and nothing else of it
+  pub model-moved : (words others : List ℕ) (h : List Bool) → length words ≡ graph.vars → length others ≡ graph.vars → length h ≡ length costs → has_model graph (fits_words words) (length costs) h ≡ true
+      → ((i : ℕ) → i < length costs → Agree (get_or others i 0) (bit_in h i)) → ((i : ℕ) → length costs ≤ i → get_or others i 0 ≡ get_or words i 0) → has_model graph (fits_words others) (length costs) h ≡ true
+  model-moved words others h long long' l m agree same =
+      let r = any_from (λ rest. fits_words words (h ++ rest) && holds graph (h ++ rest)) (lists_of_bits (graph.vars - length costs)) m in
+      let len : length r.item ≡ graph.vars - length costs = bits_length (graph.vars - length costs) r.item r.is_in in
+      let all : length (h ++ r.item) ≡ graph.vars = omega (arith, length-append h r.item) in
+      any_in (λ rest. fits_words others (h ++ rest) && holds graph (h ++ rest)) r.item (lists_of_bits (graph.vars - length costs)) r.is_in
+      (both _ _ (agrees_from others (h ++ r.item) (all ∙ sym long')
+      (λ i lt. ⊎_elim
+      (λ (p : i < length costs). subst (λ b. Agree (get_or others i 0) b) (sym (bit_in-front h r.item i (omega arith))) (agree i p))
+      (λ (p : length costs ≤ i). subst (λ w. Agree w (bit_in (h ++ r.item) i)) (sym (same i p)) (agrees_to words (h ++ r.item) (all ∙ sym long) (and_left _ _ r.passes) i))
+      (cases_lt i (length costs))))
+      (and_right (fits_words words (h ++ r.item)) _ r.passes))
+
+  agree-open : (old new : ℕ) (bit : Bool) → (old ≢ 0 → new ≡ old) → Agree new bit → Agree old bit
+  agree-open zero new bit h a = refl
+  agree-open (suc n) new bit h a = subst (λ w. Agree w bit) (h (λ e. absurd (omega arith))) a
+
+  pub Passes-old : (old new : List ℕ) (most : ℕ) (h : List Bool) → length old ≡ graph.vars → Refines (length costs) old new → Passes graph new costs most h → Passes graph old costs most h
+  Passes-old old new most h long r p = record {
+    long = p.long;
+    model = model-moved new old h (r.long ∙ long) long p.long p.model
+        (λ i lt. agree-open (get_or old i 0) (get_or new i 0) (bit_in h i) (r.kept i) (model-agrees new h (r.long ∙ long) p.long p.model i lt))
+        (λ i g. sym (r.others i g));
+    cheap = p.cheap;
+  }
+
+  pub Passes-new : (old new : List ℕ) (most : ℕ) (h : List Bool) → length old ≡ graph.vars → Refines (length costs) old new → Passes graph old costs most h
+      → ((i : ℕ) → i < length costs → Agree (get_or new i 0) (bit_in h i)) → Passes graph new costs most h
+  Passes-new old new most h long r p agree = record {
+    long = p.long;
+    model = model-moved old new h long (r.long ∙ long) p.long p.model agree r.others;
+    cheap = p.cheap;
+  }
+
+  pub Passes-agrees : (words : List ℕ) (most : ℕ) (h : List Bool) → length words ≡ graph.vars → Passes graph words costs most h → (i : ℕ) → i < length costs → Agree (get_or words i 0) (bit_in h i)
+  Passes-agrees words most h long p i lt = model-agrees words h long p.long p.model i lt
+
+  -- no state that the words allow costs less
+  pub least-low : (words : List ℕ) (most : ℕ) (h : List Bool) → LeastIs graph costs words most → length h ≡ length costs → has_model graph (fits_words words) (length costs) h ≡ true → most ≤ cost costs h
+  least-low words most h e l m = subst (λ o. AtMost o (cost costs h)) e
+      (least-below (cost costs) (has_model graph (fits_words words) (length costs)) h (states (length costs)) (subst (λ n. In h (lists_of_bits n)) l (bits_in h)) m)
+
+  pub least-some : (words : List ℕ) (most : ℕ) → LeastIs graph costs words most → HasState graph words costs most
+  least-some words most e =
+      let r = least-from (cost costs) (has_model graph (fits_words words) (length costs)) most (states (length costs)) e in
+      record { state = r.item; passes = record { long = bits_length (length costs) r.item r.is_in; model = r.passes; cheap = omega (arith, r.is_size) } }
+
+  -- a state that passes under words that say more shows that their least cost is the same
+  pub least-refined : (old new : List ℕ) (most : ℕ) (h : List Bool) → length old ≡ graph.vars → Refines (length costs) old new → LeastIs graph costs old most → Passes graph new costs most h → LeastIs graph costs new most
+  least-refined old new most h long r e p = from_bounds _ most
+      (AtMost-le _ (cost costs h) most
+      (least-below (cost costs) (has_model graph (fits_words new) (length costs)) h (states (length costs)) (subst (λ n. In h (lists_of_bits n)) p.long (bits_in h)) p.model) p.cheap)
+      (λ k f. let s = least-from (cost costs) (has_model graph (fits_words new) (length costs)) k (states (length costs)) f in
+      let t = Passes-old old new k s.item long r (record { long = bits_length (length costs) s.item s.is_in; model = s.passes; cheap = omega (arith, s.is_size) }) in
+      omega (arith, least-low old most s.item e t.long t.model, s.is_size))
+
+-- ---- the diagnoses
+
+pub least-none : (costs : List ℕ) (hs : List (List Bool)) → least costs hs ≡ None → hs ≡ []
+least-none costs [] e = refl
+least-none costs (h ∷ hs) e = absurd (has (cost costs h) (least costs hs) e) where
+  has : (n : ℕ) (o : Option ℕ) → least_with n o ≡ None → ⊥
+  has n None e = cc
+  has n (Some m) e = cc
+
+module _ (graph : Graph) (words costs : List ℕ) (most : ℕ) (e : LeastIs graph costs words most) where
+  abbrev pub ds : List (List Bool)
+  ds = diagnoses_under graph words costs
+
+  abbrev is_low : List Bool → Bool
+  is_low h = is_at_most (cost costs h) (least_under graph words costs)
+
+  low-in : (h : List Bool) → cost costs h ≤ most → is_low h ≡ true
+  low-in h c = ap (is_at_most (cost costs h)) e ∙ le-leb (cost costs h) most c
+
+  low-out : (h : List Bool) → is_low h ≡ true → cost costs h ≤ most
+  low-out h t = leb-true (cost costs h) most (sym (ap (is_at_most (cost costs h)) e) ∙ t)
+
+  -- the diagnoses are the states that pass
+  pub diagnosis-in : (h : List Bool) → Passes graph words costs most h → In h ds
+  diagnosis-in h p = In-filtered is_low h (models graph words (length costs))
+      (In-filtered (has_model graph (fits_words words) (length costs)) h (states (length costs)) (subst (λ n. In h (lists_of_bits n)) p.long (bits_in h)) p.model) (low-in h p.cheap)
+
+  pub diagnosis-out : (h : List Bool) → In h ds → Passes graph words costs most h
+  diagnosis-out h m =
+      let a = In-filter is_low h (models graph words (length costs)) m in
+      let b = In-filter (has_model graph (fits_words words) (length costs)) h (states (length costs)) a.0 in
+      record { long = bits_length (length costs) h b.0; model = b.1; cheap = low-out h a.1 }

@@ -1,0 +1,23 @@
+use Rattle.std.proofs.Common.{arith}
+use Rattle.minimiser.proofs.Passes.{length-least_costs}
+use Rattle.minimiser.proofs.Sweeping.{are-values, root-fits, flagged}
+use Rattle.minimiser.proofs.suspects.find_suspects.Goals as goal
+
+pub sweep-requires-clause-room : goal.sweep-requires-clause-room
+sweep-requires-clause-room c = length-least_costs c.args.graph.now c.args.words.now c.args.costs.now c.args.values.now c.requires.values
+
+pub sweep-requires-clause-values : goal.sweep-requires-clause-values
+sweep-requires-clause-values c = are-values c.args.graph.now c.args.words.now c.args.costs.now c.vars-vars.ensures.valid c.requires.total c.args.values.now c.requires.values
+
+pub sweep-requires-clause-root : goal.sweep-requires-clause-root
+sweep-requires-clause-root c = root-fits c.args.graph.now c.args.words.now c.args.costs.now c.args.values.now c.vars-vars.ensures.valid c.requires.long c.requires.parts c.requires.total c.requires.values c.requires.some
+
+pub suspect_at-requires-clause-room : goal.suspect_at-requires-clause-room
+suspect_at-requires-clause-room c = omega (arith, c.sweep.auto.values, length-least_costs c.args.graph.now c.args.words.now c.args.costs.now c.args.values.now c.requires.values)
+
+pub bounds-state-part : goal.bounds-state-part
+bounds-state-part c = omega (arith, c.in-Some.ensures.within)
+
+pub returns-clause-suspects : goal.returns-clause-suspects
+returns-clause-suspects c = flagged c.args.graph.now c.args.words.now c.args.costs.now c.args.values.now c.vars-vars.ensures.valid c.requires.long c.requires.parts c.requires.total c.requires.values c.requires.some
+    c.sweep.new.values c.sweep.ensures c.requires.dear c.loop-at.state c.loop-at.at (omega (arith, c.len-at-end.ensures.len)) (omega arith) c.loop-at.invariant

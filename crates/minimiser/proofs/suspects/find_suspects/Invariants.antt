@@ -1,0 +1,7 @@
+use Rattle.minimiser.specs.inner.Marked.{suspect_at}
+use Rattle.minimiser.proofs.Sweeping.{AreFlagged}
+use Rattle.minimiser.proofs.suspects.find_suspects.Given as goal
+
+-- the nodes so far
+abbrev pub invariant-loop-at : goal.invariant-loop-at
+invariant-loop-at l = AreFlagged (suspect_at l.graph.nodes l.words l.parts l.values) l.state l.at

@@ -1,0 +1,6 @@
+use Rattle.std.proofs.Common.{refl}
+use Rattle.minimiser.proofs.Passes.{the_node, literal_at}
+use Rattle.minimiser.proofs.suspects.suspect_at.Goals as goal
+
+pub suspect_of-requires-clause-var : goal.suspect_of-requires-clause-var
+suspect_of-requires-clause-var c = (literal_at _ _ _ _ _ c.vars-vars.ensures.valid (the_node _ _ _ _ c.requires.at c.in-Literal.ensures refl)).0

@@ -1,0 +1,4 @@
+pub mod Costs
+pub mod Stored
+pub mod Suspects
+pub mod inner

@@ -1,0 +1,13 @@
+//! The least cost of the health states that a graph allows under the words of its variables, and the parts that are faulty at that
+//! cost.
+#![tactic(auto)]
+
+mod pass;
+mod steps;
+mod suspects;
+#[cfg(test)]
+mod tests;
+
+pub use pass::{TOTAL_LIMIT, least};
+pub use steps::Steps;
+pub use suspects::{find_suspects, first_suspect};

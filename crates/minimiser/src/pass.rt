@@ -1,0 +1,154 @@
+ghost use Rattle.std.specs.Prelude.{◌≡◌, ℕ, ◌+◌, ◌-◌, ◌<◌, ◌≤◌, ◌^◌, List, [], ◌∷◌, ◌++◌, map, length, All, slice_index, IfSome};
+ghost use Rattle.conditioner.specs.Models.{least_under, total_cost};
+ghost use Rattle.minimiser.specs.Costs.{part_cost, literal_cost, cost_at, sum_costs, cheapest, held_cost};
+ghost use Rattle.minimiser.specs.Stored.{cost_in, costs_to, AreLeastCosts};
+
+use crate::steps::Steps;
+use conditioner::{Leaf, leaf};
+use graph_rules::NodeKind;
+use node_store::Graph;
+use std::sync::ledger::Ledger;
+
+/// All parts together cost less than this, so that a cost leaves the highest bit of its number free.
+pub const TOTAL_LIMIT: u32 = 2_147_483_647;
+
+/// What stands for no cost.
+pub(crate) const NONE: u32 = u32::MAX;
+
+/// The least cost of a health state that some bits of the other variables make a model: they agree with the words, and the graph
+/// is true under them. `None` where there is none.
+///
+/// The parts are the first variables, and each has a cost. One that is fixed to faulty counts also where the graph does not mention
+/// it, and one that is open and not mentioned counts as ok. One call is one pass over the nodes, which leaves the least cost at each
+/// in `values`, for [`first_suspect`](crate::first_suspect) and [`find_suspects`](crate::find_suspects).
+pub fn least<L: Ledger>(
+    graph: &Graph,
+    words: &[u32],
+    costs: &[u32],
+    values: &mut [u32],
+    steps: &mut Steps<L>,
+) -> Option<u32>
+    requires long { length words.now ≡ graph.now.vars }
+    requires words { All (λ w. w < 3) words.now }
+    requires parts { length costs.now ≤ graph.now.vars }
+    requires total { total_cost costs.now < TOTAL_LIMIT }
+    requires room { length values.old ≡ length graph.now.nodes }
+
+    ensures least { result ≡ least_under graph.now words.now costs.now }
+    ensures values { AreLeastCosts graph.now words.now costs.now values.new }
+    ensures steps { steps.new ≡ steps.old + 1 }
+{
+    steps.tick();
+    least_cost(graph, words, costs, values)
+}
+
+fn least_cost(graph: &Graph, words: &[u32], costs: &[u32], values: &mut [u32]) -> Option<u32>
+    requires long { length words.now ≡ graph.now.vars }
+    requires words { All (λ w. w < 3) words.now }
+    requires parts { length costs.now ≤ graph.now.vars }
+    requires total { total_cost costs.now < TOTAL_LIMIT }
+    requires room { length values.old ≡ length graph.now.nodes }
+    ensures least { result ≡ least_under graph.now words.now costs.now }
+    ensures values { AreLeastCosts graph.now words.now costs.now values.new }
+{
+    let count = graph.len();
+    for at in 0..count {
+        let value = node_value(graph, words, costs, &values[..at as usize], at);
+        values[at as usize] = value;
+    }
+    let root = values[count as usize - 1];
+    if root == NONE {
+        None
+    } else {
+        Some(root + held_cost(words, costs))
+    }
+}
+
+// The least cost at a node, from those of the nodes before it.
+fn node_value(graph: &Graph, words: &[u32], costs: &[u32], values: &[u32], at: u32) -> u32
+    requires at { at < length graph.now.nodes }
+    requires long { length words.now ≡ graph.now.vars }
+    requires words { All (λ w. w < 3) words.now }
+    requires parts { length costs.now ≤ graph.now.vars }
+    requires total { total_cost costs.now < TOTAL_LIMIT }
+    requires earlier { map cost_in values.now ≡ costs_to graph.now words.now costs.now at }
+    ensures { map cost_in values.now ++ cost_in result ∷ [] ≡ costs_to graph.now words.now costs.now (at + 1) }
+{
+    let _vars = graph.vars();
+    let kids = graph.kids(at);
+    match graph.what(at) {
+        NodeKind::Literal { var, positive } => {
+            literal_value(leaf(words, var, positive), positive, part_cost(var, costs))
+        }
+        NodeKind::And => and_value(values, kids),
+        NodeKind::Or => or_value(values, kids),
+    }
+}
+
+// What the failure of a variable's part costs, and 0 for one that is no part's.
+fn part_cost(var: u32, costs: &[u32]) -> u32
+    requires { 1 ≤ var }
+    ensures { result ≡ part_cost costs.now var }
+{
+    match costs.get(var as usize - 1) {
+        Some(cost) => *cost,
+        None => 0,
+    }
+}
+
+fn literal_value(leaf: Leaf, positive: bool, cost: u32) -> u32
+    requires { cost < TOTAL_LIMIT }
+    ensures { cost_in result ≡ literal_cost leaf cost positive }
+{
+    match leaf {
+        Leaf::True => 0,
+        Leaf::False => NONE,
+        Leaf::Open => { if positive { 0 } else { cost } }
+    }
+}
+
+fn and_value(values: &[u32], kids: &[u32]) -> u32
+    requires kids { All (λ k. k < length values.now) kids.now }
+    requires few { length kids.now < 2 ^ 32 }
+    requires small { IfSome (sum_costs (map (cost_at (map cost_in values.now)) kids.now)) (λ n. n < TOTAL_LIMIT) }
+    ensures { cost_in result ≡ sum_costs (map (cost_at (map cost_in values.now)) kids.now) }
+{
+    let mut total: u64 = 0;
+    for k in kids {
+        let value = values[*k as usize];
+        if value == NONE {
+            return NONE;
+        }
+        total += u64::from(value);
+    }
+    total as u32
+}
+
+fn or_value(values: &[u32], kids: &[u32]) -> u32
+    requires { All (λ k. k < length values.now) kids.now }
+    ensures { cost_in result ≡ cheapest (map (cost_at (map cost_in values.now)) kids.now) }
+{
+    let mut best = NONE;
+    for k in kids {
+        best = best.min(values[*k as usize]);
+    }
+    best
+}
+
+// What the parts cost that are fixed to faulty.
+#[tactic(auto, using(crate::proofs::Held::held_steps))]
+fn held_cost(words: &[u32], costs: &[u32]) -> u32
+    requires words { All (λ w. w < 3) words.now }
+    requires long { length costs.now ≤ length words.now }
+    requires total { total_cost costs.now < TOTAL_LIMIT }
+    ensures cost { result ≡ held_cost costs.now words.now }
+    ensures few { result ≤ total_cost costs.now }
+{
+    let mut total = 0;
+    for (part, cost) in costs.iter().enumerate() {
+        if words[part] == 2 {
+            total += *cost;
+        }
+    }
+    total
+}

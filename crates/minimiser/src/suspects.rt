@@ -1,0 +1,141 @@
+ghost use Rattle.std.specs.Prelude.{◌≡◌, ℕ, ◌-◌, ◌<◌, ◌≤◌, ◌↔◌, length, All, IsSome, IfSome, MatchOption, slice_index};
+ghost use Rattle.conditioner.specs.Models.{least_under, total_cost};
+ghost use Rattle.minimiser.specs.Stored.{AreLeastCosts};
+ghost use Rattle.minimiser.specs.Suspects.{Suspect, OkBelow};
+ghost use Rattle.minimiser.specs.inner.Marked.{IsValue, has_mark, spread_value, IsSwept, suspect_of, suspect_at};
+
+use crate::pass::{NONE, TOTAL_LIMIT};
+use graph_rules::NodeKind;
+use node_store::Graph;
+
+/// Marks a node in its value. Costs are below it.
+const MARK: u32 = TOTAL_LIMIT + 1;
+
+/// The first open part that is faulty in some state of least cost, parts being counted from 0.
+///
+/// The values are those that [`least`](crate::least) left where some state agrees with the words. They are spoilt. One sweep over
+/// the nodes, from the root down, and one look at them.
+pub fn first_suspect(graph: &Graph, words: &[u32], costs: &[u32], values: &mut [u32]) -> Option<u32>
+    requires long { length words.now ≡ graph.now.vars }
+    requires parts { length costs.now ≤ graph.now.vars }
+    requires total { total_cost costs.now < TOTAL_LIMIT }
+    requires dear { All (λ c. 0 < c) costs.now }
+    requires values { AreLeastCosts graph.now words.now costs.now values.old }
+    requires some { IsSome (least_under graph.now words.now costs.now) }
+
+    ensures { MatchOption result (OkBelow graph.now words.now costs.now (length costs.now))
+        (λ part. Suspect graph.now words.now costs.now part × OkBelow graph.now words.now costs.now part) }
+{
+    let _vars = graph.vars();
+    let parts = costs.len() as u32;
+    sweep(graph, values);
+    let mut first = parts;
+    for at in 0..graph.len() {
+        if let Some(part) = suspect_at(graph, words, parts, values, at) {
+            first = first.min(part);
+        }
+    }
+    if first == parts { None } else { Some(first) }
+}
+
+/// All open parts that are faulty in some state of least cost: 1 for each of them in the state, and 0 for every other part.
+///
+/// The values are as for [`first_suspect`]. They are spoilt.
+pub fn find_suspects(
+    graph: &Graph,
+    words: &[u32],
+    costs: &[u32],
+    values: &mut [u32],
+    state: &mut [u32],
+)
+    requires long { length words.now ≡ graph.now.vars }
+    requires parts { length costs.now ≤ graph.now.vars }
+    requires total { total_cost costs.now < TOTAL_LIMIT }
+    requires dear { All (λ c. 0 < c) costs.now }
+    requires values { AreLeastCosts graph.now words.now costs.now values.old }
+    requires some { IsSome (least_under graph.now words.now costs.now) }
+    requires state { length state.old ≡ length costs.now }
+
+    ensures state { All (λ s. s < 2) state.new }
+    ensures suspects { (part : ℕ) → part < length costs.now
+        → (slice_index state.new part ≡ 1) ↔ Suspect graph.now words.now costs.now part }
+{
+    let _vars = graph.vars();
+    let parts = costs.len() as u32;
+    sweep(graph, values);
+    state.fill(0);
+    for at in 0..graph.len() {
+        if let Some(part) = suspect_at(graph, words, parts, values, at) {
+            state[part as usize] = 1;
+        }
+    }
+}
+
+// Marks the root, and from each marked node on its kids that cost no more. All kids of an And are such, and those of an Or that
+// make it true at its cost.
+fn sweep(graph: &Graph, values: &mut [u32])
+    requires room { length values.old ≡ length graph.now.nodes }
+    requires values { All IsValue values.old }
+    requires root { slice_index values.old (length graph.now.nodes - 1) < TOTAL_LIMIT }
+    ensures { IsSwept graph.now.nodes values.old values.new 0 }
+{
+    let count = graph.len();
+    values[count as usize - 1] += MARK;
+    for at in (0..count).rev() {
+        let value = values[at as usize];
+        if has_mark(value) {
+            spread(values, graph.kids(at), value - MARK);
+        }
+    }
+}
+
+fn has_mark(value: u32) -> bool
+    ensures { result ≡ has_mark value }
+{
+    value >= MARK && value != NONE
+}
+
+fn spread(values: &mut [u32], kids: &[u32], cost: u32)
+    requires kids { All (λ k. k < length values.old) kids.now }
+    requires cost { cost < TOTAL_LIMIT }
+    ensures { (j : ℕ) → j < length values.old
+        → slice_index values.new j ≡ spread_value kids.now cost j (slice_index values.old j) }
+{
+    for k in kids {
+        if values[*k as usize] <= cost {
+            values[*k as usize] += MARK;
+        }
+    }
+}
+
+// The part of a marked open literal that says faulty.
+fn suspect_at(graph: &Graph, words: &[u32], parts: u32, values: &[u32], at: u32) -> Option<u32>
+    requires at { at < length graph.now.nodes }
+    requires parts { parts ≤ length words.now }
+    requires room { length values.now ≡ length graph.now.nodes }
+    ensures suspect { result ≡ suspect_at graph.now.nodes words.now parts values.now at }
+    ensures within { IfSome result (λ part. part < parts) }
+{
+    let _vars = graph.vars();
+    if !has_mark(values[at as usize]) {
+        return None;
+    }
+    match graph.what(at) {
+        NodeKind::Literal { var, positive } => suspect_of(var, positive, words, parts),
+        NodeKind::And => None,
+        NodeKind::Or => None,
+    }
+}
+
+fn suspect_of(var: u32, positive: bool, words: &[u32], parts: u32) -> Option<u32>
+    requires var { 1 ≤ var }
+    requires parts { parts ≤ length words.now }
+    ensures suspect { result ≡ suspect_of words.now parts (NodeKind.Literal var positive) }
+    ensures within { IfSome result (λ part. part < parts) }
+{
+    if !positive && var <= parts && words[var as usize - 1] == 0 {
+        Some(var - 1)
+    } else {
+        None
+    }
+}

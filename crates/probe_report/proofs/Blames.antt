@@ -1,0 +1,157 @@
+-- In which diagnoses a part is faulty.
+use Rattle.std.proofs.Common.{◌≡◌, ℕ, zero, suc, ◌<◌, ◌≤◌, Bool, true, false, not, cond, ◌&&◌, ◌||◌, List, [], ◌∷◌, map, length, get_or, Some, None, refl, ap, sym, ◌∙◌, subst, inl, inr}
+use Rattle.std.specs.Prelude.{◌↔◌, ◌==◌, slice_get}
+use Rattle.std.specs.List.{list_all, list_any}
+use Rattle.std.proofs.lemmas.Bool.{false≢true, eqb-true, eq-eqb}
+use Rattle.ranking.specs.Bits.{bit_in, same_bit}
+use Rattle.ranking.specs.Ranking.{least, passing, diagnoses}
+use Rattle.graph_rules.specs.Graphs.{Graph}
+use Rattle.conditioner.specs.Models.{has_model, fits_words, models, least_under, diagnoses_under}
+use Rattle.minimiser.specs.Suspects.{Passes, Suspect}
+use Rattle.minimiser.proofs.Costs.{both}
+use Rattle.minimiser.proofs.Members.{In}
+use Rattle.minimiser.proofs.Models.{Agree, Agree-bit, Passes-agrees, LeastIs, least-some, least-none, diagnosis-in, diagnosis-out}
+use Rattle.diagnosis_lister.proofs.Fixing.{least-passes, passes-least}
+use Rattle.probe_report.specs.declared.verdicts.Blame.{Blame}
+use Rattle.probe_report.specs.declared.verdicts.Blame.TheVariants.{Always, Sometimes, Never, Inconsistent}
+use Rattle.probe_report.specs.Verdicts.{verdict, blame_of}
+use Rattle.probe_report.specs.inner.Presumed.{presumed, IsPresumed}
+use Rattle.probe_report.proofs.With.{bit-out, bit-in}
+
+-- ---- verdicts
+
+module _ (f : List Bool → Bool) where
+  abbrev id : Bool → Bool
+  id x = x
+
+  all-true : (ds : List (List Bool)) → ((d : List Bool) → In d ds → f d ≡ true) → list_all id (map f ds) ≡ true
+  all-true [] h = refl
+  all-true (d ∷ ds) h = both _ _ (h d (inl refl)) (all-true ds (λ x m. h x (inr m)))
+
+  all-false : (ds : List (List Bool)) (d : List Bool) → In d ds → f d ≡ false → list_all id (map f ds) ≡ false
+  all-false [] d m e = absurd m
+  all-false (x ∷ ds) d (inl q) e = ap (λ b. b && list_all id (map f ds)) (ap f (sym q) ∙ e)
+  all-false (x ∷ ds) d (inr r) e = ap (λ b. f x && b) (all-false ds d r e) ∙ none (f x) where
+    none : (b : Bool) → (b && false) ≡ false
+    none true = refl
+    none false = refl
+
+  any-true : (ds : List (List Bool)) (d : List Bool) → In d ds → f d ≡ true → list_any id (map f ds) ≡ true
+  any-true [] d m e = absurd m
+  any-true (x ∷ ds) d (inl q) e = ap (λ b. b || list_any id (map f ds)) (ap f (sym q) ∙ e)
+  any-true (x ∷ ds) d (inr r) e = ap (λ b. f x || b) (any-true ds d r e) ∙ some (f x) where
+    some : (b : Bool) → (b || true) ≡ true
+    some true = refl
+    some false = refl
+
+  any-false : (ds : List (List Bool)) → ((d : List Bool) → In d ds → f d ≡ false) → list_any id (map f ds) ≡ false
+  any-false [] h = refl
+  any-false (d ∷ ds) h = (λ i. h d (inl refl) i || any-false ds (λ x m. h x (inr m)) i)
+
+  verdict-some : (ds : List (List Bool)) (d : List Bool) → In d ds → (a b : Bool) → list_all id (map f ds) ≡ a → list_any id (map f ds) ≡ b → verdict (map f ds) ≡ cond a Always (cond b Sometimes Never)
+  verdict-some [] d m a b e g = absurd m
+  verdict-some (x ∷ ds) d m a b e g = λ i. cond (e i) Always (cond (g i) Sometimes Never)
+
+  pub verdict-never : (ds : List (List Bool)) (d : List Bool) → In d ds → ((x : List Bool) → In x ds → f x ≡ false) → Never ≡ verdict (map f ds)
+  verdict-never ds d m h = sym (verdict-some ds d m false false (all-false ds d m (h d m)) (any-false ds h))
+
+  pub verdict-always : (ds : List (List Bool)) (d : List Bool) → In d ds → ((x : List Bool) → In x ds → f x ≡ true) → Always ≡ verdict (map f ds)
+  verdict-always ds d m h = sym (verdict-some ds d m true true (all-true ds h) (any-true ds d m (h d m)))
+
+  pub verdict-sometimes : (ds : List (List Bool)) (d e : List Bool) → In d ds → In e ds → f d ≡ true → f e ≡ false → Sometimes ≡ verdict (map f ds)
+  verdict-sometimes ds d e m n p q = sym (verdict-some ds d m false true (all-false ds e n q) (any-true ds d m p))
+
+-- ---- one part
+
+module _ (graph : Graph) (words costs : List ℕ) (i most : ℕ) (lt : i < length costs) (within : length costs ≤ graph.vars) (e : LeastIs graph costs words most) where
+  abbrev ds : List (List Bool)
+  ds = diagnoses_under graph words costs
+
+  abbrev faulty : List Bool → Bool
+  faulty state = not (bit_in state i)
+
+  -- where it is ok in all, or faulty in all
+  pub all-ok : ((h : List Bool) → Passes graph words costs most h → bit_in h i ≡ true) → Never ≡ blame_of graph words costs i
+  all-ok all =
+      let some = least-some graph costs within words most e in
+      verdict-never faulty ds some.state (diagnosis-in graph words costs most e some.state some.passes) (λ x m. ap not (all x (diagnosis-out graph words costs most e x m)))
+
+  pub all-faulty : ((h : List Bool) → Passes graph words costs most h → bit_in h i ≡ false) → Always ≡ blame_of graph words costs i
+  all-faulty all =
+      let some = least-some graph costs within words most e in
+      verdict-always faulty ds some.state (diagnosis-in graph words costs most e some.state some.passes) (λ x m. ap not (all x (diagnosis-out graph words costs most e x m)))
+
+  pub some-differ : (h k : List Bool) → Passes graph words costs most h → Passes graph words costs most k → bit_in h i ≡ false → bit_in k i ≡ true → Sometimes ≡ blame_of graph words costs i
+  some-differ h k p q a b = verdict-sometimes faulty ds h k (diagnosis-in graph words costs most e h p) (diagnosis-in graph words costs most e k q) (ap not a) (ap not b)
+
+  abbrev HasLeast : Bool → Type 0
+  HasLeast bit = least costs (passing (length costs) (has_model graph (λ bits. fits_words words bits && same_bit bit (bit_in bits i)) (length costs))) ≡ Some most
+
+  -- a diagnosis that has not the one bit has the other
+  only : (bit : Bool) → (HasLeast (not bit) → ⊥) → (h : List Bool) → Passes graph words costs most h → bit_in h i ≡ bit
+  only bit none h p = by_bit (bit_in h i) refl bit none where
+    by_bit : (b : Bool) → bit_in h i ≡ b → (c : Bool) → (HasLeast (not c) → ⊥) → b ≡ c
+    by_bit true q true no_other = refl
+    by_bit false q false no_other = refl
+    by_bit true q false no_other = absurd (no_other (bit-in graph words costs i true lt most within e h p q))
+    by_bit false q true no_other = absurd (no_other (bit-in graph words costs i false lt most within e h p q))
+
+  pub is-never : (HasLeast false → ⊥) → Never ≡ blame_of graph words costs i
+  is-never none = all-ok (only true none)
+
+  pub is-always : (HasLeast true → ⊥) → Always ≡ blame_of graph words costs i
+  is-always none = all-faulty (only false none)
+
+  pub is-sometimes : HasLeast false → HasLeast true → Sometimes ≡ blame_of graph words costs i
+  is-sometimes has other =
+      let s = bit-out graph words costs i false lt most has in
+      let t = bit-out graph words costs i true lt most other in
+      some-differ s.state t.state s.passes t.passes s.has t.has
+
+pub is-inconsistent : (graph : Graph) (words costs : List ℕ) (i : ℕ) → least_under graph words costs ≡ None → Inconsistent ≡ blame_of graph words costs i
+is-inconsistent graph words costs i e = λ j. verdict (map (λ state. not (bit_in state i)) (diagnoses costs (sym (least-none costs (models graph words (length costs)) e) j)))
+
+-- ---- all parts
+
+module _ (graph : Graph) (words costs : List ℕ) (most : ℕ) (within : length costs ≤ graph.vars) (e : LeastIs graph costs words most) where
+  abbrev all : List (List Bool)
+  all = diagnoses_under graph words costs
+
+  -- the first diagnosis
+  pub first-passes-all : (d : List Bool) → Passes graph words costs most (get_or (diagnoses_under graph words costs) 0 d)
+  first-passes-all d =
+      let some = least-some graph costs within words most e in
+      diagnosis-out graph words costs most e _ (first-in all some.state (diagnosis-in graph words costs most e some.state some.passes)) where
+        first-in : (ds : List (List Bool)) (h : List Bool) → In h ds → In (get_or ds 0 d) ds
+        first-in [] h m = absurd m
+        first-in (x ∷ ds) h m = inl refl
+
+  pub first-same : (c d : List Bool) → get_or (diagnoses_under graph words costs) 0 c ≡ get_or (diagnoses_under graph words costs) 0 d
+  first-same c d =
+      let some = least-some graph costs within words most e in
+      same-first all some.state (diagnosis-in graph words costs most e some.state some.passes) where
+        same-first : (ds : List (List Bool)) (h : List Bool) → In h ds → get_or ds 0 c ≡ get_or ds 0 d
+        same-first [] h m = absurd m
+        same-first (x ∷ ds) h m = refl
+
+module _ (graph : Graph) (words costs : List ℕ) (i most : ℕ) (lt : i < length costs) (within : length costs ≤ graph.vars) (long : length words ≡ graph.vars) (e : LeastIs graph costs words most) where
+  -- what is presumed, of a part that is a suspect or not
+  pub presumed-right : (suspect : ℕ) → (suspect ≡ 1) ↔ Suspect graph words costs i → (verdicts : List Blame) → slice_get verdicts i ≡ Some (presumed (get_or words i 0) suspect) → IsPresumed graph words costs verdicts i
+  presumed-right suspect is verdicts f = by_word (get_or words i 0) refl (suspect == 1) refl where
+    by_word : (w : ℕ) → get_or words i 0 ≡ w → (b : Bool) → (suspect == 1) ≡ b → IsPresumed graph words costs verdicts i
+    by_word zero q true t = inr (is.0 (eqb-true suspect 1 t), f ∙ (λ j. Some (presumed (q j) suspect)) ∙ (λ j. Some (cond (t j) Sometimes Never)))
+    by_word zero q false t = inl (f ∙ (λ j. Some (presumed (q j) suspect)) ∙ (λ j. Some (cond (t j) Sometimes Never)) ∙ ap Some (all-ok graph words costs i most lt within e ok)) where
+      ok : (h : List Bool) → Passes graph words costs most h → bit_in h i ≡ true
+      ok h p = by_bit (bit_in h i) refl where
+        by_bit : (b : Bool) → bit_in h i ≡ b → b ≡ true
+        by_bit true r = refl
+        by_bit false r = absurd (false≢true (sym t ∙ eq-eqb suspect 1 (is.1 (record { within = lt; open_ = q; state = h; is_least = passes-least graph words costs most h e p; faulty = r }))))
+    by_word (suc zero) q b t = inl (f ∙ (λ j. Some (presumed (q j) suspect)) ∙ ap Some (all-ok graph words costs i most lt within e (λ h p. Agree-bit true (bit_in h i) (subst (λ w. Agree w (bit_in h i)) q (Passes-agrees graph costs within words most h long p i lt)))))
+    by_word (suc (suc n)) q b t = inl (f ∙ (λ j. Some (presumed (q j) suspect)) ∙ ap Some (all-faulty graph words costs i most lt within e (λ h p. Agree-bit false (bit_in h i) (subst (λ w. Agree w (bit_in h i)) q (Passes-agrees graph costs within words most h long p i lt)))))
+
+  -- a part that is ok or not open in some diagnosis needs no pass
+  pub presumed-stays : (verdicts : List Blame) (h : List Bool) → Passes graph words costs most h → (get_or words i 0 ≡ 0 → bit_in h i ≡ true) → IsPresumed graph words costs verdicts i → slice_get verdicts i ≡ Some (blame_of graph words costs i)
+  presumed-stays verdicts h p ok (inl f) = f
+  presumed-stays verdicts h p ok (inr s) =
+      let u = s.0 in
+      s.1 ∙ ap Some (some-differ graph words costs i most lt within e u.state h (least-passes graph words costs most u.state e u.is_least) p u.faulty (ok u.open_))

@@ -1,0 +1,3 @@
+pub mod With
+pub mod Blames
+pub mod Written

@@ -1,0 +1,18 @@
+-- In which diagnoses a part is faulty.
+use Rattle.std.specs.Prelude.{ℕ, Bool, not, List, [], ◌∷◌, map, if◌then◌else◌}
+use Rattle.std.specs.List.{list_all, list_any}
+use Rattle.ranking.specs.Bits.{bit_in}
+use Rattle.graph_rules.specs.Graphs.{Graph}
+use Rattle.conditioner.specs.Models.{diagnoses_under}
+use Rattle.probe_report.specs.declared.verdicts.Blame.{Blame}
+use Rattle.probe_report.specs.declared.verdicts.Blame.TheVariants.{Always, Sometimes, Never, Inconsistent}
+
+-- by whether it is, diagnosis by diagnosis
+abbrev pub verdict : List Bool → Blame
+verdict [] = Inconsistent
+verdict (b ∷ faulty) =
+    if list_all (λ x. x) (b ∷ faulty) then Always else if list_any (λ x. x) (b ∷ faulty) then Sometimes else Never
+
+-- the verdict on a part, parts being counted from 0
+abbrev pub blame_of : Graph → List ℕ → List ℕ → ℕ → Blame
+blame_of graph words costs part = verdict (map (λ state. not (bit_in state part)) (diagnoses_under graph words costs))

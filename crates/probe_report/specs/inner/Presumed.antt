@@ -1,0 +1,19 @@
+-- What is thought of the parts before those are asked for that are faulty in the first diagnosis.
+use Rattle.std.specs.Prelude.{◌≡◌, ℕ, zero, suc, ◌==◌, List, ◌⊎◌, Some, slice_get, if◌then◌else◌}
+use Rattle.graph_rules.specs.Graphs.{Graph}
+use Rattle.minimiser.specs.Suspects.{Suspect}
+use Rattle.probe_report.specs.declared.verdicts.Blame.{Blame}
+use Rattle.probe_report.specs.declared.verdicts.Blame.TheVariants.{Always, Sometimes, Never}
+use Rattle.probe_report.specs.Verdicts.{blame_of}
+
+-- by a part's word, and by 1 where it is open and faulty in some diagnosis
+abbrev pub presumed : ℕ → ℕ → Blame
+presumed zero suspect = if suspect == 1 then Sometimes else Never
+presumed (suc zero) suspect = Never
+presumed (suc (suc n)) suspect = Always
+
+-- the verdict on a part is right, or it is Sometimes and the part is open and faulty in some diagnosis
+abbrev pub IsPresumed : Graph → List ℕ → List ℕ → List Blame → ℕ → Type 0
+IsPresumed graph words costs verdicts part =
+    (slice_get verdicts part ≡ Some (blame_of graph words costs part))
+    ⊎ (Suspect graph words costs part × (slice_get verdicts part ≡ Some Sometimes))

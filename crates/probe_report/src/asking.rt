@@ -1,0 +1,67 @@
+ghost use Rattle.std.specs.Prelude.{◌≡◌, ◌+◌, ◌<◌, ◌≤◌, length, All, false, true};
+ghost use Rattle.conditioner.specs.Models.{least_with, total_cost};
+
+use conditioner::{Leaf, fix, leaf, loose};
+use minimiser::{Steps, TOTAL_LIMIT, least};
+use node_store::Graph;
+use std::sync::ledger::Ledger;
+
+/// The least cost where a wire's variable is 0, and where it is 1; none where no state is left.
+///
+/// The words are the same afterwards. It takes two passes at most.
+pub fn probe<L: Ledger>(
+    graph: &Graph,
+    words: &mut [u32],
+    costs: &[u32],
+    wire: u32,
+    values: &mut [u32],
+    steps: &mut Steps<L>,
+) -> (Option<u32>, Option<u32>)
+    requires long { length words.old ≡ graph.now.vars }
+    requires words { All (λ w. w < 3) words.old }
+    requires parts { length costs.now ≤ graph.now.vars }
+    requires total { total_cost costs.now < TOTAL_LIMIT }
+    requires wire { (length costs.now < wire) × (wire ≤ graph.now.vars) }
+    requires room { length values.old ≡ length graph.now.nodes }
+
+    ensures zero { result.0 ≡ least_with graph.now words.old costs.now wire false }
+    ensures one { result.1 ≡ least_with graph.now words.old costs.now wire true }
+    ensures words { words.new ≡ words.old }
+    ensures steps { steps.new ≤ steps.old + 2 }
+{
+    let zero = least_where(graph, words, costs, wire, false, values, steps);
+    let one = least_where(graph, words, costs, wire, true, values, steps);
+    (zero, one)
+}
+
+// The least cost where a variable has a bit too.
+pub(crate) fn least_where<L: Ledger>(
+    graph: &Graph,
+    words: &mut [u32],
+    costs: &[u32],
+    var: u32,
+    bit: bool,
+    values: &mut [u32],
+    steps: &mut Steps<L>,
+) -> Option<u32>
+    requires long { length words.old ≡ graph.now.vars }
+    requires words { All (λ w. w < 3) words.old }
+    requires parts { length costs.now ≤ graph.now.vars }
+    requires total { total_cost costs.now < TOTAL_LIMIT }
+    requires var { (1 ≤ var) × (var ≤ graph.now.vars) }
+    requires room { length values.old ≡ length graph.now.nodes }
+    ensures least { result ≡ least_with graph.now words.old costs.now var bit }
+    ensures words { words.new ≡ words.old }
+    ensures steps { steps.new ≤ steps.old + 1 }
+{
+    match leaf(words, var, bit) {
+        Leaf::True => least(graph, words, costs, values, steps),
+        Leaf::False => None,
+        Leaf::Open => {
+            fix(words, var, bit);
+            let fewest = least(graph, words, costs, values, steps);
+            loose(words, var);
+            fewest
+        }
+    }
+}

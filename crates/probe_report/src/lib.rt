@@ -1,0 +1,12 @@
+//! What is asked about one wire, one part, or all parts.
+#![tactic(auto)]
+
+mod asking;
+mod blaming;
+#[cfg(test)]
+mod tests;
+mod verdicts;
+
+pub use asking::probe;
+pub use blaming::{blame, blame_all};
+pub use verdicts::Blame;

@@ -1,0 +1,62 @@
+-- Blocks that are out, and where they lie.
+use Rattle.std.proofs.Common.{◌≡◌, ℕ, ◌+◌, ◌*◌, ◌≤◌, ◌<◌, ◌≢◌, zero, suc, Bool, true, false, cond, List, [], ◌∷◌, length, sym, ◌∙◌, ap, arith, inl, inr, ⊎_elim, set, get_or, subst}
+use Rattle.std.specs.Prelude.{not, count_by}
+use Rattle.std.proofs.Math.Nat.{mul-le-mul_right}
+use Rattle.std.proofs.lemmas.Bool.{cases_lt}
+use Rattle.std.proofs.lemmas.List.{length-set, set-set, set-get_or}
+use Rattle.std.proofs.lemmas.List.Sums.{sum_by-set, count_by-le-length}
+use Rattle.scratch_pool.specs.Pools.{Blocks, IsOut, block_words, with_block}
+use Rattle.scratch_pool.proofs.Written.{Apart, written-apart}
+
+-- a block ends where a later one begins, or before
+pub block-below : (size a b : ℕ) → a < b → a * size + size ≤ b * size
+block-below size a b l = let h : (a + 1) * size ≤ b * size = mul-le-mul_right size (omega (arith, l)) in omega (arith, h)
+
+-- two blocks are apart
+pub blocks-apart : (size a b : ℕ) → a ≢ b → Apart (a * size) size (b * size) size
+blocks-apart size a b ne =
+    ⊎_elim (λ l. inl (block-below size a b l)) (λ g. inr (block-below size b a (omega (arith, g, ne)))) (cases_lt a b)
+
+pub out_within : (out : List Bool) (n : ℕ) → get_or out n false ≡ true → n < length out
+out_within [] n e = absurd (let never : ⊥ = cc in never)
+out_within (b ∷ out) zero e = omega arith
+out_within (b ∷ out) (suc n) e = let rest = out_within out n e in omega (arith, rest)
+
+abbrev is_free : Bool → ℕ
+is_free out = cond (not out) 1 0
+
+-- one less is free when one is handed out
+pub count-taken : (out : List Bool) (n : ℕ) → n < length out → get_or out n true ≡ false → count_by not (set out n true) + 1 ≡ count_by not out
+count-taken out n l e =
+    let all : count_by not (set out n true) + is_free (get_or out n true) ≡ count_by not out + 0 = sum_by-set is_free out n true true l in
+    let one : is_free (get_or out n true) ≡ 1 = ap is_free e in
+    omega (arith, all, one)
+
+-- and one more when one is given back
+pub count-given : (out : List Bool) (n : ℕ) → get_or out n false ≡ true → count_by not (set out n false) ≡ count_by not out + 1
+count-given out n e =
+    let all : count_by not (set out n false) + is_free (get_or out n false) ≡ count_by not out + 1 = sum_by-set is_free out n false false (out_within out n e) in
+    let none : is_free (get_or out n false) ≡ 0 = ap is_free e in
+    omega (arith, all, none)
+
+-- a block that is given back at once is free as before
+pub given_back : (out : List Bool) (n : ℕ) → get_or out n true ≡ false → set (set out n true) n false ≡ out
+given_back out n e = set-set out n true false ∙ subst (λ b. set out n b ≡ out) e (set-get_or out n true)
+
+-- where a block is out, not all are free
+pub count-less : (out : List Bool) (n : ℕ) → get_or out n false ≡ true → count_by not out < length out
+count-less out n e =
+    let more = count-given out n e in
+    let most = count_by-le-length not (set out n false) in
+    let long = length-set out n false in
+    omega (arith, more, most, long)
+
+-- a block keeps its words when another is written
+pub block-stays : (pool : Blocks) (a b : ℕ) → length pool.words ≡ length pool.out * pool.size → IsOut pool a → IsOut pool b → b ≢ a
+    → (new : List ℕ) → length new ≡ pool.size → block_words (with_block pool a new) b ≡ block_words pool b
+block-stays pool a b all out_a out_b ne new long =
+    let size = pool.size in
+    let ends = block-below size a (length pool.out) (out_within pool.out a out_a) in
+    let fits : a * size + length new ≤ length pool.words = omega (arith, ends, all, long) in
+    let other : a ≢ b = (λ e. ne (sym e)) in
+    written-apart pool.words (a * size) new fits (b * size) size (subst (λ n. Apart (a * size) n (b * size) size) (sym long) (blocks-apart size a b other))

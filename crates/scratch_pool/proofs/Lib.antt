@@ -1,0 +1,5 @@
+pub mod Written
+pub mod Stacked
+pub mod Counted
+pub mod Laws
+pub mod Examples

@@ -1,0 +1,11 @@
+//! Words that are taken from the system once and lent again and again: blocks of one size, and runs of any.
+#![tactic(auto)]
+
+mod parts;
+mod pool;
+mod region;
+#[cfg(test)]
+mod tests;
+
+pub use pool::{Block, POOL_LIMIT, Pool};
+pub use region::{REGION_LIMIT, RUN_LIMIT, Region, Run, Span};

@@ -97,4 +97,21 @@ impl Device {
     {
         Some(self.wire_places.get_index_of(name)? as u32)
     }
+
+    /// The names of the parts and of the wires, each in order.
+    pub fn take_names(self, alloc: Global) -> Result<(Vec<Name>, Vec<Name>), AllocError>
+        ensures parts { IfOk result (λ names. names.0.items ≡ part_names self.parts) }
+        ensures wires { IfOk result (λ names. names.1.items ≡ self.wires) }
+    {
+        let mut names = Vec::with_capacity(alloc, self.parts.len())?;
+        for part in self.parts {
+            let Component {
+                name,
+                kind: _,
+                ports: _,
+            } = part;
+            names.push(name)?;
+        }
+        Ok((names, self.wires))
+    }
 }

@@ -10,8 +10,10 @@ use Rattle.text_rules.specs.Expected.{IsExpectedFault}
 use Rattle.diag_edge.specs.Edge.{RoseExactly, Rose, Holding, absent, told_bytes}
 use Rattle.diag_edge.specs.declared.loading.LoadError.{LoadError}
 use Rattle.diag_edge.specs.declared.loading.LoadError.TheVariants.{Failed as LoadFailed, Long}
+use Rattle.ranking.specs.Systems.{System}
 use Rattle.device_model.specs.Devices.{Device}
-use Rattle.diag_cli.specs.declared.run.TheConstants.{SCRIPT_LIMIT}
+use Rattle.device_model.specs.Diagnosis.{device_system}
+use Rattle.diag_cli.specs.declared.serving.TheConstants.{SCRIPT_LIMIT}
 use Rattle.diag_cli.specs.Words.{Form, Serve, Plan, Check, Compile, path_of}
 use Rattle.diag_cli.specs.Describing.{long_file_line, device_in}
 use Rattle.diag_cli.specs.Output.{Output, Gives, GivesUnlessMemory, says, no_memory}
@@ -43,7 +45,7 @@ too_long_is_no_failure result error limit is long failed = let never : ⊥ = cc 
 module _ (input new_input : Reading) (out new_out : Writing) (status : ℕ) where
   -- ---- a device is served, or its file refused
 
-  pub follows_device : (expected : Result Device Output) (device : Device) → expected ≡ Ok device → IsServed device input new_input out new_out status
+  pub follows_device : (expected : Result Device Output) (device : Device) → expected ≡ Ok device → IsServed (device_system device) input new_input out new_out status
       → Follows (served_or_refused expected) input new_input out new_out status
   follows_device expected device is done = subst (λ e. Follows (served_or_refused e) input new_input out new_out status) (sym is) done
 
@@ -67,40 +69,40 @@ module _ (input new_input : Reading) (out new_out : Writing) (status : ℕ) wher
       → IsIdle input new_input × (status ≢ 5 → GivesUnlessMemory output status out.got new_out.got)
   told_of course output is done = subst (λ c. Follows c input new_input out new_out status) is done
 
-  served_of : (course : Course) (device : Device) → course ≡ Serves device → Follows course input new_input out new_out status → IsServed device input new_input out new_out status
-  served_of course device is done = subst (λ c. Follows c input new_input out new_out status) is done
+  served_of : (course : Course) (system : System) → course ≡ Serves system → Follows course input new_input out new_out status → IsServed system input new_input out new_out status
+  served_of course system is done = subst (λ c. Follows c input new_input out new_out status) is done
 
   -- from the bytes that were taken to the whole script
-  whole_answer : (device : Device) (script : List ℕ) → input.left ≡ Some script → new_input.faults ≡ input.faults
-      → Gives no_memory status out.got new_out.got ⊎ IsAnswered device input new_input out new_out status
-      → GivesUnlessMemory (wholly_served device script) status out.got new_out.got
-  whole_answer device script told same (inl memory) = inl memory
-  whole_answer device script told same (inr answered) =
+  whole_answer : (system : System) (script : List ℕ) → input.left ≡ Some script → new_input.faults ≡ input.faults
+      → Gives no_memory status out.got new_out.got ⊎ IsAnswered system input new_input out new_out status
+      → GivesUnlessMemory (wholly_served system script) status out.got new_out.got
+  whole_answer system script told same (inl memory) = inl memory
+  whole_answer system script told same (inr answered) =
       let all = taken_all script new_input.left answered.bytes answered.end input.faults new_input.faults same
       (subst (λ l. Consumes l new_input.left answered.bytes) told answered.took) answered.ends in
-      inr (subst (λ o. Gives o status out.got new_out.got) (λ k. served device (all.0 k) (all.1 k)) answered.gives)
+      inr (subst (λ o. Gives o status out.got new_out.got) (λ k. served system (all.0 k) (all.1 k)) answered.gives)
 
-  answer_of : (device : Device) (left : Option (List ℕ)) → input.left ≡ left → (status ≢ 5 → RoseExactly input.faults new_input.faults (status ≡ 4)) → IsServed device input new_input out new_out status
-      → IfSome left (λ script. status ≢ 5 → status ≢ 4 → GivesUnlessMemory (wholly_served device script) status out.got new_out.got)
-  answer_of device None told rose done = tt
-  answer_of device (Some script) told rose done = λ whole read. whole_answer device script told ((rose whole).stayed read) (done.answer whole)
+  answer_of : (system : System) (left : Option (List ℕ)) → input.left ≡ left → (status ≢ 5 → RoseExactly input.faults new_input.faults (status ≡ 4)) → IsServed system input new_input out new_out status
+      → IfSome left (λ script. status ≢ 5 → status ≢ 4 → GivesUnlessMemory (wholly_served system script) status out.got new_out.got)
+  answer_of system None told rose done = tt
+  answer_of system (Some script) told rose done = λ whole read. whole_answer system script told ((rose whole).stayed read) (done.answer whole)
 
   -- a count that rose tells the one status that goes with it
   moved : RoseExactly input.faults new_input.faults (status ≡ 4) → input.faults < new_input.faults → (status ≡ 4 → ⊥) → ⊥
   moved rose rises other = omega (arith, rose.stayed other, rises)
 
-  failed_at : (device : Device) (bytes : List ℕ) (end : End) → RoseExactly input.faults new_input.faults (status ≡ 4) → input.faults < new_input.faults
-      → Consumes input.left new_input.left bytes → Gives (served device bytes end) status out.got new_out.got
-      → (taken : List ℕ) × Consumes input.left new_input.left taken × Gives (served device taken Failed) status out.got new_out.got
-  failed_at device bytes Ended rose rises took gives = absurd (moved rose rises (λ four. omega (arith, four, gives.same_status)))
-  failed_at device bytes Failed rose rises took gives = (bytes, took, gives)
-  failed_at device bytes Cut rose rises took gives = absurd (moved rose rises (λ four. omega (arith, four, gives.same_status)))
+  failed_at : (system : System) (bytes : List ℕ) (end : End) → RoseExactly input.faults new_input.faults (status ≡ 4) → input.faults < new_input.faults
+      → Consumes input.left new_input.left bytes → Gives (served system bytes end) status out.got new_out.got
+      → (taken : List ℕ) × Consumes input.left new_input.left taken × Gives (served system taken Failed) status out.got new_out.got
+  failed_at system bytes Ended rose rises took gives = absurd (moved rose rises (λ four. omega (arith, four, gives.same_status)))
+  failed_at system bytes Failed rose rises took gives = (bytes, took, gives)
+  failed_at system bytes Cut rose rises took gives = absurd (moved rose rises (λ four. omega (arith, four, gives.same_status)))
 
-  fault_of : (device : Device) → RoseExactly input.faults new_input.faults (status ≡ 4) → input.faults < new_input.faults
-      → Gives no_memory status out.got new_out.got ⊎ IsAnswered device input new_input out new_out status
-      → (bytes : List ℕ) × Consumes input.left new_input.left bytes × Gives (served device bytes Failed) status out.got new_out.got
-  fault_of device rose rises (inl memory) = absurd (moved rose rises (λ four. omega (arith, four, memory.same_status)))
-  fault_of device rose rises (inr answered) = failed_at device answered.bytes answered.end rose rises answered.took answered.gives
+  fault_of : (system : System) → RoseExactly input.faults new_input.faults (status ≡ 4) → input.faults < new_input.faults
+      → Gives no_memory status out.got new_out.got ⊎ IsAnswered system input new_input out new_out status
+      → (bytes : List ℕ) × Consumes input.left new_input.left bytes × Gives (served system bytes Failed) status out.got new_out.got
+  fault_of system rose rises (inl memory) = absurd (moved rose rises (λ four. omega (arith, four, memory.same_status)))
+  fault_of system rose rises (inr answered) = failed_at system answered.bytes answered.end rose rises answered.took answered.gives
 
   -- ---- runs
 
@@ -123,12 +125,12 @@ module _ (input new_input : Reading) (out new_out : Writing) (status : ℕ) wher
       no_file = λ moves. absurd (omega (arith, kept, moves));
       told = on_told (told_bytes (held (path_of form))) (λ bytes same output course.
           let all = told_of (course_of (Some form) file) output (ap (course_of (Some form)) same ∙ course) done in (all.0, λ whole read. all.1 whole)) is;
-      answer = on_told (told_bytes (held (path_of form))) (λ bytes same device course.
-          answer_of device input.left refl reads (served_of (course_of (Some form) file) device (ap (course_of (Some form)) same ∙ course) done)) is;
-      script_fault = on_told (told_bytes (held (path_of form))) (λ bytes same device course rises whole.
-          fault_of device (reads whole) rises ((served_of (course_of (Some form) file) device (ap (course_of (Some form)) same ∙ course) done).answer whole)) is;
-      all_read = on_told (told_bytes (held (path_of form))) (λ bytes same device course zero.
-          (served_of (course_of (Some form) file) device (ap (course_of (Some form)) same ∙ course) done).all_read zero) is;
+      answer = on_told (told_bytes (held (path_of form))) (λ bytes same system course.
+          answer_of system input.left refl reads (served_of (course_of (Some form) file) system (ap (course_of (Some form)) same ∙ course) done)) is;
+      script_fault = on_told (told_bytes (held (path_of form))) (λ bytes same system course rises whole.
+          fault_of system (reads whole) rises ((served_of (course_of (Some form) file) system (ap (course_of (Some form)) same ∙ course) done).answer whole)) is;
+      all_read = on_told (told_bytes (held (path_of form))) (λ bytes same system course zero.
+          (served_of (course_of (Some form) file) system (ap (course_of (Some form)) same ∙ course) done).all_read zero) is;
       cut = cut;
     }
       where
@@ -149,7 +151,7 @@ long_course form file long = by form
     no_more = grind arith
 
     by : (form : Form) → course_of (Some form) file ≡ Tells (says long_file_line 1)
-    by (Serve path) = rw no_more
+    by (Serve path budget) = rw no_more
     by (Plan path) = rw no_more
     by (Check path) = rw no_more
     by (Compile path budget) = rw no_more
@@ -187,9 +189,9 @@ module _ (held : List ℕ → Holding) (shelf new_shelf input : Reading) (out ne
       absent_file = λ gone whole. (said whole).same_status;
       no_file = λ rises. (idle, said);
       told = all_told (told_bytes (held (path_of form))) (λ file output course. (idle, λ whole read. absurd (read (said whole).same_status)));
-      answer = all_told (told_bytes (held (path_of form))) (λ file device course. all_told input.left (λ script whole read. absurd (read (said whole).same_status)));
-      script_fault = all_told (told_bytes (held (path_of form))) (λ file device course rises. never_rises rises);
-      all_read = all_told (told_bytes (held (path_of form))) (λ file device course zero. absurd (known (says read_error 4) said 0 zero (λ e. absurd (omega (arith, e))) (λ e. absurd (omega (arith, e)))));
+      answer = all_told (told_bytes (held (path_of form))) (λ file system course. all_told input.left (λ script whole read. absurd (read (said whole).same_status)));
+      script_fault = all_told (told_bytes (held (path_of form))) (λ file system course rises. never_rises rises);
+      all_read = all_told (told_bytes (held (path_of form))) (λ file system course zero. absurd (known (says read_error 4) said 0 zero (λ e. absurd (omega (arith, e))) (λ e. absurd (omega (arith, e)))));
       cut = λ seven. absurd (known (says read_error 4) said 7 seven (λ e. absurd (omega (arith, e))) (λ e. absurd (omega (arith, e))));
     }
 
@@ -205,9 +207,9 @@ module _ (held : List ℕ → Holding) (shelf new_shelf input : Reading) (out ne
       absent_file = λ gone. absurd (there gone);
       no_file = λ moves. absurd (omega (arith, kept, moves));
       told = on_right (told_bytes (held (path_of form))) (λ file is other course. (idle, λ whole read. told_by file other is course (said whole))) right;
-      answer = on_right (told_bytes (held (path_of form))) (λ file is device course. all_told input.left (λ script whole read. answer_by file device script is course (said whole))) right;
-      script_fault = all_told (told_bytes (held (path_of form))) (λ file device course rises. never_rises rises);
-      all_read = all_told (told_bytes (held (path_of form))) (λ file device course zero. absurd (known output said 0 zero (λ e. absurd (omega (arith, e))) no0));
+      answer = on_right (told_bytes (held (path_of form))) (λ file is system course. all_told input.left (λ script whole read. answer_by file system script is course (said whole))) right;
+      script_fault = all_told (told_bytes (held (path_of form))) (λ file system course rises. never_rises rises);
+      all_read = all_told (told_bytes (held (path_of form))) (λ file system course zero. absurd (known output said 0 zero (λ e. absurd (omega (arith, e))) no0));
       cut = λ seven. absurd (known output said 7 seven (λ e. absurd (omega (arith, e))) no7);
     }
       where
@@ -218,18 +220,18 @@ module _ (held : List ℕ → Holding) (shelf new_shelf input : Reading) (out ne
         same_output : (a b : Output) → Tells a ≡ Tells b → a ≡ b
         same_output a b e = cc
 
-        not_both : (a : Output) (device : Device) → Tells a ≡ Serves device → ⊥
-        not_both a device e = cc
+        not_both : (a : Output) (system : System) → Tells a ≡ Serves system → ⊥
+        not_both a system e = cc
 
         told_by : (file : List ℕ) (other : Output) → IsRight form output file → course_of (Some form) file ≡ Tells other → Gives output status out.got new_out.got
             → GivesUnlessMemory other status out.got new_out.got
         told_by file other (inl memory) course gives = inl (subst (λ o. Gives o status out.got new_out.got) memory gives)
         told_by file other (inr is) course gives = inr (subst (λ o. Gives o status out.got new_out.got) (same_output output other (sym is ∙ course)) gives)
 
-        answer_by : (file : List ℕ) (device : Device) (script : List ℕ) → IsRight form output file → course_of (Some form) file ≡ Serves device → Gives output status out.got new_out.got
-            → GivesUnlessMemory (wholly_served device script) status out.got new_out.got
-        answer_by file device script (inl memory) course gives = inl (subst (λ o. Gives o status out.got new_out.got) memory gives)
-        answer_by file device script (inr is) course gives = absurd (not_both output device (sym is ∙ course))
+        answer_by : (file : List ℕ) (system : System) (script : List ℕ) → IsRight form output file → course_of (Some form) file ≡ Serves system → Gives output status out.got new_out.got
+            → GivesUnlessMemory (wholly_served system script) status out.got new_out.got
+        answer_by file system script (inl memory) course gives = inl (subst (λ o. Gives o status out.got new_out.got) memory gives)
+        answer_by file system script (inr is) course gives = absurd (not_both output system (sym is ∙ course))
 
   -- The words have no form.
   pub run_usage : RoseExactly out.faults new_out.faults (status ≡ 5) → (status ≢ 5 → Gives (says (codes "error: usage\n") 2) status out.got new_out.got)
@@ -242,9 +244,9 @@ module _ (held : List ℕ → Holding) (shelf new_shelf input : Reading) (out ne
     absent_file = tt;
     no_file = λ moves. absurd (omega (arith, moves));
     told = λ output course. (idle, λ whole read. inr (subst (λ o. Gives o status out.got new_out.got) (same_output _ output course) (said whole)));
-    answer = λ device course. absurd (let never : ⊥ = cc in never);
-    script_fault = λ device course rises. never_rises rises;
-    all_read = λ device course zero. absurd (let never : ⊥ = cc in never);
+    answer = λ system course. absurd (let never : ⊥ = cc in never);
+    script_fault = λ system course rises. never_rises rises;
+    all_read = λ system course zero. absurd (let never : ⊥ = cc in never);
     cut = λ seven. absurd (known (says (codes "error: usage\n") 2) said 7 seven (λ e. absurd (omega (arith, e))) (λ e. absurd (omega (arith, e))));
   }
     where

@@ -1,4 +1,5 @@
 pub mod Running
+pub mod ServedDevices
 pub mod Faults
 pub mod Headline
 pub mod Adapting

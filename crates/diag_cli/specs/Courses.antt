@@ -1,9 +1,10 @@
--- What a run comes to by its words and its file: an output, or a script that is answered over a device.
+-- What a run comes to by its words and its file: an output, or a script that is answered over a system.
 use Rattle.std.specs.Prelude.{ℕ, ◌+◌, ◌*◌, List, [], ◌∷◌, ◌++◌, length, take, Option, Some, None, Result, Ok, Err, codes, nat_lt, if◌then◌else◌}
 use Rattle.std.specs.Fmt.{decimal}
 use Rattle.text_rules.specs.TextLines.{whole_lines, all_lines}
 use Rattle.text_rules.specs.Tokens.{spaced}
 use Rattle.device_model.specs.Devices.{Device}
+use Rattle.ranking.specs.Systems.{System}
 use Rattle.device_model.specs.Diagnosis.{device_system}
 use Rattle.clause_encoder.specs.declared.limits.TheConstants.{CLAUSE_LIMIT}
 use Rattle.clause_encoder.specs.declared.encoding.EncodeError.{EncodeError}
@@ -15,10 +16,10 @@ use Rattle.branch_states.specs.Branches.{sum_of}
 use Rattle.session_core.specs.Items.{Item, Plain, Whole, line}
 use Rattle.session_core.specs.FirstPath.{first_replies}
 use Rattle.diag_cli.specs.declared.planning.Sizes.{Sizes}
-use Rattle.diag_cli.specs.declared.run.TheConstants.{SCRIPT_LIMIT}
+use Rattle.diag_cli.specs.declared.serving.TheConstants.{SCRIPT_LIMIT}
 use Rattle.diag_cli.specs.Words.{Form, Serve, Plan, Check, Compile}
 use Rattle.diag_cli.specs.Output.{Output, says, no_memory}
-use Rattle.diag_cli.specs.Describing.{above_line, device_in, if_small}
+use Rattle.diag_cli.specs.Describing.{above_line, device_in}
 use Rattle.diag_cli.specs.Checking.{graph_in, checked}
 
 -- ---- a script is answered
@@ -35,26 +36,26 @@ read_error = codes "error: read\n"
 abbrev pub script_too_long : List ℕ
 script_too_long = codes "error: script above 16777216 bytes\n"
 
-abbrev pub ready_line : Device → Item
-ready_line device = line (codes "ready" ∷ decimal (length device.parts) ∷ decimal (length device.wires) ∷ [])
+abbrev pub ready_line : System → Item
+ready_line system = line (codes "ready" ∷ decimal (length system.parts) ∷ decimal (length system.wires) ∷ [])
 
 -- the line `ready`, and then the replies to lines
-abbrev pub ready_and_replies : Device → List (List ℕ) → List Item
-ready_and_replies device lines = ready_line device ∷ first_replies (device_system device) [] lines
+abbrev pub ready_and_replies : System → List (List ℕ) → List Item
+ready_and_replies system lines = ready_line system ∷ first_replies system [] lines
 
--- the output for a device that is served, by how the script ends
-abbrev pub served : Device → List ℕ → End → Output
-served device script Ended = record { items = ready_and_replies device (all_lines script); status = 0 }
-served device script Failed = record { items = ready_and_replies device (whole_lines script) ++ Plain read_error ∷ []; status = 4 }
-served device script Cut = record { items = ready_and_replies device (whole_lines script) ++ Plain script_too_long ∷ []; status = 7 }
+-- the output for a system that is served, by how the script ends
+abbrev pub served : System → List ℕ → End → Output
+served system script Ended = record { items = ready_and_replies system (all_lines script); status = 0 }
+served system script Failed = record { items = ready_and_replies system (whole_lines script) ++ Plain read_error ∷ []; status = 4 }
+served system script Cut = record { items = ready_and_replies system (whole_lines script) ++ Plain script_too_long ∷ []; status = 7 }
 
 -- a script of the limit or more is cut
 abbrev pub end_of : List ℕ → End
 end_of script = if nat_lt (length script) SCRIPT_LIMIT then Ended else Cut
 
--- the output for a device that is served, where no read of the script fails
-abbrev pub wholly_served : Device → List ℕ → Output
-wholly_served device script = served device (take SCRIPT_LIMIT script) (end_of script)
+-- the output for a system that is served, where no read of the script fails
+abbrev pub wholly_served : System → List ℕ → Output
+wholly_served system script = served system (take SCRIPT_LIMIT script) (end_of script)
 
 -- ---- a device is planned
 
@@ -110,15 +111,24 @@ compiled budget (Err output) = output
 
 pub data Course : Type 0 where
   Tells : (output : Output) → Course
-  Serves : (device : Device) → Course
+  Serves : (system : System) → Course
+
+-- the sum of a device is within a budget
+abbrev pub device_by : Device → Result ClauseList Output → Result Device Output
+device_by device (Ok cnf) = Ok device
+device_by device (Err output) = Err output
+
+abbrev pub if_within : ℕ → Result Device Output → Result Device Output
+if_within budget (Ok device) = device_by device (within budget (encoded device))
+if_within budget (Err output) = Err output
 
 abbrev pub served_or_refused : Result Device Output → Course
-served_or_refused (Ok device) = Serves device
+served_or_refused (Ok device) = Serves (device_system device)
 served_or_refused (Err output) = Tells output
 
 abbrev pub course_of : Option Form → List ℕ → Course
 course_of None file = Tells (says (codes "error: usage\n") 2)
-course_of (Some (Serve path)) file = served_or_refused (if_small (device_in path file))
+course_of (Some (Serve path budget)) file = served_or_refused (if_within budget (device_in path file))
 course_of (Some (Plan path)) file = Tells (planned (sizes_in (device_in path file)))
 course_of (Some (Check path)) file = Tells (checked (graph_in file))
 course_of (Some (Compile path budget)) file = Tells (compiled budget (device_in path file))

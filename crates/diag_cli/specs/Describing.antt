@@ -1,5 +1,5 @@
 -- The device that a file describes, or what is said of a file that gives none.
-use Rattle.std.specs.Prelude.{ℕ, ◌+◌, Bool, List, [], ◌∷◌, ◌++◌, length, Result, Ok, Err, codes, nat_le, if◌then◌else◌}
+use Rattle.std.specs.Prelude.{ℕ, List, [], ◌∷◌, ◌++◌, length, Result, Ok, Err, codes, nat_le, if◌then◌else◌}
 use Rattle.std.specs.Fmt.{decimal}
 use Rattle.text_rules.specs.declared.text_lines.TheConstants.{TEXT_LIMIT}
 use Rattle.text_rules.specs.Tokens.{spaced}
@@ -14,7 +14,6 @@ use Rattle.flattener.specs.declared.flattening.FlattenError.{FlattenError}
 use Rattle.flattener.specs.declared.flattening.FlattenError.TheVariants.{TooManyParts, TooManyWires, TooManyBlocks, PathTooLong, Memory}
 use Rattle.flattener.specs.declared.flattening.TheConstants.{INSTANCE_LIMIT}
 use Rattle.flattener.specs.Flat.{flattened}
-use Rattle.plain_minimum.specs.declared.search.TheConstants.{SIZE_LIMIT}
 use Rattle.diag_cli.specs.Words.{is_design_path}
 use Rattle.diag_cli.specs.Output.{Output, says, no_memory_line}
 
@@ -40,9 +39,6 @@ flatten_line (TooManyBlocks count) = above_line (codes "blocks") count INSTANCE_
 flatten_line (PathTooLong count) = above_line (codes "path") count NAME_LIMIT
 flatten_line Memory = no_memory_line
 
-abbrev pub not_yet_line : List ℕ
-not_yet_line = codes "error: not yet\n"
-
 abbrev pub long_file_line : List ℕ
 long_file_line = codes "error: file above 16777216 bytes\n"
 
@@ -62,11 +58,3 @@ described path text = if is_design_path path then design_device (design text) el
 -- the same of a file, which may be too long
 abbrev pub device_in : List ℕ → List ℕ → Result Device Output
 device_in path file = if nat_le (length file) TEXT_LIMIT then described path file else Err (says long_file_line 1)
-
--- parts and wires are few enough that all values can be tried
-abbrev pub is_small : Device → Bool
-is_small device = nat_le (length device.parts + length device.wires) SIZE_LIMIT
-
-abbrev pub if_small : Result Device Output → Result Device Output
-if_small (Ok device) = if is_small device then Ok device else Err (says not_yet_line 1)
-if_small (Err output) = Err output

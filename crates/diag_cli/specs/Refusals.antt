@@ -1,11 +1,11 @@
 -- Why a file gives nothing of what the words ask for, and what is told of it.
-use Rattle.std.specs.Prelude.{ℕ, List, Option, Some, None, Result}
+use Rattle.std.specs.Prelude.{Option, Some, None, Result}
 use Rattle.text_rules.specs.Expected.{Fulfils}
 use Rattle.diag_cli.specs.declared.refusal.Refusal.{Refusal}
-use Rattle.diag_cli.specs.declared.refusal.Refusal.TheVariants.{Fault, Header, Counts, Bits, Shared, Above, Sum, NotYet, Memory}
+use Rattle.diag_cli.specs.declared.refusal.Refusal.TheVariants.{Fault, Header, Counts, Bits, Shared, Above, Sum, Memory}
 use Rattle.diag_cli.specs.Output.{Output, says, no_memory}
 use Rattle.graph_rules.specs.GraphTexts as graphs
-use Rattle.diag_cli.specs.Describing.{fault_line, above_line, not_yet_line}
+use Rattle.diag_cli.specs.Describing.{fault_line, above_line}
 use Rattle.diag_cli.specs.Checking.{graph_fault_line}
 use Rattle.diag_cli.specs.Courses.{sum_above}
 
@@ -18,7 +18,6 @@ told_by (Bits bits) = Some (says (graph_fault_line (graphs.TooLarge bits)) 1)
 told_by (Shared node variable) = Some (says (graph_fault_line (graphs.Shared node variable)) 1)
 told_by (Above what count limit) = Some (says (above_line what.now count limit) 1)
 told_by (Sum budget) = Some (sum_above budget)
-told_by NotYet = Some (says not_yet_line 1)
 told_by Memory = None
 
 abbrev pub or_memory : Option Output → Output

@@ -2,11 +2,11 @@
 use Rattle.std.specs.Prelude.{◌≡◌, ◌≢◌, ◌⊎◌, ◌↔◌, ◌+◌, ◌<◌, ℕ, List, Option, None, IfSome}
 use Rattle.std.specs.Io.KnownBytes.{Consumes, IsAtEnd}
 use Rattle.diag_edge.specs.Edge.{RoseExactly, Holding, absent}
-use Rattle.device_model.specs.Devices.{Device}
-use Rattle.diag_cli.specs.declared.run.TheConstants.{SCRIPT_LIMIT}
+use Rattle.ranking.specs.Systems.{System}
+use Rattle.diag_cli.specs.declared.serving.TheConstants.{SCRIPT_LIMIT}
 use Rattle.diag_cli.specs.Words.{Form, named_file, told_file}
 use Rattle.diag_cli.specs.Output.{Output, Gives, GivesUnlessMemory, says}
-use Rattle.diag_cli.specs.Courses.{Failed, Course, Tells, Serves, read_error, served, wholly_served, course_of}
+use Rattle.diag_cli.specs.Courses.{Failed, Tells, Serves, read_error, served, wholly_served, course_of}
 
 -- what a source of bytes shows at a time: the bytes still to come, where they are told, how many were taken, and its faults
 pub record Reading : Type 0 where
@@ -41,13 +41,13 @@ pub record IsRun (form : Option Form) (held : List ℕ → Holding) (shelf new_s
   -- memory ran out.
   pub told : IfSome (told_file held form) (λ file. (output : Output) → course_of form file ≡ Tells output →
       IsIdle input new_input × (status ≢ 5 → status ≢ 4 → GivesUnlessMemory output status out.got new_out.got))
-  -- Where a script is answered, what is written is the output for the device and the script, unless memory ran out.
-  pub answer : IfSome (told_file held form) (λ file. (device : Device) → course_of form file ≡ Serves device →
-      IfSome input.left (λ script. status ≢ 5 → status ≢ 4 → GivesUnlessMemory (wholly_served device script) status out.got new_out.got))
+  -- Where a script is answered, what is written is the output for the system and the script, unless memory ran out.
+  pub answer : IfSome (told_file held form) (λ file. (system : System) → course_of form file ≡ Serves system →
+      IfSome input.left (λ script. status ≢ 5 → status ≢ 4 → GivesUnlessMemory (wholly_served system script) status out.got new_out.got))
   -- Where a read of the script failed, the lines that a line feed had ended were answered before.
-  pub script_fault : IfSome (told_file held form) (λ file. (device : Device) → course_of form file ≡ Serves device →
+  pub script_fault : IfSome (told_file held form) (λ file. (system : System) → course_of form file ≡ Serves system →
       input.faults < new_input.faults → status ≢ 5 →
-      (bytes : List ℕ) × Consumes input.left new_input.left bytes × Gives (served device bytes Failed) status out.got new_out.got)
+      (bytes : List ℕ) × Consumes input.left new_input.left bytes × Gives (served system bytes Failed) status out.got new_out.got)
   -- With status 0 a script that is answered was read to its end, and with status 7 exactly the limit was taken of it.
-  pub all_read : IfSome (told_file held form) (λ file. (device : Device) → course_of form file ≡ Serves device → status ≡ 0 → IsAtEnd new_input.left)
+  pub all_read : IfSome (told_file held form) (λ file. (system : System) → course_of form file ≡ Serves system → status ≡ 0 → IsAtEnd new_input.left)
   pub cut : status ≡ 7 → new_input.taken ≡ input.taken + SCRIPT_LIMIT

@@ -25,14 +25,14 @@ is_graph_path path = ends_in (codes ".nnf") path
 
 -- the forms of the command line
 pub data Form : Type 0 where
-  Serve : (path : List ℕ) → Form
+  Serve : (path : List ℕ) (budget : ℕ) → Form
   Plan : (path : List ℕ) → Form
   Check : (path : List ℕ) → Form
   Compile : (path : List ℕ) (budget : ℕ) → Form
 
 -- the file that a form names
 abbrev pub path_of : Form → List ℕ
-path_of (Serve path) = path
+path_of (Serve path budget) = path
 path_of (Plan path) = path
 path_of (Check path) = path
 path_of (Compile path budget) = path
@@ -40,7 +40,7 @@ path_of (Compile path budget) = path
 -- a command over a netlist or a design
 abbrev pub device_form : List ℕ → List ℕ → Option Form
 device_form command path =
-    if same_name command (codes "serve") then Some (Serve path)
+    if same_name command (codes "serve") then Some (Serve path DEFAULT_BUDGET)
     else if same_name command (codes "plan") then Some (Plan path)
     else if same_name command (codes "compile") then Some (Compile path DEFAULT_BUDGET)
     else None
@@ -56,9 +56,16 @@ form_over command path =
     else None
 
 -- a command over a netlist or a design, with a budget
+abbrev pub limited_form : List ℕ → List ℕ → ℕ → Option Form
+limited_form command path budget =
+    if same_name command (codes "serve") then Some (Serve path budget)
+    else if same_name command (codes "compile") then Some (Compile path budget)
+    else None
+
+-- where the path is one of either
 abbrev pub budget_form : List ℕ → List ℕ → ℕ → Option Form
 budget_form command path budget =
-    if is_device_path path && same_name command (codes "compile") then Some (Compile path budget) else None
+    if is_device_path path then limited_form command path budget else None
 
 -- an option that gives the budget, without a zero before another digit
 abbrev pub budget_in : List ℕ → List ℕ → Option ℕ
@@ -73,7 +80,7 @@ abbrev pub longer_form : List (List ℕ) → Option Form
 longer_form (command ∷ path ∷ option ∷ value ∷ []) = form_within command path (budget_in option value)
 longer_form words = None
 
--- `serve FILE`, `plan FILE`, `check FILE`, or `compile FILE`, which `--budget N` may follow
+-- `serve FILE` or `compile FILE`, which `--budget N` may follow, `plan FILE`, or `check FILE`
 abbrev pub form_of : List (List ℕ) → Option Form
 form_of (command ∷ path ∷ []) = form_over command path
 form_of words = longer_form words

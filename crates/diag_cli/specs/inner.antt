@@ -2,3 +2,4 @@
 pub mod Forms
 pub mod Courses
 pub mod Compiling
+pub mod Serving

@@ -1,8 +1,8 @@
-ghost use Rattle.std.specs.Prelude.{◌≡◌, ◌≤◌, ◌+◌, length, IfOk, Some};
+ghost use Rattle.std.specs.Prelude.{◌≡◌, ◌≤◌, length, Some};
 ghost use Rattle.bench_reader.specs.Netlists.{netlist};
 ghost use Rattle.component_lang.specs.Reading.{design};
 ghost use Rattle.flattener.specs.Flat.{flattened};
-ghost use Rattle.diag_cli.specs.Describing.{above_line, netlist_line, flatten_line, or_line, design_device, described, if_small};
+ghost use Rattle.diag_cli.specs.Describing.{above_line, netlist_line, flatten_line, or_line, design_device, described};
 ghost use Rattle.diag_cli.specs.Output.{says};
 ghost use Rattle.diag_cli.specs.Refusals.{Finds, told_by};
 
@@ -12,7 +12,6 @@ use bench_reader::{BenchError, read_bench};
 use component_lang::{Design, LangError, read_lang};
 use device_model::{Device, NAME_LIMIT, PART_LIMIT, WIRE_LIMIT};
 use flattener::{FlattenError, INSTANCE_LIMIT, flatten};
-use plain_minimum::SIZE_LIMIT;
 use std::alloc::Global;
 use text_rules::TEXT_LIMIT;
 
@@ -80,17 +79,4 @@ pub(crate) fn described(alloc: Global, path: &str, text: &[u8]) -> Result<Device
     } else {
         netlist_device(alloc, text)
     }
-}
-
-/// The device of a text, if it is small enough to be served.
-pub(crate) fn small_device(alloc: Global, path: &str, text: &[u8]) -> Result<Device, Refusal>
-    requires { length text.now ≤ TEXT_LIMIT }
-    ensures found { Finds (if_small (described path.now text.now)) result }
-    ensures few { IfOk result (λ device. length device.parts + length device.wires ≤ SIZE_LIMIT) }
-{
-    let device = described(alloc, path, text)?;
-    if device.parts().len() + device.wires().len() > SIZE_LIMIT {
-        return Err(Refusal::NotYet);
-    }
-    Ok(device)
 }

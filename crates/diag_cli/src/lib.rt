@@ -10,6 +10,7 @@ mod program;
 mod refusal;
 mod run;
 mod saying;
+mod serving;
 mod weighing;
 mod words;
 

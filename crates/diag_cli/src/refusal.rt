@@ -49,8 +49,6 @@ pub enum Refusal {
     Sum {
         budget: u32,
     },
-    /// There are more parts and wires than can be tried.
-    NotYet,
     /// There was no memory.
     Memory,
 }
@@ -241,7 +239,6 @@ pub(crate) fn tell<O: Sink>(out: &mut O, refusal: Refusal) -> u8
         Refusal::Shared { node, variable } => tell_shared(out, node, variable),
         Refusal::Above { what, count, limit } => tell_above(out, what, count, limit),
         Refusal::Sum { budget } => tell_sum(out, budget),
-        Refusal::NotYet => say(out, b"error: not yet\n", 1),
         Refusal::Memory => say(out, b"error: memory\n", 6),
     }
 }

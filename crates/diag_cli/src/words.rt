@@ -1,6 +1,6 @@
 ghost use Rattle.std.specs.Prelude.{◌≡◌, ◌≤◌, map, string_bytes, IfSome};
 ghost use Rattle.std.specs.Option.{option_map};
-ghost use Rattle.diag_cli.specs.Words.{form_of, longer_form, form_over, form_within, device_form, graph_form, budget_form, budget_in, path_of, ends_in, is_design_path, is_device_path, is_graph_path};
+ghost use Rattle.diag_cli.specs.Words.{form_of, longer_form, form_over, form_within, device_form, graph_form, limited_form, budget_form, budget_in, path_of, ends_in, is_design_path, is_device_path, is_graph_path};
 ghost use Rattle.diag_cli.specs.inner.Forms.{meant, HasSmallBudget};
 
 use branch_states::BUDGET_LIMIT;
@@ -12,8 +12,8 @@ pub const DEFAULT_BUDGET: u32 = 2_097_152;
 /// What the words of the command line ask for.
 #[derive(Clone, Copy, Debug)]
 pub enum Form<'a> {
-    /// `serve FILE`: answers the script on the input over the device of a file.
-    Serve { path: &'a str },
+    /// `serve FILE`: answers the script on the input over the device of a file, whose sum is within a budget.
+    Serve { path: &'a str, budget: u32 },
     /// `plan FILE`: tells how large a device is, and the sum that the budget limits.
     Plan { path: &'a str },
     /// `check FILE`: tells whether the text of a file is a decomposable graph.
@@ -28,8 +28,8 @@ impl<'a> Form<'a> {
         ensures { result.now ≡ path_of (meant self.entry) }
     {
         match self {
-            Form::Serve { path } | Form::Plan { path } | Form::Check { path } => path,
-            Form::Compile { path, budget: _ } => path,
+            Form::Plan { path } | Form::Check { path } => path,
+            Form::Serve { path, budget: _ } | Form::Compile { path, budget: _ } => path,
         }
     }
 }
@@ -68,7 +68,10 @@ fn device_form<'a>(command: &str, path: &'a str) -> Option<Form<'a>>
     ensures budget { IfSome result (λ form. HasSmallBudget (meant form)) }
 {
     match command {
-        "serve" => Some(Form::Serve { path }),
+        "serve" => Some(Form::Serve {
+            path,
+            budget: DEFAULT_BUDGET,
+        }),
         "plan" => Some(Form::Plan { path }),
         "compile" => Some(Form::Compile {
             path,
@@ -118,13 +121,26 @@ fn budget_in(option: &str, value: &str) -> Option<u32>
 }
 
 // The form of a command over a netlist or a design, with a budget.
+fn limited_form<'a>(command: &str, path: &'a str, budget: u32) -> Option<Form<'a>>
+    requires { budget ≤ BUDGET_LIMIT }
+    ensures form { option_map meant result ≡ limited_form command.now path.now budget }
+    ensures budget { IfSome result (λ form. HasSmallBudget (meant form)) }
+{
+    match command {
+        "serve" => Some(Form::Serve { path, budget }),
+        "compile" => Some(Form::Compile { path, budget }),
+        _ => None,
+    }
+}
+
+// The same, where the path is one of either.
 fn budget_form<'a>(command: &str, path: &'a str, budget: u32) -> Option<Form<'a>>
     requires { budget ≤ BUDGET_LIMIT }
     ensures form { option_map meant result ≡ budget_form command.now path.now budget }
     ensures budget { IfSome result (λ form. HasSmallBudget (meant form)) }
 {
-    if is_device_path(path) && command == "compile" {
-        Some(Form::Compile { path, budget })
+    if is_device_path(path) {
+        limited_form(command, path, budget)
     } else {
         None
     }

@@ -4,6 +4,8 @@
 #[cfg(test)]
 mod adapters;
 #[cfg(test)]
+mod asking;
+#[cfg(test)]
 mod failing;
 #[cfg(test)]
 mod parts;

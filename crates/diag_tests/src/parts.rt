@@ -1,8 +1,6 @@
 use crate::running::C17;
 use bench_reader::{BenchError, BenchFault, read_bench};
 use device_model::Kind;
-use diag_edge::{MemSink, MemSource};
-use session_core::{ServeEnd, Service};
 use std::test::Fail;
 
 // The wires by name: 1 10 11 16 19 2 22 23 3 6 7. The ports are the inputs and then the output.
@@ -67,23 +65,5 @@ fn reads_each_front_of_a_netlist(rt: HostRuntime) -> Result<(), Fail> {
         let read = read_bench(rt.alloc(), front);
         assert_eq!(rt; read.err(), fault_of_front(front), "{len} bytes");
     }
-    Ok(())
-}
-
-#[test]
-fn answers_a_line(rt: HostRuntime) -> Result<(), Fail> {
-    let alloc = rt.alloc();
-    let device = read_bench(alloc, b"INPUT(a)\nb = NOT(a)\n")?;
-    assert!(rt; device.parts().len() + device.wires().len() <= 20);
-    let mut service = Service::new(alloc, device)?;
-    let mut out = MemSink::new(alloc, 4096, Vec::new(alloc), 0)?;
-    service.line(b"open S", &mut out)?;
-    let script = Vec::from_slice(alloc, b"see S a=1\nsee S b=1\nmin S\n")?;
-    let mut input = MemSource::new(script, 4, Vec::new(alloc));
-    assert_eq!(rt; service.serve(&mut input, &mut out, 1000), ServeEnd::Done);
-    assert_eq!(rt;
-        out.as_slice(),
-        "S open\nS ok\nS ok\nS min 1 b\n".as_bytes()
-    );
     Ok(())
 }

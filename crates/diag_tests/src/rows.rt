@@ -9,7 +9,7 @@ struct Row {
     status: u8,
 }
 
-const ROWS: [Row; 18] = [
+const ROWS: [Row; 20] = [
     // The inputs are 0, so 22 and 23 are to be 0. One of 10 and 22 explains the 1, and the first of them is named.
     Row {
         file: File {
@@ -78,16 +78,16 @@ const ROWS: [Row; 18] = [
         out: "error: line 3: fault 6 driven twice\n",
         status: 1,
     },
-    // 21 wires are more than all whose values are tried.
+    // Nothing is asked of the wires, which are in no clause.
     Row {
         file: File {
             name: "many.bench",
             text: "INPUT(a)\nINPUT(b)\nINPUT(c)\nINPUT(d)\nINPUT(e)\nINPUT(f)\nINPUT(g)\nINPUT(h)\nINPUT(i)\nINPUT(j)\nINPUT(k)\nINPUT(l)\nINPUT(m)\nINPUT(n)\nINPUT(o)\nINPUT(p)\nINPUT(q)\nINPUT(r)\nINPUT(s)\nINPUT(t)\nINPUT(u)\n",
         },
         words: &["serve", "many.bench"],
-        script: "open S\n",
-        out: "error: not yet\n",
-        status: 1,
+        script: "open S\nsee S u=1\nmin S\n",
+        out: "ready 0 21\nS open\nS ok\nS min 0\n",
+        status: 0,
     },
     // Two instances of a block have a wire of their own each. The first inverts a, so u.w is to be 1.
     Row {
@@ -164,6 +164,26 @@ const ROWS: [Row; 18] = [
     },
     Row {
         file: File {
+            name: "not.bench",
+            text: "INPUT(a)\ny = NOT(a)\n",
+        },
+        words: &["serve", "not.bench", "--budget", "6"],
+        script: "open S\n",
+        out: "error: sum above 6\n",
+        status: 3,
+    },
+    Row {
+        file: File {
+            name: "not.bench",
+            text: "INPUT(a)\ny = NOT(a)\n",
+        },
+        words: &["serve", "not.bench", "--budget", "7"],
+        script: "open S\nsee S a=1\nsee S y=1\nmin S\n",
+        out: "ready 1 2\nS open\nS ok\nS ok\nS min 1 y\n",
+        status: 0,
+    },
+    Row {
+        file: File {
             name: "either.nnf",
             text: "nnf 3 2 1\nL 1\nL -1\nO 1 2 0 1\n",
         },
@@ -196,7 +216,7 @@ const ROWS: [Row; 18] = [
 ];
 
 // Words that ask for nothing that the program does.
-const WRONG: [&[&str]; 13] = [
+const WRONG: [&[&str]; 15] = [
     &[],
     &["serve"],
     &["--help"],
@@ -204,6 +224,8 @@ const WRONG: [&[&str]; 13] = [
     &["serve", ".bench"],
     &["serve", ".dev"],
     &["serve", "c17.bench", "x"],
+    &["serve", "c17.bench", "--budget", "08"],
+    &["serve", "c17.bench", "--budget", "8388609"],
     &["answer", "c17.bench"],
     &["check", "c17.bench"],
     &["plan", "c17.nnf"],

@@ -1,33 +1,25 @@
 -- Bytes of a script that are taken piece by piece.
-use Rattle.std.proofs.Common.{◌≡◌, ◌≢◌, ◌<◌, ◌+◌, get_or, length, drop, Result, Ok, Err, OnErr, arith, ℕ, List, [], ◌∷◌, ◌++◌, take, Option, None, Some, refl, sym, ◌∙◌, ap, subst, append_assoc, append-nil, true, false, if◌then◌else◌, ◌==◌, length-take, lit<}
+use Rattle.std.proofs.Common.{◌≡◌, ◌≢◌, ◌<◌, ◌+◌, get_or, length, drop, Result, Ok, Err, OnErr, arith, ℕ, List, [], ◌∷◌, ◌++◌, take, Option, None, Some, refl, sym, ◌∙◌, ap, ap₂, subst, append-nil, true, false, if◌then◌else◌, ◌==◌, length-take, lit<}
 use Rattle.std.specs.Prelude.{⊤}
 use Rattle.std.proofs.lemmas.Grind.{common_steps}
 use Rattle.std.proofs.lemmas.List.{take_more}
 use Rattle.std.specs.Io.KnownBytes.{Consumes, Keeps}
 use Rattle.text_rules.specs.TextLines.{last_line, whole_lines, all_lines}
-use Rattle.session_core.specs.Sessions.{Table, Step, run, after_lines}
-use Rattle.session_core.specs.Spelling.{Writes, WritesPart, Replies}
-use Rattle.session_core.specs.Serving.{Answers, BreaksOff}
+use Rattle.session_core.specs.Sessions.{Table, Step}
+use Rattle.session_core.specs.Moves.{left_by, script_moves}
+use Rattle.session_core.specs.Serving.{Makes, BreaksOff, CarriesOut}
 use Rattle.session_core.specs.inner.Gathering.{ended_from, rest_from, IsCut, Fed}
 use Rattle.session_core.proofs.Lines.{take-take-same, cut_push, ended_from-start, rest_from-start}
-use Rattle.session_core.proofs.Spellings.{writes_more, writes_none}
+use Rattle.session_core.proofs.Broken.{makes_none, makes_more, breaks_before, breaks_after, script_moves-append}
 
-pub run-append : (one : Table → List ℕ → Step) (t : Table) (ls ms : List (List ℕ)) → run one t (ls ++ ms) ≡ run one t ls ++ run one (after_lines one t ls) ms
-run-append one t [] ms = refl
-run-append one t (l ∷ ls) ms = ap (λ r. (one t l).items ++ r) (run-append one (one t l).table ls ms) ∙ sym (append_assoc (one t l).items _ _)
-
-pub after_lines-append : (one : Table → List ℕ → Step) (t : Table) (ls ms : List (List ℕ)) → after_lines one t (ls ++ ms) ≡ after_lines one (after_lines one t ls) ms
-after_lines-append one t [] ms = refl
-after_lines-append one t (l ∷ ls) ms = after_lines-append one (one t l).table ls ms
-
-pub ended_from-append : (l xs ys : List ℕ) → ended_from l (xs ++ ys) ≡ ended_from l xs ++ ended_from (rest_from l xs) ys
+ended_from-append : (l xs ys : List ℕ) → ended_from l (xs ++ ys) ≡ ended_from l xs ++ ended_from (rest_from l xs) ys
 ended_from-append l [] ys = refl
 ended_from-append l (b ∷ xs) ys = elim (b == 10) as (λ v. (if v then l ∷ ended_from [] (xs ++ ys) else ended_from (l ++ b ∷ []) (xs ++ ys)) ≡ (if v then l ∷ ended_from [] xs else ended_from (l ++ b ∷ []) xs) ++ ended_from (if v then rest_from [] xs else rest_from (l ++ b ∷ []) xs) ys) [
   | true ↦ ap (λ ls. l ∷ ls) (ended_from-append [] xs ys)
   | false ↦ ended_from-append (l ++ b ∷ []) xs ys
 ]
 
-pub rest_from-append : (l xs ys : List ℕ) → rest_from l (xs ++ ys) ≡ rest_from (rest_from l xs) ys
+rest_from-append : (l xs ys : List ℕ) → rest_from l (xs ++ ys) ≡ rest_from (rest_from l xs) ys
 rest_from-append l [] ys = refl
 rest_from-append l (b ∷ xs) ys = elim (b == 10) as (λ v. (if v then rest_from [] (xs ++ ys) else rest_from (l ++ b ∷ []) (xs ++ ys)) ≡ rest_from (if v then rest_from [] xs else rest_from (l ++ b ∷ []) xs) ys) [
   | true ↦ rest_from-append [] xs ys
@@ -35,20 +27,6 @@ rest_from-append l (b ∷ xs) ys = elim (b == 10) as (λ v. (if v then rest_from
 ]
 
 -- how much of the line before the bytes is kept past the limit does not matter
-run-take : (one : Table → List ℕ → Step) → IsCut one → (t : Table) (line bytes : List ℕ) → run one t (ended_from (take 1048577 line) bytes) ≡ run one t (ended_from line bytes)
-run-take one h t line [] = refl
-run-take one h t line (b ∷ bs) = elim (b == 10) as (λ v. run one t (if v then take 1048577 line ∷ ended_from [] bs else ended_from (take 1048577 line ++ b ∷ []) bs) ≡ run one t (if v then line ∷ ended_from [] bs else ended_from (line ++ b ∷ []) bs)) [
-  | true ↦ ap (λ s. s.items ++ run one s.table (ended_from [] bs)) (h.same t line)
-  | false ↦ sym (run-take one h t (take 1048577 line ++ b ∷ []) bs) ∙ ap (λ l. run one t (ended_from l bs)) (cut_push 1048577 line (b ∷ [])) ∙ run-take one h t (line ++ b ∷ []) bs
-]
-
-after-take : (one : Table → List ℕ → Step) → IsCut one → (t : Table) (line bytes : List ℕ) → after_lines one t (ended_from (take 1048577 line) bytes) ≡ after_lines one t (ended_from line bytes)
-after-take one h t line [] = refl
-after-take one h t line (b ∷ bs) = elim (b == 10) as (λ v. after_lines one t (if v then take 1048577 line ∷ ended_from [] bs else ended_from (take 1048577 line ++ b ∷ []) bs) ≡ after_lines one t (if v then line ∷ ended_from [] bs else ended_from (line ++ b ∷ []) bs)) [
-  | true ↦ ap (λ s. after_lines one s.table (ended_from [] bs)) (h.same t line)
-  | false ↦ sym (after-take one h t (take 1048577 line ++ b ∷ []) bs) ∙ ap (λ l. after_lines one t (ended_from l bs)) (cut_push 1048577 line (b ∷ [])) ∙ after-take one h t (line ++ b ∷ []) bs
-]
-
 rest-take : (line bytes : List ℕ) → take 1048577 (rest_from (take 1048577 line) bytes) ≡ take 1048577 (rest_from line bytes)
 rest-take line [] = take-take-same 1048577 line
 rest-take line (b ∷ bs) = elim (b == 10) as (λ v. take 1048577 (if v then rest_from [] bs else rest_from (take 1048577 line ++ b ∷ []) bs) ≡ take 1048577 (if v then rest_from [] bs else rest_from (line ++ b ∷ []) bs)) [
@@ -56,141 +34,12 @@ rest-take line (b ∷ bs) = elim (b == 10) as (λ v. take 1048577 (if v then res
   | false ↦ sym (rest-take (take 1048577 line ++ b ∷ []) bs) ∙ ap (λ l. take 1048577 (rest_from l bs)) (cut_push 1048577 line (b ∷ [])) ∙ rest-take (line ++ b ∷ []) bs
 ]
 
--- lines are answered alike from beginnings that are alike as far as counts
-alike_run : (one : Table → List ℕ → Step) → IsCut one → (t : Table) (l k bytes : List ℕ) → take 1048577 l ≡ take 1048577 k → run one t (ended_from l bytes) ≡ run one t (ended_from k bytes)
-alike_run one h t l k bytes e = sym (run-take one h t l bytes) ∙ ap (λ j. run one t (ended_from j bytes)) e ∙ run-take one h t k bytes
-
-alike_after : (one : Table → List ℕ → Step) → IsCut one → (t : Table) (l k bytes : List ℕ) → take 1048577 l ≡ take 1048577 k → after_lines one t (ended_from l bytes) ≡ after_lines one t (ended_from k bytes)
-alike_after one h t l k bytes e = sym (after-take one h t l bytes) ∙ ap (λ j. after_lines one t (ended_from j bytes)) e ∙ after-take one h t k bytes
-
 alike_rest : (l k bytes : List ℕ) → take 1048577 l ≡ take 1048577 k → take 1048577 (rest_from l bytes) ≡ take 1048577 (rest_from k bytes)
 alike_rest l k bytes e = sym (rest-take l bytes) ∙ ap (λ j. take 1048577 (rest_from j bytes)) e ∙ rest-take k bytes
-
-alike_step : (one : Table → List ℕ → Step) → IsCut one → (t : Table) (l k : List ℕ) → take 1048577 l ≡ take 1048577 k → one t l ≡ one t k
-alike_step one h t l k e = sym (h.same t l) ∙ ap (one t) e ∙ h.same t k
-
--- the replies to two pieces, one after the other
-run_to_both : (one : Table → List ℕ → Step) → IsCut one → (s t : Table) (l k xs ys : List ℕ) → t ≡ after_lines one s (ended_from l xs) → take 1048577 k ≡ take 1048577 (rest_from l xs)
-    → run one s (ended_from l xs) ++ run one t (ended_from k ys) ≡ run one s (ended_from l (xs ++ ys))
-run_to_both one h s t l k xs ys is alike =
-    sym (ap (run one s) (ended_from-append l xs ys) ∙ run-append one s (ended_from l xs) (ended_from (rest_from l xs) ys)
-    ∙ ap (λ u. run one s (ended_from l xs) ++ run one u (ended_from (rest_from l xs) ys)) (sym is)
-    ∙ ap (λ r. run one s (ended_from l xs) ++ r) (sym (alike_run one h t k (rest_from l xs) ys alike)))
-
-pub fed_none : (one : Table → List ℕ → Step) (s : Table) (l : List ℕ) (a : Option (List ℕ)) → Fed one s s l l [] a a
-fed_none one s l a = record { answered = record { written = writes_none a; table = refl }; begun = refl }
-
-pub fed_more : {one : Table → List ℕ → Step} {s t u : Table} {l k j xs ys : List ℕ} {a b c : Option (List ℕ)} → IsCut one → Fed one s t l k xs a b → Fed one t u k j ys b c → Fed one s u l j (xs ++ ys) a c
-fed_more {one} {s} {t} {u} {l} {k} {j} {xs} {ys} {a} {b} {c} h first second = record {
-  answered = record {
-    written = subst (Writes a c) (run_to_both one h s t l k xs ys first.answered.table first.begun) (writes_more a b c _ _ first.answered.written second.answered.written);
-    table = second.answered.table ∙ alike_after one h t k (rest_from l xs) ys first.begun ∙ ap (λ v. after_lines one v (ended_from (rest_from l xs) ys)) first.answered.table
-        ∙ sym (ap (after_lines one s) (ended_from-append l xs ys) ∙ after_lines-append one s (ended_from l xs) (ended_from (rest_from l xs) ys));
-  };
-  begun = second.begun ∙ alike_rest k (rest_from l xs) ys first.begun ∙ ap (take 1048577) (sym (rest_from-append l xs ys));
-}
-
--- a byte that is no line feed goes on with the line
-pub fed_other : (one : Table → List ℕ → Step) (s : Table) (l k : List ℕ) (b : ℕ) (a : Option (List ℕ)) → b ≢ 10 → k ≡ take 1048577 (l ++ b ∷ []) → Fed one s s l k (b ∷ []) a a
-fed_other one s l k b a other is =
-    let no : (b == 10) ≡ false = grind arith in
-    record {
-      answered = record {
-        written = rw no (writes_none a);
-        table = rw no refl;
-      };
-      begun = rw (no, is) (take-take-same 1048577 (l ++ b ∷ []));
-    }
-
--- a line feed has the line answered
-pub fed_feed : (one : Table → List ℕ → Step) (s t : Table) (l : List ℕ) (b : ℕ) (a c : Option (List ℕ)) → b ≡ 10 → Writes a c (one s l).items → t ≡ (one s l).table → Fed one s t l [] (b ∷ []) a c
-fed_feed one s t l b a c feed written is = subst (λ x. Fed one s t l [] (x ∷ []) a c) (sym feed) (record {
-  answered = record { written = subst (Writes a c) (sym (append-nil (one s l).items)) written; table = is };
-  begun = refl;
-})
-
-on_err : {T E P : Type 0} (r : Result T E) → P → OnErr r P
-on_err (Ok v) p = tt
-on_err (Err e) p = p
-
--- one byte more of a piece was taken
-pub fed_step : {one : Table → List ℕ → Step} {s t u : Table} {l k j : List ℕ} {a b c : Option (List ℕ)} (piece : List ℕ) (i : ℕ) → IsCut one → i < length piece → Fed one s t l k (take i piece) a b → Fed one t u k j (get_or piece i 0 ∷ []) b c → Fed one s u l j (take (i + 1) piece) a c
-fed_step {one} {s} {t} {u} {l} {k} {j} {a} {b} {c} piece i h less first second =
-    subst (λ xs. Fed one s u l j xs a c) (sym (take_more piece i 0 less)) (fed_more h first second)
 
 -- what is kept of a line that has a byte is something
 kept_byte : (n b : ℕ) (k : List ℕ) → 0 < n → take n (b ∷ k) ≡ [] → ⊥
 kept_byte n b k some e = omega (arith, ap length e, length-take n (b ∷ k), some)
-
--- what is answered to a last line, of which no more is kept than counts
-last_alike : (one : Table → List ℕ → Step) → IsCut one → (t : Table) (l k : List ℕ) → take 1048577 l ≡ take 1048577 k → (run one t (last_line l) ≡ run one t (last_line k)) × (after_lines one t (last_line l) ≡ after_lines one t (last_line k))
-last_alike one h t [] [] e = (refl, refl)
-last_alike one h t [] (b ∷ k) e = absurd (kept_byte 1048577 b k (lit< tt) (sym e))
-last_alike one h t (b ∷ l) [] e = absurd (kept_byte 1048577 b l (lit< tt) e)
-last_alike one h t (b ∷ l) (c ∷ k) e =
-    let same = alike_step one h t (b ∷ l) (c ∷ k) e in (ap (λ s. s.items ++ []) same, ap (λ s. s.table) same)
-
-run_to_all : (one : Table → List ℕ → Step) → IsCut one → (s t : Table) (l bytes : List ℕ) → t ≡ after_lines one s (ended_from [] bytes) → take 1048577 l ≡ take 1048577 (rest_from [] bytes)
-    → run one s (ended_from [] bytes) ++ run one t (last_line l) ≡ run one s (all_lines bytes)
-run_to_all one h s t l bytes is alike =
-    ap (λ r. run one s (ended_from [] bytes) ++ r) ((last_alike one h t l (rest_from [] bytes) alike).0 ∙ ap (λ u. run one u (last_line (rest_from [] bytes))) is)
-    ∙ sym (run-append one s (ended_from [] bytes) (last_line (rest_from [] bytes)))
-    ∙ (λ i. run one s (ended_from-start bytes i ++ last_line (rest_from-start bytes i)))
-
--- the whole lines were answered
-pub answers_whole : {one : Table → List ℕ → Step} {s t : Table} {l bytes : List ℕ} {a b : Option (List ℕ)} → Fed one s t [] l bytes a b → Answers one s t (whole_lines bytes) a b
-answers_whole {one} {s} {t} {l} {bytes} {a} {b} fed = subst (λ ls. Answers one s t ls a b) (ended_from-start bytes) fed.answered
-
--- the last line was answered
-pub answers_all : {one : Table → List ℕ → Step} {s t u : Table} {l bytes : List ℕ} {a b : Option (List ℕ)} (c : Option (List ℕ)) → IsCut one → Fed one s t [] l bytes a b → Answers one t u (last_line l) b c → Answers one s u (all_lines bytes) a c
-answers_all {one} {s} {t} {u} {l} {bytes} {a} {b} c h fed last = record {
-  written = subst (Writes a c) (run_to_all one h s t l bytes fed.answered.table fed.begun) (writes_more a b c _ _ fed.answered.written last.written);
-  table = last.table ∙ (last_alike one h t l (rest_from [] bytes) fed.begun).1 ∙ ap (λ v. after_lines one v (last_line (rest_from [] bytes))) fed.answered.table
-      ∙ sym (after_lines-append one s (ended_from [] bytes) (last_line (rest_from [] bytes)))
-      ∙ (λ i. after_lines one s (ended_from-start bytes i ++ last_line (rest_from-start bytes i)));
-}
-
--- known bytes were taken, and then none
-pub consumes_kept : (a b c : Option (List ℕ)) (xs : List ℕ) → Consumes a b xs → Keeps b c → Consumes a c xs
-consumes_kept None b c xs h k = tt
-consumes_kept (Some olds) None c xs h k = absurd h
-consumes_kept (Some olds) (Some bs) None xs h k = absurd k
-consumes_kept (Some olds) (Some bs) (Some cs) xs h k = h ∙ ap (λ zs. xs ++ zs) (sym k)
-
--- ---- a write that failed
-
--- the reply to one line broke off
-pub breaks_one : (one : Table → List ℕ → Step) (s t : Table) (l : List ℕ) (a c : Option (List ℕ)) → WritesPart a c (one s l).items → t ≡ (one s l).table → BreaksOff one s t (l ∷ []) a c
-breaks_one one s t l a c part is =
-    record { answered = []; line = l; others = []; split = refl; middle = a; written = writes_none a; begun = part; table = is }
-
--- of more lines no more were answered
-breaks_before : {one : Table → List ℕ → Step} {s t : Table} {ls : List (List ℕ)} {a c : Option (List ℕ)} (ms : List (List ℕ)) → BreaksOff one s t ls a c → BreaksOff one s t (ls ++ ms) a c
-breaks_before ms d = record {
-  answered = d.answered;
-  line = d.line;
-  others = d.others ++ ms;
-  split = ap (λ x. x ++ ms) d.split ∙ append_assoc d.answered (d.line ∷ d.others) ms;
-  middle = d.middle;
-  written = d.written;
-  begun = d.begun;
-  table = d.table;
-}
-
--- lines were answered before
-breaks_after : {one : Table → List ℕ → Step} {s t u : Table} {ks ls : List (List ℕ)} {a b c : Option (List ℕ)} → Answers one s t ks a b → BreaksOff one t u ls b c → BreaksOff one s u (ks ++ ls) a c
-breaks_after {one} {s} {t} {u} {ks} {ls} {a} {b} {c} first d =
-    let there : after_lines one t d.answered ≡ after_lines one s (ks ++ d.answered) = ap (λ v. after_lines one v d.answered) first.table ∙ sym (after_lines-append one s ks d.answered) in
-    record {
-      answered = ks ++ d.answered;
-      line = d.line;
-      others = d.others;
-      split = ap (λ x. ks ++ x) d.split ∙ sym (append_assoc ks d.answered (d.line ∷ d.others));
-      middle = d.middle;
-      written = subst (Writes a d.middle) (ap (λ v. run one s ks ++ run one v d.answered) first.table ∙ sym (run-append one s ks d.answered)) (writes_more a b d.middle _ _ first.written d.written);
-      begun = subst (λ v. WritesPart d.middle c (one v d.line).items) there d.begun;
-      table = d.table ∙ ap (λ v. (one v d.line).table) there;
-    }
 
 -- the same lines, but for the first, of which no more than counts is the same
 abbrev FirstAlike : List (List ℕ) → List (List ℕ) → Type 0
@@ -212,77 +61,128 @@ last_line_alike [] (b ∷ k) e = absurd (kept_byte 1048577 b k (lit< tt) (sym e)
 last_line_alike (b ∷ l) [] e = absurd (kept_byte 1048577 b l (lit< tt) e)
 last_line_alike (b ∷ l) (c ∷ k) e = (e, refl)
 
-module _ (one : Table → List ℕ → Step) (h : IsCut one) (s t : Table) (a c : Option (List ℕ)) where
-  breaks_at : (ls ks answered : List (List ℕ)) (line : List ℕ) (others : List (List ℕ)) (middle : Option (List ℕ)) → FirstAlike ls ks → ls ≡ answered ++ line ∷ others
-      → Writes a middle (run one s answered) → WritesPart middle c (one (after_lines one s answered) line).items → t ≡ (one (after_lines one s answered) line).table → BreaksOff one s t ks a c
-  breaks_at [] ks [] line others middle alike split written begun table = absurd (let never : ⊥ = cc in never)
-  breaks_at [] ks (x ∷ answered) line others middle alike split written begun table = absurd (let never : ⊥ = cc in never)
-  breaks_at (l ∷ ls) [] answered line others middle alike split written begun table = absurd alike
-  breaks_at (l ∷ ls) (k ∷ ks) [] line others middle (same, rest) split written begun table =
-      let first : l ≡ line = cc in
-      let is : one s line ≡ one s k = ap (one s) (sym first) ∙ alike_step one h s l k same in
-      record {
-        answered = [];
-        line = k;
-        others = ks;
-        split = refl;
-        middle = middle;
-        written = written;
-        begun = subst (λ (step : Step). WritesPart middle c step.items) is begun;
-        table = table ∙ ap (λ (step : Step). step.table) is;
-      }
-  breaks_at (l ∷ ls) (k ∷ ks) (x ∷ answered) line others middle (same, rest) split written begun table =
-      let first : l ≡ x = cc in
-      let behind : ls ≡ answered ++ line ∷ others = cc in
-      let is : one s x ≡ one s k = ap (one s) (sym first) ∙ alike_step one h s l k same in
-      record {
-        answered = k ∷ answered;
-        line = line;
-        others = others;
-        split = ap (λ r. k ∷ r) (sym rest ∙ behind);
-        middle = middle;
-        written = subst (λ (step : Step). Writes a middle (step.items ++ run one step.table answered)) is written;
-        begun = subst (λ (step : Step). WritesPart middle c (one (after_lines one step.table answered) line).items) is begun;
-        table = table ∙ ap (λ (step : Step). (one (after_lines one step.table answered) line).table) is;
-      }
+-- lines that are alike as far as counts have the same moves
+module _ (one : Table → List ℕ → List Step) (h : IsCut one) where
+  alike_moves : (t : Table) (l k : List ℕ) → take 1048577 l ≡ take 1048577 k → one t l ≡ one t k
+  alike_moves t l k e = sym (h.same t l) ∙ ap (one t) e ∙ h.same t k
 
-  breaks_alike : (ls ks : List (List ℕ)) → FirstAlike ls ks → BreaksOff one s t ls a c → BreaksOff one s t ks a c
-  breaks_alike ls ks alike d = breaks_at ls ks d.answered d.line d.others d.middle alike d.split d.written d.begun d.table
+  script_moves-alike : (t : Table) (ls ks : List (List ℕ)) → FirstAlike ls ks → script_moves one t ls ≡ script_moves one t ks
+  script_moves-alike t [] [] alike = refl
+  script_moves-alike t [] (k ∷ ks) alike = absurd alike
+  script_moves-alike t (l ∷ ls) [] alike = absurd alike
+  script_moves-alike t (l ∷ ls) (k ∷ ks) (same, rest) =
+      ap₂ (λ first lines. first ++ script_moves one (left_by t first) lines) (alike_moves t l k same) rest
 
--- a piece was taken, and a reply to the next one broke off
-pub breaks_fed : {one : Table → List ℕ → Step} {s t u : Table} {l k xs : List ℕ} {a b c : Option (List ℕ)} (ys : List ℕ) → IsCut one → Fed one s t l k xs a b → BreaksOff one t u (ended_from k ys) b c → BreaksOff one s u (ended_from l (xs ++ ys)) a c
-breaks_fed {one} {s} {t} {u} {l} {k} {xs} {a} {b} {c} ys h first second =
-    subst (λ ls. BreaksOff one s u ls a c) (sym (ended_from-append l xs ys))
-    (breaks_after first.answered (breaks_alike one h t u b c _ _ (ended_alike k (rest_from l xs) ys first.begun) second))
+  -- also where they come after other lines
+  moves_behind : (s t : Table) (ls ks ms : List (List ℕ)) → t ≡ left_by s (script_moves one s ls) → FirstAlike ks ms → script_moves one s ls ++ script_moves one t ks ≡ script_moves one s (ls ++ ms)
+  moves_behind s t ls ks ms is alike =
+      ap (λ moves. script_moves one s ls ++ moves) (script_moves-alike t ks ms alike ∙ ap (λ u. script_moves one u ms) is)
+      ∙ sym (script_moves-append one s ls ms)
 
--- the reply to the line that a line feed ended broke off
-pub breaks_feed : {T E : Type 0} (one : Table → List ℕ → Step) {s t : Table} {l k : List ℕ} {b : ℕ} {a c : Option (List ℕ)} (r : Result T E) → k ≡ l → b ≡ 10 → WritesPart a c (one s k).items → t ≡ (one s k).table → OnErr r (BreaksOff one s t (ended_from l (b ∷ [])) a c)
-breaks_feed {T} {E} one {s} {t} {l} {k} {b} {a} {c} r is feed part table =
-    on_err r (subst (λ x. BreaksOff one s t (ended_from l (x ∷ [])) a c) (sym feed)
-    (breaks_one one s t l a c (subst (λ x. WritesPart a c (one s x).items) is part) (table ∙ ap (λ x. (one s x).table) is)))
+  -- the moves of two pieces, one after the other
+  moves_to_both : (s t : Table) (l k xs ys : List ℕ) → t ≡ left_by s (script_moves one s (ended_from l xs)) → take 1048577 k ≡ take 1048577 (rest_from l xs)
+      → script_moves one s (ended_from l xs) ++ script_moves one t (ended_from k ys) ≡ script_moves one s (ended_from l (xs ++ ys))
+  moves_to_both s t l k xs ys is alike =
+      moves_behind s t (ended_from l xs) (ended_from k ys) (ended_from (rest_from l xs) ys) is (ended_alike k (rest_from l xs) ys alike)
+      ∙ ap (script_moves one s) (sym (ended_from-append l xs ys))
 
--- a reply broke off at one byte of a piece
-pub breaks_step : {T E : Type 0} {one : Table → List ℕ → Step} {s t u : Table} {l k : List ℕ} {a b c : Option (List ℕ)} (r : Result T E) (piece : List ℕ) (i : ℕ) → IsCut one → i < length piece → Fed one s t l k (take i piece) a b → BreaksOff one t u (ended_from k (get_or piece i 0 ∷ [])) b c → OnErr r (BreaksOff one s u (ended_from l piece) a c)
+  -- and those of the last line after a text
+  moves_to_all : (s t : Table) (l bytes : List ℕ) → t ≡ left_by s (script_moves one s (ended_from [] bytes)) → take 1048577 l ≡ take 1048577 (rest_from [] bytes)
+      → script_moves one s (ended_from [] bytes) ++ script_moves one t (last_line l) ≡ script_moves one s (all_lines bytes)
+  moves_to_all s t l bytes is alike =
+      moves_behind s t (ended_from [] bytes) (last_line l) (last_line (rest_from [] bytes)) is (last_line_alike l (rest_from [] bytes) alike)
+      ∙ (λ i. script_moves one s (ended_from-start bytes i ++ last_line (rest_from-start bytes i)))
+
+-- ---- bytes that were taken
+
+pub fed_none : (one : Table → List ℕ → List Step) (s : Table) (l : List ℕ) (a : Option (List ℕ)) → Fed one s s l l [] a a
+fed_none one s l a = record { made = makes_none s a; begun = refl }
+
+pub fed_more : {one : Table → List ℕ → List Step} {s t u : Table} {l k j xs ys : List ℕ} {a b c : Option (List ℕ)} → IsCut one → Fed one s t l k xs a b → Fed one t u k j ys b c → Fed one s u l j (xs ++ ys) a c
+fed_more {one} {s} {t} {u} {l} {k} {j} {xs} {ys} {a} {b} {c} h first second = record {
+  made = subst (λ ms. Makes s u ms a c) (moves_to_both one h s t l k xs ys first.made.table first.begun) (makes_more first.made second.made);
+  begun = second.begun ∙ alike_rest k (rest_from l xs) ys first.begun ∙ ap (take 1048577) (sym (rest_from-append l xs ys));
+}
+
+-- a byte that is no line feed goes on with the line
+pub fed_other : (one : Table → List ℕ → List Step) (s : Table) (l k : List ℕ) (b : ℕ) (a : Option (List ℕ)) → b ≢ 10 → k ≡ take 1048577 (l ++ b ∷ []) → Fed one s s l k (b ∷ []) a a
+fed_other one s l k b a other is =
+    let no : (b == 10) ≡ false = grind arith in
+    record {
+      made = rw no (makes_none s a);
+      begun = rw (no, is) (take-take-same 1048577 (l ++ b ∷ []));
+    }
+
+-- the one line that a line feed ends has its moves
+moves_of_feed : (one : Table → List ℕ → List Step) (s : Table) (l k : List ℕ) (b : ℕ) → k ≡ l → b ≡ 10 → one s k ≡ script_moves one s (ended_from l (b ∷ []))
+moves_of_feed one s l k b is feed = ap (one s) is ∙ sym (append-nil (one s l)) ∙ ap (λ x. script_moves one s (ended_from l (x ∷ []))) (sym feed)
+
+-- a line feed has the line answered
+pub fed_feed : (one : Table → List ℕ → List Step) (s t : Table) (l k rest : List ℕ) (b : ℕ) (a c : Option (List ℕ)) → k ≡ l → b ≡ 10 → rest ≡ [] → Makes s t (one s k) a c → Fed one s t l rest (b ∷ []) a c
+fed_feed one s t l k rest b a c is feed none made = record {
+  made = subst (λ ms. Makes s t ms a c) (moves_of_feed one s l k b is feed) made;
+  begun = ap (take 1048577) (none ∙ ap (λ x. rest_from l (x ∷ [])) (sym feed));
+}
+
+-- one byte more of a piece was taken
+pub fed_step : {one : Table → List ℕ → List Step} {s t u : Table} {l k j : List ℕ} {a b c : Option (List ℕ)} (piece : List ℕ) (i : ℕ) → IsCut one → i < length piece → Fed one s t l k (take i piece) a b → Fed one t u k j (get_or piece i 0 ∷ []) b c → Fed one s u l j (take (i + 1) piece) a c
+fed_step {one} {s} {t} {u} {l} {k} {j} {a} {b} {c} piece i h less first second =
+    subst (λ xs. Fed one s u l j xs a c) (sym (take_more piece i 0 less)) (fed_more h first second)
+
+-- the moves of the whole lines were made
+pub makes_whole : {one : Table → List ℕ → List Step} {s t : Table} {l bytes : List ℕ} {a b : Option (List ℕ)} → Fed one s t [] l bytes a b → Makes s t (script_moves one s (whole_lines bytes)) a b
+makes_whole {one} {s} {t} {l} {bytes} {a} {b} fed = subst (λ ls. Makes s t (script_moves one s ls) a b) (ended_from-start bytes) fed.made
+
+-- and those of the last line
+pub makes_all : {one : Table → List ℕ → List Step} {s t u : Table} {l bytes : List ℕ} {a b : Option (List ℕ)} (c : Option (List ℕ)) → IsCut one → Fed one s t [] l bytes a b → Makes t u (script_moves one t (last_line l)) b c → Makes s u (script_moves one s (all_lines bytes)) a c
+makes_all {one} {s} {t} {u} {l} {bytes} {a} {b} c h fed last =
+    subst (λ ms. Makes s u ms a c) (moves_to_all one h s t l bytes fed.made.table fed.begun) (makes_more fed.made last)
+
+-- known bytes were taken, and then none
+pub consumes_kept : (a b c : Option (List ℕ)) (xs : List ℕ) → Consumes a b xs → Keeps b c → Consumes a c xs
+consumes_kept None b c xs h k = tt
+consumes_kept (Some olds) None c xs h k = absurd h
+consumes_kept (Some olds) (Some bs) None xs h k = absurd k
+consumes_kept (Some olds) (Some bs) (Some cs) xs h k = h ∙ ap (λ zs. xs ++ zs) (sym k)
+
+-- ---- a write that failed
+
+on_err : {T E P : Type 0} (r : Result T E) → P → OnErr r P
+on_err (Ok v) p = tt
+on_err (Err e) p = p
+
+-- a piece was taken, and a line that the next one ends broke off
+pub breaks_fed : {one : Table → List ℕ → List Step} {s t u : Table} {l k xs : List ℕ} {a b c : Option (List ℕ)} (ys : List ℕ) → IsCut one → Fed one s t l k xs a b → BreaksOff u (script_moves one t (ended_from k ys)) b c → BreaksOff u (script_moves one s (ended_from l (xs ++ ys))) a c
+breaks_fed {one} {s} {t} {u} {l} {k} {xs} {a} {b} {c} ys h first broke =
+    subst (λ ms. BreaksOff u ms a c) (moves_to_both one h s t l k xs ys first.made.table first.begun) (breaks_after first.made broke)
+
+-- the line that a line feed ended broke off
+pub breaks_feed : {T E : Type 0} (one : Table → List ℕ → List Step) (s t : Table) (l k : List ℕ) (b : ℕ) (a c : Option (List ℕ)) (r : Result T E) → k ≡ l → b ≡ 10 → BreaksOff t (one s k) a c → OnErr r (BreaksOff t (script_moves one s (ended_from l (b ∷ []))) a c)
+breaks_feed {T} {E} one s t l k b a c r is feed broke = on_err r (subst (λ ms. BreaksOff t ms a c) (moves_of_feed one s l k b is feed) broke)
+
+-- a line broke off at one byte of a piece
+pub breaks_step : {T E : Type 0} {one : Table → List ℕ → List Step} {s t u : Table} {l k : List ℕ} {a b c : Option (List ℕ)} (r : Result T E) (piece : List ℕ) (i : ℕ) → IsCut one → i < length piece → Fed one s t l k (take i piece) a b → BreaksOff u (script_moves one t (ended_from k (get_or piece i 0 ∷ []))) b c → OnErr r (BreaksOff u (script_moves one s (ended_from l piece)) a c)
 breaks_step {T} {E} {one} {s} {t} {u} {l} {k} {a} {b} {c} r piece i h less first second =
     let front = take i piece ++ get_or piece i 0 ∷ [] in
     let behind = drop (i + 1) piece in
     let all : front ++ behind ≡ piece = grind (arith, common_steps, take_more piece i 0 less) in
-    let here : BreaksOff one s u (ended_from l front) a c = breaks_fed (get_or piece i 0 ∷ []) h first second in
-    on_err r (subst (λ ls. BreaksOff one s u ls a c) (sym (ended_from-append l front behind) ∙ ap (ended_from l) all) (breaks_before (ended_from (rest_from l front) behind) here))
+    let here : BreaksOff u (script_moves one s (ended_from l front)) a c = breaks_fed (get_or piece i 0 ∷ []) h first second in
+    let later = script_moves one (left_by s (script_moves one s (ended_from l front))) (ended_from (rest_from l front) behind) in
+    on_err r (subst (λ ms. BreaksOff u ms a c)
+    (sym (script_moves-append one s (ended_from l front) (ended_from (rest_from l front) behind))
+    ∙ ap (script_moves one s) (sym (ended_from-append l front behind) ∙ ap (ended_from l) all))
+    (breaks_before later here))
 
--- a reply to whole lines broke off
-pub breaks_whole : {one : Table → List ℕ → Step} {s t : Table} {a b : Option (List ℕ)} (bytes : List ℕ) → BreaksOff one s t (ended_from [] bytes) a b → BreaksOff one s t (whole_lines bytes) a b
-breaks_whole {one} {s} {t} {a} {b} bytes d = subst (λ ls. BreaksOff one s t ls a b) (ended_from-start bytes) d
+-- a whole line broke off
+pub breaks_whole : (one : Table → List ℕ → List Step) (s t : Table) (a b : Option (List ℕ)) (bytes : List ℕ) → BreaksOff t (script_moves one s (ended_from [] bytes)) a b → BreaksOff t (script_moves one s (whole_lines bytes)) a b
+breaks_whole one s t a b bytes broke = subst (λ ls. BreaksOff t (script_moves one s ls) a b) (ended_from-start bytes) broke
 
--- the reply to the last line broke off
-pub breaks_all : {one : Table → List ℕ → Step} {s t u : Table} {l bytes : List ℕ} {a b c : Option (List ℕ)} → IsCut one → Fed one s t [] l bytes a b → BreaksOff one t u (last_line l) b c → BreaksOff one s u (all_lines bytes) a c
-breaks_all {one} {s} {t} {u} {l} {bytes} {a} {b} {c} h fed d =
-    subst (λ ls. BreaksOff one s u ls a c) (λ i. ended_from-start bytes i ++ last_line (rest_from-start bytes i))
-    (breaks_after fed.answered (breaks_alike one h t u b c _ _ (last_line_alike l (rest_from [] bytes) fed.begun) d))
+-- the last line broke off
+pub breaks_all : {one : Table → List ℕ → List Step} {s t u : Table} {l bytes : List ℕ} {a b c : Option (List ℕ)} → IsCut one → Fed one s t [] l bytes a b → BreaksOff u (script_moves one t (last_line l)) b c → BreaksOff u (script_moves one s (all_lines bytes)) a c
+breaks_all {one} {s} {t} {u} {l} {bytes} {a} {b} {c} h fed broke =
+    subst (λ ms. BreaksOff u ms a c) (moves_to_all one h s t l bytes fed.made.table fed.begun) (breaks_after fed.made broke)
 
--- the reply to a last line, of which something stands, broke off
-pub breaks_last : {T E : Type 0} (one : Table → List ℕ → Step) {s t : Table} (a c : Option (List ℕ)) (l k : List ℕ) (r : Result T E) → k ≡ l → (length l == 0) ≡ false → Replies a c r (one s k).items → t ≡ (one s k).table → OnErr r (BreaksOff one s t (last_line l) a c)
-breaks_last one a c [] k r is some reply table = absurd (let never : ⊥ = cc in never)
-breaks_last one a c (b ∷ l) k (Ok v) is some reply table = tt
-breaks_last {T} {E} one {s} {t} a c (b ∷ l) k (Err e) is some part table =
-    breaks_one one s t (b ∷ l) a c (subst (λ x. WritesPart a c (one s x).items) is part) (table ∙ ap (λ x. (one s x).table) is)
+-- a last line, of which something stands, was carried out
+pub carries_last : {T E : Type 0} (one : Table → List ℕ → List Step) (s t : Table) (a c : Option (List ℕ)) (l k : List ℕ) (r : Result T E) → k ≡ l → (length l == 0) ≡ false → CarriesOut s t (one s k) a c r → CarriesOut s t (script_moves one s (last_line l)) a c r
+carries_last one s t a c [] k r is some carried = absurd (let never : ⊥ = cc in never)
+carries_last one s t a c (b ∷ l) k r is some carried = subst (λ ms. CarriesOut s t ms a c r) (ap (one s) is ∙ sym (append-nil (one s (b ∷ l)))) carried

@@ -7,7 +7,7 @@ use Rattle.text_rules.specs.TextLines.{cut, with_byte, whole_lines}
 use Rattle.script_lang.specs.Script.{line_of}
 use Rattle.script_lang.proofs.LineLemmas.{line_of-too_long}
 use Rattle.ranking.specs.Systems.{System}
-use Rattle.session_core.specs.FirstPath.{first_step, first_line}
+use Rattle.session_core.specs.FirstPath.{first_step, first_moves}
 use Rattle.session_core.specs.inner.Gathering.{ended_from, rest_from, IsCut}
 
 onto : List ℕ → List (List ℕ) → List (List ℕ)
@@ -73,8 +73,8 @@ line_of-take line = elim (cases_lt 1048576 (length line)) [
   | inr short ↦ ap line_of (is_short 1048576 line short)
 ]
 
-pub first_line_is_cut : (system : System) → IsCut (first_line system)
-first_line_is_cut system = record { same = λ table line. ap (first_step system table) (line_of-take line) }
+pub first_moves_are_cut : (system : System) → IsCut (first_moves system)
+first_moves_are_cut system = record { same = λ table line. ap (λ l. first_step system table l ∷ []) (line_of-take line) }
 
 pub take-take-same : (m : ℕ) (line : List ℕ) → take m (take m line) ≡ take m line
 take-take-same m line = take-take m m line (omega arith)

@@ -34,5 +34,9 @@ first_step system table (Ask session request) =
 abbrev pub first_line : System → Table → List ℕ → Step
 first_line system table bytes = first_step system table (line_of bytes)
 
+-- which is one move
+abbrev pub first_moves : System → Table → List ℕ → List Step
+first_moves system table bytes = first_line system table bytes ∷ []
+
 abbrev pub first_replies : System → Table → List (List ℕ) → List Item
 first_replies system table lines = run (first_line system) table lines

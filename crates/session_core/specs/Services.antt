@@ -1,23 +1,32 @@
 -- What contracts see of a service.
-use Rattle.std.specs.Prelude.{ℕ, Bool, true, false, List, [], ◌∷◌, Option, None, is_some, length, replicate}
+use Rattle.std.specs.Prelude.{ℕ, Bool, true, false, List, [], ◌∷◌, None, is_some}
 use Rattle.std.specs.List.{flat_map}
 use Rattle.text_rules.specs.Names.{Name}
 use Rattle.ranking.specs.Cases.{Case}
-use Rattle.device_model.specs.Devices.{Device}
+use Rattle.ranking.specs.Systems.{System}
+use Rattle.graph_rules.specs.Graphs.{Graph}
 use Rattle.session_core.specs.Sessions.{Table, entry_of}
+use Rattle.session_core.specs.GraphSystems.{graph_system}
 
+-- what is asked over: the names of parts and wires, what the failure of each part costs, and a graph
+pub record Subject : Type 0 where
+  pub parts : List Name
+  pub wires : List Name
+  pub costs : List ℕ
+  pub graph : Graph
+
+abbrev pub system_of : Subject → System
+system_of subject = graph_system subject.parts subject.wires subject.costs subject.graph
+
+-- and the sessions that are open
 pub record Shown : Type 0 where
-  pub device : Device
+  pub subject : Subject
   pub table : Table
 
--- the table of one session at most, which holds nothing, over a device of so many parts
-abbrev pub table_with : Bool → Name → List (Option Bool) → ℕ → Table
-table_with false name seen parts = []
-table_with true name seen parts =
-    (name, record { known = record { seen = seen; held = replicate parts None }; point = None }) ∷ []
-
-abbrev pub case_of : Device → List (Option Bool) → Case
-case_of device seen = record { seen = seen; held = replicate (length device.parts) None }
+-- the table of one session at most, which knows a case
+abbrev pub table_with : Bool → Name → Case → Table
+table_with false name known = []
+table_with true name known = (name, record { known = known; point = None }) ∷ []
 
 abbrev pub is_open_as : Name → Table → Bool
 is_open_as session table = is_some (entry_of session table)

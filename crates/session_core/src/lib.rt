@@ -1,7 +1,8 @@
-//! Sessions over a device: a service that answers a script line by line.
+//! Sessions over names and a graph: a service that answers a script line by line.
 #![tactic(auto)]
 
 mod line_buffer;
+mod name_table;
 mod replies;
 mod service;
 mod serving;

@@ -1,20 +1,17 @@
 //! The replies to lines, each of which is one call of the sink where it is short.
-ghost use Rattle.std.specs.Prelude.{◌≡◌, ◌≤◌, ◌+◌, [], ◌∷◌, ◌++◌, length, decimal, codes};
-ghost use Rattle.device_model.specs.Devices.{part_names};
-ghost use Rattle.device_model.specs.Diagnosis.{device_system};
+ghost use Rattle.std.specs.Prelude.{◌≡◌, [], ◌∷◌, ◌++◌, length, decimal, codes};
 ghost use Rattle.diag_edge.specs.Adding.{Adds};
 ghost use Rattle.diag_edge.specs.Edge.{HasCause, Puts};
-ghost use Rattle.ranking.specs.Systems.{least_cost, all_diagnoses};
+ghost use Rattle.diagnosis_lister.specs.Listing.{bits_of};
 ghost use Rattle.session_core.specs.FirstPath.{not_yet};
-ghost use Rattle.session_core.specs.Replies.{faulty_names, min_line};
-ghost use Rattle.session_core.specs.Services.{case_of, spaced_before};
+ghost use Rattle.session_core.specs.Replies.{faulty_names, min_text};
+ghost use Rattle.session_core.specs.Services.{spaced_before};
 ghost use Rattle.session_core.specs.Spelling.{Replies};
 ghost use Rattle.text_rules.specs.Tokens.{spaced};
 
-use device_model::{Component, Device};
+use device_model::Name;
 use diag_edge::{Chunk, Sink, WriteFailed, put_line};
 use itoa::Buffer;
-use plain_minimum::{SIZE_LIMIT, first_diagnosis};
 
 // The reply to what is not built yet.
 pub(crate) fn put_not_yet<O: Sink>(out: &mut O) -> Result<(), WriteFailed>
@@ -24,42 +21,37 @@ pub(crate) fn put_not_yet<O: Sink>(out: &mut O) -> Result<(), WriteFailed>
     out.put(b"not yet\n")
 }
 
-// The line of `min`, where nothing is held.
+// The line of `min`: the least cost and the names of the faulty parts, or that no state agrees.
 pub(crate) fn put_min<O: Sink>(
     out: &mut O,
     session: &[u8],
-    device: &Device,
-    seen: &[Option<bool>],
+    parts: &[Name],
+    fewest: Option<u32>,
+    state: &[u32],
 ) -> Result<(), WriteFailed>
-    requires { length device.now.parts + length device.now.wires ≤ SIZE_LIMIT }
-    ensures reply { let system = device_system device.now in
-        let known = case_of device.now seen.now in
-        Replies (O.got out.old) (O.got out.new) result
-        (min_line system session.now (least_cost system known) (all_diagnoses system known) ∷ []) }
+    requires { length state.now ≡ length parts.now }
+    ensures text { Puts (O.got out.old) (O.got out.new) result
+        (spaced (min_text session.now parts.now fewest (bits_of state.now))) }
     ensures cause { HasCause (O.faults out.old) (O.faults out.new) result }
 {
-    let parts = device.parts();
-    let held = [None; SIZE_LIMIT];
-    let mut state = [false; SIZE_LIMIT];
-    let state = &mut state[..parts.len()];
-    match first_diagnosis(device, seen, &held[..parts.len()], state) {
+    match fewest {
         None => put_line(out, &[session, b"inconsistent"]),
-        Some(fewest) => put_diagnosis(out, session, fewest as u64, parts, state),
+        Some(fewest) => put_diagnosis(out, session, fewest, parts, state),
     }
 }
 
-// The line of `min`, where a state agrees: the fewest faults, and the names of the faulty parts.
+// The same, where a state agrees.
 fn put_diagnosis<O: Sink>(
     out: &mut O,
     session: &[u8],
-    fewest: u64,
-    parts: &[Component],
-    state: &[bool],
+    fewest: u32,
+    parts: &[Name],
+    state: &[u32],
 ) -> Result<(), WriteFailed>
     requires { length state.now ≡ length parts.now }
     ensures text { Puts (O.got out.old) (O.got out.new) result
         (spaced (session.now ∷ codes "min" ∷ decimal fewest
-        ∷ faulty_names (part_names parts.now) state.now)) }
+        ∷ faulty_names parts.now (bits_of state.now))) }
     ensures cause { HasCause (O.faults out.old) (O.faults out.new) result }
 {
     let mut chunk = Chunk::new();
@@ -72,14 +64,14 @@ fn add_diagnosis<O: Sink>(
     chunk: &mut Chunk,
     out: &mut O,
     session: &[u8],
-    fewest: u64,
-    parts: &[Component],
-    state: &[bool],
+    fewest: u32,
+    parts: &[Name],
+    state: &[u32],
 ) -> Result<(), WriteFailed>
     requires { length state.now ≡ length parts.now }
     ensures bytes { Adds (O.got out.old) (O.got out.new) chunk.old chunk.new result
         ((session.now ++ spaced_before (codes "min" ∷ decimal fewest ∷ []))
-        ++ (spaced_before (faulty_names (part_names parts.now) state.now) ++ 10 ∷ [])) }
+        ++ (spaced_before (faulty_names parts.now (bits_of state.now)) ++ 10 ∷ [])) }
     ensures cause { HasCause (O.faults out.old) (O.faults out.new) result }
 {
     add_front(chunk, out, session, fewest)?;
@@ -92,7 +84,7 @@ fn add_front<O: Sink>(
     chunk: &mut Chunk,
     out: &mut O,
     session: &[u8],
-    fewest: u64,
+    fewest: u32,
 ) -> Result<(), WriteFailed>
     ensures bytes { Adds (O.got out.old) (O.got out.new) chunk.old chunk.new result
         (session.now ++ spaced_before (codes "min" ∷ decimal fewest ∷ [])) }
@@ -107,12 +99,12 @@ fn add_front<O: Sink>(
 fn add_back<O: Sink>(
     chunk: &mut Chunk,
     out: &mut O,
-    parts: &[Component],
-    state: &[bool],
+    parts: &[Name],
+    state: &[u32],
 ) -> Result<(), WriteFailed>
     requires { length state.now ≡ length parts.now }
     ensures bytes { Adds (O.got out.old) (O.got out.new) chunk.old chunk.new result
-        (spaced_before (faulty_names (part_names parts.now) state.now) ++ 10 ∷ []) }
+        (spaced_before (faulty_names parts.now (bits_of state.now)) ++ 10 ∷ []) }
     ensures cause { HasCause (O.faults out.old) (O.faults out.new) result }
 {
     add_faulty(chunk, out, parts, state)?;
@@ -123,17 +115,17 @@ fn add_back<O: Sink>(
 fn add_faulty<O: Sink>(
     chunk: &mut Chunk,
     out: &mut O,
-    parts: &[Component],
-    state: &[bool],
+    parts: &[Name],
+    state: &[u32],
 ) -> Result<(), WriteFailed>
     requires { length state.now ≡ length parts.now }
     ensures bytes { Adds (O.got out.old) (O.got out.new) chunk.old chunk.new result
-        (spaced_before (faulty_names (part_names parts.now) state.now)) }
+        (spaced_before (faulty_names parts.now (bits_of state.now))) }
     ensures cause { HasCause (O.faults out.old) (O.faults out.new) result }
 {
     for (i, part) in parts.iter().enumerate() {
-        if !state[i] {
-            chunk.add_word(out, part.name.as_slice())?;
+        if state[i] != 0 {
+            chunk.add_word(out, part.as_slice())?;
         }
     }
     Ok(())

@@ -1,19 +1,21 @@
-ghost use Rattle.std.specs.Prelude.{◌≡◌, ◌≤◌, ◌+◌, [], length, IfOk};
+ghost use Rattle.std.specs.Prelude.{◌≡◌, ◌≤◌, ◌<◌, ◌+◌, [], length, true, All, IfOk};
+ghost use Rattle.text_rules.specs.Names.{names_rise};
+ghost use Rattle.conditioner.specs.Models.{total_cost};
 ghost use Rattle.diag_edge.specs.Edge.{HasCause};
-ghost use Rattle.device_model.specs.Diagnosis.{device_system};
-ghost use Rattle.session_core.specs.FirstPath.{first_line};
-ghost use Rattle.session_core.specs.Spelling.{Replies};
+ghost use Rattle.session_core.specs.FirstPath.{first_moves};
+ghost use Rattle.session_core.specs.Services.{system_of};
+ghost use Rattle.session_core.specs.Serving.{CarriesOut};
 
 use crate::line_buffer::LineBuffer;
 use crate::sessions::Sessions;
-use device_model::Device;
+use device_model::{Name, PART_LIMIT, WIRE_LIMIT};
 use diag_edge::{Memory, Sink, WriteFailed};
-use plain_minimum::SIZE_LIMIT;
+use minimiser::TOTAL_LIMIT;
+use node_store::Graph;
 use std::alloc::Global;
 use std::marker::Model;
 
-/// Sessions over a device, and the line that is being read. It takes all its memory when it is
-/// made.
+/// Sessions over names and a graph, and the line that is being read. It takes all its memory when it is made.
 #[derive(Drop)]
 pub struct Service {
     pub(crate) sessions: Sessions,
@@ -29,13 +31,30 @@ impl Model for Service {
 }
 
 impl Service {
-    /// A service over a device of at most 20 parts and wires together. No session is open, and at
-    /// most one may be. `Err` means that memory ran out.
-    pub fn new(alloc: Global, device: Device) -> Result<Service, Memory>
-        requires { length device.parts + length device.wires ≤ SIZE_LIMIT }
-        ensures { IfOk result (λ service. service ≡ record { device = device; table = [] }) }
+    /// A service over the names of parts and wires, what the failure of each part costs, and a graph whose variables are the
+    /// parts, the wires, and inner ones. No session is open, and at most one may be. `Err` means that memory ran out.
+    pub fn over(
+        alloc: Global,
+        parts: Vec<Name>,
+        wires: Vec<Name>,
+        costs: Vec<u32>,
+        graph: Graph,
+    ) -> Result<Service, Memory>
+        requires parts_rise { names_rise parts.items ≡ true }
+        requires wires_rise { names_rise wires.items ≡ true }
+        requires few_parts { length parts.items ≤ PART_LIMIT }
+        requires few_wires { length wires.items ≤ WIRE_LIMIT }
+        requires costs { length costs.items ≡ length parts.items }
+        requires dear { All (λ c. 0 < c) costs.items }
+        requires total { total_cost costs.items < TOTAL_LIMIT }
+        requires vars { length parts.items + length wires.items ≤ graph.vars }
+        ensures { IfOk result (λ service. service
+            ≡ record {
+              subject = record { parts = parts.items; wires = wires.items; costs = costs.items; graph = graph };
+              table = [];
+            }) }
     {
-        let Ok(sessions) = Sessions::new(alloc, device) else {
+        let Ok(sessions) = Sessions::new(alloc, parts, wires, costs, graph) else {
             return Err(Memory);
         };
         match LineBuffer::new(alloc) {
@@ -44,15 +63,28 @@ impl Service {
         }
     }
 
-    /// Carries out one line, without its line feed, and writes its reply. `Err` means that a write
-    /// failed: the line was carried out all the same, and of its reply a beginning was written at
-    /// most.
+    /// The number of parts.
+    pub fn parts(&self) -> usize
+        ensures { result ≡ length self.now.subject.parts }
+    {
+        self.sessions.parts()
+    }
+
+    /// The number of wires.
+    pub fn wires(&self) -> usize
+        ensures { result ≡ length self.now.subject.wires }
+    {
+        self.sessions.wires()
+    }
+
+    /// Carries out one line, without its line feed, and writes its replies. `Err` means that a
+    /// write failed: the line was carried out up to the reply that met the failure, of which a
+    /// beginning was written at most.
     pub fn line<O: Sink>(&mut self, line: &[u8], out: &mut O) -> Result<(), WriteFailed>
-        ensures reply { Replies (O.got out.old) (O.got out.new) result
-            (first_line (device_system self.old.device) self.old.table line.now).items }
-        ensures table { self.new.table ≡
-            (first_line (device_system self.old.device) self.old.table line.now).table }
-        ensures device { self.new.device ≡ self.old.device }
+        ensures carried { CarriesOut self.old.table self.new.table
+            (first_moves (system_of self.old.subject) self.old.table line.now)
+            (O.got out.old) (O.got out.new) result }
+        ensures subject { self.new.subject ≡ self.old.subject }
         ensures cause { HasCause (O.faults out.old) (O.faults out.new) result }
     {
         self.sessions.line(line, out)

@@ -2,9 +2,10 @@ ghost use Rattle.std.specs.Prelude.{◌≡◌, ◌+◌, ◌-◌, ◌^◌, ◌<�
 ghost use Rattle.std.specs.Io.KnownBytes.{Consumes, IsAtEnd};
 ghost use Rattle.text_rules.specs.TextLines.{last_line};
 ghost use Rattle.diag_edge.specs.Edge.{HasCause, RoseExactly};
-ghost use Rattle.device_model.specs.Diagnosis.{device_system};
-ghost use Rattle.session_core.specs.FirstPath.{first_line};
-ghost use Rattle.session_core.specs.Serving.{Answers, BreaksOff, Served};
+ghost use Rattle.session_core.specs.FirstPath.{first_moves};
+ghost use Rattle.session_core.specs.Services.{system_of};
+ghost use Rattle.session_core.specs.Moves.{script_moves};
+ghost use Rattle.session_core.specs.Serving.{BreaksOff, CarriesOut, Served};
 ghost use Rattle.session_core.specs.inner.Gathering.{Fed, ended_from};
 
 use crate::line_buffer::LineBuffer;
@@ -22,7 +23,8 @@ pub enum ServeEnd {
     Done,
     /// A read failed. The lines that a line feed ended were answered.
     ReadFault,
-    /// A write failed. The line that it was to answer was carried out, and no line after it.
+    /// A write failed. The line that it was to answer was carried out up to the reply that met the
+    /// failure, and no line after it.
     WriteFault,
     /// As many bytes as the limit were taken, and no end was met. The lines that a line feed ended
     /// were answered.
@@ -36,13 +38,14 @@ fn take_byte<O: Sink>(
     byte: u8,
     out: &mut O,
 ) -> Result<(), WriteFailed>
-    ensures ok { OnOk result (Fed (first_line (device_system sessions.old.device))
+    ensures ok { OnOk result (Fed (first_moves (system_of sessions.old.subject))
         sessions.old.table sessions.new.table gathered.old gathered.new (byte ∷ [])
         (O.got out.old) (O.got out.new)) }
-    ensures err { OnErr result (BreaksOff (first_line (device_system sessions.old.device))
-        sessions.old.table sessions.new.table (ended_from gathered.old (byte ∷ []))
+    ensures err { OnErr result (BreaksOff sessions.new.table
+        (script_moves (first_moves (system_of sessions.old.subject)) sessions.old.table
+        (ended_from gathered.old (byte ∷ [])))
         (O.got out.old) (O.got out.new)) }
-    ensures device { sessions.new.device ≡ sessions.old.device }
+    ensures subject { sessions.new.subject ≡ sessions.old.subject }
     ensures cause { HasCause (O.faults out.old) (O.faults out.new) result }
 {
     if byte == b'\n' {
@@ -61,13 +64,14 @@ fn feed<O: Sink>(
     piece: &[u8],
     out: &mut O,
 ) -> Result<(), WriteFailed>
-    ensures ok { OnOk result (Fed (first_line (device_system sessions.old.device))
+    ensures ok { OnOk result (Fed (first_moves (system_of sessions.old.subject))
         sessions.old.table sessions.new.table gathered.old gathered.new piece.now
         (O.got out.old) (O.got out.new)) }
-    ensures err { OnErr result (BreaksOff (first_line (device_system sessions.old.device))
-        sessions.old.table sessions.new.table (ended_from gathered.old piece.now)
+    ensures err { OnErr result (BreaksOff sessions.new.table
+        (script_moves (first_moves (system_of sessions.old.subject)) sessions.old.table
+        (ended_from gathered.old piece.now))
         (O.got out.old) (O.got out.new)) }
-    ensures device { sessions.new.device ≡ sessions.old.device }
+    ensures subject { sessions.new.subject ≡ sessions.old.subject }
     ensures cause { HasCause (O.faults out.old) (O.faults out.new) result }
 {
     for byte in piece {
@@ -82,13 +86,11 @@ fn finish<O: Sink>(
     gathered: &LineBuffer,
     out: &mut O,
 ) -> Result<(), WriteFailed>
-    ensures ok { OnOk result (Answers (first_line (device_system sessions.old.device))
-        sessions.old.table sessions.new.table (last_line gathered.now)
-        (O.got out.old) (O.got out.new)) }
-    ensures err { OnErr result (BreaksOff (first_line (device_system sessions.old.device))
-        sessions.old.table sessions.new.table (last_line gathered.now)
-        (O.got out.old) (O.got out.new)) }
-    ensures device { sessions.new.device ≡ sessions.old.device }
+    ensures carried { CarriesOut sessions.old.table sessions.new.table
+        (script_moves (first_moves (system_of sessions.old.subject)) sessions.old.table
+        (last_line gathered.now))
+        (O.got out.old) (O.got out.new) result }
+    ensures subject { sessions.new.subject ≡ sessions.old.subject }
     ensures cause { HasCause (O.faults out.old) (O.faults out.new) result }
 {
     if gathered.as_slice().is_empty() {
@@ -119,10 +121,10 @@ fn serve_from<I: Source, O: Sink>(
     // The bytes that were taken, and what was done with them.
     ensures served { (bytes : List ℕ) × (I.taken input.new ≡ I.taken input.old + length bytes)
         × Consumes (I.left input.old) (I.left input.new) bytes
-        × Served result (first_line (device_system sessions.old.device))
+        × Served result (first_moves (system_of sessions.old.subject))
         sessions.old.table sessions.new.table bytes limit (IsAtEnd (I.left input.new))
         (O.got out.old) (O.got out.new) }
-    ensures device { sessions.new.device ≡ sessions.old.device }
+    ensures subject { sessions.new.subject ≡ sessions.old.subject }
 {
     let mut piece = [0u8; PIECE];
     let mut taken = 0u64;
@@ -165,10 +167,10 @@ impl Service {
         // The bytes that were taken, and what was done with them.
         ensures served { (bytes : List ℕ) × (I.taken input.new ≡ I.taken input.old + length bytes)
             × Consumes (I.left input.old) (I.left input.new) bytes
-            × Served result (first_line (device_system self.old.device))
+            × Served result (first_moves (system_of self.old.subject))
             self.old.table self.new.table bytes limit (IsAtEnd (I.left input.new))
             (O.got out.old) (O.got out.new) }
-        ensures device { self.new.device ≡ self.old.device }
+        ensures subject { self.new.subject ≡ self.old.subject }
     {
         self.gathered.clear();
         serve_from(&mut self.sessions, &mut self.gathered, input, out, limit)

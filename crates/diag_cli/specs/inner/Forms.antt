@@ -6,14 +6,14 @@ use Rattle.diag_cli.specs.declared.words.Form.TheVariants.{Serve as ServeRead, P
 use Rattle.diag_cli.specs.Words.{Form, Serve, Plan, Check, Compile}
 
 abbrev pub meant : FormRead → Form
-meant (ServeRead path) = Serve path.now
+meant (ServeRead path budget) = Serve path.now budget
 meant (PlanRead path) = Plan path.now
 meant (CheckRead path) = Check path.now
 meant (CompileRead path budget) = Compile path.now budget
 
 -- a budget is one that may be asked for
 abbrev pub HasSmallBudget : Form → Type 0
-HasSmallBudget (Serve path) = Unit {0}
+HasSmallBudget (Serve path budget) = budget ≤ BUDGET_LIMIT
 HasSmallBudget (Plan path) = Unit {0}
 HasSmallBudget (Check path) = Unit {0}
 HasSmallBudget (Compile path budget) = budget ≤ BUDGET_LIMIT

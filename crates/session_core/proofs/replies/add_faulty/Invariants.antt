@@ -1,6 +1,6 @@
 use Rattle.std.proofs.Common.{◌≡◌, ◌++◌, ℕ, List, drop}
 use Rattle.diag_edge.specs.Adding.{Grown}
-use Rattle.device_model.specs.Devices.{part_names}
+use Rattle.diagnosis_lister.specs.Listing.{bits_of}
 use Rattle.session_core.specs.Replies.{faulty_names}
 use Rattle.session_core.specs.Services.{spaced_before}
 use Rattle.session_core.proofs.replies.add_faulty.Given as goal
@@ -11,6 +11,6 @@ invariant-loop-i g l =
     let O = g.O.Sink in
     record {
       added : (text : List ℕ) × Grown (O.got l.fn.out) (O.got l.out) l.fn.chunk l.chunk text
-          × (text ++ spaced_before (faulty_names (part_names (drop l.i l.parts)) (drop l.i l.state)) ≡ spaced_before (faulty_names (part_names l.parts) l.state));
+          × (text ++ spaced_before (faulty_names (drop l.i l.parts) (bits_of (drop l.i l.state))) ≡ spaced_before (faulty_names l.parts (bits_of l.state)));
       faults : O.faults l.out ≡ O.faults l.fn.out;
     }

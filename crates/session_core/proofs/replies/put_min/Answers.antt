@@ -1,18 +1,14 @@
-use Rattle.std.proofs.Common.{◌≤◌, ◌∙◌, ap, arith, length, take, None}
-use Rattle.std.specs.Prelude.{replicate}
-use Rattle.std.proofs.lemmas.List.{take-replicate}
-use Rattle.plain_minimum.specs.declared.search.TheConstants.{SIZE_LIMIT}
-use Rattle.session_core.proofs.Texts.{min_none, min_some}
+use Rattle.std.proofs.Common.{ℕ, Option, sym, subst}
+use Rattle.diag_edge.specs.Edge.{Puts}
+use Rattle.text_rules.specs.Tokens.{spaced}
+use Rattle.diagnosis_lister.specs.Listing.{bits_of}
+use Rattle.session_core.specs.Replies.{min_text}
 use Rattle.session_core.proofs.replies.put_min.Goals as goal
 
-pub returns-in-None-clause-reply : goal.returns-in-None-clause-reply
-returns-in-None-clause-reply g c =
-    let n = length c.parts-parts.result.now in
-    let few : n ≤ SIZE_LIMIT = omega (arith, c.requires, ap length c.parts-parts.ensures.parts) in
-    min_none _ _ _ c.args.device.now c.args.seen.now (take n (replicate SIZE_LIMIT None)) c.args.session.now (take-replicate n SIZE_LIMIT None few ∙ ap (λ ps. replicate (length ps) None) c.parts-parts.ensures.parts) c.in-None.ensures.least c.put_line.ensures.bytes
+pub returns-in-None-clause-text : goal.returns-in-None-clause-text
+returns-in-None-clause-text g c =
+    subst (λ (fewest : Option ℕ). Puts (g.O.Sink.got c.args.out.now) (g.O.Sink.got c.put_line.new.out) c.put_line.result (spaced (min_text c.args.session.now c.args.parts.now fewest (bits_of c.args.state.now)))) (sym c.in-None.is) c.put_line.ensures.bytes
 
-pub returns-in-Some-clause-reply : goal.returns-in-Some-clause-reply
-returns-in-Some-clause-reply g c =
-    let n = length c.parts-parts.result.now in
-    let few : n ≤ SIZE_LIMIT = omega (arith, c.requires, ap length c.parts-parts.ensures.parts) in
-    min_some _ _ _ c.args.device.now c.args.seen.now (take n (replicate SIZE_LIMIT None)) c.args.session.now c.in-Some.fewest _ c.parts-parts.result.now (take-replicate n SIZE_LIMIT None few ∙ ap (λ ps. replicate (length ps) None) c.parts-parts.ensures.parts) c.parts-parts.ensures.parts c.in-Some.ensures.least c.in-Some.ensures.first c.put_diagnosis.ensures.text
+pub returns-in-Some-clause-text : goal.returns-in-Some-clause-text
+returns-in-Some-clause-text g c =
+    subst (λ (fewest : Option ℕ). Puts (g.O.Sink.got c.args.out.now) (g.O.Sink.got c.put_diagnosis.new.out) c.put_diagnosis.result (spaced (min_text c.args.session.now c.args.parts.now fewest (bits_of c.args.state.now)))) (sym c.in-Some.is) c.put_diagnosis.ensures.text

@@ -1,7 +1,7 @@
 use Rattle.std.proofs.Common.{◌≡◌, ◌+◌, ◌-◌, ◌≤◌, ℕ, List, [], length}
 use Rattle.std.specs.Io.KnownBytes.{Consumes}
-use Rattle.device_model.specs.Diagnosis.{device_system}
-use Rattle.session_core.specs.FirstPath.{first_line}
+use Rattle.session_core.specs.Services.{system_of}
+use Rattle.session_core.specs.FirstPath.{first_moves}
 use Rattle.session_core.specs.inner.Gathering.{Fed}
 use Rattle.session_core.proofs.serving.serve_from.Given as goal
 
@@ -13,8 +13,8 @@ invariant-loop-taken g l =
     record {
       so_far : (bytes : List ℕ) × (l.taken ≡ length bytes)
           × Consumes (I.left l.fn.input) (I.left l.input) bytes
-          × Fed (first_line (device_system l.fn.sessions.device)) l.fn.sessions.table l.sessions.table [] l.gathered bytes (O.got l.fn.out) (O.got l.out);
-      device : l.sessions.device ≡ l.fn.sessions.device;
+          × Fed (first_moves (system_of l.fn.sessions.subject)) l.fn.sessions.table l.sessions.table [] l.gathered bytes (O.got l.fn.out) (O.got l.out);
+      subject : l.sessions.subject ≡ l.fn.sessions.subject;
       taken : I.taken l.input ≡ I.taken l.fn.input + l.taken;
       reads : I.faults l.input ≡ I.faults l.fn.input;
       writes : O.faults l.out ≡ O.faults l.fn.out;

@@ -1,0 +1,62 @@
+use Rattle.std.proofs.Common.{inr, refl, arith}
+use Rattle.text_rules.specs.TextLines.{whole_lines, all_lines}
+use Rattle.session_core.specs.Items.{Plain}
+use Rattle.session_core.specs.Services.{system_of}
+use Rattle.diag_cli.specs.Courses.{Ended, Failed, Cut, read_error, script_too_long}
+use Rattle.diag_cli.proofs.Running.{ready_then, then_last}
+use Rattle.diag_cli.proofs.serving.answer.Goals as goal
+
+pub returns-in-Done-clause-served : goal.returns-in-Done-clause-served
+returns-in-Done-clause-served g c =
+    let done = c.in-Done.ensures.served in
+    record {
+      answer = λ _. inr (record {
+        bytes = done.0;
+        end = Ended;
+        took = done.2;
+        ends = (done.3.0, done.3.1);
+        gives = record {
+          same_status = refl;
+          text = ready_then (system_of c.args.service.subject) _ (all_lines done.0) _ _ _ _ _ c.requires.none_open c.parts.ensures c.wires.ensures c.in-Ok.ensures.text done.3.2.written;
+        };
+      });
+      all_read = λ _. done.3.0;
+    }
+
+pub returns-in-ReadFault-clause-served : goal.returns-in-ReadFault-clause-served
+returns-in-ReadFault-clause-served g c =
+    let done = c.in-ReadFault.ensures.served in
+    let said = c.say.ensures.said in
+    record {
+      answer = λ whole. inr (record {
+        bytes = done.0;
+        end = Failed;
+        took = done.2;
+        ends = c.in-ReadFault.ensures.read_fault.rose refl;
+        gives = record {
+          same_status = (said whole).same_status;
+          text = then_last (system_of c.args.service.subject) (whole_lines done.0) (Plain read_error) _ _ _
+              (ready_then (system_of c.args.service.subject) _ (whole_lines done.0) _ _ _ _ _ c.requires.none_open c.parts.ensures c.wires.ensures c.in-Ok.ensures.text done.3.1.written) (said whole).text;
+        };
+      });
+      all_read = λ zero. absurd (let same = (said (λ five. omega (arith, zero, five))).same_status in omega (arith, zero, same));
+    }
+
+pub returns-clause-served : goal.returns-clause-served
+returns-clause-served g c =
+    let done = c.in-Limit.ensures.served in
+    let said = c.say-in-Limit.ensures.said in
+    record {
+      answer = λ whole. inr (record {
+        bytes = done.0;
+        end = Cut;
+        took = done.2;
+        ends = done.3.0;
+        gives = record {
+          same_status = (said whole).same_status;
+          text = then_last (system_of c.args.service.subject) (whole_lines done.0) (Plain script_too_long) _ _ _
+              (ready_then (system_of c.args.service.subject) _ (whole_lines done.0) _ _ _ _ _ c.requires.none_open c.parts.ensures c.wires.ensures c.in-Ok.ensures.text done.3.1.written) (said whole).text;
+        };
+      });
+      all_read = λ zero. absurd (let same = (said (λ five. omega (arith, zero, five))).same_status in omega (arith, zero, same));
+    }

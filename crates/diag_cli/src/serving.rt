@@ -1,0 +1,181 @@
+ghost use Rattle.std.specs.Prelude.{◌≡◌, ◌≢◌, ◌+◌, ◌-◌, ◌^◌, ◌<◌, ◌≤◌, [], ◌∷◌, Ok, length, replicate, codes, decimal, IfOk, IfErr};
+ghost use Rattle.text_rules.specs.Tokens.{spaced};
+ghost use Rattle.text_rules.specs.Expected.{Fulfils};
+ghost use Rattle.diag_edge.specs.Edge.{HasCause, Puts, RoseExactly};
+ghost use Rattle.branch_states.specs.Branches.{sum_of};
+ghost use Rattle.clause_encoder.specs.Encoding.{encoded, Describes};
+ghost use Rattle.device_model.specs.Devices.{part_names};
+ghost use Rattle.dnnf_compiler.specs.Compiled.{IsGraphOf};
+ghost use Rattle.session_core.specs.Services.{system_of};
+ghost use Rattle.diag_cli.specs.Courses.{if_within, served_or_refused};
+ghost use Rattle.diag_cli.specs.Describing.{device_in};
+ghost use Rattle.diag_cli.specs.Refusals.{told_by};
+ghost use Rattle.diag_cli.specs.inner.Courses.{Follows, IsServed};
+ghost use Rattle.diag_cli.specs.inner.Serving.{IsServiceOf};
+
+use crate::describing::described;
+use crate::refusal::{Refusal, tell};
+use crate::saying::say;
+use crate::weighing::clauses_within;
+use branch_states::BUDGET_LIMIT;
+use clause_encoder::Cnf;
+use device_model::Device;
+use diag_edge::{Sink, Source, WriteFailed, put_line};
+use dnnf_compiler::compile;
+use itoa::Buffer;
+use node_store::Graph;
+use session_core::{ServeEnd, Service};
+use std::alloc::{AllocError, Global};
+use text_rules::TEXT_LIMIT;
+
+/// A script of so many bytes is cut.
+pub const SCRIPT_LIMIT: u64 = 16_777_216;
+
+// The graph of a device, by its clauses.
+fn graph_of(alloc: Global, device: &Device, cnf: &Cnf) -> Result<Graph, AllocError>
+    requires sum { sum_of cnf.now.clauses ≤ BUDGET_LIMIT }
+    requires encoded { encoded device.now ≡ Ok cnf.now }
+    requires describes { Describes cnf.now device.now }
+    ensures { IfOk result (IsGraphOf device.now) }
+{
+    let _parts = device.parts();
+    Ok(compile(alloc, cnf)?.graph)
+}
+
+// A service over a device and its graph. All memory of its sessions is taken here.
+fn service_over(alloc: Global, device: Device, graph: Graph) -> Result<Service, Refusal>
+    requires { IsGraphOf device graph }
+    ensures service { IfOk result (IsServiceOf device) }
+    ensures memory { IfErr result (λ refusal. refusal ≡ Refusal.Memory) }
+{
+    let _parts = device.parts();
+    let (parts, wires) = match device.take_names(alloc) {
+        Ok(names) => names,
+        Err(_) => return Err(Refusal::Memory),
+    };
+    // every part costs 1
+    let costs = match vec![in alloc; 1; parts.len()] {
+        Ok(costs) => costs,
+        Err(_) => return Err(Refusal::Memory),
+    };
+    match Service::over(alloc, parts, wires, costs, graph) {
+        Ok(service) => Ok(service),
+        Err(_) => Err(Refusal::Memory),
+    }
+}
+
+// The service of a device whose sum is within a budget.
+fn service_within(alloc: Global, device: Device, budget: u32) -> Result<Service, Refusal>
+    requires { budget ≤ BUDGET_LIMIT }
+    ensures service { IfOk result (IsServiceOf device) }
+    ensures within { Fulfils (λ _. device) told_by (if_within budget (Ok device)) result }
+{
+    let (cnf, _) = clauses_within(alloc, &device, budget)?;
+    match graph_of(alloc, &device, &cnf) {
+        Ok(graph) => service_over(alloc, device, graph),
+        Err(_) => Err(Refusal::Memory),
+    }
+}
+
+// The line `ready` with the numbers of parts and wires.
+fn put_ready<O: Sink>(out: &mut O, parts: u64, wires: u64) -> Result<(), WriteFailed>
+    ensures text { Puts (O.got out.old) (O.got out.new) result
+        (spaced (codes "ready" ∷ decimal parts ∷ decimal wires ∷ [])) }
+    ensures cause { HasCause (O.faults out.old) (O.faults out.new) result }
+{
+    put_line(
+        out,
+        &[
+            b"ready",
+            Buffer::new().format(parts).as_bytes(),
+            Buffer::new().format(wires).as_bytes(),
+        ],
+    )
+}
+
+// Answers the script by a service in which no session is open.
+fn answer<I: Source, O: Sink>(service: Service, input: &mut I, out: &mut O) -> u8
+    requires none_open { service.table ≡ [] }
+    requires taken { I.taken input.old < 2 ^ 62 }
+    requires reads { I.faults input.old < 2 ^ 64 - 1 }
+    requires writes { O.faults out.old < 2 ^ 64 - 1 }
+    ensures write_fault { RoseExactly (O.faults out.old) (O.faults out.new) (result ≡ 5) }
+    ensures read_fault { result ≢ 5 → RoseExactly (I.faults input.old) (I.faults input.new) (result ≡ 4) }
+    ensures not_usage { result ≢ 2 }
+    ensures served { IsServed (system_of service.subject)
+        (record { left = I.left input.old; taken = I.taken input.old; faults = I.faults input.old })
+        (record { left = I.left input.new; taken = I.taken input.new; faults = I.faults input.new })
+        (record { got = O.got out.old; faults = O.faults out.old })
+        (record { got = O.got out.new; faults = O.faults out.new }) result }
+    ensures cut { result ≡ 7 → I.taken input.new ≡ I.taken input.old + SCRIPT_LIMIT }
+{
+    let mut service = service;
+    match put_ready(out, service.parts() as u64, service.wires() as u64) {
+        Ok(()) => {}
+        Err(_) => return 5,
+    }
+    match service.serve(input, out, SCRIPT_LIMIT) {
+        ServeEnd::Done => 0,
+        ServeEnd::WriteFault => 5,
+        ServeEnd::ReadFault => say(out, b"error: read\n", 4),
+        ServeEnd::Limit => say(out, b"error: script above 16777216 bytes\n", 7),
+    }
+}
+
+// Answers the script over a device, if its sum is within the budget.
+fn serve_device<I: Source, O: Sink>(
+    alloc: Global,
+    device: Device,
+    budget: u32,
+    input: &mut I,
+    out: &mut O,
+) -> u8
+    requires budget { budget ≤ BUDGET_LIMIT }
+    requires taken { I.taken input.old < 2 ^ 62 }
+    requires reads { I.faults input.old < 2 ^ 64 - 1 }
+    requires writes { O.faults out.old < 2 ^ 64 - 1 }
+    ensures write_fault { RoseExactly (O.faults out.old) (O.faults out.new) (result ≡ 5) }
+    ensures read_fault { result ≢ 5 → RoseExactly (I.faults input.old) (I.faults input.new) (result ≡ 4) }
+    ensures not_usage { result ≢ 2 }
+    ensures follows { Follows (served_or_refused (if_within budget (Ok device)))
+        (record { left = I.left input.old; taken = I.taken input.old; faults = I.faults input.old })
+        (record { left = I.left input.new; taken = I.taken input.new; faults = I.faults input.new })
+        (record { got = O.got out.old; faults = O.faults out.old })
+        (record { got = O.got out.new; faults = O.faults out.new }) result }
+    ensures cut { result ≡ 7 → I.taken input.new ≡ I.taken input.old + SCRIPT_LIMIT }
+{
+    match service_within(alloc, device, budget) {
+        Ok(service) => answer(service, input, out),
+        Err(refusal) => tell(out, refusal),
+    }
+}
+
+/// Answers the script over the device of a file, or tells why it cannot be, and answers the status.
+pub(crate) fn serve_file<I: Source, O: Sink>(
+    alloc: Global,
+    path: &str,
+    file: &[u8],
+    budget: u32,
+    input: &mut I,
+    out: &mut O,
+) -> u8
+    requires budget { budget ≤ BUDGET_LIMIT }
+    requires short { length file.now ≤ TEXT_LIMIT }
+    requires taken { I.taken input.old < 2 ^ 62 }
+    requires reads { I.faults input.old < 2 ^ 64 - 1 }
+    requires writes { O.faults out.old < 2 ^ 64 - 1 }
+    ensures write_fault { RoseExactly (O.faults out.old) (O.faults out.new) (result ≡ 5) }
+    ensures read_fault { result ≢ 5 → RoseExactly (I.faults input.old) (I.faults input.new) (result ≡ 4) }
+    ensures not_usage { result ≢ 2 }
+    ensures follows { Follows (served_or_refused (if_within budget (device_in path.now file.now)))
+        (record { left = I.left input.old; taken = I.taken input.old; faults = I.faults input.old })
+        (record { left = I.left input.new; taken = I.taken input.new; faults = I.faults input.new })
+        (record { got = O.got out.old; faults = O.faults out.old })
+        (record { got = O.got out.new; faults = O.faults out.new }) result }
+    ensures cut { result ≡ 7 → I.taken input.new ≡ I.taken input.old + SCRIPT_LIMIT }
+{
+    match described(alloc, path, file) {
+        Ok(device) => serve_device(alloc, device, budget, input, out),
+        Err(refusal) => tell(out, refusal),
+    }
+}

@@ -4,13 +4,13 @@ use Rattle.std.specs.Prelude.{decimal}
 use Rattle.std.specs.Io.KnownBytes.{Appends}
 use Rattle.text_rules.specs.Tokens.{spaced}
 use Rattle.ranking.specs.Systems.{System}
-use Rattle.session_core.specs.Items.{Item}
-use Rattle.session_core.specs.Sessions.{Table}
-use Rattle.session_core.specs.Moves.{said, script_moves}
+use Rattle.session_rules.specs.Items.{Item}
+use Rattle.session_rules.specs.Sessions.{Table}
+use Rattle.session_rules.specs.Moves.{said, script_moves}
 use Rattle.session_core.specs.FirstPath.{first_moves, first_replies}
-use Rattle.session_core.specs.Spelling.{Writes}
-use Rattle.session_core.proofs.Spellings.{writes_more, spells_one}
-use Rattle.session_core.proofs.Whole.{said-first_replies}
+use Rattle.session_rules.specs.Spelling.{Writes}
+use Rattle.session_rules.proofs.Spellings.{writes_more, spells_one}
+use Rattle.session_rules.proofs.Whole.{said-first_replies}
 use Rattle.diag_cli.specs.Courses.{ready_line, ready_and_replies}
 
 -- the line `ready` was put

@@ -6,10 +6,10 @@ use Rattle.graph_rules.specs.Graphs.{Graph}
 use Rattle.device_model.specs.Devices.{Device}
 use Rattle.device_model.specs.Diagnosis.{device_system}
 use Rattle.dnnf_compiler.specs.Compiled.{IsGraphOf}
-use Rattle.session_core.specs.Items.{Item, Plain}
-use Rattle.session_core.specs.GraphSystems.{compiled_system}
+use Rattle.session_rules.specs.Items.{Item, Plain}
+use Rattle.session_rules.specs.GraphSystems.{compiled_system}
 use Rattle.session_core.specs.Services.{Shown, system_of}
-use Rattle.session_core.proofs.GraphReplies.{first_graph_replies}
+use Rattle.session_rules.proofs.GraphReplies.{first_graph_replies}
 use Rattle.diag_cli.specs.Output.{Output, Gives, no_memory}
 use Rattle.diag_cli.specs.Courses.{End, Ended, Failed, Cut, ready_line, ready_and_replies, served, read_error, script_too_long, if_within, served_or_refused}
 use Rattle.diag_cli.specs.Runs.{Reading, Writing}

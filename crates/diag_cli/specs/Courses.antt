@@ -13,7 +13,7 @@ use Rattle.clause_encoder.specs.Clauses.{ClauseList}
 use Rattle.clause_encoder.specs.Encoding.{encoded}
 use Rattle.branch_states.specs.declared.measuring.TheConstants.{BUDGET_LIMIT}
 use Rattle.branch_states.specs.Branches.{sum_of}
-use Rattle.session_core.specs.Items.{Item, Plain, Whole, line}
+use Rattle.session_rules.specs.Items.{Item, Plain, Whole, line}
 use Rattle.session_core.specs.FirstPath.{first_replies}
 use Rattle.diag_cli.specs.declared.planning.Sizes.{Sizes}
 use Rattle.diag_cli.specs.declared.serving.TheConstants.{SCRIPT_LIMIT}

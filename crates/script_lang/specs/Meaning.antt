@@ -22,4 +22,4 @@ meaning (line.Probe session name) = script.Ask session.now (script.Probe name.no
 meaning (line.Probes session) = script.Ask session.now script.Probes
 meaning (line.Blame session) = script.Ask session.now script.Blame
 meaning (line.Dnnf session) = script.Ask session.now script.Dnnf
-meaning (line.Refused number) = script.Refused number
+meaning (line.Refused refusal) = script.Refused refusal

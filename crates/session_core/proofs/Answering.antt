@@ -17,9 +17,9 @@ use Rattle.script_lang.specs.Meaning.{meaning}
 use denote.Ref.{Bor}
 use Rattle.ranking.specs.Cases.{Case, empty_case}
 use Rattle.ranking.specs.Systems.{System, least_cost, all_diagnoses}
-use Rattle.session_core.specs.Items.{line}
-use Rattle.session_core.specs.Sessions.{Entry, Table, Declined, outcome, when_open, entry_of, with_seen, at_place, becomes}
-use Rattle.session_core.specs.Replies.{min_line}
+use Rattle.session_rules.specs.Items.{line}
+use Rattle.session_rules.specs.Sessions.{Entry, Table, Declined, outcome, when_open, entry_of, with_seen, at_place, becomes}
+use Rattle.session_rules.specs.Replies.{min_line}
 use Rattle.session_core.specs.FirstPath.{first_step, not_yet, if_built, unless_declined}
 use Rattle.session_core.specs.Services.{table_with, is_open_as}
 

@@ -5,16 +5,16 @@ use Rattle.text_rules.specs.Names.{Name}
 use Rattle.ranking.specs.Systems.{System, least_cost, all_diagnoses}
 use Rattle.device_model.specs.Devices.{place_of}
 use Rattle.script_lang.specs.Script.{Line, Blank, Refused, Ask, Start, See, Min, line_of}
-use Rattle.session_core.specs.Items.{Plain}
-use Rattle.session_core.specs.Replies.{min_line}
-use Rattle.session_core.specs.Sessions.{Table, Entry, outcome, entry_of, at_place, becomes, with_seen}
+use Rattle.session_rules.specs.Items.{Plain}
+use Rattle.session_rules.specs.Replies.{min_line}
+use Rattle.session_rules.specs.Sessions.{Table, Entry, outcome, entry_of, at_place, becomes, with_seen}
 use Rattle.session_core.specs.FirstPath.{unless_declined, first_step, first_line, first_moves, first_replies}
-use Rattle.session_core.specs.Moves.{script_moves}
-use Rattle.session_core.specs.Spelling.{WritesPart}
+use Rattle.session_rules.specs.Moves.{script_moves}
+use Rattle.session_rules.specs.Spelling.{WritesPart}
 use Rattle.session_core.specs.Serving.{BreaksOff}
-use Rattle.session_core.proofs.Whole.{said-first_replies}
-use Rattle.session_core.proofs.Begun.{HaveSpellings, have_both}
-use Rattle.session_core.proofs.Broken.{broken_begins}
+use Rattle.session_rules.proofs.Whole.{said-first_replies}
+use Rattle.session_rules.proofs.Begun.{HaveSpellings, have_both}
+use Rattle.session_rules.proofs.Broken.{broken_begins}
 
 text : (bytes : List ℕ) → HaveSpellings (Plain bytes ∷ [])
 text bytes = ((bytes, refl), tt)

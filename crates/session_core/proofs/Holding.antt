@@ -8,10 +8,10 @@ use Rattle.graph_rules.specs.Graphs.{Graph}
 use Rattle.ranking.specs.Cases.{empty_case}
 use Rattle.device_model.specs.Devices.{place_of}
 use Rattle.conditioner.specs.Words.{word_of}
-use Rattle.session_core.specs.inner.CaseWords.{case_of_words, AreCaseWords}
+use Rattle.session_rules.specs.CaseWords.{case_of_words, AreCaseWords}
 use Rattle.session_core.specs.inner.Held.{AreWordsOf, HasRoom}
 use Rattle.session_core.proofs.Answering.{seen_too}
-use Rattle.session_core.proofs.CaseWords.{zeros-say, zeros-are, noted-says, noted-are}
+use Rattle.session_rules.proofs.CaseWords.{zeros-say, zeros-are, noted-says, noted-are}
 
 -- a list that was lent whole and written back
 pub written_back : (n : ℕ) (new old : List ℕ) → n ≡ length new → take n (new ++ drop (length new) old) ≡ new

@@ -7,8 +7,8 @@ use Rattle.text_rules.specs.Names.{Name}
 use Rattle.text_rules.specs.Tokens.{spaced}
 use Rattle.ranking.specs.Ranking.{cost, least, least_with, is_at_most, diagnoses}
 use Rattle.ranking.specs.Systems.{System}
-use Rattle.session_core.specs.Items.{Plain, line}
-use Rattle.session_core.specs.Replies.{faulty_names, min_line, min_text}
+use Rattle.session_rules.specs.Items.{Plain, line}
+use Rattle.session_rules.specs.Replies.{faulty_names, min_line, min_text}
 
 filter-none : {A : Type 0} (xs : List A) → filter (λ x. false) xs ≡ []
 filter-none [] = refl

@@ -9,7 +9,7 @@ use Rattle.text_rules.specs.Names.{Name}
 use Rattle.text_rules.specs.Tokens.{spaced}
 use Rattle.ranking.proofs.Drops.{drop-item, drop-past}
 use Rattle.diagnosis_lister.specs.Listing.{bits_of}
-use Rattle.session_core.specs.Replies.{faulty_names}
+use Rattle.session_rules.specs.Replies.{faulty_names}
 use Rattle.session_core.specs.Services.{spaced_before}
 
 -- the line of `min` is what its pieces make

@@ -3,8 +3,8 @@ use Rattle.std.specs.Prelude.{ℕ, Bool, true, false, List, [], ◌∷◌, codes
 use Rattle.text_rules.specs.Names.{Name}
 use Rattle.script_lang.specs.Script.{Line, Blank, Refused, Ask, Request, Start, See, Min, line_of}
 use Rattle.ranking.specs.Systems.{System}
-use Rattle.session_core.specs.Items.{Item, line}
-use Rattle.session_core.specs.Sessions.{Table, Step, Outcome, Declined, Done, changed, outcome_in, run}
+use Rattle.session_rules.specs.Items.{Item, line}
+use Rattle.session_rules.specs.Sessions.{Table, Step, Outcome, Declined, Done, changed, outcome_in, run}
 
 abbrev pub is_built : Request → Bool
 is_built Start = true

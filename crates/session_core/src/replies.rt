@@ -4,9 +4,9 @@ ghost use Rattle.diag_edge.specs.Adding.{Adds};
 ghost use Rattle.diag_edge.specs.Edge.{HasCause, Puts};
 ghost use Rattle.diagnosis_lister.specs.Listing.{bits_of};
 ghost use Rattle.session_core.specs.FirstPath.{not_yet};
-ghost use Rattle.session_core.specs.Replies.{faulty_names, min_text};
+ghost use Rattle.session_rules.specs.Replies.{faulty_names, min_text};
 ghost use Rattle.session_core.specs.Services.{spaced_before};
-ghost use Rattle.session_core.specs.Spelling.{Replies};
+ghost use Rattle.session_rules.specs.Spelling.{Replies};
 ghost use Rattle.text_rules.specs.Tokens.{spaced};
 
 use device_model::Name;

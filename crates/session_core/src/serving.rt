@@ -4,7 +4,7 @@ ghost use Rattle.text_rules.specs.TextLines.{last_line};
 ghost use Rattle.diag_edge.specs.Edge.{HasCause, RoseExactly};
 ghost use Rattle.session_core.specs.FirstPath.{first_moves};
 ghost use Rattle.session_core.specs.Services.{system_of};
-ghost use Rattle.session_core.specs.Moves.{script_moves};
+ghost use Rattle.session_rules.specs.Moves.{script_moves};
 ghost use Rattle.session_core.specs.Serving.{BreaksOff, CarriesOut, Served};
 ghost use Rattle.session_core.specs.inner.Gathering.{Fed, ended_from};
 

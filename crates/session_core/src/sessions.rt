@@ -12,7 +12,7 @@ ghost use Rattle.minimiser.specs.declared.pass.TheConstants.{TOTAL_LIMIT};
 ghost use Rattle.diagnosis_lister.specs.Listing.{bits_of};
 ghost use Rattle.session_core.specs.FirstPath.{first_step, first_moves};
 ghost use Rattle.session_core.specs.Serving.{CarriesOut};
-ghost use Rattle.session_core.specs.Spelling.{Replies};
+ghost use Rattle.session_rules.specs.Spelling.{Replies};
 ghost use Rattle.session_core.specs.Services.{is_open_as, system_of};
 
 use crate::name_table::NameTable;
@@ -48,7 +48,7 @@ pub struct Sessions {
 impl Model for Sessions {
     ghost use Rattle.std.specs.Prelude.{◌≤◌, vec_capacity, length};
     ghost use Rattle.session_core.specs.Services.{Shown, table_with};
-    ghost use Rattle.session_core.specs.inner.CaseWords.{case_of_words};
+    ghost use Rattle.session_rules.specs.CaseWords.{case_of_words};
     ghost use Rattle.session_core.specs.inner.Held.{AreCosts, AreWordsOf, HasRoom};
 
     ghost Value = { Shown };

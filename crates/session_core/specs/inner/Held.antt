@@ -4,7 +4,7 @@ use Rattle.text_rules.specs.Names.{Name}
 use Rattle.graph_rules.specs.Graphs.{Graph}
 use Rattle.conditioner.specs.Models.{total_cost}
 use Rattle.minimiser.specs.declared.pass.TheConstants.{TOTAL_LIMIT}
-use Rattle.session_core.specs.inner.CaseWords.{AreCaseWords}
+use Rattle.session_rules.specs.CaseWords.{AreCaseWords}
 
 -- each part has a cost, and all together are few
 pub record AreCosts (parts : List Name) (costs : List ℕ) : Type 0 where

@@ -1,5 +1,5 @@
 use Rattle.std.proofs.Common.{[], ◌∷◌, codes}
-use Rattle.session_core.proofs.Spellings.{writes_more}
+use Rattle.session_rules.proofs.Spellings.{writes_more}
 use Rattle.diag_cli.specs.Courses.{count_line}
 use Rattle.diag_cli.proofs.planning.put_sizes.Goals as goal
 

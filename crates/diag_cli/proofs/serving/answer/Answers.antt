@@ -1,6 +1,6 @@
 use Rattle.std.proofs.Common.{inr, refl, arith}
 use Rattle.text_rules.specs.TextLines.{whole_lines, all_lines}
-use Rattle.session_core.specs.Items.{Plain}
+use Rattle.session_rules.specs.Items.{Plain}
 use Rattle.session_core.specs.Services.{system_of}
 use Rattle.diag_cli.specs.Courses.{Ended, Failed, Cut, read_error, script_too_long}
 use Rattle.diag_cli.proofs.Running.{ready_then, then_last}

@@ -2,7 +2,7 @@ use Rattle.std.proofs.Common.{[], ◌∙◌, append-nil}
 use Rattle.std.specs.Prelude.{decimal}
 use Rattle.diagnosis_lister.specs.Listing.{bits_of}
 use Rattle.diag_edge.proofs.Added.{put_all, put_part}
-use Rattle.session_core.specs.Replies.{faulty_names}
+use Rattle.session_rules.specs.Replies.{faulty_names}
 use Rattle.session_core.proofs.Texts.{min_pieces}
 use Rattle.session_core.proofs.replies.put_diagnosis.Goals as goal
 

@@ -2,7 +2,7 @@ use Rattle.std.proofs.Common.{ℕ, Option, sym, subst}
 use Rattle.diag_edge.specs.Edge.{Puts}
 use Rattle.text_rules.specs.Tokens.{spaced}
 use Rattle.diagnosis_lister.specs.Listing.{bits_of}
-use Rattle.session_core.specs.Replies.{min_text}
+use Rattle.session_rules.specs.Replies.{min_text}
 use Rattle.session_core.proofs.replies.put_min.Goals as goal
 
 pub returns-in-None-clause-text : goal.returns-in-None-clause-text

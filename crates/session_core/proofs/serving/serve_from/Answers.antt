@@ -1,7 +1,7 @@
 use Rattle.std.proofs.Common.{arith, ◌≡◌, ◌∙◌, ◌++◌, take, drop, inl, inr, subst, length-append, length-take}
 use Rattle.std.proofs.lemmas.Grind.{common_steps}
 use Rattle.session_core.specs.inner.Gathering.{Fed, ended_from}
-use Rattle.session_core.specs.Moves.{script_moves}
+use Rattle.session_rules.specs.Moves.{script_moves}
 use Rattle.session_core.specs.Serving.{BreaksOff}
 use Rattle.session_core.specs.Services.{system_of}
 use Rattle.session_core.specs.FirstPath.{first_moves}

@@ -3,7 +3,7 @@ use Rattle.std.specs.Prelude.{◌&&◌}
 use Rattle.std.proofs.lemmas.Grind.{common_steps}
 use Rattle.text_rules.specs.Names.{same_name}
 use Rattle.session_core.specs.Services.{is_open_as}
-use Rattle.session_core.specs.inner.CaseWords.{case_of_words}
+use Rattle.session_rules.specs.CaseWords.{case_of_words}
 use Rattle.session_core.proofs.Answering.{open_as}
 use Rattle.session_core.proofs.sessions.Sessions.is_open_as.Goals as goal
 

@@ -5,9 +5,9 @@ use Rattle.script_lang.proofs.AskedLemmas.{well_asked}
 use Rattle.session_core.specs.Services.{system_of}
 use Rattle.session_core.specs.FirstPath.{first_step}
 use Rattle.session_core.specs.Serving.{Makes}
-use Rattle.session_core.proofs.Spellings.{writes_none}
+use Rattle.session_rules.proofs.Spellings.{writes_none}
 use Rattle.session_core.proofs.Answering.{not_built}
-use Rattle.session_core.proofs.Broken.{carries_step}
+use Rattle.session_rules.proofs.Broken.{carries_step}
 use Rattle.session_core.proofs.sessions.Sessions.line.Goals as goal
 
 pub start-requires : goal.start-requires

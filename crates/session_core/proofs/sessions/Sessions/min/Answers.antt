@@ -5,17 +5,17 @@ use Rattle.script_lang.specs.Script.{Ask, Min}
 use Rattle.conditioner.specs.Models.{least_under, diagnoses_under}
 use Rattle.diagnosis_lister.specs.Listing.{bits_of}
 use Rattle.text_rules.specs.Tokens.{spaced}
-use Rattle.session_core.specs.Items.{Item, line}
-use Rattle.session_core.specs.Replies.{min_text}
+use Rattle.session_rules.specs.Items.{Item, line}
+use Rattle.session_rules.specs.Replies.{min_text}
 use Rattle.session_core.specs.FirstPath.{first_step}
 use Rattle.session_core.specs.Services.{Subject, Shown, system_of, is_open_as}
-use Rattle.session_core.specs.Spelling.{Replies}
-use Rattle.session_core.specs.inner.CaseWords.{case_of_words}
+use Rattle.session_rules.specs.Spelling.{Replies}
+use Rattle.session_rules.specs.CaseWords.{case_of_words}
 use Rattle.session_core.proofs.Answering.{min-items}
-use Rattle.session_core.proofs.CaseWords.{least-by_words, diagnoses-by_words}
+use Rattle.session_rules.proofs.CaseWords.{least-by_words, diagnoses-by_words}
 use Rattle.session_core.proofs.Holding.{written_back}
 use Rattle.session_core.proofs.Minimum.{min_line-is}
-use Rattle.session_core.proofs.Spellings.{replies_one}
+use Rattle.session_rules.proofs.Spellings.{replies_one}
 use Rattle.session_core.proofs.sessions.Sessions.min.Goals as goal
 
 pub returns-clause-reply : goal.returns-clause-reply

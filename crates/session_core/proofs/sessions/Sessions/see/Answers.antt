@@ -1,15 +1,15 @@
 use Rattle.std.proofs.Common.{◌≡◌, ◌<◌, ◌∙◌, ◌∷◌, [], ◌+◌, ℕ, List, All, set, refl, sym, ap, subst, length, codes, arith, true}
 use Rattle.conditioner.specs.Words.{word_of}
 use Rattle.script_lang.specs.Script.{Ask, See}
-use Rattle.session_core.specs.Items.{line}
+use Rattle.session_rules.specs.Items.{line}
 use Rattle.session_core.specs.FirstPath.{first_step}
-use Rattle.session_core.specs.Sessions.{Step}
+use Rattle.session_rules.specs.Sessions.{Step}
 use Rattle.session_core.specs.Services.{Subject, Shown, table_with, system_of, is_open_as}
-use Rattle.session_core.specs.Spelling.{Replies}
-use Rattle.session_core.specs.inner.CaseWords.{case_of_words}
+use Rattle.session_rules.specs.Spelling.{Replies}
+use Rattle.session_rules.specs.CaseWords.{case_of_words}
 use Rattle.session_core.proofs.Answering.{see-any}
 use Rattle.session_core.proofs.Holding.{written_back, words-noted, case-noted, place-within}
-use Rattle.session_core.proofs.Spellings.{replies_one}
+use Rattle.session_rules.proofs.Spellings.{replies_one}
 use Rattle.session_core.proofs.sessions.Sessions.see.Goals as goal
 
 pub invariant_of-self : goal.invariant_of-self

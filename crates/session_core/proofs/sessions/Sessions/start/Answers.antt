@@ -2,14 +2,14 @@ use Rattle.std.proofs.Common.{◌≡◌, ◌∙◌, ◌∷◌, ◌++◌, [], ℕ
 use Rattle.std.specs.Prelude.{is_ok, if◌then◌else◌}
 use Rattle.ranking.specs.Cases.{empty_case}
 use Rattle.script_lang.specs.Script.{Ask, Start}
-use Rattle.session_core.specs.Items.{line}
+use Rattle.session_rules.specs.Items.{line}
 use Rattle.session_core.specs.FirstPath.{first_step}
 use Rattle.session_core.specs.Services.{Subject, table_with, system_of}
-use Rattle.session_core.specs.Spelling.{Replies}
-use Rattle.session_core.specs.inner.CaseWords.{case_of_words}
+use Rattle.session_rules.specs.Spelling.{Replies}
+use Rattle.session_rules.specs.CaseWords.{case_of_words}
 use Rattle.session_core.proofs.Answering.{start-first}
 use Rattle.session_core.proofs.Holding.{written_back, words-zero, case-zero}
-use Rattle.session_core.proofs.Spellings.{replies_one}
+use Rattle.session_rules.proofs.Spellings.{replies_one}
 use Rattle.session_core.proofs.sessions.Sessions.start.Goals as goal
 
 pub invariant_of-self : goal.invariant_of-self

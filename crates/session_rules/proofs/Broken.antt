@@ -1,14 +1,14 @@
 -- Moves that are made, and moves that break off.
 use Rattle.std.proofs.Common.{◌≡◌, ℕ, List, [], ◌∷◌, ◌++◌, Option, Result, Ok, Err, refl, sym, ◌∙◌, ap, subst, append_assoc, append-nil}
-use Rattle.session_core.specs.Items.{Item}
+use Rattle.session_rules.specs.Items.{Item}
 use Rattle.ranking.specs.Systems.{System}
-use Rattle.session_core.specs.Sessions.{Table, Step, replies}
-use Rattle.session_core.specs.Moves.{said, left_by, line_moves, script_moves}
-use Rattle.session_core.specs.Spelling.{Writes, WritesPart, Replies}
+use Rattle.session_rules.specs.Sessions.{Table, Step, replies}
+use Rattle.session_rules.specs.Moves.{said, left_by, line_moves, script_moves}
+use Rattle.session_rules.specs.Spelling.{Writes, WritesPart, Replies}
 use Rattle.session_core.specs.Serving.{Makes, BreaksOff, CarriesOut}
-use Rattle.session_core.proofs.Spellings.{writes_more, writes_none}
-use Rattle.session_core.proofs.Whole.{said-append, left_by-append, said-replies}
-use Rattle.session_core.proofs.Begun.{HaveSpellings, have_after, begins_whole, part_more, part_after}
+use Rattle.session_rules.proofs.Spellings.{writes_more, writes_none}
+use Rattle.session_rules.proofs.Whole.{said-append, left_by-append, said-replies}
+use Rattle.session_rules.proofs.Begun.{HaveSpellings, have_after, begins_whole, part_more, part_after}
 
 pub makes_none : (t : Table) (a : Option (List ℕ)) → Makes t t [] a a
 makes_none t a = record { written = writes_none a; table = refl }

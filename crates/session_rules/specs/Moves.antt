@@ -3,9 +3,10 @@ use Rattle.std.specs.Prelude.{ℕ, zero, suc, Bool, true, false, List, [], ◌�
 use Rattle.text_rules.specs.Names.{Name}
 use Rattle.ranking.specs.Systems.{System, all_diagnoses}
 use Rattle.script_lang.specs.Script.{Line, Ask, Several, line_of}
-use Rattle.session_core.specs.Items.{Item}
-use Rattle.session_core.specs.Replies.{Found, next_of}
-use Rattle.session_core.specs.Sessions.{Table, Entry, Step, Declined, with_entry, entry_of, carried, step}
+use Rattle.session_rules.specs.declared.refusal.Refusal.TheVariants.{NoSession}
+use Rattle.session_rules.specs.Items.{Item}
+use Rattle.session_rules.specs.Replies.{Found, next_of}
+use Rattle.session_rules.specs.Sessions.{Table, Entry, Step, Declined, with_entry, entry_of, carried, step}
 
 -- what moves say, one after the other
 abbrev pub said : List Step → List Item
@@ -34,7 +35,7 @@ goes_on table session entry f =
 
 -- each reply of a listing is a move
 abbrev pub listing_moves : System → Table → Name → ℕ → Option Entry → List Step
-listing_moves system table session count None = carried table session (Declined 6) ∷ []
+listing_moves system table session count None = carried table session (Declined NoSession) ∷ []
 listing_moves system table session count (Some entry) =
     map (goes_on table session entry)
     (listing (next_of system session (all_diagnoses system entry.known)) count entry.point)

@@ -13,10 +13,10 @@ use Rattle.text_rules.proofs.NameLemmas.{equal_if_same}
 use Rattle.device_model.specs.Devices.{place_of}
 use Rattle.script_lang.specs.Script.{Line, Blank, Refused, Ask, Request, Start, Stop, See, Unsee, Hold, Unhold, Min, Next, Several, After, Probe, Probes, Blame, Dnnf}
 use Rattle.ranking.specs.Systems.{System}
-use Rattle.session_core.specs.Replies.{probe_line, if_any}
-use Rattle.session_core.specs.Sessions.{Entry, Table, Outcome, Declined, Done, Change, Stays, Becomes, Ends, entry_of, without, changed, carried, when_open, outcome, outcome_in, at_place, becomes, tells, step, with_seen, with_held, state_of, new_entry}
+use Rattle.session_rules.specs.Replies.{probe_line, if_any}
+use Rattle.session_rules.specs.Sessions.{Entry, Table, Outcome, Declined, Done, Change, Stays, Becomes, Ends, entry_of, without, changed, carried, when_open, outcome, outcome_in, at_place, becomes, tells, step, with_seen, with_held, state_of, new_entry}
 use Rattle.session_core.specs.FirstPath.{is_built, if_built, first_step}
-use Rattle.session_core.specs.GraphSystems.{IsCaseOf, HasCasesOf}
+use Rattle.session_rules.specs.GraphSystems.{IsCaseOf, HasCasesOf}
 
 -- the empty table has no case
 pub HasCases-empty : (system : System) → HasCasesOf system []

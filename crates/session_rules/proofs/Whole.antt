@@ -4,10 +4,10 @@ use Rattle.std.specs.Prelude.{nat_le, length}
 use Rattle.text_rules.specs.Names.{Name}
 use Rattle.ranking.specs.Systems.{System, all_diagnoses}
 use Rattle.script_lang.specs.Script.{Line, Ask, Several, line_of}
-use Rattle.session_core.specs.Replies.{Found, Listed, next_of, repeat_steps}
-use Rattle.session_core.specs.Sessions.{Table, Entry, Step, with_entry, entry_of, carried, outcome, step, run, after_lines, replies}
+use Rattle.session_rules.specs.Replies.{Found, Listed, next_of, repeat_steps}
+use Rattle.session_rules.specs.Sessions.{Table, Entry, Step, with_entry, entry_of, carried, outcome, step, run, after_lines, replies}
 use Rattle.session_core.specs.FirstPath.{first_line, first_moves, first_replies}
-use Rattle.session_core.specs.Moves.{said, left_by, whole, listing, goes_on, listing_moves, moves, line_moves, line_step, script_moves}
+use Rattle.session_rules.specs.Moves.{said, left_by, whole, listing, goes_on, listing_moves, moves, line_moves, line_step, script_moves}
 
 one_move : (table : Table) (s : Step) → whole table (s ∷ []) ≡ s
 one_move table s = ap (λ items. record { table = s.table; items = items }) (append-nil s.items)

@@ -4,10 +4,10 @@ use Rattle.std.specs.Prelude.{codes}
 use Rattle.std.specs.Fmt.{digits}
 use Rattle.ranking.specs.Cases.{empty_case}
 use Rattle.ranking.specs.Systems.{System}
-use Rattle.session_core.specs.Items.{line}
-use Rattle.session_core.specs.Sessions.{Table, Step}
+use Rattle.session_rules.specs.Items.{line}
+use Rattle.session_rules.specs.Sessions.{Table, Step}
 use Rattle.session_core.specs.FirstPath.{first_moves}
-use Rattle.session_core.specs.Moves.{left_by, line_moves, script_moves}
+use Rattle.session_rules.specs.Moves.{left_by, line_moves, script_moves}
 
 -- one of two parts is faulty, or both are
 abbrev either : System

@@ -7,7 +7,7 @@ use Rattle.ranking.specs.Bits.{bit_in}
 use Rattle.ranking.specs.Cases.{Case}
 use Rattle.ranking.specs.Ranking.{rest}
 use Rattle.ranking.specs.Systems.{System, least_cost}
-use Rattle.session_core.specs.Items.{Item, line}
+use Rattle.session_rules.specs.Items.{Item, line}
 
 -- the names of the faulty parts
 abbrev pub faulty_names : List Name → List Bool → List Name

@@ -2,8 +2,8 @@
 use Rattle.std.proofs.Common.{ℕ, List, [], ◌∷◌, ◌++◌, Option, Result, Ok, Err, refl, sym, ◌∙◌, ap, subst, append_assoc, append-nil}
 use Rattle.diag_edge.specs.Edge.{Puts}
 use Rattle.diag_edge.proofs.Growing.{grows_more, grows_none}
-use Rattle.session_core.specs.Items.{Item}
-use Rattle.session_core.specs.Spelling.{Spelled, Spells, Writes, Replies}
+use Rattle.session_rules.specs.Items.{Item}
+use Rattle.session_rules.specs.Spelling.{Spelled, Spells, Writes, Replies}
 
 pub spells_one : (item : Item) (text : List ℕ) → Spelled item text → Spells (item ∷ []) text
 spells_one item text is = (text, [], sym (append-nil text), is, refl)

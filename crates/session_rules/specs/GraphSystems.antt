@@ -7,7 +7,7 @@ use Rattle.graph_rules.specs.Graphs.{Graph}
 use Rattle.device_model.specs.Devices.{Device, part_names, part_costs}
 use Rattle.conditioner.specs.Words.{word_of}
 use Rattle.conditioner.specs.Models.{models}
-use Rattle.session_core.specs.Sessions.{Entry, Table, entry_of}
+use Rattle.session_rules.specs.Sessions.{Entry, Table, entry_of}
 
 -- the word that says what is known of a variable
 abbrev pub word_of_known : Option Bool → ℕ
@@ -27,6 +27,16 @@ graph_system parts wires costs graph = record {
   costs = costs;
   consistent = λ known. models graph (case_words graph.vars known) (length parts);
 }
+
+-- what a service asks over: the names of parts and wires, what the failure of each part costs, and a graph
+pub record Subject : Type 0 where
+  pub parts : List Name
+  pub wires : List Name
+  pub costs : List ℕ
+  pub graph : Graph
+
+abbrev pub system_of : Subject → System
+system_of subject = graph_system subject.parts subject.wires subject.costs subject.graph
 
 -- the system of a device's graph
 abbrev pub compiled_system : Device → Graph → System

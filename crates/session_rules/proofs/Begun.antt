@@ -1,9 +1,9 @@
 -- Beginnings of texts.
 use Rattle.std.proofs.Common.{ℕ, List, [], ◌∷◌, ◌++◌, Option, refl, sym, subst, append_assoc, append-nil}
 use Rattle.diag_edge.proofs.Growing.{grows_more}
-use Rattle.session_core.specs.Items.{Item}
-use Rattle.session_core.specs.Spelling.{Spelled, Spells, Begins, Writes, WritesPart}
-use Rattle.session_core.proofs.Spellings.{spells_more}
+use Rattle.session_rules.specs.Items.{Item}
+use Rattle.session_rules.specs.Spelling.{Spelled, Spells, Begins, Writes, WritesPart}
+use Rattle.session_rules.proofs.Spellings.{spells_more}
 
 -- some text spells each of the items
 abbrev pub HaveSpellings : List Item → Type 0

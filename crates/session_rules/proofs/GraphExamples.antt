@@ -8,10 +8,10 @@ use Rattle.device_model.specs.declared.component.Kind.TheVariants.{Buff}
 use Rattle.device_model.specs.Devices.{Device}
 use Rattle.dnnf_compiler.specs.Compiled.{holds_for}
 use Rattle.conditioner.specs.Models.{models}
-use Rattle.session_core.specs.Items.{line, Projected}
-use Rattle.session_core.specs.Sessions.{replies}
+use Rattle.session_rules.specs.Items.{line, Projected}
+use Rattle.session_rules.specs.Sessions.{replies}
 use Rattle.session_core.specs.FirstPath.{first_replies}
-use Rattle.session_core.specs.GraphSystems.{case_words, compiled_system}
+use Rattle.session_rules.specs.GraphSystems.{case_words, compiled_system}
 
 -- the part is held faulty, the wires are seen as 0 and 1, and two variables more are inner ones
 words_of_both_bits : case_words 5 (record { seen = Some false ∷ Some true ∷ []; held = Some false ∷ [] }) ≡ 2 ∷ 2 ∷ 1 ∷ 0 ∷ 0 ∷ []

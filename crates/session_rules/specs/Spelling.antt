@@ -9,7 +9,7 @@ use Rattle.graph_rules.specs.Graphs.{Decomposable, holds}
 use Rattle.graph_rules.specs.GraphTexts.{Parsed, parsed}
 use Rattle.device_model.specs.Devices.{Device}
 use Rattle.dnnf_compiler.specs.Compiled.{IsGraphOf as MeansDevice}
-use Rattle.session_core.specs.Items.{Item, Plain, Projected, Whole}
+use Rattle.session_rules.specs.Items.{Item, Plain, Projected, Whole}
 
 -- a graph over so many parts, decomposable, and true for these states alone
 abbrev pub IsGraphOf : ℕ → List (List Bool) → Parsed → Type 0

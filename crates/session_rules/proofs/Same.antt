@@ -8,14 +8,14 @@ use Rattle.ranking.specs.Ranking.{least, diagnoses}
 use Rattle.ranking.specs.Systems.{System}
 use Rattle.device_model.specs.Devices.{place_of}
 use Rattle.script_lang.specs.Script.{Line, Blank, Refused, Ask, Request, Start, Stop, See, Unsee, Hold, Unhold, Min, Next, Several, After, Probe, Probes, Blame, Dnnf, line_of}
-use Rattle.session_core.specs.Items.{Item, Projected, line}
-use Rattle.session_core.specs.Replies.{min_line, next_of, repeat_steps, least_at, seen_at, probe_line, probe_lines, count_text, if_any, end_line, blame_lines}
-use Rattle.session_core.specs.Sessions.{Entry, Table, Step, Outcome, entry_of, carried, when_open, outcome, outcome_in, at_place, tells, moved, step, run, after_lines, replies}
+use Rattle.session_rules.specs.Items.{Item, Projected, line}
+use Rattle.session_rules.specs.Replies.{min_line, next_of, repeat_steps, least_at, seen_at, probe_line, probe_lines, count_text, if_any, end_line, blame_lines}
+use Rattle.session_rules.specs.Sessions.{Entry, Table, Step, Outcome, entry_of, carried, when_open, outcome, outcome_in, at_place, tells, moved, step, run, after_lines, replies}
 use Rattle.session_core.specs.FirstPath.{is_built, if_built, first_step, first_line, first_moves, first_replies}
-use Rattle.session_core.specs.Moves.{left_by, listing, goes_on, listing_moves, moves, line_moves, script_moves}
-use Rattle.session_core.specs.GraphSystems.{IsCaseOf, HasCasesOf}
-use Rattle.session_core.proofs.Keeping.{step-keeps, first_step-keeps}
-use Rattle.session_core.proofs.Whole.{line_moves-whole}
+use Rattle.session_rules.specs.Moves.{left_by, listing, goes_on, listing_moves, moves, line_moves, script_moves}
+use Rattle.session_rules.specs.GraphSystems.{IsCaseOf, HasCasesOf}
+use Rattle.session_rules.proofs.Keeping.{step-keeps, first_step-keeps}
+use Rattle.session_rules.proofs.Whole.{line_moves-whole}
 
 -- Two ways to answer that agree while something holds, which lines keep
 module _ (one other : Table → List ℕ → Step) (Holds : Table → Type 0) (kept : (t : Table) (l : List ℕ) → Holds t → Holds (one t l).table) (agree : (t : Table) (l : List ℕ) → Holds t → one t l ≡ other t l) where

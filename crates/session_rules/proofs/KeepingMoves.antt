@@ -3,13 +3,13 @@ use Rattle.std.proofs.Common.{◌≡◌, ℕ, suc, List, [], ◌∷◌, ◌++◌
 use Rattle.text_rules.specs.Names.{Name}
 use Rattle.ranking.specs.Systems.{System, all_diagnoses}
 use Rattle.script_lang.specs.Script.{Line, Ask, Several, line_of}
-use Rattle.session_core.specs.Replies.{Found, next_of}
-use Rattle.session_core.specs.Sessions.{Table, Entry, Step, Becomes, entry_of}
+use Rattle.session_rules.specs.Replies.{Found, next_of}
+use Rattle.session_rules.specs.Sessions.{Table, Entry, Step, Becomes, entry_of}
 use Rattle.session_core.specs.FirstPath.{first_moves}
-use Rattle.session_core.specs.Moves.{left_by, listing, goes_on, listing_moves, moves, line_moves, script_moves}
+use Rattle.session_rules.specs.Moves.{left_by, listing, goes_on, listing_moves, moves, line_moves, script_moves}
 use Rattle.session_core.specs.Serving.{Makes, BreaksOff}
-use Rattle.session_core.specs.GraphSystems.{IsCaseOf, HasCasesOf}
-use Rattle.session_core.proofs.Keeping.{changed-keeps, step-keeps, first_step-keeps}
+use Rattle.session_rules.specs.GraphSystems.{IsCaseOf, HasCasesOf}
+use Rattle.session_rules.proofs.Keeping.{changed-keeps, step-keeps, first_step-keeps}
 
 module _ (system : System) where
   -- each of the moves leaves such a table

@@ -1,5 +1,5 @@
 -- Sessions over a system, and the replies to the lines of a script.
-use Rattle.std.specs.Prelude.{ℕ, Bool, not, List, [], ◌∷◌, ◌++◌, map, length, Option, Some, None, set, codes, ◌==◌, nat_le, if◌then◌else◌}
+use Rattle.std.specs.Prelude.{ℕ, Bool, not, List, [], ◌∷◌, ◌++◌, map, length, Option, Some, None, set, codes, nat_le, if◌then◌else◌}
 use Rattle.std.specs.Fmt.{decimal}
 use Rattle.std.specs.Ordering.{nat_cmp}
 use Rattle.std.specs.Cmp.Lexicographic.{slice_cmp}
@@ -8,10 +8,14 @@ use Rattle.std.specs.FinMap.{find, put}
 use Rattle.text_rules.specs.Names.{Name, same_name, is_among}
 use Rattle.ranking.specs.Cases.{Case, empty_case}
 use Rattle.device_model.specs.Devices.{place_of}
-use Rattle.script_lang.specs.Script.{Line, Blank, Refused, Ask, Request, Start, Stop, See, Unsee, Hold, Unhold, Min, Next, Several, After, Probe, Probes, Blame, Dnnf, line_of, refusal_text}
+use Rattle.script_lang.specs.Script.{Line, Blank, Refused, Ask, Request, Start, Stop, See, Unsee, Hold, Unhold, Min, Next, Several, After, Probe, Probes, Blame, Dnnf, line_of}
 use Rattle.ranking.specs.Systems.{System, least_cost, all_diagnoses}
-use Rattle.session_core.specs.Items.{Item, Projected, line}
-use Rattle.session_core.specs.Replies.{end_line, min_line, next_of, repeat_steps, probe_line, probe_lines, blame_lines, if_any}
+use Rattle.script_lang.specs.Refusals as line_refusals
+use Rattle.session_rules.specs.declared.refusal.Refusal.{Refusal}
+use Rattle.session_rules.specs.declared.refusal.Refusal.TheVariants.{NoSession, OpenAlready, Full, NoWire, NoPart}
+use Rattle.session_rules.specs.Refusals.{refusal_number, refusal_text}
+use Rattle.session_rules.specs.Items.{Item, Projected, line}
+use Rattle.session_rules.specs.Replies.{end_line, min_line, next_of, repeat_steps, probe_line, probe_lines, blame_lines, if_any}
 
 -- what a session knows, and the state after which it goes on
 pub record Entry : Type 0 where
@@ -41,9 +45,9 @@ pub data Change : Type 0 where
   Becomes : (entry : Entry) → Change
   Ends : Change
 
--- a refusal with its number, or a change and what is written
+-- a refusal, or a change and what is written
 pub data Outcome : Type 0 where
-  Declined : (number : ℕ) → Outcome
+  Declined : (refusal : Refusal) → Outcome
   Done : (change : Change) (items : List Item) → Outcome
 
 abbrev pub tells : List Item → Outcome
@@ -54,15 +58,15 @@ abbrev pub becomes : Name → Entry → List ℕ → Outcome
 becomes session entry word = Done (Becomes entry) (line (session ∷ word ∷ []) ∷ [])
 
 -- what is done at a place, or the refusal where there is none
-abbrev pub at_place : ℕ → (ℕ → Outcome) → Option ℕ → Outcome
+abbrev pub at_place : Refusal → (ℕ → Outcome) → Option ℕ → Outcome
 at_place refusal act None = Declined refusal
 at_place refusal act (Some place) = act place
 
 abbrev pub at_wire : System → Name → (ℕ → Outcome) → Outcome
-at_wire system name act = at_place 9 act (place_of name system.wires)
+at_wire system name act = at_place NoWire act (place_of name system.wires)
 
 abbrev pub at_part : System → Name → (ℕ → Outcome) → Outcome
-at_part system name act = at_place 10 act (place_of name system.parts)
+at_part system name act = at_place NoPart act (place_of name system.parts)
 
 -- A change of what is known leaves no point.
 abbrev pub with_seen : Entry → ℕ → Option Bool → Entry
@@ -81,7 +85,7 @@ moved entry point items = Done (Becomes (record entry { point = point })) items
 
 -- what an open session answers
 abbrev pub when_open : System → Name → Entry → Request → Outcome
-when_open system s entry Start = Declined 7
+when_open system s entry Start = Declined OpenAlready
 when_open system s entry Stop = Done Ends (line (s ∷ codes "closed" ∷ []) ∷ [])
 when_open system s entry (See name bit) = at_wire system name (λ wire. becomes s (with_seen entry wire (Some bit)) (codes "ok"))
 when_open system s entry (Unsee name) = at_wire system name (λ wire. becomes s (with_seen entry wire None) (codes "ok"))
@@ -97,7 +101,7 @@ when_open system s entry (Several count) =
 when_open system s entry (After names) =
     if list_all (λ name. is_among system.parts name) names
     then becomes s (record entry { point = Some (state_of names system.parts) }) (codes "ok")
-    else Declined 10
+    else Declined NoPart
 when_open system s entry (Probe name) = at_wire system name (λ wire.
     tells (if_any s (system.consistent entry.known) (probe_line system s entry.known name wire ∷ [])))
 when_open system s entry Probes =
@@ -110,22 +114,13 @@ when_open system s entry Dnnf =
 -- What is answered hangs on the session's own entry alone, and where it is not open on whether there is room.
 abbrev pub outcome : System → Name → Bool → Option Entry → Request → Outcome
 outcome system s full (Some entry) request = when_open system s entry request
-outcome system s full None Start = if full then Declined 8 else becomes s (new_entry system) (codes "open")
-outcome system s full None request = Declined 6
+outcome system s full None Start = if full then Declined Full else becomes s (new_entry system) (codes "open")
+outcome system s full None request = Declined NoSession
 
 abbrev pub changed : Name → Change → Table → Table
 changed session Stays table = table
 changed session (Becomes entry) table = with_entry session entry table
 changed session Ends table = without session table
-
--- what a refusal by the service says
-abbrev pub decline_text : ℕ → List ℕ
-decline_text number =
-    if number == 6 then codes "no session"
-    else if number == 7 then codes "open already"
-    else if number == 8 then codes "full"
-    else if number == 9 then codes "no wire"
-    else codes "no part"
 
 -- the table after a line, and what the line is answered
 pub record Step : Type 0 where
@@ -133,8 +128,10 @@ pub record Step : Type 0 where
   pub items : List Item
 
 abbrev pub carried : Table → Name → Outcome → Step
-carried table session (Declined number) =
-    record { table = table; items = line (session ∷ codes "error" ∷ decimal number ∷ decline_text number ∷ []) ∷ [] }
+carried table session (Declined refusal) = record {
+  table = table;
+  items = line (session ∷ codes "error" ∷ decimal (refusal_number refusal) ∷ refusal_text refusal ∷ []) ∷ [];
+}
 carried table session (Done change items) = record { table = changed session change table; items = items }
 
 -- what a request comes to, where at most so many sessions may be open
@@ -144,8 +141,10 @@ outcome_in system limit table session request =
 
 abbrev pub step : System → ℕ → Table → Line → Step
 step system limit table Blank = record { table = table; items = [] }
-step system limit table (Refused number) =
-    record { table = table; items = line (codes "error" ∷ decimal number ∷ refusal_text number ∷ []) ∷ [] }
+step system limit table (Refused refusal) = record {
+  table = table;
+  items = line (codes "error" ∷ decimal (line_refusals.refusal_number refusal) ∷ line_refusals.refusal_text refusal ∷ []) ∷ [];
+}
 step system limit table (Ask session request) = carried table session (outcome_in system limit table session request)
 
 -- what lines are answered one after the other, and the table that they leave

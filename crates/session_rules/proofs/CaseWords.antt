@@ -9,10 +9,10 @@ use Rattle.text_rules.specs.Names.{Name}
 use Rattle.graph_rules.specs.Graphs.{Graph}
 use Rattle.conditioner.specs.Words.{known_of, known, word_of}
 use Rattle.conditioner.specs.Models.{models, least_under, diagnoses_under}
-use Rattle.session_core.specs.GraphSystems.{word_of_known, case_words, graph_system}
-use Rattle.session_core.specs.inner.CaseWords.{case_of_words, AreCaseWords}
+use Rattle.session_rules.specs.GraphSystems.{word_of_known, case_words, graph_system}
+use Rattle.session_rules.specs.CaseWords.{case_of_words, AreCaseWords}
 use Rattle.session_core.specs.inner.Held.{AreCosts, AreWordsOf}
-use Rattle.session_core.proofs.Meaning.{all_known}
+use Rattle.session_rules.proofs.Meaning.{all_known}
 
 set_behind : {A : Type 0} (xs ys : List A) (i : ℕ) (y : A) → set (xs ++ ys) (length xs + i) y ≡ xs ++ set ys i y
 set_behind [] ys i y = ap (λ n. set ys n y) (omega arith)

@@ -4,13 +4,13 @@ use Rattle.graph_rules.specs.Graphs.{Graph}
 use Rattle.device_model.specs.Devices.{Device}
 use Rattle.device_model.specs.Diagnosis.{device_system}
 use Rattle.dnnf_compiler.specs.Compiled.{IsGraphOf}
-use Rattle.session_core.specs.Sessions.{replies}
+use Rattle.session_rules.specs.Sessions.{replies}
 use Rattle.session_core.specs.FirstPath.{first_moves, first_replies}
-use Rattle.session_core.specs.Moves.{line_moves, script_moves}
-use Rattle.session_core.specs.GraphSystems.{compiled_system}
-use Rattle.session_core.proofs.Keeping.{HasCases-empty}
-use Rattle.session_core.proofs.Meaning.{same_consistent}
-use Rattle.session_core.proofs.Same.{replies-same, first_replies-same, script_moves-same, first_script-same}
+use Rattle.session_rules.specs.Moves.{line_moves, script_moves}
+use Rattle.session_rules.specs.GraphSystems.{compiled_system}
+use Rattle.session_rules.proofs.Keeping.{HasCases-empty}
+use Rattle.session_rules.proofs.Meaning.{same_consistent}
+use Rattle.session_rules.proofs.Same.{replies-same, first_replies-same, script_moves-same, first_script-same}
 
 module _ (device : Device) (graph : Graph) (is : IsGraphOf device graph) where
   pub graph_replies : (limit : ℕ) (lines : List (List ℕ)) → replies (compiled_system device graph) limit [] lines ≡ replies (device_system device) limit [] lines

@@ -7,8 +7,8 @@ use Rattle.device_model.specs.declared.component.Kind.{Kind}
 use Rattle.device_model.specs.declared.component.Kind.TheVariants.{Nand, Buff, Table}
 use Rattle.device_model.specs.Devices.{Device}
 use Rattle.device_model.specs.Diagnosis.{device_system}
-use Rattle.session_core.specs.Items.{Item, Plain, Projected, Whole, line}
-use Rattle.session_core.specs.Sessions.{replies}
+use Rattle.session_rules.specs.Items.{Item, Plain, Projected, Whole, line}
+use Rattle.session_rules.specs.Sessions.{replies}
 use Rattle.session_core.specs.FirstPath.{first_replies}
 
 -- the texts of the items, where all are plain

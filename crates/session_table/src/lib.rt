@@ -1,0 +1,8 @@
+//! The open sessions: their names in order, and for each a block of words that was taken before the first one opened.
+#![tactic(auto)]
+
+mod block;
+mod open_sessions;
+mod short_name;
+
+pub use open_sessions::OpenSessions;

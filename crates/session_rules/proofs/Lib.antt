@@ -8,6 +8,8 @@ pub mod Keeping
 pub mod KeepingMoves
 pub mod Same
 pub mod GraphReplies
+pub mod CaseWords
+pub mod ProbeWords
 mod Examples
 mod MoveExamples
 mod GraphExamples

@@ -1,17 +1,18 @@
 -- What words say of a case, and what becomes of it where one of them is written.
-use Rattle.std.proofs.Common.{◌≡◌, ℕ, zero, suc, ◌+◌, ◌-◌, ◌≤◌, ◌<◌, Bool, List, [], ◌∷◌, ◌++◌, map, length, replicate, take, drop, refl, ap, ap₂, sym, ◌∙◌, subst, Option, Some, None, arith, set, length-append}
+use Rattle.std.proofs.Common.{◌≡◌, ℕ, zero, suc, ◌+◌, ◌-◌, ◌≤◌, ◌<◌, Bool, true, false, List, [], ◌∷◌, ◌++◌, map, length, replicate, take, drop, refl, ap, ap₂, sym, ◌∙◌, subst, Option, Some, None, arith, set, length-append}
+use Rattle.std.specs.List.{All}
 use Rattle.std.proofs.Math.Seq.{drop-append_seam, take-append_seam}
 use Rattle.std.proofs.lemmas.List.{length-map, length-set, length-replicate, length-drop, length-take-le, map-set, set-append_left, replicate-append-replicate}
+use Rattle.std.proofs.lemmas.List.Elements.{All-replicate, All-set}
 use Rattle.ranking.specs.Cases.{Case, empty_case}
 use Rattle.ranking.specs.Ranking.{least, diagnoses}
 use Rattle.ranking.specs.Systems.{least_cost, all_diagnoses}
 use Rattle.text_rules.specs.Names.{Name}
 use Rattle.graph_rules.specs.Graphs.{Graph}
-use Rattle.conditioner.specs.Words.{known_of, known, word_of}
+use Rattle.conditioner.specs.Words.{known_of}
 use Rattle.conditioner.specs.Models.{models, least_under, diagnoses_under}
 use Rattle.session_rules.specs.GraphSystems.{word_of_known, case_words, graph_system}
-use Rattle.session_rules.specs.CaseWords.{case_of_words, AreCaseWords}
-use Rattle.session_core.specs.inner.Held.{AreCosts, AreWordsOf}
+use Rattle.session_rules.specs.CaseWords.{case_of_words, AreCaseWords, AreWords}
 use Rattle.session_rules.proofs.Meaning.{all_known}
 
 set_behind : {A : Type 0} (xs ys : List A) (i : ℕ) (y : A) → set (xs ++ ys) (length xs + i) y ≡ xs ++ set ys i y
@@ -23,6 +24,11 @@ set_behind (x ∷ xs) ys i y =
 map-replicate : (n : ℕ) → map word_of_known (replicate n None) ≡ replicate n 0
 map-replicate zero = refl
 map-replicate (suc n) = ap (λ ws. 0 ∷ ws) (map-replicate n)
+
+small_word : (k : Option Bool) → word_of_known k < 3
+small_word None = omega arith
+small_word (Some true) = omega arith
+small_word (Some false) = omega arith
 
 module _ (vars : ℕ) where
   -- the words behind those of parts and wires
@@ -42,6 +48,18 @@ module _ (vars : ℕ) where
       ∙ (set_behind held (seen ++ rest) wire w
       ∙ ap (λ ws. held ++ ws) (set-append_left seen rest wire w long
       ∙ ap₂ (λ ws n. ws ++ inner (length known.held) n) (sym (map-set word_of_known known.seen wire k)) (sym (length-set known.seen wire k))))
+
+  -- a part is held, or not any more
+  words-held : (known : Case) (part : ℕ) (k : Option Bool) → part < length known.held
+      → set (case_words vars known) part (word_of_known k) ≡ case_words vars (record known { held = set known.held part k })
+  words-held known part k l =
+      let held : List ℕ = map word_of_known known.held in
+      let seen : List ℕ = map word_of_known known.seen in
+      let rest : List ℕ = inner (length known.held) (length known.seen) in
+      let w : ℕ = word_of_known k in
+      let long : part < length held = (let e = length-map known.held word_of_known in omega (arith, e, l)) in
+      set-append_left held (seen ++ rest) part w long
+      ∙ ap₂ (λ ws n. ws ++ (seen ++ inner n (length known.seen))) (sym (map-set word_of_known known.held part k)) (sym (length-set known.held part k))
 
   -- a session opens with all words 0
   words-new : (parts wires : ℕ) → parts + wires ≤ vars → case_words vars (empty_case wires parts) ≡ replicate vars 0
@@ -88,63 +106,98 @@ module _ (vars : ℕ) where
         same = ap₂ case_words long (words-say parts wires known e d);
       }
 
--- what is known of a case of words
-length-held : (parts wires : ℕ) (words : List ℕ) → parts + wires ≤ length words → length (case_of_words parts wires words).held ≡ parts
-length-held parts wires words room = length-map (take parts words) known_of ∙ length-take-le parts words (omega (arith, room))
+-- ---- words all 0
 
-length-seen : (parts wires : ℕ) (words : List ℕ) → parts + wires ≤ length words → length (case_of_words parts wires words).seen ≡ wires
-length-seen parts wires words room = length-map (take wires (drop parts words)) known_of ∙ length-take-le wires (drop parts words) (omega (arith, length-drop parts words, room))
+-- they say that nothing is known
+pub zeros-say : (parts wires vars : ℕ) → parts + wires ≤ vars → case_of_words parts wires (replicate vars 0) ≡ empty_case wires parts
+zeros-say parts wires vars room =
+    ap (case_of_words parts wires) (sym (words-new vars parts wires room))
+    ∙ words-say vars parts wires (empty_case wires parts) (length-replicate {A = Option Bool} parts None) (length-replicate {A = Option Bool} wires None)
 
-word-known : (bit : Bool) → word_of bit ≡ word_of_known (Some bit)
-word-known bit = refl
+pub zeros-are : (parts wires vars : ℕ) → parts + wires ≤ vars → AreWords parts wires vars (replicate vars 0)
+zeros-are parts wires vars room = record {
+  long = length-replicate vars 0;
+  small = All-replicate (λ w. w < 3) vars 0 (omega arith);
+  case = subst (AreCaseWords parts wires) (words-new vars parts wires room)
+      (case_words-are vars parts wires (empty_case wires parts) (length-replicate {A = Option Bool} parts None) (length-replicate {A = Option Bool} wires None) room);
+}
 
--- Words all 0 say that nothing is known.
-pub zeros-say : (parts wires n : ℕ) → parts + wires ≤ n → case_of_words parts wires (replicate n 0) ≡ empty_case wires parts
-zeros-say parts wires n room =
-    ap (case_of_words parts wires) (sym (words-new n parts wires room))
-    ∙ words-say n parts wires (empty_case wires parts) (length-replicate {A = Option Bool} parts None) (length-replicate {A = Option Bool} wires None)
+-- ---- words of a case
 
-pub zeros-are : (parts wires n : ℕ) → parts + wires ≤ n → AreCaseWords parts wires (replicate n 0)
-zeros-are parts wires n room = subst (AreCaseWords parts wires) (words-new n parts wires room)
-    (case_words-are n parts wires (empty_case wires parts) (length-replicate {A = Option Bool} parts None) (length-replicate {A = Option Bool} wires None) room)
+module _ (parts wires vars : ℕ) (words : List ℕ) (are : AreWords parts wires vars words) where
+  abbrev the_case : Case
+  the_case = case_of_words parts wires words
 
-module _ (parts wires : ℕ) (words : List ℕ) (are : AreCaseWords parts wires words) (wire : ℕ) (within : wire < wires) (bit : Bool) where
-  abbrev before : Case
-  before = case_of_words parts wires words
+  -- they are the words of the case that they say
+  pub words-of_case : case_words vars (case_of_words parts wires words) ≡ words
+  words-of_case = ap (λ n. case_words n the_case) (sym are.long) ∙ are.case.same
 
-  abbrev after : Case
-  after = record before { seen = set before.seen wire (Some bit) }
+  pub room-in_words : parts + wires ≤ vars
+  room-in_words = subst (λ n. parts + wires ≤ n) are.long are.case.room
 
-  held : length before.held ≡ parts
-  held = length-held parts wires words are.room
+  -- which has a place for each part and each wire
+  pub length-held : length (case_of_words parts wires words).held ≡ parts
+  length-held = length-map (take parts words) known_of ∙ length-take-le parts words (let room = are.case.room in omega (arith, room))
 
-  seen : length before.seen ≡ wires
-  seen = length-seen parts wires words are.room
+  pub length-seen : length (case_of_words parts wires words).seen ≡ wires
+  length-seen =
+      length-map (take wires (drop parts words)) known_of
+      ∙ length-take-le wires (drop parts words) (let room = are.case.room in omega (arith, length-drop parts words, room))
 
-  written : set words (parts + wire) (word_of bit) ≡ case_words (length words) after
-  written =
-      ap₂ (λ ws n. set ws (n + wire) (word_of bit)) (sym are.same) (sym held)
-      ∙ words-seen (length words) before wire (Some bit) (omega (arith, seen, within))
+  -- words that a write gave are again such words, if those of a case are what it gave
+  written-are : (place : ℕ) (k : Option Bool) (after : Case) → set words place (word_of_known k) ≡ case_words vars after → length after.held ≡ parts → length after.seen ≡ wires
+      → AreWords parts wires vars (set words place (word_of_known k))
+  written-are place k after written held seen = record {
+    long = length-set words place (word_of_known k) ∙ are.long;
+    small = All-set (λ w. w < 3) words place (word_of_known k) (small_word k) are.small;
+    case = subst (AreCaseWords parts wires) (sym written) (case_words-are vars parts wires after held seen room-in_words);
+  }
 
-  -- A wire's word says what was seen of it.
-  pub noted-says : case_of_words parts wires (set words (parts + wire) (word_of bit)) ≡ record (case_of_words parts wires words) { seen = set (case_of_words parts wires words).seen wire (Some bit) }
-  noted-says = ap (case_of_words parts wires) written ∙ words-say (length words) parts wires after held (length-set before.seen wire (Some bit) ∙ seen)
+  -- Where a wire's word is written
+  module _ (wire : ℕ) (within : wire < wires) (k : Option Bool) where
+    abbrev case_seen : Case
+    case_seen = record the_case { seen = set the_case.seen wire k }
 
-  pub noted-are : AreCaseWords parts wires (set words (parts + wire) (word_of bit))
-  noted-are = subst (AreCaseWords parts wires) (sym written)
-      (case_words-are (length words) parts wires after held (length-set before.seen wire (Some bit) ∙ seen) are.room)
+    pub wire-written : set words (parts + wire) (word_of_known k) ≡ case_words vars (record (case_of_words parts wires words) { seen = set (case_of_words parts wires words).seen wire k })
+    wire-written =
+        ap₂ (λ ws n. set ws (n + wire) (word_of_known k)) (sym words-of_case) (sym length-held)
+        ∙ words-seen vars the_case wire k (subst (λ n. wire < n) (sym length-seen) within)
+
+    -- it says what is seen of the wire
+    pub wire-says : case_of_words parts wires (set words (parts + wire) (word_of_known k)) ≡ record (case_of_words parts wires words) { seen = set (case_of_words parts wires words).seen wire k }
+    wire-says = ap (case_of_words parts wires) wire-written ∙ words-say vars parts wires case_seen length-held (length-set the_case.seen wire k ∙ length-seen)
+
+    pub wire-are : AreWords parts wires vars (set words (parts + wire) (word_of_known k))
+    wire-are = written-are (parts + wire) k case_seen wire-written length-held (length-set the_case.seen wire k ∙ length-seen)
+
+  -- Where a part's word is written
+  module _ (part : ℕ) (within : part < parts) (k : Option Bool) where
+    abbrev case_held : Case
+    case_held = record the_case { held = set the_case.held part k }
+
+    pub part-written : set words part (word_of_known k) ≡ case_words vars (record (case_of_words parts wires words) { held = set (case_of_words parts wires words).held part k })
+    part-written =
+        ap (λ ws. set ws part (word_of_known k)) (sym words-of_case)
+        ∙ words-held vars the_case part k (subst (λ n. part < n) (sym length-held) within)
+
+    -- it says what the part is held to be
+    pub part-says : case_of_words parts wires (set words part (word_of_known k)) ≡ record (case_of_words parts wires words) { held = set (case_of_words parts wires words).held part k }
+    part-says = ap (case_of_words parts wires) part-written ∙ words-say vars parts wires case_held (length-set the_case.held part k ∙ length-held) length-seen
+
+    pub part-are : AreWords parts wires vars (set words part (word_of_known k))
+    part-are = written-are part k case_held part-written (length-set the_case.held part k ∙ length-held) length-seen
 
 -- ---- the graph's answers under the words are those of its system
 
-module _ (parts wires : List Name) (costs : List ℕ) (graph : Graph) (words : List ℕ) (priced : AreCosts parts costs) (are : AreWordsOf parts wires graph words) where
-  abbrev the_case : Case
-  the_case = case_of_words (length parts) (length wires) words
+module _ (parts wires : List Name) (costs : List ℕ) (graph : Graph) (vars : ℕ) (words : List ℕ) (priced : length costs ≡ length parts) (wide : graph.vars ≡ vars) (are : AreWords (length parts) (length wires) vars words) where
+  graph_words : case_words graph.vars (case_of_words (length parts) (length wires) words) ≡ words
+  graph_words = ap (λ n. case_words n (case_of_words (length parts) (length wires) words)) wide ∙ words-of_case (length parts) (length wires) vars words are
 
-  same_words : case_words graph.vars the_case ≡ words
-  same_words = ap (λ n. case_words n the_case) (sym are.long) ∙ are.case.same
+  pub models-by_words : models graph words (length parts) ≡ (graph_system parts wires costs graph).consistent (case_of_words (length parts) (length wires) words)
+  models-by_words = λ i. models graph (sym graph_words i) (length parts)
 
   pub least-by_words : least_under graph words costs ≡ least_cost (graph_system parts wires costs graph) (case_of_words (length parts) (length wires) words)
-  least-by_words = λ i. least costs (models graph (sym same_words i) (priced.long i))
+  least-by_words = λ i. least costs (models graph (sym graph_words i) (priced i))
 
   pub diagnoses-by_words : diagnoses_under graph words costs ≡ all_diagnoses (graph_system parts wires costs graph) (case_of_words (length parts) (length wires) words)
-  diagnoses-by_words = λ i. diagnoses costs (models graph (sym same_words i) (priced.long i))
+  diagnoses-by_words = λ i. diagnoses costs (models graph (sym graph_words i) (priced i))

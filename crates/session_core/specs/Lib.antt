@@ -1,3 +1,1 @@
-pub mod Services
-pub mod Serving
 pub mod inner

@@ -1,7 +1,4 @@
--- What only the private contracts of this crate cite.
-pub mod Gathering
+-- inner
 pub mod Grounds
 pub mod Texts
 pub mod Telling
-pub mod Holding
-pub mod Obeying

@@ -1,4 +1,4 @@
-ghost use Rattle.std.specs.Prelude.{◌≡◌, ◌+◌, ◌≤◌, ◌<◌, length, All, IfOk};
+ghost use Rattle.std.specs.Prelude.{◌≡◌, ◌+◌, ◌≤◌, ◌<◌, length, true, All, IfOk};
 ghost use Rattle.text_rules.specs.Names.{names_rise};
 ghost use Rattle.device_model.specs.Devices.{place_of};
 ghost use Rattle.device_model.specs.declared.limits.TheConstants.{PART_LIMIT, WIRE_LIMIT};
@@ -67,14 +67,16 @@ impl Ground {
 
     /// The names of the parts.
     pub(crate) fn parts(&self) -> &[Name]
-        ensures { result.now ≡ self.now.parts }
+        ensures names { result.now ≡ self.now.parts }
+        ensures few { length self.now.parts ≤ PART_LIMIT }
     {
         self.parts.as_slice()
     }
 
     /// The names of the wires.
     pub(crate) fn wires(&self) -> &[Name]
-        ensures { result.now ≡ self.now.wires }
+        ensures names { result.now ≡ self.now.wires }
+        ensures few { length self.now.wires ≤ WIRE_LIMIT }
     {
         self.wires.as_slice()
     }

@@ -1,12 +1,10 @@
 //! Sessions over names and a graph: a service that answers a script line by line.
 #![tactic(auto)]
 
-mod line_buffer;
+mod ground;
+mod limits;
 mod name_table;
 mod replies;
-mod service;
-mod serving;
-mod sessions;
+mod telling;
 
-pub use service::Service;
-pub use serving::ServeEnd;
+pub use limits::{SERVED_NODES, SERVED_VARIABLES, SESSION_LIMIT};

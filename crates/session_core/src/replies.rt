@@ -1,6 +1,6 @@
 //! The lines of replies, each of which is one call of the sink where it is short.
 ghost use Rattle.std.specs.Prelude.{◌≡◌, [], ◌∷◌, ◌++◌, length, map, decimal, codes};
-ghost use Rattle.text_rules.specs.Names.{Name};
+ghost use Rattle.std.specs.List.{flat_map};
 ghost use Rattle.text_rules.specs.Tokens.{spaced};
 ghost use Rattle.diag_edge.specs.Adding.{Adds};
 ghost use Rattle.diag_edge.specs.Edge.{HasCause, Puts};
@@ -53,9 +53,16 @@ pub(crate) fn put_refusal<O: Sink>(
             session,
             b"error",
             Buffer::new().format(refusal.number()).as_bytes(),
-            refusal.text().as_bytes(),
+            text_of(refusal),
         ],
     )
+}
+
+// What a refusal says.
+fn text_of<'a>(refusal: Refusal) -> &'a [u8]
+    ensures { result.now ≡ refusal_text refusal }
+{
+    refusal.text().as_bytes()
 }
 
 // The line of `min`: the least cost and the names of the faulty parts, or that no state agrees.
@@ -112,7 +119,7 @@ fn add_diagnosis<O: Sink>(
 ) -> Result<(), WriteFailed>
     requires { length state.now ≡ length parts.now }
     ensures bytes { Adds (O.got out.old) (O.got out.new) chunk.old chunk.new result
-        ((session.now ++ spaced_before (map (λ word. word.now) words.now))
+        ((session.now ++ flat_map (λ word. 32 ∷ word.now) words.now)
         ++ (spaced_before (faulty_names parts.now (bits_of state.now)) ++ 10 ∷ [])) }
     ensures cause { HasCause (O.faults out.old) (O.faults out.new) result }
 {
@@ -129,7 +136,7 @@ fn add_front<O: Sink>(
     words: &[&[u8]],
 ) -> Result<(), WriteFailed>
     ensures bytes { Adds (O.got out.old) (O.got out.new) chunk.old chunk.new result
-        (session.now ++ spaced_before (map (λ word. word.now) words.now)) }
+        (session.now ++ flat_map (λ word. 32 ∷ word.now) words.now) }
     ensures cause { HasCause (O.faults out.old) (O.faults out.new) result }
 {
     chunk.add(out, session)?;
@@ -220,17 +227,17 @@ pub(crate) fn put_blame<O: Sink>(
         (spaced (session.now ∷ codes "blame" ∷ name.now ∷ blame_text blame ∷ [])) }
     ensures cause { HasCause (O.faults out.old) (O.faults out.new) result }
 {
-    put_line(out, &[session, b"blame", name, blame_word(blame).as_bytes()])
+    put_line(out, &[session, b"blame", name, blame_word(blame)])
 }
 
 // The word of a verdict.
-fn blame_word(blame: Blame) -> &'static str
+fn blame_word<'a>(blame: Blame) -> &'a [u8]
     ensures { result.now ≡ blame_text blame }
 {
     match blame {
-        Blame::Always => "always",
-        Blame::Sometimes => "sometimes",
-        Blame::Never => "never",
-        Blame::Inconsistent => "inconsistent",
+        Blame::Always => b"always",
+        Blame::Sometimes => b"sometimes",
+        Blame::Never => b"never",
+        Blame::Inconsistent => b"inconsistent",
     }
 }

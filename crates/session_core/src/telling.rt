@@ -9,7 +9,7 @@ ghost use Rattle.session_rules.specs.Items.{Projected, line};
 ghost use Rattle.session_rules.specs.Replies.{end_line, min_line, probe_line, probe_lines, blame_lines, if_any};
 ghost use Rattle.session_rules.specs.Spelling.{Replies};
 ghost use Rattle.session_core.specs.inner.Grounds.{AreKnown, case_in, HasRoom};
-ghost use Rattle.session_core.specs.inner.Telling.{told_of, HasPlace, verdict_lines};
+ghost use Rattle.session_core.specs.inner.Telling.{told_of, HasPlace, unseen_line, verdict_lines};
 
 use crate::ground::Ground;
 use crate::replies::{put_blame, put_min, put_probe};
@@ -17,7 +17,6 @@ use diag_edge::{Sink, WriteFailed, put_line};
 use diagnosis_lister::first;
 use minimiser::{Steps, least};
 use probe_report::{Blame, blame_all, probe};
-use projector::write_projected;
 use std::sync::ledger::Ledger;
 
 /// What is asked of a session's case.
@@ -67,7 +66,7 @@ pub(crate) fn tell<O: Sink, L: Ledger>(
         Question::Blame => {
             tell_blame(ground, words, values, state, verdicts, session, out, steps)
         }
-        Question::Graph => tell_graph(ground, known, session, out),
+        Question::Graph => put_line(out, &[session, b"dnnf"]),
     }
 }
 
@@ -201,13 +200,37 @@ fn put_probes<O: Sink, L: Ledger>(
         Replies (O.got out.old) (O.got out.new) result (probe_lines system session.now known 0 system.wires) }
     ensures cause { HasCause (O.faults out.old) (O.faults out.new) result }
 {
-    let parts = ground.parts().len();
-    for (wire, name) in ground.wires().iter().enumerate() {
-        if words[parts + wire] == 0 {
-            put_probe_of(ground, words, values, session, name.as_slice(), wire as u32, out, steps)?;
-        }
+    let wires = ground.wires();
+    for (wire, name) in wires.iter().enumerate() {
+        let name = name.as_slice();
+        put_unseen(ground, words, values, session, name, wire as u32, out, steps)?;
     }
     Ok(())
+}
+
+// The line of one wire, unless it is seen.
+fn put_unseen<O: Sink, L: Ledger>(
+    ground: &Ground,
+    words: &mut [u32],
+    values: &mut [u32],
+    session: &[u8],
+    name: &[u8],
+    wire: u32,
+    out: &mut O,
+    steps: &mut Steps<L>,
+) -> Result<(), WriteFailed>
+    requires words { AreKnown ground.now words.old }
+    requires wire { wire < length ground.now.wires }
+    requires values { length values.old ≡ length ground.now.graph.nodes }
+    ensures reply { Replies (O.got out.old) (O.got out.new) result
+        (unseen_line (system_of ground.now) session.now (case_in ground.now words.old) name.now wire) }
+    ensures words { words.new ≡ words.old }
+    ensures cause { HasCause (O.faults out.old) (O.faults out.new) result }
+{
+    if words[ground.parts().len() + wire as usize] != 0 {
+        return Ok(());
+    }
+    put_probe_of(ground, words, values, session, name, wire, out, steps)
 }
 
 // Of each part whether it is faulty in all diagnoses, in some or in none, if there is one.
@@ -249,25 +272,10 @@ fn put_blames<O: Sink>(
         (verdict_lines session.now ground.now.parts verdicts.now) }
     ensures cause { HasCause (O.faults out.old) (O.faults out.new) result }
 {
-    for (part, name) in ground.parts().iter().enumerate() {
+    let parts = ground.parts();
+    for (part, name) in parts.iter().enumerate() {
         put_blame(out, session, name.as_slice(), verdicts[part])?;
     }
     Ok(())
 }
 
-// The graph of the states that agree with a case.
-fn tell_graph<O: Sink>(
-    ground: &Ground,
-    known: &[u32],
-    session: &[u8],
-    out: &mut O,
-) -> Result<(), WriteFailed>
-    requires { AreKnown ground.now known.now }
-    ensures reply { let system = system_of ground.now in
-        Replies (O.got out.old) (O.got out.new) result
-        (line (session.now ∷ codes "dnnf" ∷ []) ∷ Projected (length system.parts) (system.consistent (case_in ground.now known.now)) ∷ []) }
-    ensures cause { HasCause (O.faults out.old) (O.faults out.new) result }
-{
-    put_line(out, &[session, b"dnnf"])?;
-    write_projected(ground.graph(), known, ground.parts().len() as u32, out)
-}

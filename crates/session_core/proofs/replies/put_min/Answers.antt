@@ -11,4 +11,4 @@ returns-in-None-clause-text g c =
 
 pub returns-in-Some-clause-text : goal.returns-in-Some-clause-text
 returns-in-Some-clause-text g c =
-    subst (λ (fewest : Option ℕ). Puts (g.O.Sink.got c.args.out.now) (g.O.Sink.got c.put_diagnosis.new.out) c.put_diagnosis.result (spaced (min_text c.args.session.now c.args.parts.now fewest (bits_of c.args.state.now)))) (sym c.in-Some.is) c.put_diagnosis.ensures.text
+    subst (λ (fewest : Option ℕ). Puts (g.O.Sink.got c.args.out.now) (g.O.Sink.got c.put_faulty.new.out) c.put_faulty.result (spaced (min_text c.args.session.now c.args.parts.now fewest (bits_of c.args.state.now)))) (sym c.in-Some.is) c.put_faulty.ensures.text

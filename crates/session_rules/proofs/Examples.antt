@@ -11,19 +11,19 @@ use Rattle.session_rules.specs.Items.{Item, Plain, Projected, Whole, line}
 use Rattle.session_rules.specs.Sessions.{replies}
 
 -- the texts of the items, where all are plain
-abbrev text_of : List Item → List ℕ
+abbrev pub text_of : List Item → List ℕ
 text_of [] = []
 text_of (Plain bytes ∷ items) = bytes ++ text_of items
 text_of (Projected parts states ∷ items) = text_of items
 text_of (Whole device vars most ∷ items) = text_of items
 
 -- lines, each with its line feed
-abbrev text : List (List ℕ) → List ℕ
+abbrev pub text : List (List ℕ) → List ℕ
 text [] = []
 text (l ∷ ls) = l ++ (10 ∷ text ls)
 
 -- what a script is told over a device, where at most so many sessions may be open
-abbrev replied : ℕ → Device → List (List ℕ) → List ℕ
+abbrev pub replied : ℕ → Device → List (List ℕ) → List ℕ
 replied limit device lines = text_of (replies (device_system device) limit [] lines)
 
 abbrev gate : List ℕ → Kind → List ℕ → Component
@@ -31,7 +31,7 @@ gate name kind ports = record { name = name; kind = kind; ports = ports }
 
 -- ---- two buffers: b = BUFF(a), c = BUFF(b)
 
-abbrev chain : Device
+abbrev pub chain : Device
 chain = record {
   parts = gate (codes "b") Buff (0 ∷ 1 ∷ []) ∷ gate (codes "c") Buff (1 ∷ 2 ∷ []) ∷ [];
   wires = codes "a" ∷ codes "b" ∷ codes "c" ∷ [];

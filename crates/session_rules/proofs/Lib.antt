@@ -15,3 +15,4 @@ pub mod Alone
 mod Examples
 mod MoveExamples
 mod GraphExamples
+mod AloneExamples

@@ -10,6 +10,9 @@ pub mod Same
 pub mod GraphReplies
 pub mod CaseWords
 pub mod ProbeWords
+pub mod Locality
+pub mod Alone
 mod Examples
 mod MoveExamples
 mod GraphExamples
+mod AloneExamples

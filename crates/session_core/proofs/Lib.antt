@@ -1,3 +1,4 @@
 pub mod Texts
 pub mod Minimum
 pub mod Told
+pub mod Questions

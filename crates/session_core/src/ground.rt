@@ -68,7 +68,7 @@ impl Ground {
     /// The names of the parts.
     pub(crate) fn parts(&self) -> &[Name]
         ensures names { result.now ≡ self.now.parts }
-        ensures few { length self.now.parts ≤ PART_LIMIT }
+        ensures ground { IsGround self.now }
     {
         self.parts.as_slice()
     }
@@ -76,7 +76,7 @@ impl Ground {
     /// The names of the wires.
     pub(crate) fn wires(&self) -> &[Name]
         ensures names { result.now ≡ self.now.wires }
-        ensures few { length self.now.wires ≤ WIRE_LIMIT }
+        ensures ground { IsGround self.now }
     {
         self.wires.as_slice()
     }

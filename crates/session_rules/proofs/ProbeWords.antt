@@ -98,7 +98,7 @@ module _ (parts wires : List Name) (costs : List ℕ) (graph : Graph) (vars : �
   word_inside = let e = length-map words known_of in let long = are.long in omega (arith, e, long, wide, room, within)
 
   -- what the word of the wire says is what is seen of it
-  word_there : get_or (known words) place None ≡ seen_at the_case wire
+  pub word_there : get_or (known words) place None ≡ seen_at the_case wire
   word_there =
       let held : List (Option Bool) = the_case.held in
       let seen : List (Option Bool) = the_case.seen in

@@ -1,8 +1,10 @@
 -- Items that are written one after the other.
 use Rattle.std.proofs.Common.{◌≡◌, ℕ, List, [], ◌∷◌, ◌++◌, Option, Result, Ok, Err, IsErr, refl, sym, ◌∙◌, ap, subst, append_assoc, append-nil}
+use Rattle.std.specs.Io.KnownBytes.{Appends}
+use Rattle.diag_edge.specs.Edge.{AppendsPrefix}
 use Rattle.session_rules.specs.Items.{Item, Plain}
-use Rattle.session_rules.specs.Spelling.{Writes, WritesPart, Replies}
-use Rattle.session_rules.proofs.Spellings.{writes_none, writes_more}
+use Rattle.session_rules.specs.Spelling.{Spelled, Writes, WritesPart, Replies}
+use Rattle.session_rules.proofs.Spellings.{spells_one, writes_none, writes_more}
 use Rattle.session_rules.proofs.Begun.{HaveSpellings, part_more, part_after}
 use Rattle.session_core.specs.inner.Telling.{Said}
 
@@ -42,3 +44,11 @@ said_part a b c (Err e) xs left all rest failed next said part have =
 pub said_all : (a b : Option (List ℕ)) (all left : List Item) → left ≡ [] → Said a b left all → Writes a b all
 said_all a b all left none said =
     subst (Writes a b) (sym (append-nil said.done) ∙ ap (λ ys. said.done ++ ys) (sym none) ∙ said.both) said.written
+
+-- one item was put, or begun
+pub writes_one : (a b : Option (List ℕ)) (item : Item) (text : List ℕ) → Spelled item text → Appends a b text → Writes a b (item ∷ [])
+writes_one a b item text is put = record { text = text; spelled = spells_one item text is; grown = put }
+
+pub part_one : (a b : Option (List ℕ)) (item : Item) (text : List ℕ) → Spelled item text → AppendsPrefix a b text → WritesPart a b (item ∷ [])
+part_one a b item text is (part, rest, all, grown) =
+    record { text = part; begun = (rest, spells_one item (part ++ rest) (subst (Spelled item) all is)); grown = grown }

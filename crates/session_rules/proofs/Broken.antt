@@ -5,7 +5,7 @@ use Rattle.ranking.specs.Systems.{System}
 use Rattle.session_rules.specs.Sessions.{Table, Step, replies}
 use Rattle.session_rules.specs.Moves.{said, left_by, line_moves, script_moves}
 use Rattle.session_rules.specs.Spelling.{Writes, WritesPart, Replies}
-use Rattle.session_core.specs.Serving.{Makes, BreaksOff, CarriesOut}
+use Rattle.session_rules.specs.Carrying.{Makes, BreaksOff, CarriesOut}
 use Rattle.session_rules.proofs.Spellings.{writes_more, writes_none}
 use Rattle.session_rules.proofs.Whole.{said-append, left_by-append, said-replies}
 use Rattle.session_rules.proofs.Begun.{HaveSpellings, have_after, begins_whole, part_more, part_after}

@@ -9,7 +9,6 @@ use Rattle.device_model.specs.Devices.{Device}
 use Rattle.device_model.specs.Diagnosis.{device_system}
 use Rattle.session_rules.specs.Items.{Item, Plain, Projected, Whole, line}
 use Rattle.session_rules.specs.Sessions.{replies}
-use Rattle.session_core.specs.FirstPath.{first_replies}
 
 -- the texts of the items, where all are plain
 abbrev text_of : List Item → List ℕ
@@ -67,12 +66,6 @@ probes_and_blame : replied 16 chain (map codes ("open S" ∷ "see S a=0" ∷ "se
     ≡ text (map codes ("S open" ∷ "S ok" ∷ "S ok" ∷ "S ok" ∷ "S blame b never" ∷ "S blame c always" ∷ "S end" ∷ "S probe b 1 -" ∷ "S probe b 1 -" ∷ "S end" ∷ []))
 unfolding digits
 probes_and_blame = refl
-
--- what is built so far
-first_path : text_of (first_replies (device_system chain) [] (map codes ("open S" ∷ "see S a=0" ∷ "see S c=1" ∷ "min S" ∷ "open T" ∷ "min T" ∷ [])))
-    ≡ text (map codes ("S open" ∷ "S ok" ∷ "S ok" ∷ "S min 1 b" ∷ "not yet" ∷ "not yet" ∷ []))
-unfolding digits
-first_path = refl
 
 -- ---- the benchmark C17, its wires in byte order
 

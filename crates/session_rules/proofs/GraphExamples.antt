@@ -10,7 +10,6 @@ use Rattle.dnnf_compiler.specs.Compiled.{holds_for}
 use Rattle.conditioner.specs.Models.{models}
 use Rattle.session_rules.specs.Items.{line, Projected}
 use Rattle.session_rules.specs.Sessions.{replies}
-use Rattle.session_core.specs.FirstPath.{first_replies}
 use Rattle.session_rules.specs.GraphSystems.{case_words, compiled_system}
 
 -- the part is held faulty, the wires are seen as 0 and 1, and two variables more are inner ones
@@ -66,9 +65,3 @@ one_fault : replies (compiled_system buffer graph) 16 [] (map codes ("open S" �
     ∷ line (codes "S dnnf" ∷ []) ∷ Projected 1 ((false ∷ []) ∷ []) ∷ line (codes "S ok" ∷ []) ∷ line (codes "S inconsistent" ∷ []) ∷ []
 unfolding digits
 one_fault = refl
-
--- what is built so far
-first_path : first_replies (compiled_system buffer graph) [] (map codes ("open S" ∷ "see S a=0" ∷ "see S b=1" ∷ "min S" ∷ "next S" ∷ []))
-    ≡ line (codes "S open" ∷ []) ∷ line (codes "S ok" ∷ []) ∷ line (codes "S ok" ∷ []) ∷ line (codes "S min 1 b" ∷ []) ∷ line (codes "not yet" ∷ []) ∷ []
-unfolding digits
-first_path = refl

@@ -13,9 +13,10 @@ use Rattle.text_rules.proofs.NameLemmas.{equal_if_same}
 use Rattle.device_model.specs.Devices.{place_of}
 use Rattle.script_lang.specs.Script.{Line, Blank, Refused, Ask, Request, Start, Stop, See, Unsee, Hold, Unhold, Min, Next, Several, After, Probe, Probes, Blame, Dnnf}
 use Rattle.ranking.specs.Systems.{System}
+use Rattle.session_rules.specs.declared.refusal.Refusal.{Refusal}
+use Rattle.session_rules.specs.declared.refusal.Refusal.TheVariants.{Full, NoWire, NoPart}
 use Rattle.session_rules.specs.Replies.{probe_line, if_any}
 use Rattle.session_rules.specs.Sessions.{Entry, Table, Outcome, Declined, Done, Change, Stays, Becomes, Ends, entry_of, without, changed, carried, when_open, outcome, outcome_in, at_place, becomes, tells, step, with_seen, with_held, state_of, new_entry}
-use Rattle.session_core.specs.FirstPath.{is_built, if_built, first_step}
 use Rattle.session_rules.specs.GraphSystems.{IsCaseOf, HasCasesOf}
 
 -- the empty table has no case
@@ -36,11 +37,11 @@ ChangeKeeps system (Becomes entry) = IsCaseOf system entry.known
 ChangeKeeps system Ends = Unit {0}
 
 abbrev Keeps : System → Outcome → Type 0
-Keeps system (Declined number) = Unit {0}
+Keeps system (Declined refusal) = Unit {0}
 Keeps system (Done change items) = ChangeKeeps system change
 
 module _ (system : System) where
-  placed : (refusal : ℕ) (act : ℕ → Outcome) (place : Option ℕ) → ((i : ℕ) → Keeps system (act i)) → Keeps system (at_place refusal act place)
+  placed : (refusal : Refusal) (act : ℕ → Outcome) (place : Option ℕ) → ((i : ℕ) → Keeps system (act i)) → Keeps system (at_place refusal act place)
   placed refusal act None k = tt
   placed refusal act (Some i) k = k i
 
@@ -57,17 +58,17 @@ module _ (system : System) where
   when_open-keeps : (s : Name) (entry : Entry) → IsCaseOf system entry.known → (request : Request) → Keeps system (when_open system s entry request)
   when_open-keeps s entry h Start = tt
   when_open-keeps s entry h Stop = tt
-  when_open-keeps s entry h (See name bit) = placed 9 (λ i. becomes s (with_seen entry i (Some bit)) (codes "ok")) (place_of name system.wires) (seen-keeps s entry (Some bit) h)
-  when_open-keeps s entry h (Unsee name) = placed 9 (λ i. becomes s (with_seen entry i None) (codes "ok")) (place_of name system.wires) (seen-keeps s entry None h)
-  when_open-keeps s entry h (Hold name ok) = placed 10 (λ i. becomes s (with_held entry i (Some ok)) (codes "ok")) (place_of name system.parts) (held-keeps s entry (Some ok) h)
-  when_open-keeps s entry h (Unhold name) = placed 10 (λ i. becomes s (with_held entry i None) (codes "ok")) (place_of name system.parts) (held-keeps s entry None h)
+  when_open-keeps s entry h (See name bit) = placed NoWire (λ i. becomes s (with_seen entry i (Some bit)) (codes "ok")) (place_of name system.wires) (seen-keeps s entry (Some bit) h)
+  when_open-keeps s entry h (Unsee name) = placed NoWire (λ i. becomes s (with_seen entry i None) (codes "ok")) (place_of name system.wires) (seen-keeps s entry None h)
+  when_open-keeps s entry h (Hold name ok) = placed NoPart (λ i. becomes s (with_held entry i (Some ok)) (codes "ok")) (place_of name system.parts) (held-keeps s entry (Some ok) h)
+  when_open-keeps s entry h (Unhold name) = placed NoPart (λ i. becomes s (with_held entry i None) (codes "ok")) (place_of name system.parts) (held-keeps s entry None h)
   when_open-keeps s entry h Min = tt
   when_open-keeps s entry h Next = h
   when_open-keeps s entry h (Several count) = h
   when_open-keeps s entry h (After names) =
-      chosen (list_all (λ name. is_among system.parts name) names) (becomes s (record entry { point = Some (state_of names system.parts) }) (codes "ok")) (Declined 10) h tt
+      chosen (list_all (λ name. is_among system.parts name) names) (becomes s (record entry { point = Some (state_of names system.parts) }) (codes "ok")) (Declined NoPart) h tt
   when_open-keeps s entry h (Probe name) =
-      placed 9 (λ wire. tells (if_any s (system.consistent entry.known) (probe_line system s entry.known name wire ∷ []))) (place_of name system.wires) (λ i. tt)
+      placed NoWire (λ wire. tells (if_any s (system.consistent entry.known) (probe_line system s entry.known name wire ∷ []))) (place_of name system.wires) (λ i. tt)
   when_open-keeps s entry h Probes = tt
   when_open-keeps s entry h Blame = tt
   when_open-keeps s entry h Dnnf = tt
@@ -77,7 +78,7 @@ module _ (system : System) where
 
   outcome-keeps : (s : Name) (full : Bool) (entry : Option Entry) → ((e : Entry) → entry ≡ Some e → IsCaseOf system e.known) → (request : Request) → Keeps system (outcome system s full entry request)
   outcome-keeps s full (Some entry) h request = when_open-keeps s entry (h entry refl) request
-  outcome-keeps s full None h Start = chosen full (Declined 8) (becomes s (new_entry system) (codes "open")) tt new-keeps
+  outcome-keeps s full None h Start = chosen full (Declined Full) (becomes s (new_entry system) (codes "open")) tt new-keeps
   outcome-keeps s full None h request = tt
 
   -- an entry found after a change is the new one or an old one
@@ -103,24 +104,12 @@ module _ (system : System) where
   outcome_in-keeps limit table s request h = outcome-keeps s (nat_le limit (length table)) (entry_of s table) (h s) request
 
   carried-keeps : (s : Name) (o : Outcome) (table : Table) → Keeps system o → HasCasesOf system table → HasCasesOf system (carried table s o).table
-  carried-keeps s (Declined number) table h k = k
+  carried-keeps s (Declined refusal) table h k = k
   carried-keeps s (Done change items) table h k = changed-keeps s change table h k
 
   -- a line keeps the lengths of all cases
   pub step-keeps : (limit : ℕ) (table : Table) (l : Line) → HasCasesOf system table → HasCasesOf system (step system limit table l).table
   step-keeps limit table Blank h = h
-  step-keeps limit table (Refused number) h = h
+  step-keeps limit table (Refused refusal) h = h
   step-keeps limit table (Ask s request) h =
       carried-keeps s (outcome_in system limit table s request) table (outcome_in-keeps limit table s request h) h
-
-  if_built-keeps : (built : Bool) (s : Name) (o : Outcome) (table : Table) → Keeps system o → HasCasesOf system table → HasCasesOf system (if_built built table s o).table
-  if_built-keeps false s o table h k = k
-  if_built-keeps true s (Declined number) table h k = k
-  if_built-keeps true s (Done change items) table h k = changed-keeps s change table h k
-
-  -- and so does one of which only a part is built
-  pub first_step-keeps : (table : Table) (l : Line) → HasCasesOf system table → HasCasesOf system (first_step system table l).table
-  first_step-keeps table Blank h = h
-  first_step-keeps table (Refused number) h = h
-  first_step-keeps table (Ask s request) h =
-      if_built-keeps (is_built request) s (outcome_in system 1 table s request) table (outcome_in-keeps 1 table s request h) h

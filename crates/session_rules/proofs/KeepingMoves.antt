@@ -5,11 +5,10 @@ use Rattle.ranking.specs.Systems.{System, all_diagnoses}
 use Rattle.script_lang.specs.Script.{Line, Ask, Several, line_of}
 use Rattle.session_rules.specs.Replies.{Found, next_of}
 use Rattle.session_rules.specs.Sessions.{Table, Entry, Step, Becomes, entry_of}
-use Rattle.session_core.specs.FirstPath.{first_moves}
 use Rattle.session_rules.specs.Moves.{left_by, listing, goes_on, listing_moves, moves, line_moves, script_moves}
-use Rattle.session_core.specs.Serving.{Makes, BreaksOff}
+use Rattle.session_rules.specs.Carrying.{Makes, BreaksOff}
 use Rattle.session_rules.specs.GraphSystems.{IsCaseOf, HasCasesOf}
-use Rattle.session_rules.proofs.Keeping.{changed-keeps, step-keeps, first_step-keeps}
+use Rattle.session_rules.proofs.Keeping.{changed-keeps, step-keeps}
 
 module _ (system : System) where
   -- each of the moves leaves such a table
@@ -68,10 +67,3 @@ module _ (system : System) where
   -- and so does one that broke off
   pub broken-keep : (limit : ℕ) (t u : Table) (ls : List (List ℕ)) (a b : Option (List ℕ)) → HasCasesOf system t → BreaksOff u (script_moves (line_moves system limit) t ls) a b → HasCasesOf system u
   broken-keep limit = breaks-keeps (line_moves system limit) (λ t l. moves-keep limit t (line_of l))
-
-  -- of what is built so far too
-  pub first_lines-keep : (t u : Table) (ls : List (List ℕ)) (a b : Option (List ℕ)) → HasCasesOf system t → Makes t u (script_moves (first_moves system) t ls) a b → HasCasesOf system u
-  first_lines-keep = makes-keeps (first_moves system) (λ t l h. (first_step-keeps system t (line_of l) h, tt))
-
-  pub first_broken-keep : (t u : Table) (ls : List (List ℕ)) (a b : Option (List ℕ)) → HasCasesOf system t → BreaksOff u (script_moves (first_moves system) t ls) a b → HasCasesOf system u
-  first_broken-keep = breaks-keeps (first_moves system) (λ t l h. (first_step-keeps system t (line_of l) h, tt))

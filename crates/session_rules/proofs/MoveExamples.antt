@@ -6,7 +6,6 @@ use Rattle.ranking.specs.Cases.{empty_case}
 use Rattle.ranking.specs.Systems.{System}
 use Rattle.session_rules.specs.Items.{line}
 use Rattle.session_rules.specs.Sessions.{Table, Step}
-use Rattle.session_core.specs.FirstPath.{first_moves}
 use Rattle.session_rules.specs.Moves.{left_by, line_moves, script_moves}
 
 -- one of two parts is faulty, or both are
@@ -70,9 +69,3 @@ a_script = refl
 
 its_table : left_by [] (script_moves (line_moves either 16) [] (map codes ("open S" ∷ "list S 2" ∷ []))) ≡ after_c
 its_table = refl
-
--- what is built so far has one move a line
-first_path : script_moves (first_moves either) [] (map codes ("open S" ∷ "" ∷ "min S" ∷ "list S 3" ∷ []))
-    ≡ says (at_point None) (codes "S open") ∷ record { table = at_point None; items = [] } ∷ says (at_point None) (codes "S min 1 b") ∷ says (at_point None) (codes "not yet") ∷ []
-unfolding digits
-first_path = refl

@@ -8,13 +8,14 @@ use Rattle.ranking.specs.Ranking.{least, diagnoses}
 use Rattle.ranking.specs.Systems.{System}
 use Rattle.device_model.specs.Devices.{place_of}
 use Rattle.script_lang.specs.Script.{Line, Blank, Refused, Ask, Request, Start, Stop, See, Unsee, Hold, Unhold, Min, Next, Several, After, Probe, Probes, Blame, Dnnf, line_of}
+use Rattle.session_rules.specs.declared.refusal.Refusal.{Refusal}
+use Rattle.session_rules.specs.declared.refusal.Refusal.TheVariants.{NoWire}
 use Rattle.session_rules.specs.Items.{Item, Projected, line}
 use Rattle.session_rules.specs.Replies.{min_line, next_of, repeat_steps, least_at, seen_at, probe_line, probe_lines, count_text, if_any, end_line, blame_lines}
 use Rattle.session_rules.specs.Sessions.{Entry, Table, Step, Outcome, entry_of, carried, when_open, outcome, outcome_in, at_place, tells, moved, step, run, after_lines, replies}
-use Rattle.session_core.specs.FirstPath.{is_built, if_built, first_step, first_line, first_moves, first_replies}
 use Rattle.session_rules.specs.Moves.{left_by, listing, goes_on, listing_moves, moves, line_moves, script_moves}
 use Rattle.session_rules.specs.GraphSystems.{IsCaseOf, HasCasesOf}
-use Rattle.session_rules.proofs.Keeping.{step-keeps, first_step-keeps}
+use Rattle.session_rules.proofs.Keeping.{step-keeps}
 use Rattle.session_rules.proofs.Whole.{line_moves-whole}
 
 -- Two ways to answer that agree while something holds, which lines keep
@@ -36,7 +37,7 @@ module _ (one other : Table → List ℕ → List Step) (Holds : Table → Type 
       ∙ ap (λ first. first ++ script_moves other (left_by t first) ls) (agree t l h)
 
 -- one acts as the other where it finds a place
-same_place : (refusal : ℕ) (one other : ℕ → Outcome) (place : Option ℕ) → ((i : ℕ) → one i ≡ other i) → at_place refusal one place ≡ at_place refusal other place
+same_place : (refusal : Refusal) (one other : ℕ → Outcome) (place : Option ℕ) → ((i : ℕ) → one i ≡ other i) → at_place refusal one place ≡ at_place refusal other place
 same_place refusal one other None e = refl
 same_place refusal one other (Some i) e = e i
 
@@ -80,7 +81,7 @@ module _ (system : System) (consistent : Case → List (List Bool)) (same : (kno
       ap (λ hs. let l = repeat_steps (next_of system s (diagnoses system.costs hs)) count entry.point in moved entry l.point l.items) (same entry.known h)
   when_open-same s entry (After names) h = refl
   when_open-same s entry (Probe name) h =
-      same_place 9
+      same_place NoWire
       (λ wire. tells (if_any s (system.consistent entry.known) (probe_line system s entry.known name wire ∷ [])))
       (λ wire. tells (if_any s (consistent entry.known) (probe_line other s entry.known name wire ∷ [])))
       (place_of name system.wires)
@@ -104,13 +105,8 @@ module _ (system : System) (consistent : Case → List (List Bool)) (same : (kno
   -- a line is one step in both
   pub step-same : (limit : ℕ) (table : Table) (l : Line) → HasCasesOf system table → step system limit table l ≡ step other limit table l
   step-same limit table Blank h = refl
-  step-same limit table (Refused number) h = refl
+  step-same limit table (Refused refusal) h = refl
   step-same limit table (Ask s request) h = ap (carried table s) (outcome_in-same limit table s request h)
-
-  pub first_step-same : (table : Table) (l : Line) → HasCasesOf system table → first_step system table l ≡ first_step other table l
-  first_step-same table Blank h = refl
-  first_step-same table (Refused number) h = refl
-  first_step-same table (Ask s request) h = ap (if_built (is_built request) table s) (outcome_in-same 1 table s request h)
 
   listing_moves-same : (table : Table) (s : Name) (count : ℕ) (entry : Option Entry) → ((e : Entry) → entry ≡ Some e → IsCaseOf system e.known)
       → listing_moves system table s count entry ≡ listing_moves other table s count entry
@@ -134,12 +130,6 @@ module _ (system : System) (consistent : Case → List (List Bool)) (same : (kno
       → script_moves (line_moves system limit) table lines ≡ script_moves (line_moves other limit) table lines
   script_moves-same limit = moves_of_lines-same _ _ (HasCasesOf system) (line_moves-keep limit) (line_moves-same limit)
 
-  pub first_moves-same : (table : Table) (bytes : List ℕ) → HasCasesOf system table → first_moves system table bytes ≡ first_moves other table bytes
-  first_moves-same table bytes h = ap (λ (move : Step). move ∷ []) (first_step-same table (line_of bytes) h)
-
-  pub first_script-same : (table : Table) (lines : List (List ℕ)) → HasCasesOf system table → script_moves (first_moves system) table lines ≡ script_moves (first_moves other) table lines
-  first_script-same = moves_of_lines-same _ _ (HasCasesOf system) (λ t l. first_step-keeps system t (line_of l)) first_moves-same
-
   -- a script has the same replies in both, and leaves the same table
   pub replies-same : (limit : ℕ) (table : Table) (lines : List (List ℕ)) → HasCasesOf system table → replies system limit table lines ≡ replies other limit table lines
   replies-same limit = run-same _ _ (HasCasesOf system) (λ t l. step-keeps system limit t (line_of l)) (λ t l. step-same limit t (line_of l))
@@ -147,9 +137,3 @@ module _ (system : System) (consistent : Case → List (List Bool)) (same : (kno
   pub tables-same : (limit : ℕ) (table : Table) (lines : List (List ℕ)) → HasCasesOf system table
       → after_lines (λ t l. step system limit t (line_of l)) table lines ≡ after_lines (λ t l. step other limit t (line_of l)) table lines
   tables-same limit = after_lines-same _ _ (HasCasesOf system) (λ t l. step-keeps system limit t (line_of l)) (λ t l. step-same limit t (line_of l))
-
-  pub first_replies-same : (table : Table) (lines : List (List ℕ)) → HasCasesOf system table → first_replies system table lines ≡ first_replies other table lines
-  first_replies-same = run-same _ _ (HasCasesOf system) (λ t l. first_step-keeps system t (line_of l)) (λ t l. first_step-same t (line_of l))
-
-  pub first_tables-same : (table : Table) (lines : List (List ℕ)) → HasCasesOf system table → after_lines (first_line system) table lines ≡ after_lines (first_line other) table lines
-  first_tables-same = after_lines-same _ _ (HasCasesOf system) (λ t l. first_step-keeps system t (line_of l)) (λ t l. first_step-same t (line_of l))

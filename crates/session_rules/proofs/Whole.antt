@@ -6,7 +6,6 @@ use Rattle.ranking.specs.Systems.{System, all_diagnoses}
 use Rattle.script_lang.specs.Script.{Line, Ask, Several, line_of}
 use Rattle.session_rules.specs.Replies.{Found, Listed, next_of, repeat_steps}
 use Rattle.session_rules.specs.Sessions.{Table, Entry, Step, with_entry, entry_of, carried, outcome, step, run, after_lines, replies}
-use Rattle.session_core.specs.FirstPath.{first_line, first_moves, first_replies}
 use Rattle.session_rules.specs.Moves.{said, left_by, whole, listing, goes_on, listing_moves, moves, line_moves, line_step, script_moves}
 
 one_move : (table : Table) (s : Step) → whole table (s ∷ []) ≡ s
@@ -49,10 +48,6 @@ moves-whole system limit table l = one_move table (step system limit table l)
 pub line_moves-whole : (system : System) (limit : ℕ) (table : Table) (bytes : List ℕ) → whole table (line_moves system limit table bytes) ≡ step system limit table (line_of bytes)
 line_moves-whole system limit table bytes = moves-whole system limit table (line_of bytes)
 
--- and so do those of what is built so far
-pub first_moves-whole : (system : System) (table : Table) (bytes : List ℕ) → whole table (first_moves system table bytes) ≡ first_line system table bytes
-first_moves-whole system table bytes = one_move table (first_line system table bytes)
-
 pub said-append : (ms ns : List Step) → said (ms ++ ns) ≡ said ms ++ said ns
 said-append [] ns = refl
 said-append (m ∷ ms) ns = ap (λ items. m.items ++ items) (said-append ms ns) ∙ sym (append_assoc m.items (said ms) (said ns))
@@ -84,10 +79,3 @@ said-replies system limit = script_moves-said (line_moves system limit) (line_st
 
 pub left_by-lines : (system : System) (limit : ℕ) (table : Table) (lines : List (List ℕ)) → left_by table (script_moves (line_moves system limit) table lines) ≡ after_lines (line_step system limit) table lines
 left_by-lines system limit = script_moves-left (line_moves system limit) (line_step system limit) (line_moves-whole system limit)
-
--- and so do those of what is built so far
-pub said-first_replies : (system : System) (table : Table) (lines : List (List ℕ)) → said (script_moves (first_moves system) table lines) ≡ first_replies system table lines
-said-first_replies system = script_moves-said (first_moves system) (first_line system) (first_moves-whole system)
-
-pub left_by-first_lines : (system : System) (table : Table) (lines : List (List ℕ)) → left_by table (script_moves (first_moves system) table lines) ≡ after_lines (first_line system) table lines
-left_by-first_lines system = script_moves-left (first_moves system) (first_line system) (first_moves-whole system)

@@ -2,6 +2,8 @@
 #![tactic(auto)]
 
 mod block;
+mod in_order;
+mod in_pool;
 mod open_sessions;
 mod short_name;
 

@@ -11,19 +11,19 @@ use Rattle.session_rules.specs.Items.{Item, Plain, Projected, Whole, line}
 use Rattle.session_rules.specs.Sessions.{replies}
 
 -- the texts of the items, where all are plain
-abbrev text_of : List Item → List ℕ
+abbrev pub text_of : List Item → List ℕ
 text_of [] = []
 text_of (Plain bytes ∷ items) = bytes ++ text_of items
 text_of (Projected parts states ∷ items) = text_of items
 text_of (Whole device vars most ∷ items) = text_of items
 
 -- lines, each with its line feed
-abbrev text : List (List ℕ) → List ℕ
+abbrev pub text : List (List ℕ) → List ℕ
 text [] = []
 text (l ∷ ls) = l ++ (10 ∷ text ls)
 
 -- what a script is told over a device, where at most so many sessions may be open
-abbrev replied : ℕ → Device → List (List ℕ) → List ℕ
+abbrev pub replied : ℕ → Device → List (List ℕ) → List ℕ
 replied limit device lines = text_of (replies (device_system device) limit [] lines)
 
 abbrev gate : List ℕ → Kind → List ℕ → Component
@@ -31,7 +31,7 @@ gate name kind ports = record { name = name; kind = kind; ports = ports }
 
 -- ---- two buffers: b = BUFF(a), c = BUFF(b)
 
-abbrev chain : Device
+abbrev pub chain : Device
 chain = record {
   parts = gate (codes "b") Buff (0 ∷ 1 ∷ []) ∷ gate (codes "c") Buff (1 ∷ 2 ∷ []) ∷ [];
   wires = codes "a" ∷ codes "b" ∷ codes "c" ∷ [];
@@ -81,24 +81,40 @@ c17 = record {
   tables = [];
 }
 
--- the inputs are seen as 0, and the outputs as 1 and 0
-abbrev c17_seen : List (List ℕ)
-c17_seen = map codes ("open S" ∷ "see S 1=0" ∷ "see S 2=0" ∷ "see S 3=0" ∷ "see S 6=0" ∷ "see S 7=0" ∷ "see S 22=1" ∷ "see S 23=0" ∷ [])
+-- the inputs are seen as 0, and the outputs as these bits
+abbrev c17_seen : List ℕ → List ℕ → List (List ℕ)
+c17_seen first second = map codes ("open S" ∷ "see S 1=0" ∷ "see S 2=0" ∷ "see S 3=0" ∷ "see S 6=0" ∷ "see S 7=0" ∷ []) ++ (codes "see S 22=" ++ first) ∷ (codes "see S 23=" ++ second) ∷ []
 
-abbrev c17_opened : List (List ℕ)
-c17_opened = map codes ("S open" ∷ "S ok" ∷ "S ok" ∷ "S ok" ∷ "S ok" ∷ "S ok" ∷ "S ok" ∷ "S ok" ∷ [])
+-- what a script goes on to be told then
+abbrev c17_told : List ℕ → List ℕ → List (List ℕ) → List (List ℕ) → Type 0
+c17_told first second lines told =
+    replied 16 c17 (c17_seen first second ++ lines) ≡ text (map codes ("S open" ∷ "S ok" ∷ "S ok" ∷ "S ok" ∷ "S ok" ∷ "S ok" ∷ "S ok" ∷ "S ok" ∷ []) ++ told)
 
-c17_min : replied 16 c17 (c17_seen ++ map codes ("min S" ∷ [])) ≡ text (c17_opened ++ map codes ("S min 1 10" ∷ []))
+nothing_wrong : c17_told (codes "0") (codes "0") (map codes ("min S" ∷ "next S" ∷ "next S" ∷ [])) (map codes ("S min 0" ∷ "S diag" ∷ "S end" ∷ []))
 unfolding digits
-c17_min = refl
+nothing_wrong = refl
 
-c17_held : replied 16 c17 (c17_seen ++ map codes ("hold S 10=ok" ∷ "hold S 22=ok" ∷ "min S" ∷ []))
-    ≡ text (c17_opened ++ map codes ("S ok" ∷ "S ok" ∷ "S min 2 16 23" ∷ []))
+a_tie : c17_told (codes "1") (codes "0") (map codes ("list S 5" ∷ [])) (map codes ("S diag 10" ∷ "S diag 22" ∷ "S end" ∷ []))
+a_tie = refl
+
+two_of_a_tie : c17_told (codes "1") (codes "0") (map codes ("list S 2" ∷ [])) (map codes ("S diag 10" ∷ "S diag 22" ∷ []))
+two_of_a_tie = refl
+
+a_shared_gate : c17_told (codes "1") (codes "1") (map codes ("list S 5" ∷ [])) (map codes ("S diag 16" ∷ "S end" ∷ []))
+a_shared_gate = refl
+
+two_faults : c17_told (codes "1") (codes "0") (map codes ("hold S 10=ok" ∷ "hold S 22=ok" ∷ "min S" ∷ "list S 5" ∷ [])) (map codes ("S ok" ∷ "S ok" ∷ "S min 2 16 23" ∷ "S diag 16 23" ∷ "S end" ∷ []))
 unfolding digits
-c17_held = refl
+two_faults = refl
 
-c17_list : replied 16 c17 (c17_seen ++ map codes ("list S 5" ∷ [])) ≡ text (c17_opened ++ map codes ("S diag 10" ∷ "S diag 22" ∷ "S end" ∷ []))
-c17_list = refl
+reports_of_wires : c17_told (codes "1") (codes "0") (map codes ("probe S 10" ∷ "probe S 16" ∷ "probe S 22" ∷ "probes S" ∷ []))
+    (map codes ("S probe 10 1 1" ∷ "S probe 16 2 1" ∷ "S probe 22 - 1" ∷ "S probe 10 1 1" ∷ "S probe 11 2 1" ∷ "S probe 16 2 1" ∷ "S probe 19 3 1" ∷ "S end" ∷ []))
+unfolding digits
+reports_of_wires = refl
+
+reports_of_parts : c17_told (codes "1") (codes "0") (map codes ("blame S" ∷ []))
+    (map codes ("S blame 10 sometimes" ∷ "S blame 11 never" ∷ "S blame 16 never" ∷ "S blame 19 never" ∷ "S blame 22 sometimes" ∷ "S blame 23 never" ∷ "S end" ∷ []))
+reports_of_parts = refl
 
 -- ---- no part at all
 
@@ -115,12 +131,7 @@ no_part = refl
 abbrev tabled : Device
 tabled = record { parts = gate (codes "u") (Table 0) (0 ∷ 1 ∷ []) ∷ []; wires = codes "a" ∷ codes "y" ∷ []; tables = record { ports = 2; ok = 9; bad = 3 } ∷ [] }
 
--- what is held faulty leaves one state
-projected_one : replies (device_system tabled) 16 [] (map codes ("open S" ∷ "hold S u=bad" ∷ "dnnf S" ∷ []))
-    ≡ line (codes "S open" ∷ []) ∷ line (codes "S ok" ∷ []) ∷ line (codes "S dnnf" ∷ []) ∷ Projected 1 ((false ∷ []) ∷ []) ∷ []
-projected_one = refl
-
--- and a row that neither allows leaves none
+-- a row that neither allows leaves no state
 projected_none : replies (device_system tabled) 16 [] (map codes ("open S" ∷ "see S a=0" ∷ "see S y=1" ∷ "dnnf S" ∷ []))
     ≡ line (codes "S open" ∷ []) ∷ line (codes "S ok" ∷ []) ∷ line (codes "S ok" ∷ []) ∷ line (codes "S dnnf" ∷ []) ∷ Projected 1 [] ∷ []
 projected_none = refl
@@ -129,3 +140,28 @@ none_is_inconsistent : replied 16 tabled (map codes ("open S" ∷ "see S a=0" �
     ≡ text (map codes ("S open" ∷ "S ok" ∷ "S ok" ∷ "S inconsistent" ∷ "S inconsistent" ∷ "S inconsistent" ∷ "S inconsistent" ∷ "S inconsistent" ∷ "S inconsistent" ∷ "S ok" ∷ "S min 0" ∷ []))
 unfolding digits
 none_is_inconsistent = refl
+
+-- ---- one part that allows every bit, and a wire that no part has
+
+abbrev free : Device
+free = record { parts = gate (codes "u") (Table 0) (0 ∷ []) ∷ []; wires = codes "a" ∷ codes "d" ∷ []; tables = record { ports = 1; ok = 3; bad = 3 } ∷ [] }
+
+nothing_is_against_it : replied 16 free (map codes ("open S" ∷ "see S d=1" ∷ "hold S u=bad" ∷ "min S" ∷ "next S" ∷ "next S" ∷ "hold S u=ok" ∷ "min S" ∷ []))
+    ≡ text (map codes ("S open" ∷ "S ok" ∷ "S ok" ∷ "S min 1 u" ∷ "S diag u" ∷ "S end" ∷ "S ok" ∷ "S min 0" ∷ []))
+unfolding digits
+nothing_is_against_it = refl
+
+-- what is held faulty leaves one state
+projected_one : replies (device_system free) 16 [] (map codes ("open S" ∷ "hold S u=bad" ∷ "dnnf S" ∷ []))
+    ≡ line (codes "S open" ∷ []) ∷ line (codes "S ok" ∷ []) ∷ line (codes "S dnnf" ∷ []) ∷ Projected 1 ((false ∷ []) ∷ []) ∷ []
+projected_one = refl
+
+-- ---- one wire at two ports: y = NAND(a, a)
+
+abbrev inverter : Device
+inverter = record { parts = gate (codes "y") Nand (0 ∷ 0 ∷ 1 ∷ []) ∷ []; wires = codes "a" ∷ codes "y" ∷ []; tables = [] }
+
+one_wire_at_two_ports : replied 16 inverter (map codes ("open S" ∷ "see S a=0" ∷ "see S y=0" ∷ "min S" ∷ []))
+    ≡ text (map codes ("S open" ∷ "S ok" ∷ "S ok" ∷ "S min 1 y" ∷ []))
+unfolding digits
+one_wire_at_two_ports = refl

@@ -27,7 +27,7 @@ equal_names : (a b : Name) → slice_cmp nat_cmp a b ≡ Equal → a ≡ b
 equal_names a b tie = equal_if_same a b (sym (is_eq-slice_cmp a b) ∙ ap is_eq tie)
 
 -- the entry that is found when one is taken out
-entry_of-without : (r s : Name) (table : Table) → entry_of r (without s table) ≡ cond (not (same_name r s)) (entry_of r table) None
+pub entry_of-without : (r s : Name) (table : Table) → entry_of r (without s table) ≡ cond (not (same_name r s)) (entry_of r table) None
 entry_of-without r s table =
     find-where_key (slice_cmp nat_cmp) (λ n. not (same_name n s)) r (λ x tie. ap (λ n. not (same_name n s)) (sym (equal_names r x tie))) table
 

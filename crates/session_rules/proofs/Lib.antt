@@ -8,6 +8,11 @@ pub mod Keeping
 pub mod KeepingMoves
 pub mod Same
 pub mod GraphReplies
+pub mod CaseWords
+pub mod ProbeWords
+pub mod Locality
+pub mod Alone
 mod Examples
 mod MoveExamples
 mod GraphExamples
+mod AloneExamples

@@ -7,3 +7,4 @@ pub mod Spelling
 pub mod Carrying
 pub mod CaseWords
 pub mod GraphSystems
+pub mod Alone

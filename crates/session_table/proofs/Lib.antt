@@ -1,2 +1,4 @@
 mod Lookups
 mod Searching
+mod Wording
+mod Keeping

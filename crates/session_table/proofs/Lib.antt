@@ -2,3 +2,4 @@ mod Lookups
 mod Searching
 mod Wording
 mod Keeping
+mod Changes

@@ -1,6 +1,7 @@
 -- What is done to the sessions and their pool is what is done to the table.
 use Rattle.std.proofs.Common.{◌≡◌, ℕ, zero, suc, ◌+◌, ◌<◌, ◌≤◌, Bool, true, T, List, [], ◌∷◌, ◌++◌, map, length, take, drop, get_or, set, refl, ap, ap₂, sym, ◌∙◌, subst, Option, Some, None, Result, Ok, Err, IfOk, IfErr, arith, Less, Greater}
-use Rattle.std.specs.Prelude.{◌&&◌, not, replicate, slice_get, IsErr}
+use Rattle.std.specs.Prelude.{◌&&◌, not, replicate, slice_get, IsErr, IfSome, IfNone}
+use Rattle.std.specs.Result.{result_ok}
 use Rattle.std.specs.List.{insert, remove, AllWithin}
 use Rattle.std.specs.Option.{option_map}
 use Rattle.std.specs.Ordering.{is_lt}
@@ -85,7 +86,7 @@ module _ (layout : Layout) (limit : ℕ) (pool : Blocks) (sessions : List Open) 
 
   -- ---- a look-up
 
-  pub found-stands : (place : ℕ) (name : Name) → HasName sessions place name → (entry : Entry) × StandsAt (table_of layout pool sessions) place name entry
+  found-stands : (place : ℕ) (name : Name) → HasName sessions place name → (entry : Entry) × StandsAt (table_of layout pool sessions) place name entry
   found-stands place name has =
       let s = has.0 in
       let entry : Entry = entry_in layout (block_words pool s.block) in
@@ -93,8 +94,17 @@ module _ (layout : Layout) (limit : ℕ) (pool : Blocks) (sessions : List Open) 
       slice_get-map (entry_at layout pool) sessions place ∙ (ap (option_map (entry_at layout pool)) has.1 ∙ ap (λ n. Some (n, entry)) has.2) in
       (entry, record { at = at; found = find_at table place name entry table_sorted at })
 
-  pub gap-absent : (place : ℕ) (name : Name) → IsGapFor sessions place name → entry_of name (table_of layout pool sessions) ≡ None
+  gap-absent : (place : ℕ) (name : Name) → IsGapFor sessions place name → entry_of name (table_of layout pool sessions) ≡ None
   gap-absent place name gap = find_gap table place name (gap_map (λ s. entry_in layout (block_words pool s.block)) sessions place name gap)
+
+  pub found-some : (name : Name) (r : Result ℕ ℕ) → IfOk r (λ place. HasName sessions place name)
+      → IfSome (result_ok r) (λ place. (entry : Entry) × StandsAt (table_of layout pool sessions) place name entry)
+  found-some name (Ok place) has = found-stands place name has
+  found-some name (Err place) has = tt
+
+  pub absent-none : (name : Name) (r : Result ℕ ℕ) → IfErr r (λ place. IsGapFor sessions place name) → IfNone (result_ok r) (entry_of name (table_of layout pool sessions) ≡ None)
+  absent-none name (Ok place) gap = tt
+  absent-none name (Err place) gap = gap-absent place name gap
 
   pub closed-is_err : (name : Name) (r : Result ℕ ℕ) → IfOk r (λ place. HasName sessions place name) → entry_of name (table_of layout pool sessions) ≡ None → IsErr r
   closed-is_err name (Ok place) has closed =

@@ -28,6 +28,10 @@ none_insert block [] (suc place) s none ne = (ne, tt)
 none_insert block (x ∷ xs) zero s none ne = (ne, none)
 none_insert block (x ∷ xs) (suc place) s none ne = (none.0, none_insert block xs place s none.1 ne)
 
+none_last : (block : ℕ) (sessions : List Open) (s : Open) → HasNone block (sessions ++ s ∷ []) → HasNone block sessions × (s.block ≢ block)
+none_last block [] s none = (tt, none.0)
+none_last block (x ∷ xs) s none = let rest = none_last block xs s none.1 in ((none.0, rest.0), rest.1)
+
 module _ (layout : Layout) (pool : Blocks) where
   -- a session at a place has a block that is out and laid out
   pub out_at : (sessions : List Open) (place : ℕ) (s : Open) → HaveBlocks layout pool sessions → slice_get sessions place ≡ Some s → IsOut pool s.block
@@ -62,6 +66,17 @@ module _ (layout : Layout) (pool : Blocks) where
   given_at (x ∷ xs) (suc place) s have at =
       let other : x.block ≢ s.block = (λ e. none_at x.block xs place s have.2 at (sym e)) in
       (given-stays_out pool s.block x.block other have.0, have.1, none_remove x.block xs place have.2, given_at xs place s have.3 at)
+
+  -- the last one's block is out, and is given back
+  pub out_last : (sessions : List Open) (s : Open) → HaveBlocks layout pool (sessions ++ s ∷ []) → IsOut pool s.block
+  out_last [] s have = have.0
+  out_last (x ∷ xs) s have = out_last xs s have.3
+
+  pub given_last : (sessions : List Open) (s : Open) → HaveBlocks layout pool (sessions ++ s ∷ []) → HaveBlocks layout (given pool s.block) sessions
+  given_last [] s have = tt
+  given_last (x ∷ xs) s have =
+      let apart = none_last x.block xs s have.2 in
+      (given-stays_out pool s.block x.block (λ e. apart.1 (sym e)) have.0, have.1, apart.0, given_last xs s have.3)
 
   module _ (sound : IsSound pool) where
     -- ---- a block is written

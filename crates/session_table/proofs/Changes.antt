@@ -83,7 +83,6 @@ module _ (layout : Layout) (limit : ℕ) (pool : Blocks) (sessions : List Open) 
   pub table_sorted : T (is_sorted order (table_of layout pool sessions))
   table_sorted = subst T (sorted_alike (λ s. s.block) (λ s. entry_in layout (block_words pool s.block)) sessions) names_sorted
 
-
   -- ---- a look-up
 
   found-stands : (place : ℕ) (name : Name) → HasName sessions place name → (entry : Entry) × StandsAt (table_of layout pool sessions) place name entry

@@ -147,8 +147,9 @@ module _ (layout : Layout) (pool : Blocks) where
 
       pub have_taken : (sessions : List Open) → HaveBlocks layout pool sessions → HaveBlocks layout (taken pool block) sessions
       have_taken [] have = tt
-      have_taken (x ∷ xs) have =
-          (taken-stays_out pool block x.block free.0 have.0,
-          subst (IsLaidOut layout) (sym (taken-others pool sound block x.block free have.0)) have.1,
-          have.2,
-          have_taken xs have.3)
+      have_taken (x ∷ xs) have = (
+        taken-stays_out pool block x.block free.0 have.0,
+        subst (IsLaidOut layout) (sym (taken-others pool sound block x.block free have.0)) have.1,
+        have.2,
+        have_taken xs have.3,
+      )

@@ -58,11 +58,7 @@ impl OpenSessions {
             ≡ record { parts = parts; wires = wires; vars = vars; limit = sessions; table = [] }) }
     {
         // Where no session may be open, blocks may be of any size.
-        let size = if sessions == 0 {
-            0
-        } else {
-            vars + 1 + parts
-        };
+        let size = if sessions == 0 { 0 } else { vars + 1 + parts };
         Ok(OpenSessions {
             layout: Layout { parts, wires, vars },
             limit: sessions,
@@ -118,7 +114,13 @@ impl OpenSessions {
         ensures { (session : Name) (entry : Entry) → StandsAt self.old.table place session entry
             → self.new ≡ record self.old { table = with_entry session (with_seen entry wire bit) self.old.table } }
     {
-        in_pool::see(self.layout, &mut self.pool, &self.open[place].block, wire, bit);
+        in_pool::see(
+            self.layout,
+            &mut self.pool,
+            &self.open[place].block,
+            wire,
+            bit,
+        );
     }
 
     /// In the session at a place a part is held ok or faulty, or is not held any more. It has no point then.
@@ -128,7 +130,13 @@ impl OpenSessions {
         ensures { (session : Name) (entry : Entry) → StandsAt self.old.table place session entry
             → self.new ≡ record self.old { table = with_entry session (with_held entry part ok) self.old.table } }
     {
-        in_pool::hold(self.layout, &mut self.pool, &self.open[place].block, part, ok);
+        in_pool::hold(
+            self.layout,
+            &mut self.pool,
+            &self.open[place].block,
+            part,
+            ok,
+        );
     }
 
     /// What the session at a place knows: a word for each variable.

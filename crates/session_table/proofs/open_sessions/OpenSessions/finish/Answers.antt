@@ -12,6 +12,8 @@ give-requires c =
 
 pub loop-block-preserved : goal.loop-block-preserved
 loop-block-preserved c =
-    let kept = c.loop-block.invariant in
-    (kept.0, rw c.give.ensures (given_last kept.0 c.loop-block.pool c.pop.new.self.items c.in-Some.field-0
-    (subst (λ (xs : List Open). HaveBlocks kept.0 c.loop-block.pool xs) c.in-Some.ensures.items kept.1)))
+    let kept = c.loop-block.invariant in (
+      kept.0,
+      rw c.give.ensures (given_last kept.0 c.loop-block.pool c.pop.new.self.items c.in-Some.field-0
+          (subst (λ (xs : List Open). HaveBlocks kept.0 c.loop-block.pool xs) c.in-Some.ensures.items kept.1)),
+    )

@@ -32,6 +32,6 @@ returns c =
     let s = c.self.inside in
     let at = indexed s.layout s.pool s.«open».items c.args.self.now.table c.args.place c.index.result.now (ap (λ (o : Opened). o.table) c.self.view_is) c.requires.place c.index.ensures in
     rw (← c.self.view_is) (λ session entry stands.
-        ap (λ (t : Table). record { parts = s.layout.parts; wires = s.layout.wires; vars = s.layout.vars; limit = s.limit; table = t })
-        (written-table s.layout s.limit s.pool s.«open».items (vec_capacity s.«open») c.self.invariant c.args.place c.index.result.now at
-        c.hold.new.pool (λ entry. with_held entry c.args.part c.args.ok) c.hold.ensures session entry stands))
+    ap (λ (t : Table). record { parts = s.layout.parts; wires = s.layout.wires; vars = s.layout.vars; limit = s.limit; table = t })
+    (written-table s.layout s.limit s.pool s.«open».items (vec_capacity s.«open») c.self.invariant c.args.place c.index.result.now at
+    c.hold.new.pool (λ entry. with_held entry c.args.part c.args.ok) c.hold.ensures session entry stands))

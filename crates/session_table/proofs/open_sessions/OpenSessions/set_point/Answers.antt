@@ -30,14 +30,14 @@ returns-clause-point c =
     let s = c.self.inside in
     let at = indexed s.layout s.pool s.«open».items c.args.self.now.table c.args.place c.index.result.now (ap (λ (o : Opened). o.table) c.self.view_is) c.requires.place c.index.ensures in
     rw (← c.self.view_is) (λ session entry stands.
-        ap (λ (t : Table). record { parts = s.layout.parts; wires = s.layout.wires; vars = s.layout.vars; limit = s.limit; table = t })
-        (written-table s.layout s.limit s.pool s.«open».items (vec_capacity s.«open») c.self.invariant c.args.place c.index.result.now at
-        c.set_point.new.pool (λ e. with_point e c.args.state.now) c.set_point.ensures session entry stands))
+    ap (λ (t : Table). record { parts = s.layout.parts; wires = s.layout.wires; vars = s.layout.vars; limit = s.limit; table = t })
+    (written-table s.layout s.limit s.pool s.«open».items (vec_capacity s.«open») c.self.invariant c.args.place c.index.result.now at
+    c.set_point.new.pool (λ e. with_point e c.args.state.now) c.set_point.ensures session entry stands))
 
 pub returns-clause-stands : goal.returns-clause-stands
 returns-clause-stands c =
     let s = c.self.inside in
     let at = indexed s.layout s.pool s.«open».items c.args.self.now.table c.args.place c.index.result.now (ap (λ (o : Opened). o.table) c.self.view_is) c.requires.place c.index.ensures in
     rw (← c.self.view_is) (λ session entry stands.
-        written-stands s.layout s.limit s.pool s.«open».items (vec_capacity s.«open») c.self.invariant c.args.place c.index.result.now at
-        c.set_point.new.pool (λ e. with_point e c.args.state.now) c.set_point.ensures session entry stands)
+    written-stands s.layout s.limit s.pool s.«open».items (vec_capacity s.«open») c.self.invariant c.args.place c.index.result.now at
+    c.set_point.new.pool (λ e. with_point e c.args.state.now) c.set_point.ensures session entry stands)

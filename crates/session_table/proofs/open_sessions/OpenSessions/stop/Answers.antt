@@ -26,6 +26,6 @@ returns c =
     let s = c.self.inside in
     let at = indexed s.layout s.pool s.«open».items c.args.self.now.table c.args.place c.remove-block.result (ap (λ (o : Opened). o.table) c.self.view_is) c.requires c.remove-block.ensures.value in
     rw (← c.self.view_is) (λ session entry stands.
-        ap (λ (t : Table). record { parts = s.layout.parts; wires = s.layout.wires; vars = s.layout.vars; limit = s.limit; table = t })
-        (ap₂ (λ (p : Blocks) (xs : List Open). table_of s.layout p xs) c.give.ensures c.remove-block.ensures.items
-        ∙ given-table s.layout s.limit s.pool s.«open».items (vec_capacity s.«open») c.self.invariant c.args.place c.remove-block.result at session entry stands))
+    ap (λ (t : Table). record { parts = s.layout.parts; wires = s.layout.wires; vars = s.layout.vars; limit = s.limit; table = t })
+    (ap₂ (λ (p : Blocks) (xs : List Open). table_of s.layout p xs) c.give.ensures c.remove-block.ensures.items
+    ∙ given-table s.layout s.limit s.pool s.«open».items (vec_capacity s.«open») c.self.invariant c.args.place c.remove-block.result at session entry stands))

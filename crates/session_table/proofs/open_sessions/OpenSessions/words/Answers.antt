@@ -28,4 +28,4 @@ returns-clause-known c =
     let s = c.self.inside in
     let at = indexed s.layout s.pool s.«open».items c.args.self.now.table c.args.place c.index.result.now (ap (λ (o : Opened). o.table) c.self.view_is) c.requires c.index.ensures in
     rw (← c.self.view_is, c.known.ensures, c.words.ensures) (λ session entry stands.
-        ap (λ (e : Entry). e.known) (stands-entry s.layout s.limit s.pool s.«open».items (vec_capacity s.«open») c.self.invariant c.args.place c.index.result.now at session entry stands))
+    ap (λ (e : Entry). e.known) (stands-entry s.layout s.limit s.pool s.«open».items (vec_capacity s.«open») c.self.invariant c.args.place c.index.result.now at session entry stands))

@@ -2,7 +2,11 @@
 #![tactic(auto)]
 
 mod block;
+mod in_order;
+mod in_pool;
 mod open_sessions;
 mod short_name;
+#[cfg(test)]
+mod tests;
 
 pub use open_sessions::OpenSessions;

@@ -1,0 +1,5 @@
+mod Lookups
+mod Searching
+mod Wording
+mod Keeping
+mod Changes

@@ -1,4 +1,7 @@
+pub mod Lines
+pub mod Feeding
 pub mod Texts
 pub mod Minimum
 pub mod Told
 pub mod Questions
+pub mod Staying

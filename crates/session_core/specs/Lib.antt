@@ -1,1 +1,3 @@
+pub mod Services
+pub mod Serving
 pub mod inner

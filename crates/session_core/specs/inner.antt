@@ -1,4 +1,7 @@
--- inner
+-- What only the private contracts of this crate cite.
+pub mod Gathering
 pub mod Grounds
 pub mod Texts
 pub mod Telling
+pub mod Holding
+pub mod Obeying

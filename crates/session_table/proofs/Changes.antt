@@ -20,7 +20,7 @@ use Rattle.session_table.specs.inner.Blocks.{entry_in, block_size, IsLaidOut}
 use Rattle.session_table.specs.inner.Ordered.{entry_at, table_of, blocks_by_name, NamesRise, AreKept, HasName, IsGapFor, KeepsEntry}
 use Rattle.session_table.specs.declared.block.Layout.{Layout}
 use Rattle.session_table.specs.declared.in_order.Open.{Open}
-use Rattle.session_table.proofs.Lookups.{order, IsGap, find_at, put_at, without_at, put_gap, find_gap}
+use Rattle.session_table.proofs.Lookups.{order, IsGap, find_at, put_at, put_same, without_at, put_gap, find_gap}
 use Rattle.session_table.proofs.Searching.{so, as_true}
 use Rattle.session_table.proofs.Wording.{zeros-entry, zeros-laid}
 use Rattle.session_table.proofs.Keeping.{out_at, laid_at, have_insert, given_at, written_at, have_written, none_taken, table_taken, have_taken}
@@ -91,7 +91,7 @@ module _ (layout : Layout) (limit : ℕ) (pool : Blocks) (sessions : List Open) 
       let entry : Entry = entry_in layout (block_words pool s.block) in
       let at : slice_get table place ≡ Some (name, entry) =
       slice_get-map (entry_at layout pool) sessions place ∙ (ap (option_map (entry_at layout pool)) has.1 ∙ ap (λ n. Some (n, entry)) has.2) in
-      (entry, record { at = at; found = find_at table place name entry table_sorted at })
+      (entry, record { at = at; found = find_at table place name entry table_sorted at; kept = put_same table place name entry table_sorted at })
 
   gap-absent : (place : ℕ) (name : Name) → IsGapFor sessions place name → entry_of name (table_of layout pool sessions) ≡ None
   gap-absent place name gap = find_gap table place name (gap_map (λ s. entry_in layout (block_words pool s.block)) sessions place name gap)
@@ -249,4 +249,4 @@ module _ (layout : Layout) (limit : ℕ) (pool : Blocks) (sessions : List Open) 
       let there : slice_get (table_of layout new sessions) place ≡ Some (session, change entry) =
       ap (λ (es : Table). slice_get es place) set_there ∙ slice_get-set old place (session, entry) (session, change entry) stands.at in
       let sorted = table_sorted layout limit new sessions capacity (written-kept layout limit pool sessions capacity kept place s at new change keeps) in
-      record { at = there; found = find_at (table_of layout new sessions) place session (change entry) sorted there }
+      record { at = there; found = find_at (table_of layout new sessions) place session (change entry) sorted there; kept = put_same (table_of layout new sessions) place session (change entry) sorted there }

@@ -44,6 +44,11 @@ differ a b e = sym (is_eq-slice_cmp a b) ∙ e
 pub tied_names : (a b : Name) → order a b ≡ Equal → a ≡ b
 tied_names a b e = equal_if_same a b (sym (is_eq-slice_cmp a b) ∙ ap is_eq e)
 
+set_same : {Y : Type 0} (ys : List Y) (place : ℕ) (y : Y) → slice_get ys place ≡ Some y → set ys place y ≡ ys
+set_same [] place y at = refl
+set_same (z ∷ ys) zero y at = ap (λ v. v ∷ ys) (sym (same_Some z y at))
+set_same (z ∷ ys) (suc place) y at = ap (λ zs. z ∷ zs) (set_same ys place y at)
+
 module _ {X : Type 0} where
   abbrev pub without_name : Name → List (Name × X) → List (Name × X)
   without_name name es = where_key order (λ k. not (same_name k name)) es
@@ -91,6 +96,10 @@ module _ {X : Type 0} where
       let less : order name f.0 ≡ Less = is_less (order name f.0) (front_so (is_lt (order name f.0)) (below_all order name es) all) in
       ap (λ b. cond (not b) (f ∷ without_name name es) (without_name name es)) (differ f.0 name (ap is_eq (above name f.0 less)))
       ∙ ap (λ rest. f ∷ rest) (without_below name es (back_so (is_lt (order name f.0)) (below_all order name es) all))
+
+  -- what stands there already
+  pub put_same : (es : List (Name × X)) (place : ℕ) (name : Name) (x : X) → T (is_sorted order es) → slice_get es place ≡ Some (name, x) → put order name x es ≡ es
+  put_same es place name x sorted at = put_at es place name x x sorted at ∙ set_same es place (name, x) at
 
   pub without_at : (es : List (Name × X)) (place : ℕ) (name : Name) (x : X) → T (is_sorted order es) → slice_get es place ≡ Some (name, x) → without_name name es ≡ remove es place
   without_at [] place name x sorted at = absurd (none-some (name, x) at)

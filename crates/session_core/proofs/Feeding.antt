@@ -1,0 +1,188 @@
+-- Bytes of a script that are taken piece by piece.
+use Rattle.std.proofs.Common.{◌≡◌, ◌≢◌, ◌<◌, ◌+◌, get_or, length, drop, Result, Ok, Err, OnErr, arith, ℕ, List, [], ◌∷◌, ◌++◌, take, Option, None, Some, refl, sym, ◌∙◌, ap, ap₂, subst, append-nil, true, false, if◌then◌else◌, ◌==◌, length-take, lit<}
+use Rattle.std.specs.Prelude.{⊤}
+use Rattle.std.proofs.lemmas.Grind.{common_steps}
+use Rattle.std.proofs.lemmas.List.{take_more}
+use Rattle.std.specs.Io.KnownBytes.{Consumes, Keeps}
+use Rattle.text_rules.specs.TextLines.{last_line, whole_lines, all_lines}
+use Rattle.session_rules.specs.Sessions.{Table, Step}
+use Rattle.session_rules.specs.Moves.{left_by, script_moves}
+use Rattle.session_rules.specs.Carrying.{Makes, BreaksOff, CarriesOut}
+use Rattle.session_core.specs.inner.Gathering.{ended_from, rest_from, IsCut, Fed}
+use Rattle.session_core.proofs.Lines.{take-take-same, cut_push, ended_from-start, rest_from-start}
+use Rattle.session_rules.proofs.Broken.{makes_none, makes_more, breaks_before, breaks_after, script_moves-append}
+
+ended_from-append : (l xs ys : List ℕ) → ended_from l (xs ++ ys) ≡ ended_from l xs ++ ended_from (rest_from l xs) ys
+ended_from-append l [] ys = refl
+ended_from-append l (b ∷ xs) ys = elim (b == 10) as (λ v. (if v then l ∷ ended_from [] (xs ++ ys) else ended_from (l ++ b ∷ []) (xs ++ ys)) ≡ (if v then l ∷ ended_from [] xs else ended_from (l ++ b ∷ []) xs) ++ ended_from (if v then rest_from [] xs else rest_from (l ++ b ∷ []) xs) ys) [
+  | true ↦ ap (λ ls. l ∷ ls) (ended_from-append [] xs ys)
+  | false ↦ ended_from-append (l ++ b ∷ []) xs ys
+]
+
+rest_from-append : (l xs ys : List ℕ) → rest_from l (xs ++ ys) ≡ rest_from (rest_from l xs) ys
+rest_from-append l [] ys = refl
+rest_from-append l (b ∷ xs) ys = elim (b == 10) as (λ v. (if v then rest_from [] (xs ++ ys) else rest_from (l ++ b ∷ []) (xs ++ ys)) ≡ rest_from (if v then rest_from [] xs else rest_from (l ++ b ∷ []) xs) ys) [
+  | true ↦ rest_from-append [] xs ys
+  | false ↦ rest_from-append (l ++ b ∷ []) xs ys
+]
+
+-- how much of the line before the bytes is kept past the limit does not matter
+rest-take : (line bytes : List ℕ) → take 1048577 (rest_from (take 1048577 line) bytes) ≡ take 1048577 (rest_from line bytes)
+rest-take line [] = take-take-same 1048577 line
+rest-take line (b ∷ bs) = elim (b == 10) as (λ v. take 1048577 (if v then rest_from [] bs else rest_from (take 1048577 line ++ b ∷ []) bs) ≡ take 1048577 (if v then rest_from [] bs else rest_from (line ++ b ∷ []) bs)) [
+  | true ↦ refl
+  | false ↦ sym (rest-take (take 1048577 line ++ b ∷ []) bs) ∙ ap (λ l. take 1048577 (rest_from l bs)) (cut_push 1048577 line (b ∷ [])) ∙ rest-take (line ++ b ∷ []) bs
+]
+
+alike_rest : (l k bytes : List ℕ) → take 1048577 l ≡ take 1048577 k → take 1048577 (rest_from l bytes) ≡ take 1048577 (rest_from k bytes)
+alike_rest l k bytes e = sym (rest-take l bytes) ∙ ap (λ j. take 1048577 (rest_from j bytes)) e ∙ rest-take k bytes
+
+-- what is kept of a line that has a byte is something
+kept_byte : (n b : ℕ) (k : List ℕ) → 0 < n → take n (b ∷ k) ≡ [] → ⊥
+kept_byte n b k some e = omega (arith, ap length e, length-take n (b ∷ k), some)
+
+-- the same lines, but for the first, of which no more than counts is the same
+abbrev FirstAlike : List (List ℕ) → List (List ℕ) → Type 0
+FirstAlike [] [] = ⊤
+FirstAlike [] (k ∷ ks) = ⊥
+FirstAlike (l ∷ ls) [] = ⊥
+FirstAlike (l ∷ ls) (k ∷ ks) = (take 1048577 l ≡ take 1048577 k) × (ls ≡ ks)
+
+ended_alike : (l k bytes : List ℕ) → take 1048577 l ≡ take 1048577 k → FirstAlike (ended_from l bytes) (ended_from k bytes)
+ended_alike l k [] e = tt
+ended_alike l k (b ∷ bs) e = elim (b == 10) as (λ v. FirstAlike (if v then l ∷ ended_from [] bs else ended_from (l ++ b ∷ []) bs) (if v then k ∷ ended_from [] bs else ended_from (k ++ b ∷ []) bs)) [
+  | true ↦ (e, refl)
+  | false ↦ ended_alike (l ++ b ∷ []) (k ++ b ∷ []) bs (sym (cut_push 1048577 l (b ∷ [])) ∙ ap (λ j. take 1048577 (j ++ b ∷ [])) e ∙ cut_push 1048577 k (b ∷ []))
+]
+
+last_line_alike : (l k : List ℕ) → take 1048577 l ≡ take 1048577 k → FirstAlike (last_line l) (last_line k)
+last_line_alike [] [] e = tt
+last_line_alike [] (b ∷ k) e = absurd (kept_byte 1048577 b k (lit< tt) (sym e))
+last_line_alike (b ∷ l) [] e = absurd (kept_byte 1048577 b l (lit< tt) e)
+last_line_alike (b ∷ l) (c ∷ k) e = (e, refl)
+
+-- lines that are alike as far as counts have the same moves
+module _ (one : Table → List ℕ → List Step) (h : IsCut one) where
+  alike_moves : (t : Table) (l k : List ℕ) → take 1048577 l ≡ take 1048577 k → one t l ≡ one t k
+  alike_moves t l k e = sym (h.same t l) ∙ ap (one t) e ∙ h.same t k
+
+  script_moves-alike : (t : Table) (ls ks : List (List ℕ)) → FirstAlike ls ks → script_moves one t ls ≡ script_moves one t ks
+  script_moves-alike t [] [] alike = refl
+  script_moves-alike t [] (k ∷ ks) alike = absurd alike
+  script_moves-alike t (l ∷ ls) [] alike = absurd alike
+  script_moves-alike t (l ∷ ls) (k ∷ ks) (same, rest) =
+      ap₂ (λ first lines. first ++ script_moves one (left_by t first) lines) (alike_moves t l k same) rest
+
+  -- also where they come after other lines
+  moves_behind : (s t : Table) (ls ks ms : List (List ℕ)) → t ≡ left_by s (script_moves one s ls) → FirstAlike ks ms → script_moves one s ls ++ script_moves one t ks ≡ script_moves one s (ls ++ ms)
+  moves_behind s t ls ks ms is alike =
+      ap (λ moves. script_moves one s ls ++ moves) (script_moves-alike t ks ms alike ∙ ap (λ u. script_moves one u ms) is)
+      ∙ sym (script_moves-append one s ls ms)
+
+  -- the moves of two pieces, one after the other
+  moves_to_both : (s t : Table) (l k xs ys : List ℕ) → t ≡ left_by s (script_moves one s (ended_from l xs)) → take 1048577 k ≡ take 1048577 (rest_from l xs)
+      → script_moves one s (ended_from l xs) ++ script_moves one t (ended_from k ys) ≡ script_moves one s (ended_from l (xs ++ ys))
+  moves_to_both s t l k xs ys is alike =
+      moves_behind s t (ended_from l xs) (ended_from k ys) (ended_from (rest_from l xs) ys) is (ended_alike k (rest_from l xs) ys alike)
+      ∙ ap (script_moves one s) (sym (ended_from-append l xs ys))
+
+  -- and those of the last line after a text
+  moves_to_all : (s t : Table) (l bytes : List ℕ) → t ≡ left_by s (script_moves one s (ended_from [] bytes)) → take 1048577 l ≡ take 1048577 (rest_from [] bytes)
+      → script_moves one s (ended_from [] bytes) ++ script_moves one t (last_line l) ≡ script_moves one s (all_lines bytes)
+  moves_to_all s t l bytes is alike =
+      moves_behind s t (ended_from [] bytes) (last_line l) (last_line (rest_from [] bytes)) is (last_line_alike l (rest_from [] bytes) alike)
+      ∙ (λ i. script_moves one s (ended_from-start bytes i ++ last_line (rest_from-start bytes i)))
+
+-- ---- bytes that were taken
+
+pub fed_none : (one : Table → List ℕ → List Step) (s : Table) (l : List ℕ) (a : Option (List ℕ)) → Fed one s s l l [] a a
+fed_none one s l a = record { made = makes_none s a; begun = refl }
+
+pub fed_more : {one : Table → List ℕ → List Step} {s t u : Table} {l k j xs ys : List ℕ} {a b c : Option (List ℕ)} → IsCut one → Fed one s t l k xs a b → Fed one t u k j ys b c → Fed one s u l j (xs ++ ys) a c
+fed_more {one} {s} {t} {u} {l} {k} {j} {xs} {ys} {a} {b} {c} h first second = record {
+  made = subst (λ ms. Makes s u ms a c) (moves_to_both one h s t l k xs ys first.made.table first.begun) (makes_more first.made second.made);
+  begun = second.begun ∙ alike_rest k (rest_from l xs) ys first.begun ∙ ap (take 1048577) (sym (rest_from-append l xs ys));
+}
+
+-- a byte that is no line feed goes on with the line
+pub fed_other : (one : Table → List ℕ → List Step) (s : Table) (l k : List ℕ) (b : ℕ) (a : Option (List ℕ)) → b ≢ 10 → k ≡ take 1048577 (l ++ b ∷ []) → Fed one s s l k (b ∷ []) a a
+fed_other one s l k b a other is =
+    let no : (b == 10) ≡ false = grind arith in
+    record {
+      made = rw no (makes_none s a);
+      begun = rw (no, is) (take-take-same 1048577 (l ++ b ∷ []));
+    }
+
+-- the one line that a line feed ends has its moves
+moves_of_feed : (one : Table → List ℕ → List Step) (s : Table) (l k : List ℕ) (b : ℕ) → k ≡ l → b ≡ 10 → one s k ≡ script_moves one s (ended_from l (b ∷ []))
+moves_of_feed one s l k b is feed = ap (one s) is ∙ sym (append-nil (one s l)) ∙ ap (λ x. script_moves one s (ended_from l (x ∷ []))) (sym feed)
+
+-- a line feed has the line answered
+pub fed_feed : (one : Table → List ℕ → List Step) (s t : Table) (l k rest : List ℕ) (b : ℕ) (a c : Option (List ℕ)) → k ≡ l → b ≡ 10 → rest ≡ [] → Makes s t (one s k) a c → Fed one s t l rest (b ∷ []) a c
+fed_feed one s t l k rest b a c is feed none made = record {
+  made = subst (λ ms. Makes s t ms a c) (moves_of_feed one s l k b is feed) made;
+  begun = ap (take 1048577) (none ∙ ap (λ x. rest_from l (x ∷ [])) (sym feed));
+}
+
+-- one byte more of a piece was taken
+pub fed_step : {one : Table → List ℕ → List Step} {s t u : Table} {l k j : List ℕ} {a b c : Option (List ℕ)} (piece : List ℕ) (i : ℕ) → IsCut one → i < length piece → Fed one s t l k (take i piece) a b → Fed one t u k j (get_or piece i 0 ∷ []) b c → Fed one s u l j (take (i + 1) piece) a c
+fed_step {one} {s} {t} {u} {l} {k} {j} {a} {b} {c} piece i h less first second =
+    subst (λ xs. Fed one s u l j xs a c) (sym (take_more piece i 0 less)) (fed_more h first second)
+
+-- the moves of the whole lines were made
+pub makes_whole : {one : Table → List ℕ → List Step} {s t : Table} {l bytes : List ℕ} {a b : Option (List ℕ)} → Fed one s t [] l bytes a b → Makes s t (script_moves one s (whole_lines bytes)) a b
+makes_whole {one} {s} {t} {l} {bytes} {a} {b} fed = subst (λ ls. Makes s t (script_moves one s ls) a b) (ended_from-start bytes) fed.made
+
+-- and those of the last line
+pub makes_all : {one : Table → List ℕ → List Step} {s t u : Table} {l bytes : List ℕ} {a b : Option (List ℕ)} (c : Option (List ℕ)) → IsCut one → Fed one s t [] l bytes a b → Makes t u (script_moves one t (last_line l)) b c → Makes s u (script_moves one s (all_lines bytes)) a c
+makes_all {one} {s} {t} {u} {l} {bytes} {a} {b} c h fed last =
+    subst (λ ms. Makes s u ms a c) (moves_to_all one h s t l bytes fed.made.table fed.begun) (makes_more fed.made last)
+
+-- known bytes were taken, and then none
+pub consumes_kept : (a b c : Option (List ℕ)) (xs : List ℕ) → Consumes a b xs → Keeps b c → Consumes a c xs
+consumes_kept None b c xs h k = tt
+consumes_kept (Some olds) None c xs h k = absurd h
+consumes_kept (Some olds) (Some bs) None xs h k = absurd k
+consumes_kept (Some olds) (Some bs) (Some cs) xs h k = h ∙ ap (λ zs. xs ++ zs) (sym k)
+
+-- ---- a write that failed
+
+on_err : {T E P : Type 0} (r : Result T E) → P → OnErr r P
+on_err (Ok v) p = tt
+on_err (Err e) p = p
+
+-- a piece was taken, and a line that the next one ends broke off
+pub breaks_fed : {one : Table → List ℕ → List Step} {s t u : Table} {l k xs : List ℕ} {a b c : Option (List ℕ)} (ys : List ℕ) → IsCut one → Fed one s t l k xs a b → BreaksOff u (script_moves one t (ended_from k ys)) b c → BreaksOff u (script_moves one s (ended_from l (xs ++ ys))) a c
+breaks_fed {one} {s} {t} {u} {l} {k} {xs} {a} {b} {c} ys h first broke =
+    subst (λ ms. BreaksOff u ms a c) (moves_to_both one h s t l k xs ys first.made.table first.begun) (breaks_after first.made broke)
+
+-- the line that a line feed ended broke off
+pub breaks_feed : {T E : Type 0} (one : Table → List ℕ → List Step) (s t : Table) (l k : List ℕ) (b : ℕ) (a c : Option (List ℕ)) (r : Result T E) → k ≡ l → b ≡ 10 → BreaksOff t (one s k) a c → OnErr r (BreaksOff t (script_moves one s (ended_from l (b ∷ []))) a c)
+breaks_feed {T} {E} one s t l k b a c r is feed broke = on_err r (subst (λ ms. BreaksOff t ms a c) (moves_of_feed one s l k b is feed) broke)
+
+-- a line broke off at one byte of a piece
+pub breaks_step : {T E : Type 0} {one : Table → List ℕ → List Step} {s t u : Table} {l k : List ℕ} {a b c : Option (List ℕ)} (r : Result T E) (piece : List ℕ) (i : ℕ) → IsCut one → i < length piece → Fed one s t l k (take i piece) a b → BreaksOff u (script_moves one t (ended_from k (get_or piece i 0 ∷ []))) b c → OnErr r (BreaksOff u (script_moves one s (ended_from l piece)) a c)
+breaks_step {T} {E} {one} {s} {t} {u} {l} {k} {a} {b} {c} r piece i h less first second =
+    let front = take i piece ++ get_or piece i 0 ∷ [] in
+    let behind = drop (i + 1) piece in
+    let all : front ++ behind ≡ piece = grind (arith, common_steps, take_more piece i 0 less) in
+    let here : BreaksOff u (script_moves one s (ended_from l front)) a c = breaks_fed (get_or piece i 0 ∷ []) h first second in
+    let later = script_moves one (left_by s (script_moves one s (ended_from l front))) (ended_from (rest_from l front) behind) in
+    on_err r (subst (λ ms. BreaksOff u ms a c)
+    (sym (script_moves-append one s (ended_from l front) (ended_from (rest_from l front) behind))
+    ∙ ap (script_moves one s) (sym (ended_from-append l front behind) ∙ ap (ended_from l) all))
+    (breaks_before later here))
+
+-- a whole line broke off
+pub breaks_whole : (one : Table → List ℕ → List Step) (s t : Table) (a b : Option (List ℕ)) (bytes : List ℕ) → BreaksOff t (script_moves one s (ended_from [] bytes)) a b → BreaksOff t (script_moves one s (whole_lines bytes)) a b
+breaks_whole one s t a b bytes broke = subst (λ ls. BreaksOff t (script_moves one s ls) a b) (ended_from-start bytes) broke
+
+-- the last line broke off
+pub breaks_all : {one : Table → List ℕ → List Step} {s t u : Table} {l bytes : List ℕ} {a b c : Option (List ℕ)} → IsCut one → Fed one s t [] l bytes a b → BreaksOff u (script_moves one t (last_line l)) b c → BreaksOff u (script_moves one s (all_lines bytes)) a c
+breaks_all {one} {s} {t} {u} {l} {bytes} {a} {b} {c} h fed broke =
+    subst (λ ms. BreaksOff u ms a c) (moves_to_all one h s t l bytes fed.made.table fed.begun) (breaks_after fed.made broke)
+
+-- a last line, of which something stands, was carried out
+pub carries_last : {T E : Type 0} (one : Table → List ℕ → List Step) (s t : Table) (a c : Option (List ℕ)) (l k : List ℕ) (r : Result T E) → k ≡ l → (length l == 0) ≡ false → CarriesOut s t (one s k) a c r → CarriesOut s t (script_moves one s (last_line l)) a c r
+carries_last one s t a c [] k r is some carried = absurd (let never : ⊥ = cc in never)
+carries_last one s t a c (b ∷ l) k r is some carried = subst (λ ms. CarriesOut s t ms a c r) (ap (one s) is ∙ sym (append-nil (one s (b ∷ l)))) carried

@@ -1,0 +1,94 @@
+-- Lines that are gathered byte by byte, and what of a line counts.
+use Rattle.std.proofs.Common.{◌≡◌, ℕ, ◌+◌, ◌<◌, ◌≤◌, List, [], ◌∷◌, ◌++◌, length, take, refl, sym, ◌∙◌, ap, inl, inr, arith, true, false, ◌==◌, if◌then◌else◌, append_assoc, append-nil, take_all}
+use Rattle.std.proofs.lemmas.Grind.{common_steps}
+use Rattle.std.proofs.lemmas.Bool.{cases_lt}
+use Rattle.std.proofs.lemmas.List.{take-take}
+use Rattle.text_rules.specs.TextLines.{cut, with_byte, whole_lines}
+use Rattle.script_lang.specs.Script.{line_of}
+use Rattle.script_lang.proofs.LineLemmas.{line_of-too_long}
+use Rattle.session_rules.specs.Moves.{moves}
+use Rattle.session_rules.specs.GraphSystems.{system_of}
+use Rattle.session_core.specs.Services.{Shown, moves_of}
+use Rattle.session_core.specs.inner.Gathering.{ended_from, rest_from, IsCut}
+
+onto : List ℕ → List (List ℕ) → List (List ℕ)
+onto line [] = []
+onto line (l ∷ ls) = (line ++ l) ∷ ls
+
+onto_last : List ℕ → List (List ℕ) → List ℕ → List ℕ
+onto_last line [] last = line ++ last
+onto_last line (l ∷ ls) last = last
+
+onto-nothing : (ls : List (List ℕ)) → onto [] ls ≡ ls
+unfolding onto
+onto-nothing [] = refl
+onto-nothing (l ∷ ls) = refl
+
+last-nothing : (ls : List (List ℕ)) (last : List ℕ) → onto_last [] ls last ≡ last
+unfolding onto_last
+last-nothing [] last = refl
+last-nothing (l ∷ ls) last = refl
+
+onto-byte : (line : List ℕ) (b : ℕ) (ls : List (List ℕ)) (last : List ℕ) → onto (line ++ b ∷ []) ls ≡ onto line (with_byte b ls last).whole
+unfolding onto
+onto-byte line b [] last = refl
+onto-byte line b (l ∷ ls) last = ap (λ k. k ∷ ls) (append_assoc line (b ∷ []) l)
+
+last-byte : (line : List ℕ) (b : ℕ) (ls : List (List ℕ)) (last : List ℕ) → onto_last (line ++ b ∷ []) ls last ≡ onto_last line (with_byte b ls last).whole (with_byte b ls last).unfinished
+unfolding onto_last
+last-byte line b [] last = append_assoc line (b ∷ []) last
+last-byte line b (l ∷ ls) last = refl
+
+ended_cut : (line bytes : List ℕ) → ended_from line bytes ≡ onto line (cut bytes).whole
+unfolding onto
+ended_cut line [] = refl
+ended_cut line (b ∷ bytes) = elim (b == 10) as (λ v. (if v then line ∷ ended_from [] bytes else ended_from (line ++ b ∷ []) bytes) ≡ onto line (if v then record { whole = [] ∷ (cut bytes).whole; unfinished = (cut bytes).unfinished } else with_byte b (cut bytes).whole (cut bytes).unfinished).whole) [
+  | true ↦ (λ i. sym (append-nil line) i ∷ (ended_cut [] bytes ∙ onto-nothing (cut bytes).whole) i)
+  | false ↦ ended_cut (line ++ b ∷ []) bytes ∙ onto-byte line b (cut bytes).whole (cut bytes).unfinished
+]
+
+rest_cut : (line bytes : List ℕ) → rest_from line bytes ≡ onto_last line (cut bytes).whole (cut bytes).unfinished
+unfolding onto_last
+rest_cut line [] = sym (append-nil line)
+rest_cut line (b ∷ bytes) = elim (b == 10) as (λ v. (if v then rest_from [] bytes else rest_from (line ++ b ∷ []) bytes) ≡ onto_last line (if v then record { whole = [] ∷ (cut bytes).whole; unfinished = (cut bytes).unfinished } else with_byte b (cut bytes).whole (cut bytes).unfinished).whole (if v then record { whole = [] ∷ (cut bytes).whole; unfinished = (cut bytes).unfinished } else with_byte b (cut bytes).whole (cut bytes).unfinished).unfinished) [
+  | true ↦ rest_cut [] bytes ∙ last-nothing (cut bytes).whole (cut bytes).unfinished
+  | false ↦ rest_cut (line ++ b ∷ []) bytes ∙ last-byte line b (cut bytes).whole (cut bytes).unfinished
+]
+
+pub ended_from-start : (bytes : List ℕ) → ended_from [] bytes ≡ whole_lines bytes
+ended_from-start bytes = ended_cut [] bytes ∙ onto-nothing (cut bytes).whole
+
+pub rest_from-start : (bytes : List ℕ) → rest_from [] bytes ≡ (cut bytes).unfinished
+rest_from-start bytes = rest_cut [] bytes ∙ last-nothing (cut bytes).whole (cut bytes).unfinished
+
+is_long : (n : ℕ) (line : List ℕ) → n < length line → n < length (take (n + 1) line)
+is_long n line long = grind (arith, common_steps)
+
+is_short : (n : ℕ) (line : List ℕ) → length line ≤ n → take (n + 1) line ≡ line
+is_short n line short = grind (arith, common_steps)
+
+-- how much of a line is kept past the limit does not matter
+pub line_of-take : (line : List ℕ) → line_of (take 1048577 line) ≡ line_of line
+line_of-take line = elim (cases_lt 1048576 (length line)) [
+  | inl long ↦ line_of-too_long (take 1048577 line) (is_long 1048576 line long) ∙ sym (line_of-too_long line long)
+  | inr short ↦ ap line_of (is_short 1048576 line short)
+]
+
+-- and so the moves of a service are the same
+pub moves_are_cut : (shown : Shown) → IsCut (moves_of shown)
+moves_are_cut shown = record { same = λ table line. ap (moves (system_of shown.subject) shown.limit table) (line_of-take line) }
+
+pub take-take-same : (m : ℕ) (line : List ℕ) → take m (take m line) ≡ take m line
+take-take-same m line = take-take m m line (omega arith)
+
+pub cut_push : (m : ℕ) (line ys : List ℕ) → take m (take m line ++ ys) ≡ take m (line ++ ys)
+cut_push m line ys = elim (cases_lt m (length line)) [
+  | inl long ↦ grind (arith, common_steps)
+  | inr short ↦ rw (take_all m line short)
+]
+
+pub push_room : (m : ℕ) (line : List ℕ) (b : ℕ) → length line < m → take m (line ++ b ∷ []) ≡ line ++ b ∷ []
+push_room m line b less = grind (arith, common_steps)
+
+pub push_full : (m : ℕ) (line : List ℕ) (b : ℕ) → length line ≡ m → take m (line ++ b ∷ []) ≡ line
+push_full m line b same = grind (arith, common_steps)

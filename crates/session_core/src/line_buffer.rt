@@ -1,0 +1,57 @@
+ghost use Rattle.std.specs.Prelude.{◌≡◌, ◌≤◌, [], ◌∷◌, ◌++◌, take, length, IfOk};
+
+use script_lang::LINE_LIMIT;
+use std::alloc::{AllocError, Global};
+use std::marker::Model;
+
+/// One byte more than the longest line has.
+const ROOM: usize = LINE_LIMIT + 1;
+
+/// The beginning of a line, up to one byte past the longest line. What is past that is dropped.
+#[derive(Drop)]
+pub struct LineBuffer {
+    bytes: Vec<u8>,
+}
+
+impl Model for LineBuffer {
+    ghost use Rattle.std.specs.Prelude.{ℕ, List, ◌≤◌, vec_len, vec_capacity};
+
+    ghost Value = { List ℕ };
+
+    ghost view = { λ g. g.bytes.items };
+
+    ghost invariant = { λ g. (vec_len g.bytes ≤ 1048577) × (1048577 ≤ vec_capacity g.bytes) };
+}
+
+impl LineBuffer {
+    /// No byte yet, with memory for the longest line.
+    pub fn new(alloc: Global) -> Result<Self, AllocError>
+        ensures { IfOk result (λ gathered. gathered ≡ []) }
+    {
+        let bytes = Vec::with_capacity(alloc, ROOM)?;
+        Ok(LineBuffer { bytes })
+    }
+
+    /// Adds a byte, or drops it where the line is past the longest.
+    pub fn push(&mut self, byte: u8)
+        ensures { self.new ≡ take 1048577 (self.old ++ byte ∷ []) }
+    {
+        if self.bytes.len() < ROOM {
+            self.bytes.push(byte).unwrap();
+        }
+    }
+
+    /// Begins the next line.
+    pub fn clear(&mut self)
+        ensures { self.new ≡ [] }
+    {
+        self.bytes.clear();
+    }
+
+    /// The bytes that were kept.
+    pub fn as_slice(&self) -> &[u8]
+        ensures { result.now ≡ self.now }
+    {
+        &self.bytes
+    }
+}

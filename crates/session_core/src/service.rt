@@ -1,0 +1,106 @@
+ghost use Rattle.std.specs.Prelude.{◌≡◌, ◌≤◌, ◌<◌, ◌+◌, [], length, true, All, IfOk};
+ghost use Rattle.text_rules.specs.Names.{names_rise};
+ghost use Rattle.conditioner.specs.Models.{total_cost};
+ghost use Rattle.diag_edge.specs.Edge.{HasCause};
+ghost use Rattle.session_rules.specs.Carrying.{CarriesOut};
+ghost use Rattle.session_core.specs.Services.{moves_of, ChangesTable};
+
+use crate::limits::{SERVED_NODES, SERVED_VARIABLES, SESSION_LIMIT};
+use crate::line_buffer::LineBuffer;
+use crate::sessions::Sessions;
+use device_model::{Name, PART_LIMIT, WIRE_LIMIT};
+use diag_edge::{Memory, Sink, WriteFailed};
+use minimiser::TOTAL_LIMIT;
+use node_store::Graph;
+use std::alloc::Global;
+use std::marker::Model;
+
+/// Sessions over names and a graph, and the line that is being read. It takes all its memory when it is made, and none later.
+/// It is not `Drop`: [`Service::finish`] spends it.
+pub struct Service {
+    pub(crate) sessions: Sessions,
+    pub(crate) gathered: LineBuffer,
+}
+
+impl Model for Service {
+    ghost use Rattle.session_core.specs.Services.{Shown};
+
+    ghost Value = { Shown };
+
+    ghost view = { λ s. s.sessions };
+}
+
+impl Service {
+    /// A service over the names of parts and wires, what the failure of each part costs, and a graph whose variables are the
+    /// parts, the wires, and inner ones. No session is open, and at most so many may be. `Err` means that memory ran out.
+    pub fn over(
+        alloc: Global,
+        parts: Vec<Name>,
+        wires: Vec<Name>,
+        costs: Vec<u32>,
+        graph: Graph,
+        sessions: u32,
+    ) -> Result<Service, Memory>
+        requires parts_rise { names_rise parts.items ≡ true }
+        requires wires_rise { names_rise wires.items ≡ true }
+        requires few_parts { length parts.items ≤ PART_LIMIT }
+        requires few_wires { length wires.items ≤ WIRE_LIMIT }
+        requires costs { length costs.items ≡ length parts.items }
+        requires dear { All (λ c. 0 < c) costs.items }
+        requires total { total_cost costs.items < TOTAL_LIMIT }
+        requires vars { length parts.items + length wires.items ≤ graph.vars }
+        requires few_vars { graph.vars ≤ SERVED_VARIABLES }
+        requires few_nodes { length graph.nodes < SERVED_NODES }
+        requires sessions { sessions ≤ SESSION_LIMIT }
+        ensures { IfOk result (λ service. service
+            ≡ record {
+              subject = record { parts = parts.items; wires = wires.items; costs = costs.items; graph = graph };
+              limit = sessions;
+              table = [];
+            }) }
+    {
+        let Ok(gathered) = LineBuffer::new(alloc) else {
+            return Err(Memory);
+        };
+        match Sessions::new(alloc, parts, wires, costs, graph, sessions) {
+            Ok(sessions) => Ok(Service { sessions, gathered }),
+            Err(_) => Err(Memory),
+        }
+    }
+
+    /// Closes all sessions, and gives all memory back.
+    pub fn finish(self) {
+        let Service {
+            sessions,
+            gathered: _,
+        } = self;
+        sessions.finish();
+    }
+
+    /// The number of parts.
+    pub fn parts(&self) -> usize
+        ensures { result ≡ length self.now.subject.parts }
+    {
+        self.sessions.parts()
+    }
+
+    /// The number of wires.
+    pub fn wires(&self) -> usize
+        ensures { result ≡ length self.now.subject.wires }
+    {
+        self.sessions.wires()
+    }
+
+    /// Carries out one line, without its line feed, and writes its replies. `Err` means that a
+    /// write failed: the line was carried out up to the reply that met the failure, of which a
+    /// beginning was written at most.
+    pub fn line<O: Sink>(&mut self, line: &[u8], out: &mut O) -> Result<(), WriteFailed>
+        ensures carried { CarriesOut self.old.table self.new.table
+            (moves_of self.old self.old.table line.now)
+            (O.got out.old) (O.got out.new) result }
+        ensures stays { ChangesTable self.old self.new }
+        ensures cause { HasCause (O.faults out.old) (O.faults out.new) result }
+    {
+        self.sessions.line(line, out)
+    }
+}

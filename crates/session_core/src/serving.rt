@@ -1,0 +1,178 @@
+ghost use Rattle.std.specs.Prelude.{◌≡◌, ◌+◌, ◌-◌, ◌^◌, ◌<◌, ◌≤◌, ℕ, List, [], ◌∷◌, length, OnOk, OnErr};
+ghost use Rattle.std.specs.Io.KnownBytes.{Consumes, IsAtEnd};
+ghost use Rattle.text_rules.specs.TextLines.{last_line};
+ghost use Rattle.diag_edge.specs.Edge.{HasCause, RoseExactly};
+ghost use Rattle.session_rules.specs.Moves.{script_moves};
+ghost use Rattle.session_rules.specs.Carrying.{BreaksOff, CarriesOut};
+ghost use Rattle.session_core.specs.Services.{moves_of, ChangesTable};
+ghost use Rattle.session_core.specs.Serving.{Served};
+ghost use Rattle.session_core.specs.inner.Gathering.{Fed, ended_from};
+
+use crate::line_buffer::LineBuffer;
+use crate::service::Service;
+use crate::sessions::Sessions;
+use diag_edge::{Sink, Source, WriteFailed};
+
+/// The most bytes that one read may bring.
+const PIECE: usize = 4096;
+
+/// How the answering of a script ended.
+#[derive(Clone, Copy, Debug, PartialEq, Eq)]
+pub enum ServeEnd {
+    /// The end of the script was met, and every line was answered.
+    Done,
+    /// A read failed. The lines that a line feed ended were answered.
+    ReadFault,
+    /// A write failed. The line that it was to answer was carried out up to the reply that met the
+    /// failure, and no line after it.
+    WriteFault,
+    /// As many bytes as the limit were taken, and no end was met. The lines that a line feed ended
+    /// were answered.
+    Limit,
+}
+
+// Takes one byte of the script: a line feed has the line answered.
+fn take_byte<O: Sink>(
+    sessions: &mut Sessions,
+    gathered: &mut LineBuffer,
+    byte: u8,
+    out: &mut O,
+) -> Result<(), WriteFailed>
+    ensures ok { OnOk result (Fed (moves_of sessions.old)
+        sessions.old.table sessions.new.table gathered.old gathered.new (byte ∷ [])
+        (O.got out.old) (O.got out.new)) }
+    ensures err { OnErr result (BreaksOff sessions.new.table
+        (script_moves (moves_of sessions.old) sessions.old.table
+        (ended_from gathered.old (byte ∷ [])))
+        (O.got out.old) (O.got out.new)) }
+    ensures stays { ChangesTable sessions.old sessions.new }
+    ensures cause { HasCause (O.faults out.old) (O.faults out.new) result }
+{
+    if byte == b'\n' {
+        sessions.line(gathered.as_slice(), out)?;
+        gathered.clear();
+    } else {
+        gathered.push(byte);
+    }
+    Ok(())
+}
+
+// Answers the lines that end in a piece of the script, and gathers what comes after the last.
+fn feed<O: Sink>(
+    sessions: &mut Sessions,
+    gathered: &mut LineBuffer,
+    piece: &[u8],
+    out: &mut O,
+) -> Result<(), WriteFailed>
+    ensures ok { OnOk result (Fed (moves_of sessions.old)
+        sessions.old.table sessions.new.table gathered.old gathered.new piece.now
+        (O.got out.old) (O.got out.new)) }
+    ensures err { OnErr result (BreaksOff sessions.new.table
+        (script_moves (moves_of sessions.old) sessions.old.table
+        (ended_from gathered.old piece.now))
+        (O.got out.old) (O.got out.new)) }
+    ensures stays { ChangesTable sessions.old sessions.new }
+    ensures cause { HasCause (O.faults out.old) (O.faults out.new) result }
+{
+    for byte in piece {
+        take_byte(sessions, gathered, *byte, out)?;
+    }
+    Ok(())
+}
+
+// A last line that no line feed ended, if there is one.
+fn finish<O: Sink>(
+    sessions: &mut Sessions,
+    gathered: &LineBuffer,
+    out: &mut O,
+) -> Result<(), WriteFailed>
+    ensures carried { CarriesOut sessions.old.table sessions.new.table
+        (script_moves (moves_of sessions.old) sessions.old.table
+        (last_line gathered.now))
+        (O.got out.old) (O.got out.new) result }
+    ensures stays { ChangesTable sessions.old sessions.new }
+    ensures cause { HasCause (O.faults out.old) (O.faults out.new) result }
+{
+    if gathered.as_slice().is_empty() {
+        return Ok(());
+    }
+    sessions.line(gathered.as_slice(), out)
+}
+
+// Answers a script from the beginning of a line on.
+fn serve_from<I: Source, O: Sink>(
+    sessions: &mut Sessions,
+    gathered: &mut LineBuffer,
+    input: &mut I,
+    out: &mut O,
+    limit: u64,
+) -> ServeEnd
+    requires begun { gathered.old ≡ [] }
+    requires limit { limit ≤ 2 ^ 40 }
+    requires taken { I.taken input.old < 2 ^ 62 }
+    requires reads { I.faults input.old < 2 ^ 64 - 1 }
+    requires writes { O.faults out.old < 2 ^ 64 - 1 }
+
+    ensures write_fault { RoseExactly (O.faults out.old) (O.faults out.new)
+        (result ≡ ServeEnd.WriteFault) }
+    ensures read_fault { RoseExactly (I.faults input.old) (I.faults input.new)
+        (result ≡ ServeEnd.ReadFault) }
+
+    // The bytes that were taken, and what was done with them.
+    ensures served { (bytes : List ℕ) × (I.taken input.new ≡ I.taken input.old + length bytes)
+        × Consumes (I.left input.old) (I.left input.new) bytes
+        × Served result (moves_of sessions.old)
+        sessions.old.table sessions.new.table bytes limit (IsAtEnd (I.left input.new))
+        (O.got out.old) (O.got out.new) }
+    ensures stays { ChangesTable sessions.old sessions.new }
+{
+    let mut piece = [0u8; PIECE];
+    let mut taken = 0u64;
+    while taken < limit {
+        let room = (limit - taken).min(PIECE as u64) as usize;
+        let count = match input.read(&mut piece[..room]) {
+            Ok(count) => count,
+            Err(_) => return ServeEnd::ReadFault,
+        };
+        if count == 0 {
+            return match finish(sessions, gathered, out) {
+                Ok(()) => ServeEnd::Done,
+                Err(_) => ServeEnd::WriteFault,
+            };
+        }
+        match feed(sessions, gathered, &piece[..count], out) {
+            Ok(()) => {}
+            Err(_) => return ServeEnd::WriteFault,
+        }
+        taken += count as u64;
+    }
+    ServeEnd::Limit
+}
+
+impl Service {
+    /// Answers a script, at most `limit` bytes of it: each line as soon as its line feed was read.
+    /// Each call begins with no unfinished line, and with the sessions as the last call left them,
+    /// however it ended.
+    pub fn serve<I: Source, O: Sink>(&mut self, input: &mut I, out: &mut O, limit: u64) -> ServeEnd
+        requires limit { limit ≤ 2 ^ 40 }
+        requires taken { I.taken input.old < 2 ^ 62 }
+        requires reads { I.faults input.old < 2 ^ 64 - 1 }
+        requires writes { O.faults out.old < 2 ^ 64 - 1 }
+
+        ensures write_fault { RoseExactly (O.faults out.old) (O.faults out.new)
+            (result ≡ ServeEnd.WriteFault) }
+        ensures read_fault { RoseExactly (I.faults input.old) (I.faults input.new)
+            (result ≡ ServeEnd.ReadFault) }
+
+        // The bytes that were taken, and what was done with them.
+        ensures served { (bytes : List ℕ) × (I.taken input.new ≡ I.taken input.old + length bytes)
+            × Consumes (I.left input.old) (I.left input.new) bytes
+            × Served result (moves_of self.old)
+            self.old.table self.new.table bytes limit (IsAtEnd (I.left input.new))
+            (O.got out.old) (O.got out.new) }
+        ensures stays { ChangesTable self.old self.new }
+    {
+        self.gathered.clear();
+        serve_from(&mut self.sessions, &mut self.gathered, input, out, limit)
+    }
+}

@@ -1,0 +1,222 @@
+ghost use Rattle.std.specs.Prelude.{◌≡◌, ◌+◌, ◌≤◌, ◌<◌, [], ◌∷◌, Some, None, length, All, IfOk};
+ghost use Rattle.text_rules.specs.Names.{is_short_name, names_rise};
+ghost use Rattle.diag_edge.specs.Edge.{HasCause};
+ghost use Rattle.device_model.specs.declared.limits.TheConstants.{PART_LIMIT, WIRE_LIMIT};
+ghost use Rattle.conditioner.specs.Models.{total_cost};
+ghost use Rattle.minimiser.specs.declared.pass.TheConstants.{TOTAL_LIMIT};
+ghost use Rattle.script_lang.specs.Script.{Start, Stop};
+ghost use Rattle.session_rules.specs.Carrying.{CarriesOut};
+ghost use Rattle.session_core.specs.Services.{moves_of, ChangesTable};
+ghost use Rattle.session_core.specs.inner.Obeying.{Obeys, seen_request, held_request};
+
+use crate::ground::Ground;
+use crate::limits::{SERVED_NODES, SERVED_VARIABLES, SESSION_LIMIT};
+use crate::replies::{put_line_refusal, put_refusal};
+use crate::telling::Question;
+use device_model::Name;
+use diag_edge::{Sink, WriteFailed, put_line};
+use node_store::Graph;
+use probe_report::Blame;
+use scratch_pool::Region;
+use script_lang::{Line, parse_line};
+use session_rules::Refusal;
+use session_table::OpenSessions;
+use std::alloc::{AllocError, Global};
+use std::marker::Model;
+
+/// The sessions over names and a graph. All memory is taken when it is made, and it is spent by [`Sessions::finish`].
+pub(crate) struct Sessions {
+    pub(crate) ground: Ground,
+    pub(crate) open: OpenSessions,
+    // what an answer works with: a word for each variable, a value for each node, a state, and a verdict for each part
+    pub(crate) scratch: Region,
+    pub(crate) verdicts: Vec<Blame>,
+}
+
+impl Model for Sessions {
+    ghost use Rattle.session_core.specs.Services.{Shown};
+    ghost use Rattle.session_core.specs.inner.Holding.{HoldsTogether};
+
+    ghost Value = { Shown };
+
+    ghost view = { λ s. record { subject = s.ground; limit = s.open.limit; table = s.open.table } };
+
+    ghost invariant = { λ s. HoldsTogether s.ground s.open s.scratch s.verdicts.items };
+}
+
+impl Sessions {
+    /// No session is open, and at most so many may be. `Err` means that memory ran out.
+    pub(crate) fn new(
+        alloc: Global,
+        parts: Vec<Name>,
+        wires: Vec<Name>,
+        costs: Vec<u32>,
+        graph: Graph,
+        sessions: u32,
+    ) -> Result<Self, AllocError>
+        requires parts_rise { names_rise parts.items ≡ true }
+        requires wires_rise { names_rise wires.items ≡ true }
+        requires few_parts { length parts.items ≤ PART_LIMIT }
+        requires few_wires { length wires.items ≤ WIRE_LIMIT }
+        requires costs { length costs.items ≡ length parts.items }
+        requires dear { All (λ c. 0 < c) costs.items }
+        requires total { total_cost costs.items < TOTAL_LIMIT }
+        requires vars { length parts.items + length wires.items ≤ graph.vars }
+        requires few_vars { graph.vars ≤ SERVED_VARIABLES }
+        requires few_nodes { length graph.nodes < SERVED_NODES }
+        requires sessions { sessions ≤ SESSION_LIMIT }
+        ensures { IfOk result (λ made. made
+            ≡ record {
+              subject = record { parts = parts.items; wires = wires.items; costs = costs.items; graph = graph };
+              limit = sessions;
+              table = [];
+            }) }
+    {
+        let part_count = parts.len();
+        let wire_count = wires.len() as u32;
+        let vars = graph.vars();
+        let room = vars as usize + graph.len() as usize + part_count;
+        let verdicts = vec![in alloc; Blame::Never; part_count]?;
+        let scratch = Region::new(alloc, room)?;
+        let ground = Ground::of(alloc, parts, wires, costs, graph)?;
+        let open = OpenSessions::new(alloc, part_count as u32, wire_count, vars, sessions)?;
+        Ok(Sessions {
+            ground,
+            open,
+            scratch,
+            verdicts,
+        })
+    }
+
+    /// Closes all sessions, and gives all memory back.
+    pub(crate) fn finish(self) {
+        let Sessions {
+            ground: _,
+            open,
+            scratch: _,
+            verdicts: _,
+        } = self;
+        open.finish();
+    }
+
+    /// The number of parts.
+    pub(crate) fn parts(&self) -> usize
+        ensures { result ≡ length self.now.subject.parts }
+    {
+        self.ground.parts().len()
+    }
+
+    /// The number of wires.
+    pub(crate) fn wires(&self) -> usize
+        ensures { result ≡ length self.now.subject.wires }
+    {
+        self.ground.wires().len()
+    }
+
+    /// Answers one line. Where a write fails, the line is carried out up to the reply that met the
+    /// failure.
+    pub(crate) fn line<O: Sink>(&mut self, line: &[u8], out: &mut O) -> Result<(), WriteFailed>
+        ensures carried { CarriesOut self.old.table self.new.table
+            (moves_of self.old self.old.table line.now)
+            (O.got out.old) (O.got out.new) result }
+        ensures stays { ChangesTable self.old self.new }
+        ensures cause { HasCause (O.faults out.old) (O.faults out.new) result }
+    {
+        match parse_line(line) {
+            Line::Blank => Ok(()),
+            Line::Refused(refusal) => put_line_refusal(out, refusal),
+            Line::Start { session } => self.start(session, out),
+            Line::Stop { session } => self.stop(session, out),
+            Line::See { session, name, bit } => self.see(session, name, Some(bit), out),
+            Line::Unsee { session, name } => self.see(session, name, None, out),
+            Line::Hold { session, name, ok } => self.hold(session, name, Some(ok), out),
+            Line::Unhold { session, name } => self.hold(session, name, None, out),
+            Line::Min { session } => self.ask(session, Question::Minimum, out),
+            Line::Next { session } => self.next(session, out),
+            Line::List { session, count } => self.list(session, count, out),
+            Line::After { session, names } => self.after(session, names, out),
+            Line::Probe { session, name } => self.ask_wire(session, name, out),
+            Line::Probes { session } => self.ask(session, Question::Probes, out),
+            Line::Blame { session } => self.ask(session, Question::Blame, out),
+            Line::Dnnf { session } => self.ask(session, Question::Graph, out),
+        }
+    }
+
+    // Opens a session, unless one of this name is open or as many are as may be.
+    fn start<O: Sink>(&mut self, session: &[u8], out: &mut O) -> Result<(), WriteFailed>
+        requires { is_short_name session.now ≡ true }
+        ensures obeys { Obeys self.old self.new session.now Start (O.got out.old) (O.got out.new) result }
+        ensures cause { HasCause (O.faults out.old) (O.faults out.new) result }
+    {
+        match self.open.find(session) {
+            Some(_) => put_refusal(out, session, Refusal::OpenAlready),
+            None if self.open.is_full() => put_refusal(out, session, Refusal::Full),
+            None => {
+                self.open.start(session);
+                put_line(out, &[session, b"open"])
+            }
+        }
+    }
+
+    // Closes a session.
+    fn stop<O: Sink>(&mut self, session: &[u8], out: &mut O) -> Result<(), WriteFailed>
+        ensures obeys { Obeys self.old self.new session.now Stop (O.got out.old) (O.got out.new) result }
+        ensures cause { HasCause (O.faults out.old) (O.faults out.new) result }
+    {
+        match self.open.find(session) {
+            None => put_refusal(out, session, Refusal::NoSession),
+            Some(place) => {
+                self.open.stop(place);
+                put_line(out, &[session, b"closed"])
+            }
+        }
+    }
+
+    // Notes what was seen of a wire, or that nothing is any more.
+    fn see<O: Sink>(
+        &mut self,
+        session: &[u8],
+        name: &[u8],
+        bit: Option<bool>,
+        out: &mut O,
+    ) -> Result<(), WriteFailed>
+        ensures obeys { Obeys self.old self.new session.now (seen_request name.now bit)
+            (O.got out.old) (O.got out.new) result }
+        ensures cause { HasCause (O.faults out.old) (O.faults out.new) result }
+    {
+        let Some(place) = self.open.find(session) else {
+            return put_refusal(out, session, Refusal::NoSession);
+        };
+        match self.ground.find_wire(name) {
+            None => put_refusal(out, session, Refusal::NoWire),
+            Some(wire) => {
+                self.open.see(place, wire, bit);
+                put_line(out, &[session, b"ok"])
+            }
+        }
+    }
+
+    // Notes how a part is held, or that it is held no more.
+    fn hold<O: Sink>(
+        &mut self,
+        session: &[u8],
+        name: &[u8],
+        ok: Option<bool>,
+        out: &mut O,
+    ) -> Result<(), WriteFailed>
+        ensures obeys { Obeys self.old self.new session.now (held_request name.now ok)
+            (O.got out.old) (O.got out.new) result }
+        ensures cause { HasCause (O.faults out.old) (O.faults out.new) result }
+    {
+        let Some(place) = self.open.find(session) else {
+            return put_refusal(out, session, Refusal::NoSession);
+        };
+        match self.ground.find_part(name) {
+            None => put_refusal(out, session, Refusal::NoPart),
+            Some(part) => {
+                self.open.hold(place, part, ok);
+                put_line(out, &[session, b"ok"])
+            }
+        }
+    }
+}

@@ -1,252 +1,246 @@
--- What is done to the sessions and their pool is what is done to the table.
-use Rattle.std.proofs.Common.{◌≡◌, ℕ, zero, suc, ◌+◌, ◌<◌, ◌≤◌, Bool, true, T, List, [], ◌∷◌, ◌++◌, map, length, take, drop, get_or, set, refl, ap, ap₂, sym, ◌∙◌, subst, Option, Some, None, Result, Ok, Err, IfOk, IfErr, arith, Less, Greater}
-use Rattle.std.specs.Prelude.{◌&&◌, not, replicate, slice_get, IsErr, IfSome, IfNone}
-use Rattle.std.specs.Result.{result_ok}
-use Rattle.std.specs.List.{insert, remove, AllWithin}
+-- What is done to the fields of the open sessions is what their contracts tell of the table.
+use Rattle.std.proofs.Common.{◌≡◌, ℕ, ◌<◌, ◌≤◌, T, List, length, get_or, set, replicate, refl, ap, ap₂, sym, ◌∙◌, subst, subst₂, Some, None, Result, Ok, Err, IfOk, IfErr, arith}
+use Rattle.std.specs.Prelude.{not, slice_get, IsErr, IfSome, IfNone, vec_capacity}
+use Rattle.std.specs.List.{insert, remove}
 use Rattle.std.specs.Option.{option_map}
-use Rattle.std.specs.Ordering.{is_lt}
-use Rattle.std.specs.FinMap.Entries.{below_all, is_sorted, put, where_key, is_sorted-put, is_sorted-where_key}
+use Rattle.std.specs.Result.{result_ok}
+use Rattle.std.specs.FinMap.Entries.{is_sorted, put, where_key, is_sorted-put, is_sorted-where_key}
 use Rattle.std.proofs.lemmas.Cmp.{nat_list_cmp_total}
-use Rattle.std.proofs.lemmas.List.{length-map, map-append, take-map, drop-map, map-set, get_or-map}
+use Rattle.std.proofs.lemmas.List.{length-map}
 use Rattle.std.proofs.lemmas.List.Edits.{length-insert, length-remove}
 use Rattle.std.proofs.lemmas.Option.{slice_get-map, slice_get_within, slice_get_read, some_pair_parts, none-some}
 use Rattle.text_rules.specs.Names.{Name, same_name}
-use Rattle.scratch_pool.specs.Pools.{Blocks, IsOut, IsFree, IsSound, free_blocks, block_words, with_block, taken, given}
-use Rattle.scratch_pool.proofs.Laws.{taken-zeroed, taken-out, taken-free, given-free}
 use Rattle.ranking.specs.Cases.{empty_case}
+use Rattle.scratch_pool.specs.Pools.{Blocks, IsOut, IsFree, IsSound, block_words, taken, given}
+use Rattle.scratch_pool.proofs.Laws.{taken-zeroed, taken-out, taken-free, given-free}
 use Rattle.session_rules.specs.Sessions.{Entry, Table, entry_of, with_entry, without}
-use Rattle.session_table.specs.Tables.{StandsAt}
+use Rattle.session_table.specs.Tables.{Opened, StandsAt, fresh_entry}
 use Rattle.session_table.specs.inner.Blocks.{entry_in, block_size, IsLaidOut}
 use Rattle.session_table.specs.inner.Ordered.{entry_at, table_of, blocks_by_name, NamesRise, AreKept, HasName, IsGapFor, KeepsEntry}
-use Rattle.session_table.specs.declared.block.Layout.{Layout}
 use Rattle.session_table.specs.declared.in_order.Open.{Open}
-use Rattle.session_table.proofs.Lookups.{order, IsGap, find_at, put_at, put_same, without_at, put_gap, find_gap}
+use Rattle.session_table.specs.declared.open_sessions.OpenSessions.TheInside.{Inside}
+use Rattle.session_table.specs.contracts.open_sessions.OpenSessions.{the_view}
+use Rattle.session_table.proofs.Lookups.{order, IsGap, find_at, put_at, without_at, put_gap, find_gap}
+use Rattle.session_table.proofs.Mapping.{sorted_alike, map-insert, map-remove, gap_map, slice_get-set}
 use Rattle.session_table.proofs.Searching.{so, as_true}
-use Rattle.session_table.proofs.Wording.{zeros-entry, zeros-laid}
+use Rattle.session_table.proofs.Noting.{zeros-entry, zeros-laid}
 use Rattle.session_table.proofs.Keeping.{out_at, laid_at, have_insert, given_at, written_at, have_written, none_taken, table_taken, have_taken}
 
--- whatever stands beside the names, they rise alike
-module _ {X Y : Type 0} (f : Open → X) (g : Open → Y) where
-  below_alike : (name : Name) (sessions : List Open) → below_all order name (map (λ (s : Open). (s.name, f s)) sessions) ≡ below_all order name (map (λ (s : Open). (s.name, g s)) sessions)
-  below_alike name [] = refl
-  below_alike name (s ∷ sessions) = ap (λ b. is_lt (order name s.name) && b) (below_alike name sessions)
+-- what holds of the fields
+abbrev pub Kept : Inside → Type 0
+Kept inside = AreKept inside.layout inside.limit inside.pool inside.«open».items (vec_capacity inside.«open»)
 
-  sorted_alike : (sessions : List Open) → is_sorted order (map (λ (s : Open). (s.name, f s)) sessions) ≡ is_sorted order (map (λ (s : Open). (s.name, g s)) sessions)
-  sorted_alike [] = refl
-  sorted_alike (s ∷ sessions) = ap₂ (λ a b. a && b) (below_alike s.name sessions) (sorted_alike sessions)
+-- the table that the fields make
+abbrev pub table_in : Inside → Table
+table_in inside = table_of inside.layout inside.pool inside.«open».items
 
-module _ {X : Type 0} (f : Open → Name × X) where
-  map-insert : (sessions : List Open) (place : ℕ) (s : Open) → map f (insert sessions place s) ≡ insert (map f sessions) place (f s)
-  map-insert sessions place s =
-      map-append f (take place sessions) (s ∷ drop place sessions)
-      ∙ ap₂ (λ a b. a ++ f s ∷ b) (sym (take-map f place sessions)) (sym (drop-map f place sessions))
+abbrev name_and_block : Open → Name × ℕ
+name_and_block session = (session.name, session.block)
 
-  map-remove : (sessions : List Open) (place : ℕ) → map f (remove sessions place) ≡ remove (map f sessions) place
-  map-remove sessions place =
-      map-append f (take place sessions) (drop (suc place) sessions)
-      ∙ ap₂ (λ a b. a ++ b) (sym (take-map f place sessions)) (sym (drop-map f (suc place) sessions))
+-- the table is in the order of its names
+table_sorted : (inside : Inside) → Kept inside → T (is_sorted order (table_in inside))
+table_sorted inside kept =
+    subst T (sorted_alike (λ session. session.block) (λ session. entry_in inside.layout (block_words inside.pool session.block)) inside.«open».items)
+    (so (is_sorted order (blocks_by_name inside.«open».items)) kept.rise)
 
-  within_map : (P : Name × X → Type 0) (sessions : List Open) (low high : ℕ) → high ≤ length sessions → AllWithin (λ s. P (f s)) sessions low high → AllWithin P (map f sessions) low high
-  within_map P [] low high most all = λ k d l h. absurd (omega (arith, most, h))
-  within_map P (s ∷ sessions) low high most all = λ k d l h.
-      subst P (sym (get_or-map f (s ∷ sessions) k s d (omega (arith, most, h)))) (all k s l h)
+module _ (inside : Inside) (kept : Kept inside) where
+  abbrev sessions : List Open
+  sessions = inside.«open».items
 
--- a gap among sessions is one among what they are mapped to
-gap_map : {X : Type 0} → (f : Open → X) (sessions : List Open) (place : ℕ) (name : Name) → IsGapFor sessions place name → IsGap (map (λ (s : Open). (s.name, f s)) sessions) place name
-gap_map {X = X} f sessions place name gap =
-    let pair : Open → Name × X = (λ s. (s.name, f s)) in
-    let long : length (map pair sessions) ≡ length sessions = length-map sessions pair in
-    let within : place ≤ length sessions = gap.within in
-    let is : IsGap (map pair sessions) place name = record {
-      within = omega (arith, long, within);
-      before = within_map pair (λ e. order e.0 name ≡ Less) sessions 0 place within gap.before;
-      behind = subst (λ n. AllWithin (λ e. order e.0 name ≡ Greater) (map pair sessions) place n) (sym long)
-          (within_map pair (λ e. order e.0 name ≡ Greater) sessions place (length sessions) (omega arith) gap.behind);
-    } in
-    is
+  stands_at : (place : ℕ) (session : Open) (name : Name) → slice_get sessions place ≡ Some session → session.name ≡ name
+      → StandsAt (table_in inside) place name (entry_in inside.layout (block_words inside.pool session.block))
+  stands_at place session name here named =
+      let entry : Entry = entry_in inside.layout (block_words inside.pool session.block) in
+      let at : slice_get (table_in inside) place ≡ Some (name, entry) =
+      slice_get-map (entry_at inside.layout inside.pool) sessions place
+      ∙ (ap (option_map (entry_at inside.layout inside.pool)) here ∙ ap (λ n. Some (n, entry)) named) in
+      record { at = at; found = find_at (table_in inside) place name entry (table_sorted inside kept) at }
 
--- what stands at a place that the table has
-pub indexed : (layout : Layout) (pool : Blocks) (sessions : List Open) (shown : Table) (place : ℕ) (s : Open) → table_of layout pool sessions ≡ shown → place < length shown
-    → s ≡ get_or sessions place s → slice_get sessions place ≡ Some s
-indexed layout pool sessions shown place s same within read =
-    let long = length-map sessions (entry_at layout pool) in
-    let equal = ap length same in
-    slice_get_read sessions (length sessions) place s refl (omega (arith, long, equal, within)) read
+  table_gap : (place : ℕ) (name : Name) → IsGapFor sessions place name → IsGap (table_in inside) place name
+  table_gap place name gap = gap_map (λ session. entry_in inside.layout (block_words inside.pool session.block)) sessions place name gap
 
-module _ (layout : Layout) (limit : ℕ) (pool : Blocks) (sessions : List Open) (capacity : ℕ) (kept : AreKept layout limit pool sessions capacity) where
-  abbrev table : Table
-  table = table_of layout pool sessions
+-- ---- a session is looked for
 
-  names_sorted : T (is_sorted order (blocks_by_name sessions))
-  names_sorted = so (is_sorted order (blocks_by_name sessions)) kept.rise
+module _ (inside : Inside) (shown : Opened) (shows : the_view inside ≡ shown) (kept : Kept inside) (name : Name) (sessions : List Open) (same : sessions ≡ inside.«open».items) where
+  table_is : table_in inside ≡ shown.table
+  table_is = ap (λ (o : Opened). o.table) shows
 
-  pub table_sorted : T (is_sorted order (table_of layout pool sessions))
-  table_sorted = subst T (sorted_alike (λ s. s.block) (λ s. entry_in layout (block_words pool s.block)) sessions) names_sorted
+  pub found : (r : Result ℕ ℕ) → IfOk r (λ place. HasName sessions place name) → IfSome (result_ok r) (λ place. (entry : Entry) × StandsAt shown.table place name entry)
+  found (Ok place) has =
+      let session = has.0 in
+      let here = subst (λ (xs : List Open). slice_get xs place ≡ Some session) same has.1 in (
+        entry_in inside.layout (block_words inside.pool session.block),
+        subst (λ (t : Table). StandsAt t place name (entry_in inside.layout (block_words inside.pool session.block))) table_is (stands_at inside kept place session name here has.2),
+      )
+  found (Err place) has = tt
 
-  -- ---- a look-up
+  pub absent : (r : Result ℕ ℕ) → IfErr r (λ place. IsGapFor sessions place name) → IfNone (result_ok r) (entry_of name shown.table ≡ None)
+  absent (Ok place) gap = tt
+  absent (Err place) gap =
+      subst (λ (t : Table). entry_of name t ≡ None) table_is
+      (find_gap (table_in inside) place name (table_gap inside kept place name (subst (λ (xs : List Open). IsGapFor xs place name) same gap)))
 
-  found-stands : (place : ℕ) (name : Name) → HasName sessions place name → (entry : Entry) × StandsAt (table_of layout pool sessions) place name entry
-  found-stands place name has =
-      let s = has.0 in
-      let entry : Entry = entry_in layout (block_words pool s.block) in
-      let at : slice_get table place ≡ Some (name, entry) =
-      slice_get-map (entry_at layout pool) sessions place ∙ (ap (option_map (entry_at layout pool)) has.1 ∙ ap (λ n. Some (n, entry)) has.2) in
-      (entry, record { at = at; found = find_at table place name entry table_sorted at; kept = put_same table place name entry table_sorted at })
+  -- a name that is not in the table is not found
+  pub closed : (r : Result ℕ ℕ) → IfOk r (λ place. HasName sessions place name) → entry_of name shown.table ≡ None → IsErr r
+  closed (Ok place) has none = let stands = (found (Ok place) has).1 in absurd (none-some _ (sym none ∙ stands.found))
+  closed (Err place) has none = refl
 
-  gap-absent : (place : ℕ) (name : Name) → IsGapFor sessions place name → entry_of name (table_of layout pool sessions) ≡ None
-  gap-absent place name gap = find_gap table place name (gap_map (λ s. entry_in layout (block_words pool s.block)) sessions place name gap)
+-- ---- a session at a place
 
-  pub found-some : (name : Name) (r : Result ℕ ℕ) → IfOk r (λ place. HasName sessions place name)
-      → IfSome (result_ok r) (λ place. (entry : Entry) × StandsAt (table_of layout pool sessions) place name entry)
-  found-some name (Ok place) has = found-stands place name has
-  found-some name (Err place) has = tt
+module _ (inside : Inside) (shown : Opened) (shows : the_view inside ≡ shown) (kept : Kept inside) (place : ℕ) (session : Open) (within : place < length shown.table) (read : session ≡ get_or inside.«open».items place session) where
+  abbrev items : List Open
+  items = inside.«open».items
 
-  pub absent-none : (name : Name) (r : Result ℕ ℕ) → IfErr r (λ place. IsGapFor sessions place name) → IfNone (result_ok r) (entry_of name (table_of layout pool sessions) ≡ None)
-  absent-none name (Ok place) gap = tt
-  absent-none name (Err place) gap = gap-absent place name gap
+  abbrev entry_now : Entry
+  entry_now = entry_in inside.layout (block_words inside.pool session.block)
 
-  pub closed-is_err : (name : Name) (r : Result ℕ ℕ) → IfOk r (λ place. HasName sessions place name) → entry_of name (table_of layout pool sessions) ≡ None → IsErr r
-  closed-is_err name (Ok place) has closed =
-      let stands = found-stands place name has in absurd (none-some stands.0 (sym closed ∙ stands.1.found))
-  closed-is_err name (Err place) has closed = refl
+  here : slice_get items place ≡ Some session
+  here =
+      let long = length-map items (entry_at inside.layout inside.pool) in
+      let equal = ap (λ (o : Opened). length o.table) shows in
+      slice_get_read items (length items) place session refl (omega (arith, long, equal, within)) read
 
-  module _ (place : ℕ) (s : Open) (at : slice_get sessions place ≡ Some s) where
-    -- what stands at its place in the table
-    stands-parts : (session : Name) (entry : Entry) → StandsAt table place session entry → (s.name ≡ session) × (entry_in layout (block_words pool s.block) ≡ entry)
-    stands-parts session entry stands =
-        some_pair_parts s.name session (entry_in layout (block_words pool s.block)) entry
-        (sym (slice_get-map (entry_at layout pool) sessions place ∙ ap (option_map (entry_at layout pool)) at) ∙ stands.at)
+  pub is_out : IsOut inside.pool session.block
+  is_out = out_at inside.layout inside.pool items place session kept.blocks here
 
-    at_table : slice_get table place ≡ Some (s.name, entry_in layout (block_words pool s.block))
-    at_table = slice_get-map (entry_at layout pool) sessions place ∙ ap (option_map (entry_at layout pool)) at
+  pub is_laid_out : IsLaidOut inside.layout (block_words inside.pool session.block)
+  is_laid_out = laid_at inside.layout inside.pool items place session kept.blocks here
 
-    pub stands-entry : (session : Name) (entry : Entry) → StandsAt (table_of layout pool sessions) place session entry → entry ≡ entry_in layout (block_words pool s.block)
-    stands-entry session entry stands = sym (stands-parts session entry stands).1
+  stood : (name : Name) (entry : Entry) → StandsAt shown.table place name entry → StandsAt (table_in inside) place name entry
+  stood name entry stands = subst (λ (o : Opened). StandsAt o.table place name entry) (sym shows) stands
 
-    pub place-out : IsOut pool s.block
-    place-out = out_at layout pool sessions place s kept.blocks at
+  name_and_entry : (name : Name) (entry : Entry) → StandsAt shown.table place name entry → (session.name ≡ name) × (entry_now ≡ entry)
+  name_and_entry name entry stands =
+      some_pair_parts session.name name entry_now entry
+      (sym (slice_get-map (entry_at inside.layout inside.pool) items place ∙ ap (option_map (entry_at inside.layout inside.pool)) here)
+      ∙ (stood name entry stands).at)
 
-    pub place-laid : IsLaidOut layout (block_words pool s.block)
-    place-laid = laid_at layout pool sessions place s kept.blocks at
+  pub entry_here : (name : Name) (entry : Entry) → StandsAt shown.table place name entry → entry ≡ entry_in inside.layout (block_words inside.pool session.block)
+  entry_here name entry stands = sym (name_and_entry name entry stands).1
 
-    -- ---- its block is written
-
-    module _ (new : Blocks) (change : Entry → Entry) (keeps : KeepsEntry layout pool new s.block (change (entry_in layout (block_words pool s.block)))) where
-      pub written-kept : AreKept layout limit new sessions capacity
-      written-kept = subst (λ (p : Blocks). AreKept layout limit p sessions capacity) (sym keeps.written) (record {
-        rise = kept.rise;
-        blocks = have_written layout pool keeps.sound sessions place s keeps.words kept.blocks at keeps.size keeps.laid;
-        free = kept.free;
-        size = kept.size;
-        vars = kept.vars;
-        room = kept.room;
-      })
-
-      written-set : table_of layout new sessions ≡ set table place (s.name, change (entry_in layout (block_words pool s.block)))
-      written-set =
-          ap (λ (p : Blocks). table_of layout p sessions) keeps.written
-          ∙ (written_at layout pool keeps.sound sessions place s keeps.words kept.blocks at keeps.size
-          ∙ ap (λ e. set table place (s.name, e)) keeps.holds)
-
-      pub written-table : (session : Name) (entry : Entry) → StandsAt (table_of layout pool sessions) place session entry
-          → table_of layout new sessions ≡ with_entry session (change entry) (table_of layout pool sessions)
-      written-table session entry stands =
-          let parts = stands-parts session entry stands in
-          written-set
-          ∙ (ap₂ (λ n e. set table place (n, change e)) parts.0 parts.1
-          ∙ sym (put_at table place session entry (change entry) table_sorted stands.at))
-
-    -- ---- it closes
-
-    given-rise : NamesRise (remove sessions place)
-    given-rise =
-        let pairs : List (Name × ℕ) = blocks_by_name sessions in
-        let here : slice_get pairs place ≡ Some (s.name, s.block) =
-        slice_get-map (λ (o : Open). (o.name, o.block)) sessions place ∙ ap (option_map (λ (o : Open). (o.name, o.block))) at in
-        let same : where_key order (λ name. not (same_name name s.name)) pairs ≡ blocks_by_name (remove sessions place) =
-        without_at pairs place s.name s.block names_sorted here ∙ sym (map-remove (λ (o : Open). (o.name, o.block)) sessions place) in
-        as_true (is_sorted order (blocks_by_name (remove sessions place)))
-        (subst (λ (es : List (Name × ℕ)). T (is_sorted order es)) same (is_sorted-where_key order (λ name. not (same_name name s.name)) pairs names_sorted))
-
-    pub given-kept : AreKept layout limit (given pool s.block) (remove sessions place) capacity
-    given-kept = record {
-      rise = given-rise;
-      blocks = given_at layout pool sessions place s kept.blocks at;
-      free =
-          (let more = given-free pool s.block place-out in
-          let less = length-remove sessions place (slice_get_within sessions place s at) in
-          let all = kept.free in
-          omega (arith, more, less, all));
+  -- its block is written
+  module _ (pool : Blocks) (change : Entry → Entry) (keeps : KeepsEntry inside.layout inside.pool pool session.block (change (entry_in inside.layout (block_words inside.pool session.block)))) where
+    pub written : AreKept inside.layout inside.limit pool inside.«open».items (vec_capacity inside.«open»)
+    written = subst (λ (p : Blocks). AreKept inside.layout inside.limit p items (vec_capacity inside.«open»)) (sym keeps.written) (record {
+      rise = kept.rise;
+      blocks = have_written inside.layout inside.pool keeps.sound items place session keeps.words kept.blocks here keeps.size keeps.laid;
+      free = kept.free;
       size = kept.size;
       vars = kept.vars;
       room = kept.room;
-    }
+    })
 
-    pub given-table : (session : Name) (entry : Entry) → StandsAt (table_of layout pool sessions) place session entry
-        → table_of layout (given pool s.block) (remove sessions place) ≡ without session (table_of layout pool sessions)
-    given-table session entry stands =
-        map-remove (entry_at layout pool) sessions place ∙ sym (without_at table place session entry table_sorted stands.at)
+    written_set : (name : Name) (entry : Entry) → StandsAt shown.table place name entry → table_in (record inside { pool = pool }) ≡ set (table_in inside) place (name, change entry)
+    written_set name entry stands =
+        let both = name_and_entry name entry stands in
+        ap (λ (p : Blocks). table_of inside.layout p items) keeps.written
+        ∙ (written_at inside.layout inside.pool keeps.sound items place session keeps.words kept.blocks here keeps.size
+        ∙ (ap (λ e. set (table_in inside) place (session.name, e)) keeps.holds
+        ∙ ap₂ (λ n e. set (table_in inside) place (n, change e)) both.0 both.1))
 
-  -- ---- a session opens
+    pub shows_written : (name : Name) (entry : Entry) → StandsAt shown.table place name entry
+        → the_view (record inside { pool = pool }) ≡ record shown { table = with_entry name (change entry) shown.table }
+    shows_written name entry stands =
+        ap (λ (t : Table). record (the_view inside) { table = t })
+        (written_set name entry stands
+        ∙ sym (put_at (table_in inside) place name entry (change entry) (table_sorted inside kept) (stood name entry stands).at))
+        ∙ ap (λ (o : Opened). record o { table = with_entry name (change entry) o.table }) shows
 
-  module _ (place : ℕ) (name : Name) (gap : IsGapFor sessions place name) (block : ℕ) (sound : IsSound pool) (free : IsFree pool block) (few : length sessions < limit) where
-    abbrev opened : Open
-    opened = record { name = name; block = block }
+    pub stands_written : (name : Name) (entry : Entry) → StandsAt shown.table place name entry → StandsAt (table_in (record inside { pool = pool })) place name (change entry)
+    stands_written name entry stands =
+        let new : Inside = record inside { pool = pool } in
+        let at : slice_get (table_in new) place ≡ Some (name, change entry) =
+        ap (λ (t : Table). slice_get t place) (written_set name entry stands)
+        ∙ slice_get-set (table_in inside) place (name, entry) (name, change entry) (stood name entry stands).at in
+        record { at = at; found = find_at (table_in new) place name (change entry) (table_sorted new written) at }
 
-    zeroed-words : block_words (taken pool block) block ≡ replicate (block_size layout) 0
-    zeroed-words = taken-zeroed pool sound block free.0 ∙ ap (λ n. replicate n 0) (kept.size (omega (arith, few)))
+  -- it closes
+  rise_given : NamesRise (remove items place)
+  rise_given =
+      let pairs : List (Name × ℕ) = blocks_by_name items in
+      let sorted = so (is_sorted order pairs) kept.rise in
+      let at : slice_get pairs place ≡ Some (session.name, session.block) = slice_get-map name_and_block items place ∙ ap (option_map name_and_block) here in
+      let left : where_key order (λ name. not (same_name name session.name)) pairs ≡ blocks_by_name (remove items place) =
+      without_at pairs place session.name session.block sorted at ∙ sym (map-remove name_and_block items place) in
+      as_true (is_sorted order (blocks_by_name (remove items place)))
+      (subst (λ (es : List (Name × ℕ)). T (is_sorted order es)) left (is_sorted-where_key order (λ name. not (same_name name session.name)) pairs sorted))
 
-    taken-rise : NamesRise (insert sessions place opened)
-    taken-rise =
-        let pairs : List (Name × ℕ) = blocks_by_name sessions in
-        let same : put order name block pairs ≡ blocks_by_name (insert sessions place opened) =
-        put_gap pairs place name block (gap_map (λ s. s.block) sessions place name gap) ∙ sym (map-insert (λ (o : Open). (o.name, o.block)) sessions place opened) in
-        as_true (is_sorted order (blocks_by_name (insert sessions place opened)))
-        (subst (λ (es : List (Name × ℕ)). T (is_sorted order es)) same (is_sorted-put order nat_list_cmp_total name block pairs names_sorted))
+  pub gave : AreKept inside.layout inside.limit (given inside.pool session.block) (remove inside.«open».items place) (vec_capacity inside.«open»)
+  gave = record {
+    rise = rise_given;
+    blocks = given_at inside.layout inside.pool items place session kept.blocks here;
+    free =
+        (let more = given-free inside.pool session.block is_out in
+        let less = length-remove items place (slice_get_within items place session here) in
+        let all = kept.free in
+        omega (arith, more, less, all));
+    size = kept.size;
+    vars = kept.vars;
+    room = kept.room;
+  }
 
-    pub taken-kept : (more : ℕ) → capacity ≤ more → AreKept layout limit (taken pool block) (insert sessions place (record { name = name; block = block })) more
-    taken-kept more grown = record {
-      rise = taken-rise;
-      blocks = have_insert layout (taken pool block) sessions place opened
-          (taken-out pool block free.0)
-          (subst (IsLaidOut layout) (sym zeroed-words) (zeros-laid layout kept.vars))
-          (none_taken layout pool sound block free sessions kept.blocks)
-          (have_taken layout pool sound block free sessions kept.blocks);
-      free =
-          (let less = taken-free pool block free in
-          let long = length-insert sessions place opened gap.within in
-          let all = kept.free in
-          omega (arith, less, long, all));
-      size = kept.size;
-      vars = kept.vars;
-      room = (let least = kept.room in omega (arith, least, grown));
-    }
+  pub shows_given : (name : Name) (entry : Entry) → StandsAt shown.table place name entry
+      → record (the_view inside) { table = table_of inside.layout (given inside.pool session.block) (remove inside.«open».items place) } ≡ record shown { table = without name shown.table }
+  shows_given name entry stands =
+      ap (λ (t : Table). record (the_view inside) { table = t })
+      (map-remove (entry_at inside.layout inside.pool) items place
+      ∙ sym (without_at (table_in inside) place name entry (table_sorted inside kept) (stood name entry stands).at))
+      ∙ ap (λ (o : Opened). record o { table = without name o.table }) shows
 
-    pub taken-table : table_of layout (taken pool block) (insert sessions place (record { name = name; block = block }))
-        ≡ with_entry name (record { known = empty_case layout.wires layout.parts; point = None }) (table_of layout pool sessions)
-    taken-table =
-        let entry : Entry = record { known = empty_case layout.wires layout.parts; point = None } in
-        map-insert (entry_at layout (taken pool block)) sessions place opened
-        ∙ (ap₂ (λ (es : Table) e. insert es place (name, e))
-        (table_taken layout pool sound block free sessions kept.blocks)
-        (ap (entry_in layout) zeroed-words ∙ zeros-entry layout kept.vars)
-        ∙ sym (put_gap table place name entry (gap_map (λ s. entry_in layout (block_words pool s.block)) sessions place name gap)))
+-- ---- a session opens
 
--- a place that was set has what was set
-slice_get-set : {X : Type 0} (xs : List X) (place : ℕ) (x y : X) → slice_get xs place ≡ Some x → slice_get (set xs place y) place ≡ Some y
-slice_get-set [] place x y at = absurd (none-some x at)
-slice_get-set (z ∷ xs) zero x y at = refl
-slice_get-set (z ∷ xs) (suc place) x y at = slice_get-set xs place x y at
+module _ (inside : Inside) (shown : Opened) (shows : the_view inside ≡ shown) (kept : Kept inside) (place : ℕ) (name : Name) (block : ℕ) (gap : IsGapFor inside.«open».items place name) (sound : IsSound inside.pool) (free : IsFree inside.pool block) (room : length shown.table < shown.limit) where
+  abbrev before : List Open
+  before = inside.«open».items
 
--- The session whose block is written stands at its place with its new entry.
-module _ (layout : Layout) (limit : ℕ) (pool : Blocks) (sessions : List Open) (capacity : ℕ) (kept : AreKept layout limit pool sessions capacity) (place : ℕ) (s : Open) (at : slice_get sessions place ≡ Some s) (new : Blocks) (change : Entry → Entry) (keeps : KeepsEntry layout pool new s.block (change (entry_in layout (block_words pool s.block)))) where
-  pub written-stands : (session : Name) (entry : Entry) → StandsAt (table_of layout pool sessions) place session entry → StandsAt (table_of layout new sessions) place session (change entry)
-  written-stands session entry stands =
-      let old : Table = table_of layout pool sessions in
-      let set_there : table_of layout new sessions ≡ set old place (session, change entry) =
-      written-table layout limit pool sessions capacity kept place s at new change keeps session entry stands
-      ∙ put_at old place session entry (change entry) (table_sorted layout limit pool sessions capacity kept) stands.at in
-      let there : slice_get (table_of layout new sessions) place ≡ Some (session, change entry) =
-      ap (λ (es : Table). slice_get es place) set_there ∙ slice_get-set old place (session, entry) (session, change entry) stands.at in
-      let sorted = table_sorted layout limit new sessions capacity (written-kept layout limit pool sessions capacity kept place s at new change keeps) in
-      record { at = there; found = find_at (table_of layout new sessions) place session (change entry) sorted there; kept = put_same (table_of layout new sessions) place session (change entry) sorted there }
+  abbrev session : Open
+  session = record { name = name; block = block }
+
+  few : length before < inside.limit
+  few =
+      let long = length-map before (entry_at inside.layout inside.pool) in
+      let equal = ap (λ (o : Opened). length o.table) shows in
+      let limit = ap (λ (o : Opened). o.limit) shows in
+      omega (arith, long, equal, limit, room)
+
+  zeros : block_words (taken inside.pool block) block ≡ replicate (block_size inside.layout) 0
+  zeros = taken-zeroed inside.pool sound block free.0 ∙ ap (λ n. replicate n 0) (kept.size (omega (arith, few)))
+
+  rise_taken : NamesRise (insert before place session)
+  rise_taken =
+      let pairs : List (Name × ℕ) = blocks_by_name before in
+      let more : put order name block pairs ≡ blocks_by_name (insert before place session) =
+      put_gap pairs place name block (gap_map (λ s. s.block) before place name gap) ∙ sym (map-insert name_and_block before place session) in
+      as_true (is_sorted order (blocks_by_name (insert before place session)))
+      (subst (λ (es : List (Name × ℕ)). T (is_sorted order es)) more (is_sorted-put order nat_list_cmp_total name block pairs (so (is_sorted order pairs) kept.rise)))
+
+  pub took : (capacity : ℕ) → vec_capacity inside.«open» ≤ capacity
+      → AreKept inside.layout inside.limit (taken inside.pool block) (insert inside.«open».items place (record { name = name; block = block })) capacity
+  took capacity grown = record {
+    rise = rise_taken;
+    blocks = have_insert inside.layout (taken inside.pool block) before place session
+        (taken-out inside.pool block free.0)
+        (subst (IsLaidOut inside.layout) (sym zeros) (zeros-laid inside.layout kept.vars))
+        (none_taken inside.layout inside.pool sound block free before kept.blocks)
+        (have_taken inside.layout inside.pool sound block free before kept.blocks);
+    free =
+        (let less = taken-free inside.pool block free in
+        let long = length-insert before place session gap.within in
+        let all = kept.free in
+        omega (arith, less, long, all));
+    size = kept.size;
+    vars = kept.vars;
+    room = (let least = kept.room in omega (arith, least, grown));
+  }
+
+  pub shows_taken : record (the_view inside) { table = table_of inside.layout (taken inside.pool block) (insert inside.«open».items place (record { name = name; block = block })) }
+      ≡ record shown { table = with_entry name (fresh_entry shown) shown.table }
+  shows_taken =
+      let entry : Entry = record { known = empty_case inside.layout.wires inside.layout.parts; point = None } in
+      ap (λ (t : Table). record (the_view inside) { table = t })
+      (map-insert (entry_at inside.layout (taken inside.pool block)) before place session
+      ∙ (ap₂ (λ (t : Table) (e : Entry). insert t place (name, e))
+      (table_taken inside.layout inside.pool sound block free before kept.blocks)
+      (ap (entry_in inside.layout) zeros ∙ zeros-entry inside.layout kept.vars)
+      ∙ sym (put_gap (table_in inside) place name entry (table_gap inside kept place name gap))))
+      ∙ ap (λ (o : Opened). record o { table = with_entry name (fresh_entry o) o.table }) shows

@@ -1,5 +1,6 @@
 mod Lookups
 mod Searching
-mod Wording
+mod Mapping
+mod Noting
 mod Keeping
 mod Changes

@@ -3,7 +3,7 @@ ghost use Rattle.std.specs.Option.{option_map};
 ghost use Rattle.diagnosis_lister.specs.Listing.{bits_of};
 ghost use Rattle.session_rules.specs.GraphSystems.{word_of_known};
 ghost use Rattle.session_rules.specs.Sessions.{with_seen, with_held};
-ghost use Rattle.session_table.specs.inner.Blocks.{known_in, entry_in, with_point, IsLaidOut};
+ghost use Rattle.session_table.specs.inner.Blocks.{known_in, entry_in, noted, with_point, IsLaidOut};
 
 /// How many parts, wires and variables a block of a session has words for: one for each variable, one that says whether there
 /// is a point, and one for each part of the point.
@@ -22,8 +22,7 @@ impl Layout {
         ensures entry { entry_in self block.new ≡ with_seen (entry_in self block.old) wire bit }
         ensures block { IsLaidOut self block.new }
     {
-        block[self.parts as usize + wire as usize] = word_of(bit);
-        block[self.vars as usize] = 0;
+        self.note(block, self.parts as usize + wire as usize, bit);
     }
 
     /// A part is held ok or faulty, or is not held any more.
@@ -33,7 +32,16 @@ impl Layout {
         ensures entry { entry_in self block.new ≡ with_held (entry_in self block.old) part ok }
         ensures block { IsLaidOut self block.new }
     {
-        block[part as usize] = word_of(ok);
+        self.note(block, part as usize, ok);
+    }
+
+    // Writes what is known of a variable. The session has no point then.
+    fn note(self, block: &mut [u32], place: usize, known: Option<bool>)
+        requires place { place < self.vars }
+        requires room { self.vars < length block.old }
+        ensures { block.new ≡ noted self block.old place known }
+    {
+        block[place] = word_of(known);
         block[self.vars as usize] = 0;
     }
 

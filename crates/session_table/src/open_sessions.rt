@@ -57,7 +57,7 @@ impl OpenSessions {
         ensures { IfOk result (λ opened. opened
             ≡ record { parts = parts; wires = wires; vars = vars; limit = sessions; table = [] }) }
     {
-        // Where no session may be open, blocks may be of any size.
+        // Where no session may be open there is no block, and the number of its words might not fit.
         let size = if sessions == 0 { 0 } else { vars + 1 + parts };
         Ok(OpenSessions {
             layout: Layout { parts, wires, vars },
@@ -114,13 +114,8 @@ impl OpenSessions {
         ensures { (session : Name) (entry : Entry) → StandsAt self.old.table place session entry
             → self.new ≡ record self.old { table = with_entry session (with_seen entry wire bit) self.old.table } }
     {
-        in_pool::see(
-            self.layout,
-            &mut self.pool,
-            &self.open[place].block,
-            wire,
-            bit,
-        );
+        let block = &self.open[place].block;
+        in_pool::see(self.layout, &mut self.pool, block, wire, bit);
     }
 
     /// In the session at a place a part is held ok or faulty, or is not held any more. It has no point then.
@@ -130,13 +125,8 @@ impl OpenSessions {
         ensures { (session : Name) (entry : Entry) → StandsAt self.old.table place session entry
             → self.new ≡ record self.old { table = with_entry session (with_held entry part ok) self.old.table } }
     {
-        in_pool::hold(
-            self.layout,
-            &mut self.pool,
-            &self.open[place].block,
-            part,
-            ok,
-        );
+        let block = &self.open[place].block;
+        in_pool::hold(self.layout, &mut self.pool, block, part, ok);
     }
 
     /// What the session at a place knows: a word for each variable.
@@ -171,7 +161,8 @@ impl OpenSessions {
         ensures stands { (session : Name) (entry : Entry) → StandsAt self.old.table place session entry
             → StandsAt self.new.table place session (record entry { point = Some (bits_of state.now) }) }
     {
-        in_pool::set_point(self.layout, &mut self.pool, &self.open[place].block, state);
+        let block = &self.open[place].block;
+        in_pool::set_point(self.layout, &mut self.pool, block, state);
     }
 
     /// Closes all sessions.

@@ -1,37 +1,19 @@
-use Rattle.std.proofs.Common.{◌≡◌, Some, ap, sym, ◌∙◌, subst}
-use Rattle.std.specs.Prelude.{slice_get, vec_capacity}
-use Rattle.scratch_pool.specs.Pools.{IsOut, block_words}
-use Rattle.session_rules.specs.Sessions.{Entry, Table, with_seen}
-use Rattle.session_table.specs.Tables.{Opened, StandsAt}
-use Rattle.session_table.specs.inner.Blocks.{IsLaidOut}
-use Rattle.session_table.specs.inner.Ordered.{table_of}
-use Rattle.session_table.proofs.Changes.{indexed, place-out, place-laid, written-kept, written-table}
+use Rattle.session_rules.specs.Sessions.{with_seen}
+use Rattle.session_table.proofs.Changes.{is_out, is_laid_out, written, shows_written}
 use Rattle.session_table.proofs.open_sessions.OpenSessions.see.Goals as goal
 
 pub see-requires-clause-out : goal.see-requires-clause-out
-see-requires-clause-out c =
-    let s = c.self.inside in
-    let at = indexed s.layout s.pool s.«open».items c.args.self.now.table c.args.place c.index.result.now (ap (λ (o : Opened). o.table) c.self.view_is) c.requires.place c.index.ensures in
-    place-out s.layout s.limit s.pool s.«open».items (vec_capacity s.«open») c.self.invariant c.args.place c.index.result.now at
+see-requires-clause-out c = is_out c.self.inside c.args.self.now c.self.view_is c.self.invariant c.args.place c.index.result.now c.requires.place c.index.ensures
 
 pub see-requires-clause-block : goal.see-requires-clause-block
-see-requires-clause-block c =
-    let s = c.self.inside in
-    let at = indexed s.layout s.pool s.«open».items c.args.self.now.table c.args.place c.index.result.now (ap (λ (o : Opened). o.table) c.self.view_is) c.requires.place c.index.ensures in
-    place-laid s.layout s.limit s.pool s.«open».items (vec_capacity s.«open») c.self.invariant c.args.place c.index.result.now at
+see-requires-clause-block c = is_laid_out c.self.inside c.args.self.now c.self.view_is c.self.invariant c.args.place c.index.result.now c.requires.place c.index.ensures
 
 pub invariant_of-self : goal.invariant_of-self
 invariant_of-self c =
-    let s = c.self.inside in
-    let at = indexed s.layout s.pool s.«open».items c.args.self.now.table c.args.place c.index.result.now (ap (λ (o : Opened). o.table) c.self.view_is) c.requires.place c.index.ensures in
-    written-kept s.layout s.limit s.pool s.«open».items (vec_capacity s.«open») c.self.invariant c.args.place c.index.result.now at
+    written c.self.inside c.args.self.now c.self.view_is c.self.invariant c.args.place c.index.result.now c.requires.place c.index.ensures
     c.see.new.pool (λ entry. with_seen entry c.args.wire c.args.bit) c.see.ensures
 
 pub returns : goal.returns
 returns c =
-    let s = c.self.inside in
-    let at = indexed s.layout s.pool s.«open».items c.args.self.now.table c.args.place c.index.result.now (ap (λ (o : Opened). o.table) c.self.view_is) c.requires.place c.index.ensures in
-    rw (← c.self.view_is) (λ session entry stands.
-    ap (λ (t : Table). record { parts = s.layout.parts; wires = s.layout.wires; vars = s.layout.vars; limit = s.limit; table = t })
-    (written-table s.layout s.limit s.pool s.«open».items (vec_capacity s.«open») c.self.invariant c.args.place c.index.result.now at
-    c.see.new.pool (λ entry. with_seen entry c.args.wire c.args.bit) c.see.ensures session entry stands))
+    shows_written c.self.inside c.args.self.now c.self.view_is c.self.invariant c.args.place c.index.result.now c.requires.place c.index.ensures
+    c.see.new.pool (λ entry. with_seen entry c.args.wire c.args.bit) c.see.ensures

@@ -9,72 +9,72 @@ use Rattle.session_rules.specs.GraphSystems.{word_of_known}
 use Rattle.session_rules.specs.Sessions.{Entry, with_seen, with_held}
 use Rattle.session_rules.specs.CaseWords.{case_of_words, AreWords}
 use Rattle.session_rules.proofs.CaseWords.{zeros-say, zeros-are, room-in_words, wire-says, wire-are, part-says, part-are}
-use Rattle.session_table.specs.inner.Blocks.{known_in, state_in, entry_in, point_of, block_size, IsLaidOut}
+use Rattle.session_table.specs.inner.Blocks.{known_in, state_in, entry_in, noted, point_of, block_size, IsLaidOut}
 use Rattle.session_table.specs.declared.block.Layout.{Layout}
 
--- the block after one word was written and the point taken away
-abbrev pub changed : Layout → List ℕ → ℕ → ℕ → List ℕ
-changed layout block place w = set (set block place w) layout.vars 0
+module _ (layout : Layout) (block : List ℕ) (laid : IsLaidOut layout block) (place : ℕ) (within : place < layout.vars) (known : Option Bool) where
+  abbrev w : ℕ
+  w = word_of_known known
 
-module _ (layout : Layout) (block : List ℕ) (laid : IsLaidOut layout block) (place w : ℕ) (within : place < layout.vars) where
-  changed-known : known_in layout (changed layout block place w) ≡ set (known_in layout block) place w
-  changed-known = take-set-le layout.vars (set block place w) layout.vars 0 (omega arith) ∙ take-set-lt layout.vars block place w within
+  noted-known : known_in layout (noted layout block place known) ≡ set (known_in layout block) place (word_of_known known)
+  noted-known = take-set-le layout.vars (set block place w) layout.vars 0 (omega arith) ∙ take-set-lt layout.vars block place w within
 
-  changed-state : state_in layout (changed layout block place w) ≡ state_in layout block
-  changed-state =
+  noted-state : state_in layout (noted layout block place known) ≡ state_in layout block
+  noted-state =
       drop-set-lt (layout.vars + 1) (set block place w) layout.vars 0 (omega arith)
       ∙ drop-set-lt (layout.vars + 1) block place w (omega (arith, within))
 
-  -- there is no point then
-  changed-point : point_of (get_or (changed layout block place w) layout.vars 0) (state_in layout (changed layout block place w)) ≡ None
-  changed-point =
+  noted-point : point_of (get_or (noted layout block place known) layout.vars 0) (state_in layout (noted layout block place known)) ≡ None
+  noted-point =
       let long = laid.long in
       let same = length-set block place w in
-      ap (λ n. point_of n (state_in layout (changed layout block place w))) (get_or-set_same (set block place w) layout.vars 0 0 (omega (arith, long, same)))
+      ap (λ n. point_of n (state_in layout (noted layout block place known))) (get_or-set_same (set block place w) layout.vars 0 0 (omega (arith, long, same)))
 
-  changed-laid : AreWords layout.parts layout.wires layout.vars (set (known_in layout block) place w) → IsLaidOut layout (changed layout block place w)
-  changed-laid are = record {
+  -- it is laid out again if its first words are those of a case
+  noted-laid : AreWords layout.parts layout.wires layout.vars (set (known_in layout block) place (word_of_known known)) → IsLaidOut layout (noted layout block place known)
+  noted-laid are = record {
     long = length-set (set block place w) layout.vars 0 ∙ (length-set block place w ∙ laid.long);
-    known = subst (AreWords layout.parts layout.wires layout.vars) (sym changed-known) are;
-    state = subst (All (λ s. s < 2)) (sym changed-state) laid.state;
+    known = subst (AreWords layout.parts layout.wires layout.vars) (sym noted-known) are;
+    state = subst (All (λ s. s < 2)) (sym noted-state) laid.state;
   }
 
-  changed-entry : (after : Case) → case_of_words layout.parts layout.wires (set (known_in layout block) place w) ≡ after
-      → entry_in layout (changed layout block place w) ≡ record { known = after; point = None }
-  changed-entry after says = λ i. record { known = (ap (case_of_words layout.parts layout.wires) changed-known ∙ says) i; point = changed-point i }
+  -- and holds the case that they say
+  noted-entry : (after : Case) → case_of_words layout.parts layout.wires (set (known_in layout block) place (word_of_known known)) ≡ after
+      → entry_in layout (noted layout block place known) ≡ record { known = after; point = None }
+  noted-entry after says = λ i. record { known = (ap (case_of_words layout.parts layout.wires) noted-known ∙ says) i; point = noted-point i }
 
 module _ (layout : Layout) (block : List ℕ) (laid : IsLaidOut layout block) where
-  room : layout.parts + layout.wires ≤ layout.vars
-  room = room-in_words layout.parts layout.wires layout.vars (known_in layout block) laid.known
+  pub block-room : layout.parts + layout.wires ≤ layout.vars
+  block-room = room-in_words layout.parts layout.wires layout.vars (known_in layout block) laid.known
 
   -- a wire's word is written
   module _ (wire : ℕ) (within : wire < layout.wires) (bit : Option Bool) where
-    before_vars : layout.parts + wire < layout.vars
-    before_vars = omega (arith, room, within)
+    wire_within : layout.parts + wire < layout.vars
+    wire_within = omega (arith, block-room, within)
 
-    pub seen-entry : entry_in layout (set (set block (layout.parts + wire) (word_of_known bit)) layout.vars 0) ≡ with_seen (entry_in layout block) wire bit
+    pub seen-entry : entry_in layout (noted layout block (layout.parts + wire) bit) ≡ with_seen (entry_in layout block) wire bit
     seen-entry =
-        changed-entry layout block laid (layout.parts + wire) (word_of_known bit) before_vars (with_seen (entry_in layout block) wire bit).known
+        noted-entry layout block laid (layout.parts + wire) wire_within bit (with_seen (entry_in layout block) wire bit).known
         (wire-says layout.parts layout.wires layout.vars (known_in layout block) laid.known wire within bit)
 
-    pub seen-laid : IsLaidOut layout (set (set block (layout.parts + wire) (word_of_known bit)) layout.vars 0)
+    pub seen-laid : IsLaidOut layout (noted layout block (layout.parts + wire) bit)
     seen-laid =
-        changed-laid layout block laid (layout.parts + wire) (word_of_known bit) before_vars
+        noted-laid layout block laid (layout.parts + wire) wire_within bit
         (wire-are layout.parts layout.wires layout.vars (known_in layout block) laid.known wire within bit)
 
   -- a part's word is written
   module _ (part : ℕ) (within : part < layout.parts) (ok : Option Bool) where
-    part_before_vars : part < layout.vars
-    part_before_vars = omega (arith, room, within)
+    part_within : part < layout.vars
+    part_within = omega (arith, block-room, within)
 
-    pub held-entry : entry_in layout (set (set block part (word_of_known ok)) layout.vars 0) ≡ with_held (entry_in layout block) part ok
+    pub held-entry : entry_in layout (noted layout block part ok) ≡ with_held (entry_in layout block) part ok
     held-entry =
-        changed-entry layout block laid part (word_of_known ok) part_before_vars (with_held (entry_in layout block) part ok).known
+        noted-entry layout block laid part part_within ok (with_held (entry_in layout block) part ok).known
         (part-says layout.parts layout.wires layout.vars (known_in layout block) laid.known part within ok)
 
-    pub held-laid : IsLaidOut layout (set (set block part (word_of_known ok)) layout.vars 0)
+    pub held-laid : IsLaidOut layout (noted layout block part ok)
     held-laid =
-        changed-laid layout block laid part (word_of_known ok) part_before_vars
+        noted-laid layout block laid part part_within ok
         (part-are layout.parts layout.wires layout.vars (known_in layout block) laid.known part within ok)
 
 -- a block of zeros is that of a session that opens

@@ -5,3 +5,5 @@ pub mod Minimum
 pub mod Told
 pub mod Questions
 pub mod Staying
+pub mod Obeying
+pub mod Holding

@@ -2,7 +2,7 @@
 ghost use Rattle.std.specs.Prelude.{◌≡◌, ◌+◌, ◌<◌, ◌≤◌, [], ◌∷◌, Some, length, All, IfOk, IfSome, slice_index_or, true, false};
 ghost use Rattle.std.specs.Option.{option_map};
 ghost use Rattle.std.specs.List.{list_all};
-ghost use Rattle.text_rules.specs.Names.{is_among};
+ghost use Rattle.text_rules.specs.Names.{Name, is_among};
 ghost use Rattle.text_rules.specs.Tokens.{words};
 ghost use Rattle.diag_edge.specs.Edge.{HasCause};
 ghost use Rattle.ranking.specs.Ranking.{rest};

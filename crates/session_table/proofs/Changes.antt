@@ -20,7 +20,7 @@ use Rattle.session_table.specs.inner.Ordered.{entry_at, table_of, blocks_by_name
 use Rattle.session_table.specs.declared.in_order.Open.{Open}
 use Rattle.session_table.specs.declared.open_sessions.OpenSessions.TheInside.{Inside}
 use Rattle.session_table.specs.contracts.open_sessions.OpenSessions.{the_view}
-use Rattle.session_table.proofs.Lookups.{order, IsGap, find_at, put_at, without_at, put_gap, find_gap}
+use Rattle.session_table.proofs.Lookups.{order, IsGap, find_at, put_at, put_same, without_at, put_gap, find_gap}
 use Rattle.session_table.proofs.Mapping.{sorted_alike, map-insert, map-remove, gap_map, slice_get-set}
 use Rattle.session_table.proofs.Searching.{so, as_true}
 use Rattle.session_table.proofs.Noting.{zeros-entry, zeros-laid}
@@ -54,7 +54,7 @@ module _ (inside : Inside) (kept : Kept inside) where
       let at : slice_get (table_in inside) place ≡ Some (name, entry) =
       slice_get-map (entry_at inside.layout inside.pool) sessions place
       ∙ (ap (option_map (entry_at inside.layout inside.pool)) here ∙ ap (λ n. Some (n, entry)) named) in
-      record { at = at; found = find_at (table_in inside) place name entry (table_sorted inside kept) at }
+      record { at = at; found = find_at (table_in inside) place name entry (table_sorted inside kept) at; kept = put_same (table_in inside) place name entry (table_sorted inside kept) at }
 
   table_gap : (place : ℕ) (name : Name) → IsGapFor sessions place name → IsGap (table_in inside) place name
   table_gap place name gap = gap_map (λ session. entry_in inside.layout (block_words inside.pool session.block)) sessions place name gap
@@ -73,6 +73,11 @@ module _ (inside : Inside) (shown : Opened) (shows : the_view inside ≡ shown) 
         subst (λ (t : Table). StandsAt t place name (entry_in inside.layout (block_words inside.pool session.block))) table_is (stands_at inside kept place session name here has.2),
       )
   found (Err place) has = tt
+
+  -- and that place is one of the table's
+  pub found-within : (r : Result ℕ ℕ) → IfOk r (λ place. HasName sessions place name) → IfSome (result_ok r) (λ place. place < length shown.table)
+  found-within (Ok place) has = let there = found (Ok place) has in slice_get_within shown.table place (name, there.0) there.1.at
+  found-within (Err place) has = tt
 
   pub absent : (r : Result ℕ ℕ) → IfErr r (λ place. IsGapFor sessions place name) → IfNone (result_ok r) (entry_of name shown.table ≡ None)
   absent (Ok place) gap = tt
@@ -152,7 +157,7 @@ module _ (inside : Inside) (shown : Opened) (shows : the_view inside ≡ shown) 
         let at : slice_get (table_in new) place ≡ Some (name, change entry) =
         ap (λ (t : Table). slice_get t place) (written_set name entry stands)
         ∙ slice_get-set (table_in inside) place (name, entry) (name, change entry) (stood name entry stands).at in
-        record { at = at; found = find_at (table_in new) place name (change entry) (table_sorted new written) at }
+        record { at = at; found = find_at (table_in new) place name (change entry) (table_sorted new written) at; kept = put_same (table_in new) place name (change entry) (table_sorted new written) at }
 
   -- it closes
   rise_given : NamesRise (remove items place)

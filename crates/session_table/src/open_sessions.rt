@@ -76,6 +76,7 @@ impl OpenSessions {
 
     /// The place of an open session. There is none exactly where no session of this name is open.
     pub fn find(&self, session: &[u8]) -> Option<usize>
+        ensures within { IfSome result (λ place. place < length self.now.table) }
         ensures some { IfSome result (λ place. (entry : Entry) × StandsAt self.now.table place session.now entry) }
         ensures none { IfNone result (entry_of session.now self.now.table ≡ None) }
     {

@@ -56,8 +56,8 @@ moved_on shown session entry =
     record shown { table = with_entry session (record entry { point = (the_next shown session entry).point }) shown.table }
 
 -- the point of a session moved, and it is told whether there was a diagnosis
-pub record PointMoves (old new : Shown) (place : ℕ) (session : Name) (entry : Entry) (answer : Answer) : Type 0 where
-  pub answer : answer ≡ step_of ((system_of old.subject).consistent entry.known)
+pub record PointMoves (old new : Shown) (place : ℕ) (session : Name) (entry : Entry) (found : Answer) : Type 0 where
+  pub answer : found ≡ step_of ((system_of old.subject).consistent entry.known)
       (rest (all_diagnoses (system_of old.subject) entry.known) entry.point)
   pub moved : new ≡ moved_on old session entry
   pub stands : StandsAt new.table place session (record entry { point = (the_next old session entry).point })

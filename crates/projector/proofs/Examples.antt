@@ -92,3 +92,26 @@ never_true = refl
 left_out : projected_text (record { nodes = literal_node 2 false ∷ []; vars = 2 }) (0 ∷ 0 ∷ []) 1 ≡ text (map codes ("nnf 2 1 1" ∷ "A 0" ∷ "A 1 0" ∷ []))
 unfolding digits
 left_out = refl
+
+-- the example of the formats: the first part is ok, or the second is faulty and the wire is 0
+abbrev parts_and_wire : Graph
+parts_and_wire = record {
+  nodes = literal_node 1 true ∷ literal_node 2 false ∷ literal_node 3 false ∷ record { what = And; kids = 1 ∷ 2 ∷ [] } ∷ record { what = Or; kids = 0 ∷ 3 ∷ [] } ∷ [];
+  vars = 3;
+}
+
+-- the second is held to be faulty, and the wire is seen as 1
+wire_is_1 : projected_text parts_and_wire (0 ∷ 2 ∷ 1 ∷ []) 2
+    ≡ text (map codes ("nnf 7 6 2" ∷ "L 1" ∷ "A 0" ∷ "O 0 0" ∷ "A 2 1 2" ∷ "O 0 2 0 3" ∷ "L -2" ∷ "A 2 4 5" ∷ []))
+unfolding digits
+wire_is_1 = refl
+
+first_ok : models parts_and_wire (0 ∷ 2 ∷ 1 ∷ []) 2 ≡ (true ∷ false ∷ []) ∷ []
+first_ok = refl
+
+-- seen as 0, or not seen
+wire_is_0 : models parts_and_wire (0 ∷ 2 ∷ 2 ∷ []) 2 ≡ (false ∷ false ∷ []) ∷ (true ∷ false ∷ []) ∷ []
+wire_is_0 = refl
+
+wire_is_not_seen : models parts_and_wire (0 ∷ 2 ∷ 0 ∷ []) 2 ≡ (false ∷ false ∷ []) ∷ (true ∷ false ∷ []) ∷ []
+wire_is_not_seen = refl

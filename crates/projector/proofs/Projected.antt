@@ -46,34 +46,34 @@ part_bit None bit b e f = sym (same_bit-equal bit b e)
 
 -- ---- a node, by its kids
 
-module _ (words : List ℕ) (parts : ℕ) where
-  -- what the words say of a variable
-  abbrev known_of_var : ℕ → Option Bool
-  known_of_var v = known_of (slice_index words (v - 1))
+-- what the words say of a variable
+abbrev known_of_var : List ℕ → ℕ → Option Bool
+known_of_var words v = known_of (slice_index words (v - 1))
 
+module _ (words : List ℕ) (parts : ℕ) where
   -- what is known of the variables, and what an assignment gives the parts
   abbrev pub wanted : Assignment → ℕ → Option Bool
-  wanted a v = wanted_of (known_of_var v) (nat_lt (v - 1) parts) (a v)
+  wanted a v = wanted_of (known_of_var words v) (nat_lt (v - 1) parts) (a v)
 
   -- a projected node is true where the node can be
   kind-truth : (a : Assignment) (vars : ℕ) (kind : NodeKind) (kids : List ℕ) → kind_fits vars kind kids ≡ true → (c : ℕ → Bool)
       → truth_by a (projected_kind words parts kind) (map c kids) ≡ can_by (wanted a) kind (map c kids)
   kind-truth a vars (Literal var positive) kids fits c =
       let is = literal vars var positive kids fits in
-      ap (λ ks. truth_by a (projected_kind words parts (Literal var positive)) (map c ks)) is.alone ∙ literal-truth parts var positive a (known_of_var var) is.low
+      ap (λ ks. truth_by a (projected_kind words parts (Literal var positive)) (map c ks)) is.alone ∙ literal-truth parts var positive a (known_of_var words var) is.low
   kind-truth a vars And kids fits c = refl
   kind-truth a vars Or kids fits c = refl
 
   -- and mentions no variable but those that it did, and of these no known one
   kind-mentions : (v vars own : ℕ) (f g : ℕ → Bool) (kind : NodeKind) (kids : List ℕ) → kind_fits vars kind kids ≡ true → are_below own kids ≡ true
-      → ((k : ℕ) → k < own → f k ≡ true → (g k ≡ true) × (known_of_var v ≡ None))
-      → mention_by v (projected_kind words parts kind) (map f kids) ≡ true → (mention_by v kind (map g kids) ≡ true) × (known_of_var v ≡ None)
+      → ((k : ℕ) → k < own → f k ≡ true → (g k ≡ true) × (known_of_var words v ≡ None))
+      → mention_by v (projected_kind words parts kind) (map f kids) ≡ true → (mention_by v kind (map g kids) ≡ true) × (known_of_var words v ≡ None)
   kind-mentions v vars own f g (Literal var positive) kids fits below more e =
       let is = literal vars var positive kids fits in
-      let r = literal-mentions parts var positive v (known_of_var var) (ap (λ ks. mention_by v (projected_kind words parts (Literal var positive)) (map f ks)) (sym is.alone) ∙ e) in
-      (eq-eqb var v r.0, ap known_of_var (sym r.0) ∙ r.1)
-  kind-mentions v vars own f g And kids fits below more e = any_more (known_of_var v ≡ None) f g own kids below more e
-  kind-mentions v vars own f g Or kids fits below more e = any_more (known_of_var v ≡ None) f g own kids below more e
+      let r = literal-mentions parts var positive v (known_of_var words var) (ap (λ ks. mention_by v (projected_kind words parts (Literal var positive)) (map f ks)) (sym is.alone) ∙ e) in
+      (eq-eqb var v r.0, ap (known_of_var words) (sym r.0) ∙ r.1)
+  kind-mentions v vars own f g And kids fits below more e = any_more (known_of_var words v ≡ None) f g own kids below more e
+  kind-mentions v vars own f g Or kids fits below more e = any_more (known_of_var words v ≡ None) f g own kids below more e
 
   alone-apart : (f : ℕ → Bool) (kind : NodeKind) → apart_at f kind [] ≡ true
   alone-apart f (Literal var positive) = refl
@@ -91,7 +91,7 @@ module _ (words : List ℕ) (parts : ℕ) where
   kind-fits : (vars : ℕ) (kind : NodeKind) (kids : List ℕ) → kind_fits vars kind kids ≡ true → kind_fits parts (projected_kind words parts kind) kids ≡ true
   kind-fits vars (Literal var positive) kids fits =
       let is = literal vars var positive kids fits in
-      ap (kind_fits parts (projected_kind words parts (Literal var positive))) is.alone ∙ literal-fits parts var positive (known_of_var var) is.low
+      ap (kind_fits parts (projected_kind words parts (Literal var positive))) is.alone ∙ literal-fits parts var positive (known_of_var words var) is.low
   kind-fits vars And kids fits = fits
   kind-fits vars Or kids fits = fits
 
@@ -221,10 +221,10 @@ module _ (graph : Graph) (words : List ℕ) (parts : ℕ) (is : IsGraph graph) (
           kind-range i (mentions graph.nodes v) node.what node.kids (fits_at i lt).kind (fits_at i lt).below earlier (sym (value_of-at (mention_by v) graph.nodes i lt (fits_at i lt).below) ∙ e)
 
     -- a node mentions what it did, but nothing that is known
-    mentioned : (i : ℕ) → i < length graph.nodes → mentions all v i ≡ true → (mentions graph.nodes v i ≡ true) × (known_of_var words parts v ≡ None)
-    mentioned i lt = each_below (λ k. mentions all v k ≡ true → (mentions graph.nodes v k ≡ true) × (known_of_var words parts v ≡ None)) (length graph.nodes) step (length graph.nodes) (omega arith) i lt where
-      step : (i : ℕ) → i < length graph.nodes → ((k : ℕ) → k < i → mentions all v k ≡ true → (mentions graph.nodes v k ≡ true) × (known_of_var words parts v ≡ None))
-          → mentions all v i ≡ true → (mentions graph.nodes v i ≡ true) × (known_of_var words parts v ≡ None)
+    mentioned : (i : ℕ) → i < length graph.nodes → mentions all v i ≡ true → (mentions graph.nodes v i ≡ true) × (known_of_var words v ≡ None)
+    mentioned i lt = each_below (λ k. mentions all v k ≡ true → (mentions graph.nodes v k ≡ true) × (known_of_var words v ≡ None)) (length graph.nodes) step (length graph.nodes) (omega arith) i lt where
+      step : (i : ℕ) → i < length graph.nodes → ((k : ℕ) → k < i → mentions all v k ≡ true → (mentions graph.nodes v k ≡ true) × (known_of_var words v ≡ None))
+          → mentions all v i ≡ true → (mentions graph.nodes v i ≡ true) × (known_of_var words v ≡ None)
       step i lt earlier e =
           let node : Node = node_at graph.nodes i in
           let r = kind-mentions words parts v graph.vars i (mentions all v) (mentions graph.nodes v) node.what node.kids (fits_at i lt).kind (fits_at i lt).below earlier (sym (value-at (mention_by v) i lt) ∙ e) in
@@ -235,8 +235,8 @@ module _ (graph : Graph) (words : List ℕ) (parts : ℕ) (is : IsGraph graph) (
     root-silent any =
         let h = held-known v 1 known_parts any in
         let lt : v - 1 < parts = omega (arith, h.from, h.to, length-known) in
-        let is_known : known_of_var words parts v ≡ Some h.ok = sym (part_known (v - 1) lt) ∙ h.is in
-        false_from_ne_true _ (λ e. let unknown : known_of_var words parts v ≡ None = (mentioned old_root (omega (arith, is.some)) e).1 in absurd (cc))
+        let is_known : known_of_var words v ≡ Some h.ok = sym (part_known (v - 1) lt) ∙ h.is in
+        false_from_ne_true _ (λ e. let unknown : known_of_var words v ≡ None = (mentioned old_root (omega (arith, is.some)) e).1 in absurd (cc))
 
     root-apart : at_most_one (map (mentions all v) root.kids) ≡ true
     root-apart = ap at_most_one (root-kids (mention_by v)) ∙ at_most_one-from (mentions all v old_root) (map (λ node. mention_by v node.what []) held) root-silent (held-once v 1 known_parts)
@@ -280,7 +280,7 @@ module _ (graph : Graph) (words : List ℕ) (parts : ℕ) (is : IsGraph graph) (
     -- bits that fit the words are what is wanted
     model-agrees : (others : List Bool) → length others ≡ graph.vars - parts → fits_words words (h ++ others) ≡ true → Agrees (wanted words parts a) (assignment (h ++ others))
     model-agrees others rest fit v =
-        allowed (known_of_var words parts v) (nat_lt (v - 1) parts) (a v) (bit_in (h ++ others) (v - 1))
+        allowed (known_of_var words v) (nat_lt (v - 1) parts) (a v) (bit_in (h ++ others) (v - 1))
         (subst (λ k. agrees_at k (bit_in (h ++ others) (v - 1)) ≡ true) (known-at words (v - 1))
         (agrees-at (known words) (h ++ others) (omega (arith, length-map words known_of, as_long, length-append h others, long, rest)) fit (v - 1)))
         (λ part. let lt = ltb-true (v - 1) parts part in get_or_append_left h others false (v - 1) (omega arith))
@@ -326,7 +326,7 @@ module _ (graph : Graph) (words : List ℕ) (parts : ℕ) (is : IsGraph graph) (
       known-bit i lt =
           let inside : i < graph.vars = omega (arith, length-append h others, length-others) in
           let place : (i + 1) - 1 ≡ i = omega arith in
-          let is_known : agrees_at (known_of (get_or words ((i + 1) - 1) 0)) (b (i + 1)) ≡ true = known_allowed (known_of_var words parts (i + 1)) (nat_lt ((i + 1) - 1) parts) (a (i + 1)) (b (i + 1)) (ag (i + 1)) in
+          let is_known : agrees_at (known_of (get_or words ((i + 1) - 1) 0)) (b (i + 1)) ≡ true = known_allowed (known_of_var words (i + 1)) (nat_lt ((i + 1) - 1) parts) (a (i + 1)) (b (i + 1)) (ag (i + 1)) in
           subst (λ k. agrees_at k (bit_in (h ++ others) i) ≡ true) (sym (known-at words i))
           (subst (λ x. agrees_at (known_of (get_or words i 0)) x ≡ true) (sym (bit-is i inside))
           (subst (λ j. agrees_at (known_of (get_or words j 0)) (b (i + 1)) ≡ true) place is_known))

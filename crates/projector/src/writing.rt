@@ -15,7 +15,8 @@ use node_store::Graph;
 /// Writes the graph of the health states that a graph allows under words, one word a variable: 0 where it is open, 1 where it
 /// is true, 2 where it is false. Variables 1 to `parts` are the health of the parts, and a part whose word is not 0 is held.
 ///
-/// The text has a line for each node of the graph, for each held part, and for one more node.
+/// Behind its header the text has a line for each node of the graph, one for each held part, and one for its root. No memory is
+/// taken.
 pub fn write_projected<O: Sink>(
     graph: &Graph,
     words: &[u32],

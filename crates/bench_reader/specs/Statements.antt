@@ -92,11 +92,12 @@ part_kind (Combinational kind) = Some kind
 part_kind Sequential = Some Buff
 part_kind Unknown = None
 
+-- a kind that is not known, or a number of inputs that it does not take
 abbrev pub inputs_fault : ℕ → Option Kind → Option BenchFault
 inputs_fault inputs None = Some NoKind
 inputs_fault inputs (Some kind) = if takes kind inputs then None else Some WrongInputs
 
--- A flip-flop that is refused may have any inputs; one that is taken has those of a buffer.
+-- A flip-flop that is refused is told whatever its inputs; one that is taken has those of a buffer.
 abbrev pub kind_fault : FlipFlops → ℕ → NamedKind → Option BenchFault
 kind_fault Refused inputs Sequential = Some KeepsItsValue
 kind_fault flip_flops inputs kind = inputs_fault inputs (part_kind kind)

@@ -76,7 +76,7 @@ first_undriven signals ((line, statement) ∷ statements) =
 abbrev pub is_too_large : List Statement → List Name → Bool
 is_too_large statements signals = nat_lt PART_LIMIT (length (flat_map driven_by_gate statements)) || nat_lt WIRE_LIMIT (length signals)
 
--- whether a statement has no fault where flip-flops are taken, as one that has none where they are refused
+-- whether nothing is wrong with a statement where flip-flops are taken: what was refused is no longer among them
 abbrev pub is_faultless : Statement → Bool
 is_faultless statement = is_none (statement_fault Taken statement)
 

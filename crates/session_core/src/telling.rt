@@ -17,6 +17,7 @@ use diag_edge::{Sink, WriteFailed, put_line};
 use diagnosis_lister::first;
 use minimiser::{Steps, least};
 use probe_report::{Blame, blame_all, probe};
+use projector::write_projected;
 use std::sync::ledger::Ledger;
 
 /// What is asked of a session's case.
@@ -66,7 +67,7 @@ pub(crate) fn tell<O: Sink, L: Ledger>(
         Question::Blame => {
             tell_blame(ground, words, values, state, verdicts, session, out, steps)
         }
-        Question::Graph => put_line(out, &[session, b"dnnf"]),
+        Question::Graph => tell_graph(ground, known, session, out),
     }
 }
 
@@ -279,3 +280,19 @@ fn put_blames<O: Sink>(
     Ok(())
 }
 
+// The graph of the states that agree with a case.
+fn tell_graph<O: Sink>(
+    ground: &Ground,
+    known: &[u32],
+    session: &[u8],
+    out: &mut O,
+) -> Result<(), WriteFailed>
+    requires { AreKnown ground.now known.now }
+    ensures reply { let system = system_of ground.now in
+        Replies (O.got out.old) (O.got out.new) result
+        (line (session.now ∷ codes "dnnf" ∷ []) ∷ Projected (length system.parts) (system.consistent (case_in ground.now known.now)) ∷ []) }
+    ensures cause { HasCause (O.faults out.old) (O.faults out.new) result }
+{
+    put_line(out, &[session, b"dnnf"])?;
+    write_projected(ground.graph(), known, ground.parts().len() as u32, out)
+}

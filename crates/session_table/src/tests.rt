@@ -31,11 +31,16 @@ fn apply(sessions: &mut OpenSessions, name: &[u8], act: Act) -> bool
     true
 }
 
-// Whether a session has these words, and its point one faulty part, or is closed where nothing is expected.
-fn has(sessions: &OpenSessions, name: &[u8], expected: Option<(&[u32; 5], Option<u32>)>) -> bool {
-    match (sessions.find(name), expected) {
+// Whether a session has these words and this faulty part in its point. Without words it is to be closed.
+fn has(
+    sessions: &OpenSessions,
+    name: &[u8],
+    words: Option<&[u32; 5]>,
+    faulty: Option<u32>,
+) -> bool {
+    match (sessions.find(name), words) {
         (None, None) => true,
-        (Some(place), Some((words, faulty))) => {
+        (Some(place), Some(words)) => {
             sessions.words(place) == words.as_slice()
                 && match (sessions.point(place), faulty) {
                     (None, None) => true,
@@ -48,68 +53,34 @@ fn has(sessions: &OpenSessions, name: &[u8], expected: Option<(&[u32; 5], Option
     }
 }
 
-// Of five variables the first two are the parts and the next two the wires.
+// Of five variables the first two are the parts and the next two the wires. What is done to one session changes it alone.
 #[test]
 fn keeps_sessions_apart(rt: HostRuntime) -> Result<(), Fail> {
     let mut sessions = OpenSessions::new(rt.alloc(), 2, 2, 5, 2)?;
-    let fresh = Some((&[0, 0, 0, 0, 0], None));
-    for (name, act, first, second) in [
-        (b"b", Act::Start, None, fresh),
-        (b"a", Act::Start, fresh, fresh),
-        (
-            b"b",
-            Act::See(1, Some(false)),
-            fresh,
-            Some((&[0, 0, 0, 2, 0], None)),
-        ),
-        (
-            b"a",
-            Act::Hold(0, Some(true)),
-            Some((&[1, 0, 0, 0, 0], None)),
-            Some((&[0, 0, 0, 2, 0], None)),
-        ),
-        (
-            b"a",
-            Act::Point(0),
-            Some((&[1, 0, 0, 0, 0], Some(0))),
-            Some((&[0, 0, 0, 2, 0], None)),
-        ),
-        (
-            b"b",
-            Act::Point(1),
-            Some((&[1, 0, 0, 0, 0], Some(0))),
-            Some((&[0, 0, 0, 2, 0], Some(1))),
-        ),
-        (
-            b"b",
-            Act::See(0, Some(true)),
-            Some((&[1, 0, 0, 0, 0], Some(0))),
-            Some((&[0, 0, 1, 2, 0], None)),
-        ),
-        (
-            b"b",
-            Act::See(1, None),
-            Some((&[1, 0, 0, 0, 0], Some(0))),
-            Some((&[0, 0, 1, 0, 0], None)),
-        ),
-        (
-            b"a",
-            Act::Hold(1, Some(false)),
-            Some((&[1, 2, 0, 0, 0], None)),
-            Some((&[0, 0, 1, 0, 0], None)),
-        ),
-        (
-            b"a",
-            Act::Hold(0, None),
-            Some((&[0, 2, 0, 0, 0], None)),
-            Some((&[0, 0, 1, 0, 0], None)),
-        ),
-        (b"a", Act::Stop, None, Some((&[0, 0, 1, 0, 0], None))),
-        (b"a", Act::Start, fresh, Some((&[0, 0, 1, 0, 0], None))),
+    let mut first = (None, None);
+    let mut second = (None, None);
+    for (name, act, words, faulty) in [
+        (b"b", Act::Start, Some(&[0, 0, 0, 0, 0]), None),
+        (b"a", Act::Start, Some(&[0, 0, 0, 0, 0]), None),
+        (b"b", Act::See(1, Some(false)), Some(&[0, 0, 0, 2, 0]), None),
+        (b"a", Act::Hold(0, Some(true)), Some(&[1, 0, 0, 0, 0]), None),
+        (b"a", Act::Point(0), Some(&[1, 0, 0, 0, 0]), Some(0)),
+        (b"b", Act::Point(1), Some(&[0, 0, 0, 2, 0]), Some(1)),
+        (b"b", Act::See(0, Some(true)), Some(&[0, 0, 1, 2, 0]), None),
+        (b"b", Act::See(1, None), Some(&[0, 0, 1, 0, 0]), None),
+        (b"a", Act::Hold(1, Some(true)), Some(&[1, 1, 0, 0, 0]), None),
+        (b"a", Act::Hold(0, None), Some(&[0, 1, 0, 0, 0]), None),
+        (b"a", Act::Stop, None, None),
+        (b"a", Act::Start, Some(&[0, 0, 0, 0, 0]), None),
     ] {
+        if name == b"a" {
+            first = (words, faulty);
+        } else {
+            second = (words, faulty);
+        }
         assert!(rt; apply(&mut sessions, name, act));
-        assert!(rt; has(&sessions, b"a", first));
-        assert!(rt; has(&sessions, b"b", second));
+        assert!(rt; has(&sessions, b"a", first.0, first.1));
+        assert!(rt; has(&sessions, b"b", second.0, second.1));
     }
     sessions.finish();
     Ok(())

@@ -12,9 +12,9 @@ abbrev pub Served : ServeEnd → (Table → List ℕ → List Step) → Table �
 Served Done one old new bytes limit at_end before after =
     at_end × (length bytes < limit) × Makes old new (script_moves one old (all_lines bytes)) before after
 Served ReadFault one old new bytes limit at_end before after =
-    (length bytes ≤ limit) × Makes old new (script_moves one old (whole_lines bytes)) before after
+    (length bytes < limit) × Makes old new (script_moves one old (whole_lines bytes)) before after
 Served Limit one old new bytes limit at_end before after =
     (length bytes ≡ limit) × Makes old new (script_moves one old (whole_lines bytes)) before after
 Served WriteFault one old new bytes limit at_end before after =
     (length bytes ≤ limit) × (BreaksOff new (script_moves one old (whole_lines bytes)) before after
-    ⊎ (at_end × BreaksOff new (script_moves one old (all_lines bytes)) before after))
+    ⊎ (at_end × (length bytes < limit) × BreaksOff new (script_moves one old (all_lines bytes)) before after))

@@ -57,6 +57,8 @@ impl Ground {
         ensures { IfOk result (λ ground. ground
             ≡ record { parts = parts.items; wires = wires.items; costs = costs.items; graph = graph }) }
     {
+        // a graph is one whose children stand before it and share no variable below an and
+        let _nodes = graph.len();
         Ok(Ground {
             parts: NameTable::of(alloc, parts)?,
             wires: NameTable::of(alloc, wires)?,

@@ -1,22 +1,13 @@
 -- Which bytes spell a list of items.
 use Rattle.std.specs.Prelude.{◌≡◌, ◌≤◌, ℕ, Bool, true, false, List, [], ◌∷◌, ◌++◌, length, Option, Result, MatchResult, Ok, Err}
-use Rattle.std.specs.List.{list_any}
 use Rattle.std.specs.Io.KnownBytes.{Appends}
 use Rattle.text_rules.specs.Tokens.{is_neat}
-use Rattle.std.specs.Cmp.Lexicographic.{pointwise}
-use Rattle.ranking.specs.Bits.{same_bit}
-use Rattle.graph_rules.specs.Graphs.{Decomposable, holds}
+use Rattle.graph_rules.specs.Graphs.{Decomposable}
 use Rattle.graph_rules.specs.GraphTexts.{Parsed, parsed}
 use Rattle.device_model.specs.Devices.{Device}
 use Rattle.dnnf_compiler.specs.Compiled.{IsGraphOf as MeansDevice}
+use Rattle.projector.specs.Projecting.{IsGraphOf}
 use Rattle.session_rules.specs.Items.{Item, Plain, Projected, Whole}
-
--- a graph over so many parts, decomposable, and true for these states alone
-abbrev pub IsGraphOf : ℕ → List (List Bool) → Parsed → Type 0
-IsGraphOf parts states (Err refusal) = false ≡ true
-IsGraphOf parts states (Ok graph) =
-    (graph.vars ≡ parts) × Decomposable graph.nodes
-    × ((h : List Bool) → length h ≡ parts → holds graph h ≡ list_any (pointwise same_bit h) states)
 
 -- a graph over so many variables, decomposable, with at most so many nodes, that means a device
 abbrev pub IsWholeOf : Device → ℕ → ℕ → Parsed → Type 0

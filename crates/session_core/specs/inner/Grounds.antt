@@ -2,6 +2,7 @@
 use Rattle.std.specs.Prelude.{◌≡◌, ℕ, ◌+◌, ◌<◌, ◌≤◌, List, length, All}
 use Rattle.ranking.specs.Cases.{Case}
 use Rattle.device_model.specs.declared.limits.TheConstants.{PART_LIMIT, WIRE_LIMIT}
+use Rattle.graph_rules.specs.Graphs.{IsGraph}
 use Rattle.conditioner.specs.Models.{total_cost}
 use Rattle.minimiser.specs.declared.pass.TheConstants.{TOTAL_LIMIT}
 use Rattle.session_rules.specs.GraphSystems.{Subject}
@@ -18,6 +19,7 @@ pub record IsGround (subject : Subject) : Type 0 where
   pub few_wires : length subject.wires ≤ WIRE_LIMIT
   pub few_vars : subject.graph.vars ≤ SERVED_VARIABLES
   pub few_nodes : length subject.graph.nodes < SERVED_NODES
+  pub valid : IsGraph subject.graph
 
 -- words of a case for each variable of the graph
 abbrev pub AreKnown : Subject → List ℕ → Type 0

@@ -27,7 +27,7 @@ returns-in-Err-clause-served g c =
       loop.so_far.0,
       omega (arith, loop.taken, loop.so_far.1, c.in-Err.ensures.taken),
       consumes_kept _ _ _ _ loop.so_far.2 c.in-Err.ensures.bytes,
-      (omega (arith, loop.so_far.1, loop.within), makes_whole loop.so_far.3),
+      (omega (arith, loop.so_far.1, c.loop-taken-test.true), makes_whole loop.so_far.3),
     )
 
 pub returns-in-Ok-finish-clause-served : goal.returns-in-Ok-finish-clause-served
@@ -55,6 +55,7 @@ returns-in-Err-finish-clause-served g c =
         omega (arith, loop.so_far.1, loop.within),
         inr (
           c.in-Ok.ensures.bytes.1 c.if-count-eq0.true (grind (arith, common_steps)),
+          omega (arith, loop.so_far.1, c.loop-taken-test.true),
           breaks_all {u = c.finish.new.sessions.table} {c = g.O.Sink.got c.finish.new.out} (moves_are_cut c.args.sessions.now) loop.so_far.3 
           (subst (λ (one : Table → List ℕ → List Step). BreaksOff c.finish.new.sessions.table (script_moves one c.loop-taken.sessions.table (last_line c.loop-taken.gathered)) (g.O.Sink.got c.loop-taken.out) (g.O.Sink.got c.finish.new.out))
           (moves_stay c.args.sessions.now c.loop-taken.sessions loop.stays) c.in-Err-finish.ensures.carried),

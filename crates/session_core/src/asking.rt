@@ -79,8 +79,7 @@ impl Sessions {
         ensures same { self.new ≡ self.old }
         ensures cause { HasCause (O.faults out.old) (O.faults out.new) result }
     {
-        let room = self.scratch.free();
-        let run = self.scratch.carve(room).unwrap();
+        let run = self.scratch.carve(self.ground.room()).unwrap();
         let told = tell(
             &self.ground,
             self.open.words(place),

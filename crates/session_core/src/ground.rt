@@ -112,6 +112,15 @@ impl Ground {
         self.wires.find(name)
     }
 
+    /// How many words an answer works with: one for each variable, each node and each part.
+    pub(crate) fn room(&self) -> usize
+        ensures room { result ≡ self.now.graph.vars + (length self.now.graph.nodes + length self.now.parts) }
+        ensures some { 1 ≤ result }
+        ensures ground { IsGround self.now }
+    {
+        self.graph.vars() as usize + (self.graph.len() as usize + self.parts.as_slice().len())
+    }
+
     /// How many variables the graph has.
     pub(crate) fn vars(&self) -> usize
         ensures vars { result ≡ self.now.graph.vars }

@@ -121,8 +121,7 @@ impl Sessions {
         ensures { (session : Name) (entry : Entry) → StandsAt self.old.table place session entry
             → PointMoves self.old self.new place session entry result }
     {
-        let room = self.scratch.free();
-        let run = self.scratch.carve(room).unwrap();
+        let run = self.scratch.carve(self.ground.room()).unwrap();
         let (state, work) = self
             .scratch
             .run_mut(&run)
@@ -173,8 +172,7 @@ impl Sessions {
                   (record entry { point = Some (state_of (words names.now) self.old.subject.parts) }) self.old.table;
             } }
     {
-        let room = self.scratch.free();
-        let run = self.scratch.carve(room).unwrap();
+        let run = self.scratch.carve(self.ground.room()).unwrap();
         let (state, _) = self
             .scratch
             .run_mut(&run)

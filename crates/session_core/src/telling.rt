@@ -293,6 +293,7 @@ fn tell_graph<O: Sink>(
         (line (session.now ∷ codes "dnnf" ∷ []) ∷ Projected (length system.parts) (system.consistent (case_in ground.now known.now)) ∷ []) }
     ensures cause { HasCause (O.faults out.old) (O.faults out.new) result }
 {
+    let graph = ground.graph();
     put_line(out, &[session, b"dnnf"])?;
-    write_projected(ground.graph(), known, ground.parts().len() as u32, out)
+    write_projected(graph, known, ground.parts().len() as u32, out)
 }

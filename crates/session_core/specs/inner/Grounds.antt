@@ -1,5 +1,6 @@
 -- What a service holds, and what an answer works with.
-use Rattle.std.specs.Prelude.{◌≡◌, ℕ, ◌+◌, ◌<◌, ◌≤◌, List, length, All}
+use Rattle.std.specs.Prelude.{◌≡◌, ℕ, ◌+◌, ◌<◌, ◌≤◌, List, length, All, true}
+use Rattle.text_rules.specs.Names.{names_rise}
 use Rattle.ranking.specs.Cases.{Case}
 use Rattle.device_model.specs.declared.limits.TheConstants.{PART_LIMIT, WIRE_LIMIT}
 use Rattle.graph_rules.specs.Graphs.{IsGraph}
@@ -9,7 +10,7 @@ use Rattle.session_rules.specs.GraphSystems.{Subject}
 use Rattle.session_rules.specs.CaseWords.{case_of_words, AreWords}
 use Rattle.session_core.specs.declared.limits.TheConstants.{SERVED_VARIABLES, SERVED_NODES}
 
--- each part has a cost, all together are few, and the graph has variables for parts and wires
+-- each part has a name and a cost, all together are few, and the graph has variables for parts and wires
 pub record IsGround (subject : Subject) : Type 0 where
   pub costs : length subject.costs ≡ length subject.parts
   pub dear : All (λ c. 0 < c) subject.costs
@@ -20,6 +21,7 @@ pub record IsGround (subject : Subject) : Type 0 where
   pub few_vars : subject.graph.vars ≤ SERVED_VARIABLES
   pub few_nodes : length subject.graph.nodes < SERVED_NODES
   pub valid : IsGraph subject.graph
+  pub parts_rise : names_rise subject.parts ≡ true
 
 -- words of a case for each variable of the graph
 abbrev pub AreKnown : Subject → List ℕ → Type 0

@@ -1,5 +1,8 @@
 -- What a service shows of what it holds, and what its changes are.
-use Rattle.std.proofs.Common.{◌≡◌, ◌∙◌, ◌∷◌, [], ◌<◌, ℕ, Bool, List, Option, Some, None, Result, length, refl, ap, sym, subst, codes}
+use Rattle.std.proofs.Common.{◌≡◌, ◌∙◌, ◌∷◌, ◌++◌, [], ◌<◌, ◌-◌, ℕ, Bool, List, Option, Some, None, IsNone, IsSome, Result, length, replicate, take, drop, refl, ap, sym, subst, codes, arith, length-append}
+use Rattle.std.specs.Prelude.{Contains}
+use Rattle.std.proofs.Math.Seq.{take-append_seam}
+use Rattle.std.proofs.lemmas.List.{nil_from_length}
 use Rattle.std.proofs.lemmas.List.Quantifiers.{position-Some}
 use Rattle.text_rules.specs.Names.{Name, same_name}
 use Rattle.text_rules.specs.Tokens.{spaced}
@@ -7,7 +10,11 @@ use Rattle.diag_edge.specs.Edge.{Puts}
 use Rattle.device_model.specs.Devices.{place_of}
 use Rattle.probe_report.specs.declared.verdicts.Blame.{Blame}
 use Rattle.ranking.specs.Systems.{System}
-use Rattle.scratch_pool.specs.Regions.{Carved}
+use Rattle.scratch_pool.specs.declared.region.Span.{Span}
+use Rattle.scratch_pool.specs.Words.{written}
+use Rattle.scratch_pool.specs.Regions.{Carved, IsLast, carved, words_used, free_words}
+use Rattle.scratch_pool.proofs.Laws.{carved-held}
+use Rattle.scratch_pool.proofs.Written.{length-written}
 use Rattle.script_lang.specs.Script.{Request}
 use Rattle.session_rules.specs.declared.refusal.Refusal.TheVariants.{NoWire, NoPart}
 use Rattle.session_rules.specs.GraphSystems.{Subject, system_of}
@@ -96,3 +103,41 @@ held-at system session entry name ok part e =
 pub held-nowhere : (system : System) (session : Name) (entry : Entry) (name : Name) (ok : Option Bool) → None ≡ place_of name system.parts → when_open system session entry (held_request name ok) ≡ Declined NoPart
 held-nowhere system session entry name ok e =
     held-open system session entry name ok ∙ ap (at_place NoPart (λ p. becomes session (with_held entry p ok) (codes "ok"))) (sym e)
+
+-- ---- scratch that is carved whole, and released
+
+pub carve_some : {R : Type 0} (scratch : Carved) (n : ℕ) (run : Option R) → scratch.runs ≡ [] → length scratch.words ≡ n → (IsNone run → free_words scratch < n) → IsSome run
+carve_some scratch n (Some run) empty long none = tt
+carve_some scratch n None empty long none =
+    let free : free_words scratch ≡ length scratch.words = ap (λ (rs : List Span). length scratch.words - words_used rs) empty ∙ minus_none (length scratch.words) in
+    absurd (let less = none tt in omega (arith, less, free, long))
+  where
+    minus_none : (m : ℕ) → m - words_used [] ≡ m
+    minus_none m = omega arith
+
+module _ (old new : Carved) (run : Span) (n : ℕ) (empty : old.runs ≡ []) (long : length old.words ≡ n) (is : new ≡ carved old run) where
+  one_run : new.runs ≡ run ∷ []
+  one_run = ap (λ (r : Carved). r.runs) is ∙ ap (λ (rs : List Span). rs ++ run ∷ []) empty
+
+  pub is_last : IsLast new.runs run
+  is_last = ([], one_run)
+
+  pub is_held : Contains new.runs run
+  is_held = subst (λ (r : Carved). Contains r.runs run) (sym is) (carved-held old run)
+
+  pub carved_long : length new.words ≡ n
+  carved_long = ap (λ (r : Carved). length r.words) is ∙ (length-written old.words run.start (replicate run.len 0) ∙ long)
+
+  -- after the release nothing is in use, and all words are there
+  pub released_runs : (after : Carved) → new.runs ≡ after.runs ++ run ∷ [] → after.runs ≡ []
+  released_runs after e =
+      let all = length-append after.runs (run ∷ []) in
+      let one = ap length (sym one_run ∙ e) in
+      nil_from_length after.runs (omega (arith, all, one))
+
+  pub released_words : (after : Carved) (lent : List ℕ) → after.words ≡ written new.words run.start lent → length after.words ≡ n
+  released_words after lent e = ap length e ∙ (length-written new.words run.start lent ∙ carved_long)
+
+-- a list that was lent whole and written back
+pub written_back : {A : Type 0} (n : ℕ) (new old : List A) → n ≡ length new → take n (new ++ drop (length new) old) ≡ new
+written_back {A} n new old e = ap (λ (k : ℕ). take k (new ++ drop (length new) old)) e ∙ take-append_seam new (drop (length new) old)

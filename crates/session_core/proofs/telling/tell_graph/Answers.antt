@@ -41,7 +41,7 @@ returns-in_err-put_line-clause-reply g c =
     let s = c.args.session.now in
     let head = line (s ∷ codes "dnnf" ∷ []) in
     replies_broken _ _ _ (head ∷ []) (states_item subject known ∷ []) c.from_residual.ensures.0 (part_one _ _ head _ refl c.in_err-put_line.ensures.bytes)
-    ((_, spelled subject known c.graph.ensures.ground c.requires), tt)
+    ((projected_text subject.graph known (length subject.parts), spelled subject known c.graph-graph.ensures.ground c.requires), tt)
 
 pub returns-clause-reply : goal.returns-clause-reply
 returns-clause-reply g c =
@@ -49,6 +49,6 @@ returns-clause-reply g c =
     let known = c.args.known.now in
     let s = c.args.session.now in
     let head = line (s ∷ codes "dnnf" ∷ []) in
-    let written = (λ i. projected_text (c.graph.ensures.graph i) known (length (c.parts.ensures.names i))) in
+    let written : projected_text c.graph-graph.result.now known (length c.parts.result.now) ≡ projected_text subject.graph known (length subject.parts) = (λ i. projected_text (c.graph-graph.ensures.graph i) known (length (c.parts.ensures.names i))) in
     replies_then _ _ _ _ (head ∷ []) (states_item subject known ∷ []) (writes_one _ _ head _ refl c.in_ok-put_line.ensures.bytes)
-    (replies_one _ _ _ (states_item subject known) _ (subst (Spelled (states_item subject known)) (sym written) (spelled subject known c.graph.ensures.ground c.requires)) c.write_projected.ensures.bytes)
+    (replies_one _ _ _ (states_item subject known) _ (subst (Spelled (states_item subject known)) (sym written) (spelled subject known c.graph-graph.ensures.ground c.requires)) c.write_projected.ensures.bytes)

@@ -84,7 +84,8 @@ module _ (vars : ℕ) where
       ∙ (ap (take wires) (drop-append_seam held (seen ++ rest)) ∙ (ap (λ n. take n (seen ++ rest)) w ∙ take-append_seam seen rest)) in
       ap₂ (λ s h. record { seen = s; held = h }) (ap (map known_of) back ∙ all_known known.seen) (ap (map known_of) front ∙ all_known known.held)
 
-  length-case_words : (known : Case) → length known.held + length known.seen ≤ vars → length (case_words vars known) ≡ vars
+  -- a case says a word for each variable
+  pub length-case_words : (known : Case) → length known.held + length known.seen ≤ vars → length (case_words vars known) ≡ vars
   length-case_words known room =
       let held : List ℕ = map word_of_known known.held in
       let seen : List ℕ = map word_of_known known.seen in

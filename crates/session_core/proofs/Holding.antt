@@ -1,5 +1,5 @@
 -- What a service shows of what it holds, and what its changes are.
-use Rattle.std.proofs.Common.{◌≡◌, ◌∙◌, ◌∷◌, ◌++◌, [], ◌<◌, ◌-◌, ℕ, Bool, List, Option, Some, None, IsNone, IsSome, Result, length, replicate, take, drop, refl, ap, sym, subst, codes, arith, length-append}
+use Rattle.std.proofs.Common.{◌≡◌, ◌∙◌, ◌∷◌, ◌++◌, [], ◌<◌, ◌-◌, ℕ, Bool, List, Option, Some, None, IsNone, IsSome, Result, length, replicate, take, drop, refl, ap, sym, subst, codes, arith, rules, length-append}
 use Rattle.std.specs.Prelude.{Contains}
 use Rattle.std.proofs.Math.Seq.{take-append_seam}
 use Rattle.std.proofs.lemmas.List.{nil_from_length}
@@ -108,9 +108,9 @@ held-nowhere system session entry name ok e =
 
 pub carve_some : {R : Type 0} (scratch : Carved) (n : ℕ) (run : Option R) → scratch.runs ≡ [] → length scratch.words ≡ n → (IsNone run → free_words scratch < n) → IsSome run
 carve_some scratch n (Some run) empty long none = tt
-carve_some scratch n None empty long none =
+carve_some {R} scratch n None empty long none =
     let free : free_words scratch ≡ length scratch.words = ap (λ (rs : List Span). length scratch.words - words_used rs) empty ∙ minus_none (length scratch.words) in
-    absurd (let less = none tt in omega (arith, less, free, long))
+    absurd (let there : IsNone {T = R} None = refl in let less = none there in omega (arith, less, free, long))
   where
     minus_none : (m : ℕ) → m - words_used [] ≡ m
     minus_none m = omega arith

@@ -1,5 +1,5 @@
 //! Requests that move the point of a session.
-ghost use Rattle.std.specs.Prelude.{◌≡◌, ◌+◌, ◌<◌, ◌≤◌, [], ◌∷◌, Some, length, All, IfOk, IfSome, slice_index_or, true, false};
+ghost use Rattle.std.specs.Prelude.{◌≡◌, ◌+◌, ◌<◌, ◌≤◌, [], ◌∷◌, List, Bool, Some, length, All, IfSome, slice_index_or, if◌then◌else◌};
 ghost use Rattle.std.specs.Option.{option_map};
 ghost use Rattle.std.specs.List.{list_all};
 ghost use Rattle.text_rules.specs.Names.{Name, is_among};
@@ -14,6 +14,7 @@ ghost use Rattle.session_rules.specs.Replies.{diagnosis_line};
 ghost use Rattle.session_rules.specs.Sessions.{Entry, state_of, with_entry};
 ghost use Rattle.session_rules.specs.Spelling.{Replies};
 ghost use Rattle.session_table.specs.Tables.{StandsAt};
+ghost use Rattle.session_core.specs.Services.{ChangesTable};
 ghost use Rattle.session_core.specs.inner.Grounds.{AreKnown, case_in};
 ghost use Rattle.session_core.specs.inner.Obeying.{Obeys, MovesOn, PointMoves};
 
@@ -24,6 +25,7 @@ use diag_edge::{Sink, WriteFailed, put_line};
 use diagnosis_lister::{Step, first, next};
 use minimiser::Steps;
 use session_rules::Refusal;
+use session_table::OpenSessions;
 use std::marker::Brand;
 use std::sync::ledger::{Blank, Ledger};
 use text_rules::Tokens;
@@ -101,9 +103,9 @@ impl Sessions {
         out: &mut O,
     ) -> Result<(), WriteFailed>
         requires { place < length self.now.table }
-        ensures reply { (entry : Entry) → StandsAt self.now.table place session.now entry
-            → IfSome entry.point (λ state. Replies (O.got out.old) (O.got out.new) result
-            (diagnosis_line (system_of self.now.subject) session.now state ∷ [])) }
+        ensures reply { (entry : Entry) (state : List Bool) → StandsAt self.now.table place session.now entry
+            → entry.point ≡ Some state → Replies (O.got out.old) (O.got out.new) result
+            (diagnosis_line (system_of self.now.subject) session.now state ∷ []) }
         ensures cause { HasCause (O.faults out.old) (O.faults out.new) result }
     {
         match self.open.point(place) {
@@ -119,24 +121,16 @@ impl Sessions {
         requires some { 0 < blank.parts }
         requires place { place < length self.old.table }
         ensures { (session : Name) (entry : Entry) → StandsAt self.old.table place session entry
-            → PointMoves self.old self.new place session entry result }
+            → PointMoves self.old.subject self.old.table self.new.table place session entry result × ChangesTable self.old self.new }
     {
         let run = self.scratch.carve(self.ground.room()).unwrap();
-        let (state, work) = self
-            .scratch
-            .run_mut(&run)
-            .split_at_mut(self.ground.parts().len());
-        let step = advance(
+        let step = move_point(
             &self.ground,
-            self.open.words(place),
-            self.open.point(place),
-            state,
-            work,
+            &mut self.open,
+            place,
+            self.scratch.run_mut(&run),
             &mut Steps::<L>::new(blank),
         );
-        if step == Step::Found {
-            self.open.set_point(place, state);
-        }
         self.scratch.release(run);
         step
     }
@@ -165,25 +159,76 @@ impl Sessions {
     fn point_at(&mut self, place: usize, names: &[u8]) -> bool
         requires { place < length self.old.table }
         ensures named { result ≡ list_all (is_among self.old.subject.parts) (words names.now) }
-        ensures kept { result ≡ false → self.new ≡ self.old }
-        ensures point { result ≡ true → (session : Name) (entry : Entry) → StandsAt self.old.table place session entry
-            → self.new ≡ record self.old {
+        ensures point { (session : Name) (entry : Entry) → StandsAt self.old.table place session entry
+            → self.new ≡ (if result then record self.old {
               table = with_entry session
                   (record entry { point = Some (state_of (words names.now) self.old.subject.parts) }) self.old.table;
-            } }
+            } else self.old) }
     {
         let run = self.scratch.carve(self.ground.room()).unwrap();
-        let (state, _) = self
-            .scratch
-            .run_mut(&run)
-            .split_at_mut(self.ground.parts().len());
-        let are_parts = mark_named(&self.ground, names, state);
-        if are_parts {
-            self.open.set_point(place, state);
-        }
+        let are_parts = name_point(
+            &self.ground,
+            &mut self.open,
+            place,
+            names,
+            self.scratch.run_mut(&run),
+        );
         self.scratch.release(run);
         are_parts
     }
+}
+
+// Moves the point of the session at a place to the next diagnosis, if there is one. The scratch has words for the parts, the variables
+// and the nodes.
+fn move_point<L: Ledger>(
+    ground: &Ground,
+    open: &mut OpenSessions,
+    place: usize,
+    scratch: &mut [u32],
+    steps: &mut Steps<L>,
+) -> Step
+    requires parts { open.old.parts ≡ length ground.now.parts }
+    requires wires { open.old.wires ≡ length ground.now.wires }
+    requires vars { open.old.vars ≡ ground.now.graph.vars }
+    requires place { place < length open.old.table }
+    requires scratch { length scratch.old ≡ ground.now.graph.vars + (length ground.now.graph.nodes + length ground.now.parts) }
+    ensures { (session : Name) (entry : Entry) → StandsAt open.old.table place session entry
+        → PointMoves ground.now open.old.table open.new.table place session entry result
+        × (open.new ≡ record open.old { table = open.new.table }) }
+{
+    let (state, work) = scratch.split_at_mut(ground.parts().len());
+    let step = advance(ground, open.words(place), open.point(place), state, work, steps);
+    if step != Step::Found {
+        return step;
+    }
+    open.set_point(place, state);
+    Step::Found
+}
+
+// Moves the point of the session at a place to the state whose faulty parts are those named, if all of these are parts.
+fn name_point(
+    ground: &Ground,
+    open: &mut OpenSessions,
+    place: usize,
+    names: &[u8],
+    scratch: &mut [u32],
+) -> bool
+    requires parts { open.old.parts ≡ length ground.now.parts }
+    requires place { place < length open.old.table }
+    requires scratch { length ground.now.parts ≤ length scratch.old }
+    ensures named { result ≡ list_all (is_among ground.now.parts) (words names.now) }
+    ensures point { (session : Name) (entry : Entry) → StandsAt open.old.table place session entry
+        → open.new ≡ (if result then record open.old {
+          table = with_entry session
+              (record entry { point = Some (state_of (words names.now) ground.now.parts) }) open.old.table;
+        } else open.old) }
+{
+    let (state, _) = scratch.split_at_mut(ground.parts().len());
+    if !mark_named(ground, names, state) {
+        return false;
+    }
+    open.set_point(place, state);
+    true
 }
 
 // Whether each name is a part's; and then the state in which these are faulty.

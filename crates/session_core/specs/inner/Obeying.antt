@@ -6,9 +6,9 @@ use Rattle.ranking.specs.Systems.{all_diagnoses}
 use Rattle.diagnosis_lister.specs.declared.listing.Step.{Step as Answer}
 use Rattle.diagnosis_lister.specs.Listing.{step_of}
 use Rattle.script_lang.specs.Script.{Request, Ask, See, Unsee, Hold, Unhold, Min, Probe as ProbeOf, Probes as ProbeAll, Blame as BlameAll, Dnnf}
-use Rattle.session_rules.specs.GraphSystems.{system_of}
+use Rattle.session_rules.specs.GraphSystems.{Subject, system_of}
 use Rattle.session_rules.specs.Replies.{Found, next_of}
-use Rattle.session_rules.specs.Sessions.{Entry, with_entry}
+use Rattle.session_rules.specs.Sessions.{Entry, Table, with_entry}
 use Rattle.session_rules.specs.Moves.{moves}
 use Rattle.session_rules.specs.Spelling.{Replies}
 use Rattle.session_rules.specs.Carrying.{CarriesOut}
@@ -46,25 +46,24 @@ NamesNoWire (Probe wire name) = ⊥
 NamesNoWire question = Unit {0}
 
 -- what `next` finds for a session
-abbrev pub the_next : Shown → Name → Entry → Found
-the_next shown session entry =
-    let system = system_of shown.subject in next_of system session (all_diagnoses system entry.known) entry.point
+abbrev pub the_next : Subject → Name → Entry → Found
+the_next subject session entry =
+    let system = system_of subject in next_of system session (all_diagnoses system entry.known) entry.point
 
 -- the session goes on after what was found
-abbrev pub moved_on : Shown → Name → Entry → Shown
-moved_on shown session entry =
-    record shown { table = with_entry session (record entry { point = (the_next shown session entry).point }) shown.table }
+abbrev pub next_entry : Subject → Name → Entry → Entry
+next_entry subject session entry = record entry { point = (the_next subject session entry).point }
 
--- the point of a session moved, and it is told whether there was a diagnosis
-pub record PointMoves (old new : Shown) (place : ℕ) (session : Name) (entry : Entry) (found : Answer) : Type 0 where
-  pub answer : found ≡ step_of ((system_of old.subject).consistent entry.known)
-      (rest (all_diagnoses (system_of old.subject) entry.known) entry.point)
-  pub moved : new ≡ moved_on old session entry
-  pub stands : StandsAt new.table place session (record entry { point = (the_next old session entry).point })
+-- the point of a session moved to what was found, of which the lister tells whether it is a diagnosis
+pub record PointMoves (subject : Subject) (old new : Table) (place : ℕ) (session : Name) (entry : Entry) (found : Answer) : Type 0 where
+  pub answer : found ≡ step_of ((system_of subject).consistent entry.known)
+      (rest (all_diagnoses (system_of subject) entry.known) entry.point)
+  pub moved : new ≡ with_entry session (next_entry subject session entry) old
+  pub stands : StandsAt new place session (next_entry subject session entry)
 
--- and what was found was written, or begun
+-- the session moved on, and what was found was written, or begun
 pub record MovesOn {E : Type 0} (old new : Shown) (place : ℕ) (session : Name) (entry : Entry) (before after : Option (List ℕ)) (result : Result Bool E) : Type 0 where
-  pub reply : Replies before after result ((the_next old session entry).item ∷ [])
-  pub more : IfOk result (λ more. more ≡ (the_next old session entry).more)
-  pub moved : new ≡ moved_on old session entry
-  pub stands : StandsAt new.table place session (record entry { point = (the_next old session entry).point })
+  pub reply : Replies before after result ((the_next old.subject session entry).item ∷ [])
+  pub more : IfOk result (λ more. more ≡ (the_next old.subject session entry).more)
+  pub moved : new ≡ record old { table = with_entry session (next_entry old.subject session entry) old.table }
+  pub stands : StandsAt new.table place session (next_entry old.subject session entry)

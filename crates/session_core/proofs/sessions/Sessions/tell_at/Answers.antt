@@ -1,5 +1,9 @@
 use Rattle.std.proofs.Common.{◌≡◌, ◌∙◌, ◌+◌, ◌<◌, ℕ, List, Bool, [], length, refl, ap, sym, subst, arith}
+use Rattle.std.specs.Prelude.{IfSome, Option, Some}
 use Rattle.ranking.specs.Cases.{Case}
+use Rattle.scratch_pool.specs.declared.region.Span.{Span}
+use Rattle.scratch_pool.specs.Regions.{carved, words_used}
+use Rattle.scratch_pool.proofs.Laws.{length-run}
 use Rattle.session_rules.specs.CaseWords.{case_of_words, AreWords}
 use Rattle.session_rules.specs.GraphSystems.{system_of}
 use Rattle.session_rules.specs.Sessions.{Entry}
@@ -22,7 +26,11 @@ tell-told-requires-clause-known g c =
     (subst (λ (n : ℕ). AreWords c.self.inside.open.parts c.self.inside.open.wires n c.words.result.now) c.self.invariant.vars c.words.ensures.words))
 
 pub tell-told-requires-clause-scratch : goal.tell-told-requires-clause-scratch
-tell-told-requires-clause-scratch g c = let u = c.unwrap-run.ensures in let r = c.carve.ensures.run in ?
+tell-told-requires-clause-scratch g c =
+    let at : IfSome (Some c.unwrap-run.result) (λ (run : Span). (run ≡ record { start = words_used c.self.inside.scratch.runs; len = c.room.result }) × (c.carve.new.self ≡ carved c.self.inside.scratch run)) =
+    subst (λ (o : Option Span). IfSome o (λ (run : Span). (run ≡ record { start = words_used c.self.inside.scratch.runs; len = c.room.result }) × (c.carve.new.self ≡ carved c.self.inside.scratch run))) c.unwrap-run.ensures c.carve.ensures.run in
+    let held = is_held c.self.inside.scratch c.carve.new.self c.unwrap-run.result c.room.result c.self.invariant.unused (c.self.invariant.room ∙ sym c.room.ensures.room) at.1 in
+    ap length c.run_mut.ensures.value ∙ (length-run c.carve.new.self c.run_mut.ensures.sound c.unwrap-run.result held ∙ (ap (λ (run : Span). run.len) at.0 ∙ c.room.ensures.room))
 
 pub returns-clause-reply : goal.returns-clause-reply
 returns-clause-reply g c = λ (entry : Entry) stands.
@@ -38,7 +46,22 @@ pub returns-clause-same : goal.returns-clause-same
 returns-clause-same g c = c.self.view_is
 
 pub release-requires : goal.release-requires
-release-requires g c = let u = c.unwrap-run.ensures in ?
+release-requires g c =
+    let at : IfSome (Some c.unwrap-run.result) (λ (run : Span). (run ≡ record { start = words_used c.self.inside.scratch.runs; len = c.room.result }) × (c.carve.new.self ≡ carved c.self.inside.scratch run)) =
+    subst (λ (o : Option Span). IfSome o (λ (run : Span). (run ≡ record { start = words_used c.self.inside.scratch.runs; len = c.room.result }) × (c.carve.new.self ≡ carved c.self.inside.scratch run))) c.unwrap-run.ensures c.carve.ensures.run in
+    record { last = is_last c.self.inside.scratch c.carve.new.self c.unwrap-run.result c.room.result c.self.invariant.unused (c.self.invariant.room ∙ sym c.room.ensures.room) at.1 }
 
 pub invariant_of-self : goal.invariant_of-self
-invariant_of-self g c = let r = c.release.ensures.runs in let w = c.release.ensures.words in ?
+invariant_of-self g c =
+    let at : IfSome (Some c.unwrap-run.result) (λ (run : Span). (run ≡ record { start = words_used c.self.inside.scratch.runs; len = c.room.result }) × (c.carve.new.self ≡ carved c.self.inside.scratch run)) =
+    subst (λ (o : Option Span). IfSome o (λ (run : Span). (run ≡ record { start = words_used c.self.inside.scratch.runs; len = c.room.result }) × (c.carve.new.self ≡ carved c.self.inside.scratch run))) c.unwrap-run.ensures c.carve.ensures.run in
+    let room = c.self.invariant.room ∙ sym c.room.ensures.room in
+    let same : length c.tell-told.new.verdicts ≡ length c.self.inside.verdicts.items = c.tell-told.auto.verdicts ∙ ap length c.deref_mut.ensures.value in
+    record {
+      parts = c.self.invariant.parts;
+      wires = c.self.invariant.wires;
+      vars = c.self.invariant.vars;
+      unused = released_runs c.self.inside.scratch c.carve.new.self c.unwrap-run.result c.room.result c.self.invariant.unused room at.1 c.release.new.self c.release.ensures.runs;
+      room = released_words c.self.inside.scratch c.carve.new.self c.unwrap-run.result c.room.result c.self.invariant.unused room at.1 c.release.new.self c.tell-told.new.scratch c.release.ensures.words ∙ c.room.ensures.room;
+      one_a_part = ap length (written_back c.self.inside.verdicts.len c.tell-told.new.verdicts c.self.inside.verdicts.items (sym (c.tell-told.auto.verdicts ∙ c.deref_mut.ensures.len))) ∙ (same ∙ c.self.invariant.one_a_part);
+    }

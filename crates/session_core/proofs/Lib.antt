@@ -7,3 +7,4 @@ pub mod Questions
 pub mod Staying
 pub mod Obeying
 pub mod Holding
+pub mod Naming

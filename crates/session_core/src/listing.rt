@@ -193,6 +193,8 @@ fn mark_named(ground: &Ground, names: &[u8], state: &mut [u32]) -> bool
     ensures state { result ≡ true → bits_of state.new ≡ state_of (words names.now) ground.now.parts }
     ensures bits { All (λ s. s < 2) state.new }
 {
+    // the names of parts rise, so that no two parts have one name
+    let _parts = ground.parts();
     state.fill(0);
     for name in Tokens::words(names) {
         match ground.find_part(name) {

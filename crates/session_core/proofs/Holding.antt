@@ -107,7 +107,7 @@ held-nowhere system session entry name ok e =
 -- ---- scratch that is carved whole, and released
 
 pub carve_some : {R : Type 0} (scratch : Carved) (n : ℕ) (run : Option R) → scratch.runs ≡ [] → length scratch.words ≡ n → (IsNone run → free_words scratch < n) → IsSome run
-carve_some scratch n (Some run) empty long none = tt
+carve_some scratch n (Some run) empty long none = refl
 carve_some {R} scratch n None empty long none =
     let free : free_words scratch ≡ length scratch.words = ap (λ (rs : List Span). length scratch.words - words_used rs) empty ∙ minus_none (length scratch.words) in
     absurd (let there : IsNone {T = R} None = refl in let less = none there in omega (arith, less, free, long))

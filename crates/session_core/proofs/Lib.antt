@@ -8,3 +8,4 @@ pub mod Staying
 pub mod Obeying
 pub mod Holding
 pub mod Stepping
+pub mod Naming

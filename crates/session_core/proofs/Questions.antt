@@ -18,7 +18,7 @@ use Rattle.session_rules.specs.Replies.{inconsistent, seen_at, least_at, count_t
 use Rattle.session_rules.specs.GraphSystems.{Subject, system_of}
 use Rattle.session_rules.proofs.Begun.{HaveSpellings}
 use Rattle.session_rules.proofs.ProbeWords.{word_there}
-use Rattle.session_core.specs.inner.Grounds.{IsGround, AreKnown, case_in}
+use Rattle.session_core.specs.inner.Bases.{IsBasis, AreKnown, case_in}
 use Rattle.session_core.specs.inner.Texts.{blame_text}
 use Rattle.session_core.specs.inner.Telling.{unseen_line, verdict_lines}
 use Rattle.session_core.proofs.Minimum.{no_diagnosis, some_diagnosis}
@@ -37,16 +37,16 @@ fixed_word zero e = absurd (e refl)
 fixed_word (suc zero) e = refl
 fixed_word (suc (suc n)) e = refl
 
-module _ (subject : Subject) (words : List ℕ) (ground : IsGround subject) (are : AreKnown subject words) (wire : ℕ) (within : wire < length subject.wires) where
+module _ (subject : Subject) (words : List ℕ) (basis : IsBasis subject) (are : AreKnown subject words) (wire : ℕ) (within : wire < length subject.wires) where
   abbrev place : ℕ
   place = length subject.parts + wire
 
   seen-word : seen_at (case_in subject words) wire ≡ known_of (get_or words place 0)
   seen-word =
-      let room = ground.vars in
+      let room = basis.vars in
       let long = are.long in
       let inside : place < length words = omega (arith, room, long, within) in
-      sym (word_there subject.parts subject.wires subject.costs subject.graph subject.graph.vars words ground.costs refl are wire within)
+      sym (word_there subject.parts subject.wires subject.costs subject.graph subject.graph.vars words basis.costs refl are wire within)
       ∙ get_or-map known_of words place 0 None inside
 
   pub unseen-none : (s name : Name) (n : ℕ) → n ≡ place → get_or words n 0 ≢ 0 → unseen_line (system_of subject) s (case_in subject words) name wire ≡ []

@@ -1,6 +1,6 @@
 -- What only the private contracts of this crate cite.
 pub mod Gathering
-pub mod Grounds
+pub mod Bases
 pub mod Texts
 pub mod Telling
 pub mod Holding

@@ -50,7 +50,7 @@ impl Sessions {
         let Some(place) = self.open.find(session) else {
             return put_refusal(out, session, Refusal::NoSession);
         };
-        match self.ground.find_wire(name) {
+        match self.basis.find_wire(name) {
             None => put_refusal(out, session, Refusal::NoWire),
             Some(wire) => {
                 let question = Question::Probe { wire, name };
@@ -79,9 +79,9 @@ impl Sessions {
         ensures same { self.new ≡ self.old }
         ensures cause { HasCause (O.faults out.old) (O.faults out.new) result }
     {
-        let run = self.scratch.carve(self.ground.room()).unwrap();
+        let run = self.scratch.carve(self.basis.room()).unwrap();
         let told = tell(
-            &self.ground,
+            &self.basis,
             self.open.words(place),
             self.scratch.run_mut(&run),
             &mut self.verdicts,

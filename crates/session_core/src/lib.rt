@@ -2,7 +2,7 @@
 #![tactic(auto)]
 
 mod asking;
-mod ground;
+mod basis;
 mod limits;
 mod line_buffer;
 mod listing;

@@ -15,10 +15,10 @@ ghost use Rattle.session_rules.specs.Sessions.{Entry, state_of, with_entry};
 ghost use Rattle.session_rules.specs.Spelling.{Replies};
 ghost use Rattle.session_table.specs.Tables.{StandsAt};
 ghost use Rattle.session_core.specs.Services.{ChangesTable};
-ghost use Rattle.session_core.specs.inner.Grounds.{AreKnown, case_in};
+ghost use Rattle.session_core.specs.inner.Bases.{AreKnown, case_in};
 ghost use Rattle.session_core.specs.inner.Obeying.{Obeys, MovesOn, PointMoves};
 
-use crate::ground::Ground;
+use crate::basis::Basis;
 use crate::replies::{put_faulty, put_refusal};
 use crate::sessions::Sessions;
 use diag_edge::{Sink, WriteFailed, put_line};
@@ -109,7 +109,7 @@ impl Sessions {
         ensures cause { HasCause (O.faults out.old) (O.faults out.new) result }
     {
         match self.open.point(place) {
-            Some(state) => put_faulty(out, session, &[b"diag"], self.ground.parts(), state),
+            Some(state) => put_faulty(out, session, &[b"diag"], self.basis.parts(), state),
             None => Ok(()),
         }
     }
@@ -123,9 +123,9 @@ impl Sessions {
         ensures { (session : Name) (entry : Entry) → StandsAt self.old.table place session entry
             → PointMoves self.old.subject self.old.table self.new.table place session entry result × ChangesTable self.old self.new }
     {
-        let run = self.scratch.carve(self.ground.room()).unwrap();
+        let run = self.scratch.carve(self.basis.room()).unwrap();
         let step = move_point(
-            &self.ground,
+            &self.basis,
             &mut self.open,
             place,
             self.scratch.run_mut(&run),
@@ -165,9 +165,9 @@ impl Sessions {
                   (record entry { point = Some (state_of (words names.now) self.old.subject.parts) }) self.old.table;
             } else self.old) }
     {
-        let run = self.scratch.carve(self.ground.room()).unwrap();
+        let run = self.scratch.carve(self.basis.room()).unwrap();
         let are_parts = name_point(
-            &self.ground,
+            &self.basis,
             &mut self.open,
             place,
             names,
@@ -181,23 +181,23 @@ impl Sessions {
 // Moves the point of the session at a place to the next diagnosis, if there is one. The scratch has words for the parts, the variables
 // and the nodes.
 fn move_point<L: Ledger>(
-    ground: &Ground,
+    basis: &Basis,
     open: &mut OpenSessions,
     place: usize,
     scratch: &mut [u32],
     steps: &mut Steps<L>,
 ) -> Step
-    requires parts { open.old.parts ≡ length ground.now.parts }
-    requires wires { open.old.wires ≡ length ground.now.wires }
-    requires vars { open.old.vars ≡ ground.now.graph.vars }
+    requires parts { open.old.parts ≡ length basis.now.parts }
+    requires wires { open.old.wires ≡ length basis.now.wires }
+    requires vars { open.old.vars ≡ basis.now.graph.vars }
     requires place { place < length open.old.table }
-    requires scratch { length scratch.old ≡ ground.now.graph.vars + (length ground.now.graph.nodes + length ground.now.parts) }
+    requires scratch { length scratch.old ≡ basis.now.graph.vars + (length basis.now.graph.nodes + length basis.now.parts) }
     ensures { (session : Name) (entry : Entry) → StandsAt open.old.table place session entry
-        → PointMoves ground.now open.old.table open.new.table place session entry result
+        → PointMoves basis.now open.old.table open.new.table place session entry result
         × (open.new ≡ record open.old { table = open.new.table }) }
 {
-    let (state, work) = scratch.split_at_mut(ground.parts().len());
-    let step = advance(ground, open.words(place), open.point(place), state, work, steps);
+    let (state, work) = scratch.split_at_mut(basis.parts().len());
+    let step = advance(basis, open.words(place), open.point(place), state, work, steps);
     if step != Step::Found {
         return step;
     }
@@ -207,24 +207,24 @@ fn move_point<L: Ledger>(
 
 // Moves the point of the session at a place to the state whose faulty parts are those named, if all of these are parts.
 fn name_point(
-    ground: &Ground,
+    basis: &Basis,
     open: &mut OpenSessions,
     place: usize,
     names: &[u8],
     scratch: &mut [u32],
 ) -> bool
-    requires parts { open.old.parts ≡ length ground.now.parts }
+    requires parts { open.old.parts ≡ length basis.now.parts }
     requires place { place < length open.old.table }
-    requires scratch { length ground.now.parts ≤ length scratch.old }
-    ensures named { result ≡ list_all (is_among ground.now.parts) (words names.now) }
+    requires scratch { length basis.now.parts ≤ length scratch.old }
+    ensures named { result ≡ list_all (is_among basis.now.parts) (words names.now) }
     ensures point { (session : Name) (entry : Entry) → StandsAt open.old.table place session entry
         → open.new ≡ (if result then record open.old {
           table = with_entry session
-              (record entry { point = Some (state_of (words names.now) ground.now.parts) }) open.old.table;
+              (record entry { point = Some (state_of (words names.now) basis.now.parts) }) open.old.table;
         } else open.old) }
 {
-    let (state, _) = scratch.split_at_mut(ground.parts().len());
-    if !mark_named(ground, names, state) {
+    let (state, _) = scratch.split_at_mut(basis.parts().len());
+    if !mark_named(basis, names, state) {
         return false;
     }
     open.set_point(place, state);
@@ -232,15 +232,17 @@ fn name_point(
 }
 
 // Whether each name is a part's; and then the state in which these are faulty.
-fn mark_named(ground: &Ground, names: &[u8], state: &mut [u32]) -> bool
-    requires { length state.old ≡ length ground.now.parts }
-    ensures named { result ≡ list_all (is_among ground.now.parts) (words names.now) }
-    ensures state { result ≡ true → bits_of state.new ≡ state_of (words names.now) ground.now.parts }
+fn mark_named(basis: &Basis, names: &[u8], state: &mut [u32]) -> bool
+    requires { length state.old ≡ length basis.now.parts }
+    ensures named { result ≡ list_all (is_among basis.now.parts) (words names.now) }
+    ensures state { result ≡ true → bits_of state.new ≡ state_of (words names.now) basis.now.parts }
     ensures bits { All (λ s. s < 2) state.new }
 {
+    // the names of parts rise, so that no two parts have one name
+    let _parts = basis.parts();
     state.fill(0);
     for name in Tokens::words(names) {
-        match ground.find_part(name) {
+        match basis.find_part(name) {
             None => return false,
             Some(part) => state[part as usize] = 1,
         }
@@ -250,55 +252,55 @@ fn mark_named(ground: &Ground, names: &[u8], state: &mut [u32]) -> bool
 
 // Whether there is a diagnosis after a point, which is then the state.
 fn advance<L: Ledger>(
-    ground: &Ground,
+    basis: &Basis,
     known: &[u32],
     point: Option<&[u32]>,
     state: &mut [u32],
     work: &mut [u32],
     steps: &mut Steps<L>,
 ) -> Step
-    requires known { AreKnown ground.now known.now }
-    requires point { IfSome point (λ old. (length old.now ≡ length ground.now.parts) × All (λ s. s < 2) old.now) }
-    requires state { length state.old ≡ length ground.now.parts }
-    requires work { length work.old ≡ ground.now.graph.vars + length ground.now.graph.nodes }
-    ensures step { let system = system_of ground.now in let case = case_in ground.now known.now in
+    requires known { AreKnown basis.now known.now }
+    requires point { IfSome point (λ old. (length old.now ≡ length basis.now.parts) × All (λ s. s < 2) old.now) }
+    requires state { length state.old ≡ length basis.now.parts }
+    requires work { length work.old ≡ basis.now.graph.vars + length basis.now.graph.nodes }
+    ensures step { let system = system_of basis.now in let case = case_in basis.now known.now in
         result ≡ step_of (system.consistent case)
         (rest (all_diagnoses system case) (option_map (λ old. bits_of old.now) point.entry)) }
-    ensures state { let system = system_of ground.now in let case = case_in ground.now known.now in
+    ensures state { let system = system_of basis.now in let case = case_in basis.now known.now in
         result ≡ Step.Found → bits_of state.new ≡ slice_index_or
         (rest (all_diagnoses system case) (option_map (λ old. bits_of old.now) point.entry)) 0 [] }
     ensures bits { All (λ s. s < 2) state.new }
 {
-    let (words, values) = work.split_at_mut(ground.vars());
+    let (words, values) = work.split_at_mut(basis.vars());
     words.copy_from_slice(known);
     match point {
-        None => begin(ground, words, values, state, steps),
+        None => begin(basis, words, values, state, steps),
         Some(old) => {
             state.copy_from_slice(old);
-            next(ground.graph(), words, ground.costs(), values, state, steps)
+            next(basis.graph(), words, basis.costs(), values, state, steps)
         }
     }
 }
 
 // Whether there is a diagnosis; the first one is then the state.
 fn begin<L: Ledger>(
-    ground: &Ground,
+    basis: &Basis,
     words: &mut [u32],
     values: &mut [u32],
     state: &mut [u32],
     steps: &mut Steps<L>,
 ) -> Step
-    requires words { AreKnown ground.now words.old }
-    requires values { length values.old ≡ length ground.now.graph.nodes }
-    requires state { length state.old ≡ length ground.now.parts }
-    ensures step { let system = system_of ground.now in let case = case_in ground.now words.old in
+    requires words { AreKnown basis.now words.old }
+    requires values { length values.old ≡ length basis.now.graph.nodes }
+    requires state { length state.old ≡ length basis.now.parts }
+    ensures step { let system = system_of basis.now in let case = case_in basis.now words.old in
         result ≡ step_of (system.consistent case) (all_diagnoses system case) }
-    ensures state { let system = system_of ground.now in let case = case_in ground.now words.old in
+    ensures state { let system = system_of basis.now in let case = case_in basis.now words.old in
         result ≡ Step.Found → bits_of state.new ≡ slice_index_or (all_diagnoses system case) 0 [] }
     ensures bits { All (λ s. s < 2) state.new }
 {
     state.fill(0);
-    match first(ground.graph(), words, ground.costs(), values, state, steps) {
+    match first(basis.graph(), words, basis.costs(), values, state, steps) {
         Some(_) => Step::Found,
         None => Step::Inconsistent,
     }

@@ -9,7 +9,7 @@ ghost use Rattle.session_rules.specs.Carrying.{CarriesOut};
 ghost use Rattle.session_core.specs.Services.{moves_of, ChangesTable};
 ghost use Rattle.session_core.specs.inner.Obeying.{Obeys, seen_request, held_request};
 
-use crate::ground::Ground;
+use crate::basis::Basis;
 use crate::limits::{SERVED_NODES, SERVED_VARIABLES, SESSION_LIMIT};
 use crate::replies::{put_line_refusal, put_refusal};
 use crate::telling::Question;
@@ -26,7 +26,7 @@ use std::marker::Model;
 
 /// The sessions over names and a graph. All memory is taken when it is made, and it is spent by [`Sessions::finish`].
 pub(crate) struct Sessions {
-    pub(crate) ground: Ground,
+    pub(crate) basis: Basis,
     pub(crate) open: OpenSessions,
     // what an answer works with: a word for each variable, a value for each node, a state, and a verdict for each part
     pub(crate) scratch: Region,
@@ -39,9 +39,9 @@ impl Model for Sessions {
 
     ghost Value = { Shown };
 
-    ghost view = { λ s. record { subject = s.ground; limit = s.open.limit; table = s.open.table } };
+    ghost view = { λ s. record { subject = s.basis; limit = s.open.limit; table = s.open.table } };
 
-    ghost invariant = { λ s. HoldsTogether s.ground s.open s.scratch s.verdicts.items };
+    ghost invariant = { λ s. HoldsTogether s.basis s.open s.scratch s.verdicts.items };
 }
 
 impl Sessions {
@@ -78,10 +78,10 @@ impl Sessions {
         let room = vars as usize + graph.len() as usize + part_count;
         let verdicts = vec![in alloc; Blame::Never; part_count]?;
         let scratch = Region::new(alloc, room)?;
-        let ground = Ground::of(alloc, parts, wires, costs, graph)?;
+        let basis = Basis::of(alloc, parts, wires, costs, graph)?;
         let open = OpenSessions::new(alloc, part_count as u32, wire_count, vars, sessions)?;
         Ok(Sessions {
-            ground,
+            basis,
             open,
             scratch,
             verdicts,
@@ -91,7 +91,7 @@ impl Sessions {
     /// Closes all sessions, and gives all memory back.
     pub(crate) fn finish(self) {
         let Sessions {
-            ground: _,
+            basis: _,
             open,
             scratch: _,
             verdicts: _,
@@ -103,14 +103,14 @@ impl Sessions {
     pub(crate) fn parts(&self) -> usize
         ensures { result ≡ length self.now.subject.parts }
     {
-        self.ground.parts().len()
+        self.basis.parts().len()
     }
 
     /// The number of wires.
     pub(crate) fn wires(&self) -> usize
         ensures { result ≡ length self.now.subject.wires }
     {
-        self.ground.wires().len()
+        self.basis.wires().len()
     }
 
     /// Answers one line. Where a write fails, the line is carried out up to the reply that met the
@@ -187,7 +187,7 @@ impl Sessions {
         let Some(place) = self.open.find(session) else {
             return put_refusal(out, session, Refusal::NoSession);
         };
-        match self.ground.find_wire(name) {
+        match self.basis.find_wire(name) {
             None => put_refusal(out, session, Refusal::NoWire),
             Some(wire) => {
                 self.open.see(place, wire, bit);
@@ -211,7 +211,7 @@ impl Sessions {
         let Some(place) = self.open.find(session) else {
             return put_refusal(out, session, Refusal::NoSession);
         };
-        match self.ground.find_part(name) {
+        match self.basis.find_part(name) {
             None => put_refusal(out, session, Refusal::NoPart),
             Some(part) => {
                 self.open.hold(place, part, ok);

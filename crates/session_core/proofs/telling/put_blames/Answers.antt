@@ -19,7 +19,7 @@ returns-in_err-put_blame-clause-reply g c =
     let name = c.as_slice.ensures.bytes ∙ get_or_read names i c.index-parts-part.result c.loop-part-test.true c.index-parts-part.is [] in
     let word = blame_text (get_or verdicts i Always) in
     let one = line (s ∷ codes "blame" ∷ get_or names i [] ∷ word ∷ []) in
-    let all : verdict_lines s names verdicts ≡ verdict_lines s c.args.ground.now.parts verdicts = ap (λ ns. verdict_lines s ns verdicts) c.parts-parts.ensures.names in
+    let all : verdict_lines s names verdicts ≡ verdict_lines s c.args.basis.now.parts verdicts = ap (λ ns. verdict_lines s ns verdicts) c.parts-parts.ensures.names in
     let said = c.loop-part.invariant.said in
     said_part _ _ _ _ (one ∷ []) (verdict_lines s (drop (i + 1) names) (drop (i + 1) verdicts)) _ _ c.from_residual.ensures.0
     (verdicts-next s names verdicts i Always c.loop-part-test.true below)

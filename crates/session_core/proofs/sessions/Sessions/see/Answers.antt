@@ -10,7 +10,7 @@ use Rattle.session_core.proofs.sessions.Sessions.see.Goals as goal
 
 pub returns-in_default-clause-obeys : goal.returns-in_default-clause-obeys
 returns-in_default-clause-obeys g c =
-    let shown = shown_of c.self.inside.ground c.self.inside.open in
+    let shown = shown_of c.self.inside.basis c.self.inside.open in
     let s = c.args.session.now in
     let request = seen_request c.args.name.now c.args.bit in
     subst (λ (v : Shown). Obeys v v s request (g.O.Sink.got c.args.out.now) (g.O.Sink.got c.put_refusal.new.out) c.put_refusal.result) c.self.view_is
@@ -18,12 +18,12 @@ returns-in_default-clause-obeys g c =
 
 pub see-requires-clause-wire : goal.see-requires-clause-wire
 see-requires-clause-wire g c =
-    let here = place-within c.args.name.now c.self.inside.ground.wires c.in-Some-find_wire.wire c.in-Some-find_wire.ensures in omega (arith, here, c.self.invariant.wires)
+    let here = place-within c.args.name.now c.self.inside.basis.wires c.in-Some-find_wire.wire c.in-Some-find_wire.ensures in omega (arith, here, c.self.invariant.wires)
 
 pub returns-in-None-clause-obeys : goal.returns-in-None-clause-obeys
 returns-in-None-clause-obeys g c =
-    let shown = shown_of c.self.inside.ground c.self.inside.open in
-    let system = system_of c.self.inside.ground in
+    let shown = shown_of c.self.inside.basis c.self.inside.open in
+    let system = system_of c.self.inside.basis in
     let s = c.args.session.now in
     let request = seen_request c.args.name.now c.args.bit in
     let there = c.in-Some.ensures.some in
@@ -34,7 +34,7 @@ returns-in-None-clause-obeys g c =
 
 pub returns-in-Some-find_wire-clause-obeys : goal.returns-in-Some-find_wire-clause-obeys
 returns-in-Some-find_wire-clause-obeys g c =
-    let subject = c.self.inside.ground in
+    let subject = c.self.inside.basis in
     let opened = c.self.inside.open in
     let s = c.args.session.now in
     let request = seen_request c.args.name.now c.args.bit in
@@ -48,4 +48,4 @@ returns-in-Some-find_wire-clause-obeys g c =
 pub invariant_of-self : goal.invariant_of-self
 invariant_of-self g c =
     let there = c.in-Some.ensures.some in
-    holds_more c.self.inside.ground c.self.inside.open c.see.new.self c.self.inside.scratch c.self.inside.verdicts.items _ c.self.invariant (c.see.ensures c.args.session.now there.0 there.1)
+    holds_more c.self.inside.basis c.self.inside.open c.see.new.self c.self.inside.scratch c.self.inside.verdicts.items _ c.self.invariant (c.see.ensures c.args.session.now there.0 there.1)

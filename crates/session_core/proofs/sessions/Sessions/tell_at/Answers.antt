@@ -10,7 +10,7 @@ use Rattle.session_rules.specs.Sessions.{Entry}
 use Rattle.session_rules.specs.Spelling.{Replies}
 use Rattle.session_table.specs.Tables.{StandsAt}
 use Rattle.session_core.specs.Services.{Shown}
-use Rattle.session_core.specs.inner.Grounds.{case_in}
+use Rattle.session_core.specs.inner.Bases.{case_in}
 use Rattle.session_core.specs.inner.Telling.{told_of}
 use Rattle.session_core.proofs.Holding.{carve_some, is_last, is_held, carved_long, released_runs, released_words, written_back}
 use Rattle.session_core.proofs.sessions.Sessions.tell_at.Goals as goal
@@ -21,8 +21,8 @@ unwrap-run-requires g c =
 
 pub tell-told-requires-clause-known : goal.tell-told-requires-clause-known
 tell-told-requires-clause-known g c =
-    subst (λ (n : ℕ). AreWords n (length c.self.inside.ground.wires) c.self.inside.ground.graph.vars c.words.result.now) c.self.invariant.parts
-    (subst (λ (n : ℕ). AreWords c.self.inside.open.parts n c.self.inside.ground.graph.vars c.words.result.now) c.self.invariant.wires
+    subst (λ (n : ℕ). AreWords n (length c.self.inside.basis.wires) c.self.inside.basis.graph.vars c.words.result.now) c.self.invariant.parts
+    (subst (λ (n : ℕ). AreWords c.self.inside.open.parts n c.self.inside.basis.graph.vars c.words.result.now) c.self.invariant.wires
     (subst (λ (n : ℕ). AreWords c.self.inside.open.parts c.self.inside.open.wires n c.words.result.now) c.self.invariant.vars c.words.ensures.words))
 
 pub tell-told-requires-clause-scratch : goal.tell-told-requires-clause-scratch
@@ -34,13 +34,13 @@ tell-told-requires-clause-scratch g c =
 
 pub returns-clause-reply : goal.returns-clause-reply
 returns-clause-reply g c = λ (entry : Entry) stands.
-    let ground = c.self.inside.ground in
+    let basis = c.self.inside.basis in
     let s = c.args.session.now in
     let here = subst (λ (v : Shown). StandsAt v.table c.args.place s entry) (sym c.self.view_is) stands in
-    let known : case_in ground c.words.result.now ≡ entry.known =
+    let known : case_in basis c.words.result.now ≡ entry.known =
     (λ i. case_of_words (sym c.self.invariant.parts i) (sym c.self.invariant.wires i) c.words.result.now) ∙ sym (c.words.ensures.known s entry here) in
     subst (λ (v : Shown). Replies (g.O.Sink.got c.args.out.now) (g.O.Sink.got c.tell-told.new.out) c.tell-told.result (told_of (system_of v.subject) s entry.known c.args.question)) c.self.view_is
-    (subst (λ (k : Case). Replies (g.O.Sink.got c.args.out.now) (g.O.Sink.got c.tell-told.new.out) c.tell-told.result (told_of (system_of ground) s k c.args.question)) known c.tell-told.ensures.reply)
+    (subst (λ (k : Case). Replies (g.O.Sink.got c.args.out.now) (g.O.Sink.got c.tell-told.new.out) c.tell-told.result (told_of (system_of basis) s k c.args.question)) known c.tell-told.ensures.reply)
 
 pub returns-clause-same : goal.returns-clause-same
 returns-clause-same g c = c.self.view_is

@@ -11,7 +11,7 @@ use Rattle.session_rules.specs.CaseWords.{case_of_words, AreWords}
 use Rattle.session_core.specs.declared.limits.TheConstants.{SERVED_VARIABLES, SERVED_NODES}
 
 -- each part has a name and a cost, all together are few, and the graph has variables for parts and wires
-pub record IsGround (subject : Subject) : Type 0 where
+pub record IsBasis (subject : Subject) : Type 0 where
   pub costs : length subject.costs ≡ length subject.parts
   pub dear : All (λ c. 0 < c) subject.costs
   pub total : total_cost subject.costs < TOTAL_LIMIT

@@ -15,26 +15,26 @@ use std::marker::Model;
 /// What sessions ask over, which no line changes: the names of parts and wires, what the failure of each part costs, and a graph
 /// whose variables are the parts, the wires, and inner ones.
 #[derive(Drop)]
-pub(crate) struct Ground {
+pub(crate) struct Basis {
     parts: NameTable,
     wires: NameTable,
     costs: Vec<u32>,
     graph: Graph,
 }
 
-impl Model for Ground {
+impl Model for Basis {
     ghost use Rattle.session_rules.specs.GraphSystems.{Subject};
-    ghost use Rattle.session_core.specs.inner.Grounds.{IsGround};
+    ghost use Rattle.session_core.specs.inner.Bases.{IsBasis};
 
     ghost Value = { Subject };
 
     ghost view = { λ g. record { parts = g.parts; wires = g.wires; costs = g.costs.items; graph = g.graph } };
 
-    ghost invariant = { λ g. IsGround (record { parts = g.parts; wires = g.wires; costs = g.costs.items; graph = g.graph }) };
+    ghost invariant = { λ g. IsBasis (record { parts = g.parts; wires = g.wires; costs = g.costs.items; graph = g.graph }) };
 }
 
-impl Ground {
-    ghost use Rattle.session_core.specs.inner.Grounds.{IsGround};
+impl Basis {
+    ghost use Rattle.session_core.specs.inner.Bases.{IsBasis};
 
     /// Names, costs and a graph. `Err` means that memory ran out.
     pub(crate) fn of(
@@ -43,7 +43,7 @@ impl Ground {
         wires: Vec<Name>,
         costs: Vec<u32>,
         graph: Graph,
-    ) -> Result<Ground, AllocError>
+    ) -> Result<Basis, AllocError>
         requires parts_rise { names_rise parts.items ≡ true }
         requires wires_rise { names_rise wires.items ≡ true }
         requires few_parts { length parts.items ≤ PART_LIMIT }
@@ -54,12 +54,12 @@ impl Ground {
         requires vars { length parts.items + length wires.items ≤ graph.vars }
         requires few_vars { graph.vars ≤ SERVED_VARIABLES }
         requires few_nodes { length graph.nodes < SERVED_NODES }
-        ensures { IfOk result (λ ground. ground
+        ensures { IfOk result (λ basis. basis
             ≡ record { parts = parts.items; wires = wires.items; costs = costs.items; graph = graph }) }
     {
         // a graph is one whose children stand before it and share no variable below an and
         let _nodes = graph.len();
-        Ok(Ground {
+        Ok(Basis {
             parts: NameTable::of(alloc, parts)?,
             wires: NameTable::of(alloc, wires)?,
             costs,
@@ -70,7 +70,7 @@ impl Ground {
     /// The names of the parts.
     pub(crate) fn parts(&self) -> &[Name]
         ensures names { result.now ≡ self.now.parts }
-        ensures ground { IsGround self.now }
+        ensures basis { IsBasis self.now }
     {
         self.parts.as_slice()
     }
@@ -78,7 +78,7 @@ impl Ground {
     /// The names of the wires.
     pub(crate) fn wires(&self) -> &[Name]
         ensures names { result.now ≡ self.now.wires }
-        ensures ground { IsGround self.now }
+        ensures basis { IsBasis self.now }
     {
         self.wires.as_slice()
     }
@@ -93,7 +93,7 @@ impl Ground {
     /// The graph.
     pub(crate) fn graph(&self) -> &Graph
         ensures graph { result.now ≡ self.now.graph }
-        ensures ground { IsGround self.now }
+        ensures basis { IsBasis self.now }
     {
         &self.graph
     }
@@ -116,7 +116,7 @@ impl Ground {
     pub(crate) fn room(&self) -> usize
         ensures room { result ≡ self.now.graph.vars + (length self.now.graph.nodes + length self.now.parts) }
         ensures some { 1 ≤ result }
-        ensures ground { IsGround self.now }
+        ensures basis { IsBasis self.now }
     {
         self.graph.vars() as usize + (self.graph.len() as usize + self.parts.as_slice().len())
     }
@@ -124,7 +124,7 @@ impl Ground {
     /// How many variables the graph has.
     pub(crate) fn vars(&self) -> usize
         ensures vars { result ≡ self.now.graph.vars }
-        ensures ground { IsGround self.now }
+        ensures basis { IsBasis self.now }
     {
         self.graph.vars() as usize
     }
@@ -132,7 +132,7 @@ impl Ground {
     /// How many nodes the graph has.
     pub(crate) fn nodes(&self) -> usize
         ensures nodes { result ≡ length self.now.graph.nodes }
-        ensures ground { IsGround self.now }
+        ensures basis { IsBasis self.now }
     {
         self.graph.len() as usize
     }

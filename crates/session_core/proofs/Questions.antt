@@ -103,7 +103,7 @@ verdicts-have s (name ∷ names) (v ∷ verdicts) = ((_, refl), verdicts-have s 
 
 -- ---- whether some state agrees
 
-least-some : (costs : List ℕ) (h : List Bool) (hs : List (List Bool)) → is_some (least costs (h ∷ hs)) ≡ true
+pub least-some : (costs : List ℕ) (h : List Bool) (hs : List (List Bool)) → is_some (least costs (h ∷ hs)) ≡ true
 least-some costs h hs = by (least_of (map (cost costs) hs))
   where
     by : (o : Option ℕ) → is_some (least_with (cost costs h) o) ≡ true

@@ -1,5 +1,5 @@
 //! Requests that move the point of a session.
-ghost use Rattle.std.specs.Prelude.{◌≡◌, ◌+◌, ◌<◌, ◌≤◌, [], ◌∷◌, List, Bool, Some, length, All, IfSome, slice_index_or, if◌then◌else◌};
+ghost use Rattle.std.specs.Prelude.{◌≡◌, ◌+◌, ◌<◌, ◌≤◌, [], ◌∷◌, List, Bool, Some, length, All, IfSome, slice_index_or, true, if◌then◌else◌};
 ghost use Rattle.std.specs.Option.{option_map};
 ghost use Rattle.std.specs.List.{list_all};
 ghost use Rattle.text_rules.specs.Names.{Name, is_among};
@@ -197,12 +197,13 @@ fn move_point<L: Ledger>(
         × (open.new ≡ record open.old { table = open.new.table }) }
 {
     let (state, work) = scratch.split_at_mut(basis.parts().len());
-    let step = advance(basis, open.words(place), open.point(place), state, work, steps);
-    if step != Step::Found {
-        return step;
+    match advance(basis, open.words(place), open.point(place), state, work, steps) {
+        Step::Found => {
+            open.set_point(place, state);
+            Step::Found
+        }
+        step => step,
     }
-    open.set_point(place, state);
-    Step::Found
 }
 
 // Moves the point of the session at a place to the state whose faulty parts are those named, if all of these are parts.

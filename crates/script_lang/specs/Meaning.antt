@@ -1,5 +1,4 @@
 -- What the values that the code hands on mean, in the words of the definitions.
-use Rattle.std.specs.Prelude.{ℕ, List, [], ◌∷◌, Option, Some, None, Result, Ok, Err}
 use Rattle.text_rules.specs.Tokens.{words}
 use Rattle.script_lang.specs.Script as script
 use Rattle.script_lang.specs.declared.line.Line.{Line}

@@ -47,7 +47,11 @@ fn name_in(text: &[u8]) -> Result<(&[u8], &[u8]), LineRefusal>
 }
 
 // A session, and a name with one of two values.
-fn value_in<'a>(text: &'a [u8], one: &[u8], other: &[u8]) -> Result<(&'a [u8], &'a [u8], bool), LineRefusal>
+fn value_in<'a>(
+    text: &'a [u8],
+    one: &[u8],
+    other: &[u8],
+) -> Result<(&'a [u8], &'a [u8], bool), LineRefusal>
     ensures { (request : Name → Bool → Request)
         → asked_by (λ found. Ask found.0.now (request found.1.now found.2)) result
         ≡ on_value one.now other.now request (words text.now) }

@@ -1,6 +1,5 @@
 -- What words say of a case, and what becomes of it where one of them is written.
 use Rattle.std.proofs.Common.{◌≡◌, ℕ, zero, suc, ◌+◌, ◌-◌, ◌≤◌, ◌<◌, Bool, true, false, List, [], ◌∷◌, ◌++◌, map, length, replicate, take, drop, refl, ap, ap₂, sym, ◌∙◌, subst, Option, Some, None, arith, set, length-append}
-use Rattle.std.specs.List.{All}
 use Rattle.std.proofs.Math.Seq.{drop-append_seam, take-append_seam}
 use Rattle.std.proofs.lemmas.List.{length-map, length-set, length-replicate, length-drop, length-take-le, map-set, set-append_left, replicate-append-replicate}
 use Rattle.std.proofs.lemmas.List.Elements.{All-replicate, All-set}

@@ -8,8 +8,8 @@ use Rattle.ranking.specs.Bits.{bit_in, same_bit, lists_of_bits}
 use Rattle.ranking.specs.Cases.{Case, agrees, agrees_at}
 use Rattle.ranking.specs.Ranking.{Test, passing, least}
 use Rattle.graph_rules.specs.Graphs.{Graph, holds}
-use Rattle.conditioner.specs.Words.{known, known_of, word_of}
-use Rattle.conditioner.specs.Models.{has_model, fits_words, models, models_with, least_with}
+use Rattle.conditioner.specs.Words.{known, known_of}
+use Rattle.conditioner.specs.Models.{has_model, fits_words, models, least_with}
 use Rattle.session_rules.specs.Replies.{least_at, seen_at}
 use Rattle.session_rules.specs.GraphSystems.{word_of_known, case_words, graph_system}
 use Rattle.session_rules.specs.CaseWords.{case_of_words, AreWords}

@@ -2,7 +2,7 @@
 use Rattle.std.specs.Prelude.{◌≡◌, ℕ, Bool, true, false, List, [], ◌∷◌, ◌++◌, map, length, nat_le, codes, if◌then◌else◌}
 use Rattle.text_rules.specs.Names.{Name, same_name}
 use Rattle.ranking.specs.Systems.{System}
-use Rattle.script_lang.specs.Script.{Line, Blank, Refused, Ask, Start, Stop, line_of}
+use Rattle.script_lang.specs.Script.{Line, Ask, Start, Stop, line_of}
 use Rattle.session_rules.specs.Items.{Item, line}
 use Rattle.session_rules.specs.Sessions.{Table, entry_of, step}
 use Rattle.session_rules.specs.Moves.{line_step}
@@ -59,7 +59,8 @@ pub record LooksSame (limit : ℕ) (line : Line) (one other : Table) : Type 0 wh
 
 -- What a line is answered, and what becomes of the session that it names, hangs on no more than that, and it changes no other.
 pub record IsItsOwn (system : System) (limit : ℕ) (line : Line) : Type 0 where
-  pub answer : (one other : Table) → LooksSame limit line one other → (step system limit one line).items ≡ (step system limit other line).items
+  pub answer : (one other : Table) → LooksSame limit line one other
+      → (step system limit one line).items ≡ (step system limit other line).items
   pub named : (one other : Table) → LooksSame limit line one other → (session : Name) → names_session session line ≡ true
       → entry_of session (step system limit one line).table ≡ entry_of session (step system limit other line).table
   pub others : (table : Table) (session : Name) → names_session session line ≡ false

@@ -21,6 +21,7 @@ pub record BreaksOff (new : Table) (moves : List Step) (before after : Option (L
   pub table : new ≡ move.table
 
 -- moves were made, or broke off
-abbrev pub CarriesOut : {T E : Type 0} → Table → Table → List Step → Option (List ℕ) → Option (List ℕ) → Result T E → Type 0
+abbrev pub CarriesOut : {T E : Type 0}
+    → Table → Table → List Step → Option (List ℕ) → Option (List ℕ) → Result T E → Type 0
 CarriesOut old new moves before after result =
     MatchResult result (λ _. Makes old new moves before after) (λ _. BreaksOff new moves before after)

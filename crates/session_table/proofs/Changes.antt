@@ -1,5 +1,5 @@
 -- What is done to the fields of the open sessions is what their contracts tell of the table.
-use Rattle.std.proofs.Common.{◌≡◌, ℕ, ◌<◌, ◌≤◌, T, List, length, get_or, set, replicate, refl, ap, ap₂, sym, ◌∙◌, subst, subst₂, Some, None, Result, Ok, Err, IfOk, IfErr, arith}
+use Rattle.std.proofs.Common.{◌≡◌, ℕ, ◌<◌, ◌≤◌, T, List, length, get_or, set, replicate, refl, ap, ap₂, sym, ◌∙◌, subst, Some, None, Result, Ok, Err, IfOk, IfErr, arith}
 use Rattle.std.specs.Prelude.{not, slice_get, IsErr, IfSome, IfNone, vec_capacity}
 use Rattle.std.specs.List.{insert, remove}
 use Rattle.std.specs.Option.{option_map}
@@ -34,13 +34,17 @@ Kept inside = AreKept inside.layout inside.limit inside.pool inside.«open».ite
 abbrev pub table_in : Inside → Table
 table_in inside = table_of inside.layout inside.pool inside.«open».items
 
+-- the entry of a block
+abbrev pub entry_in_block : Inside → ℕ → Entry
+entry_in_block inside block = entry_in inside.layout (block_words inside.pool block)
+
 abbrev name_and_block : Open → Name × ℕ
 name_and_block session = (session.name, session.block)
 
 -- the table is in the order of its names
 table_sorted : (inside : Inside) → Kept inside → T (is_sorted order (table_in inside))
 table_sorted inside kept =
-    subst T (sorted_alike (λ session. session.block) (λ session. entry_in inside.layout (block_words inside.pool session.block)) inside.«open».items)
+    subst T (sorted_alike (λ session. session.block) (λ session. entry_in_block inside session.block) inside.«open».items)
     (so (is_sorted order (blocks_by_name inside.«open».items)) kept.rise)
 
 module _ (inside : Inside) (kept : Kept inside) where
@@ -48,29 +52,31 @@ module _ (inside : Inside) (kept : Kept inside) where
   sessions = inside.«open».items
 
   stands_at : (place : ℕ) (session : Open) (name : Name) → slice_get sessions place ≡ Some session → session.name ≡ name
-      → StandsAt (table_in inside) place name (entry_in inside.layout (block_words inside.pool session.block))
+      → StandsAt (table_in inside) place name (entry_in_block inside session.block)
   stands_at place session name here named =
-      let entry : Entry = entry_in inside.layout (block_words inside.pool session.block) in
+      let entry : Entry = entry_in_block inside session.block in
       let at : slice_get (table_in inside) place ≡ Some (name, entry) =
       slice_get-map (entry_at inside.layout inside.pool) sessions place
       ∙ (ap (option_map (entry_at inside.layout inside.pool)) here ∙ ap (λ n. Some (n, entry)) named) in
       record { at = at; found = find_at (table_in inside) place name entry (table_sorted inside kept) at; kept = put_same (table_in inside) place name entry (table_sorted inside kept) at }
 
   table_gap : (place : ℕ) (name : Name) → IsGapFor sessions place name → IsGap (table_in inside) place name
-  table_gap place name gap = gap_map (λ session. entry_in inside.layout (block_words inside.pool session.block)) sessions place name gap
+  table_gap place name gap = gap_map (λ session. entry_in_block inside session.block) sessions place name gap
 
 -- ---- a session is looked for
 
-module _ (inside : Inside) (shown : Opened) (shows : the_view inside ≡ shown) (kept : Kept inside) (name : Name) (sessions : List Open) (same : sessions ≡ inside.«open».items) where
+module _ (inside : Inside) (shown : Opened) (shows : the_view inside ≡ shown) (kept : Kept inside)
+    (name : Name) (sessions : List Open) (same : sessions ≡ inside.«open».items) where
   table_is : table_in inside ≡ shown.table
   table_is = ap (λ (o : Opened). o.table) shows
 
-  pub found : (r : Result ℕ ℕ) → IfOk r (λ place. HasName sessions place name) → IfSome (result_ok r) (λ place. (entry : Entry) × StandsAt shown.table place name entry)
+  pub found : (r : Result ℕ ℕ) → IfOk r (λ place. HasName sessions place name)
+      → IfSome (result_ok r) (λ place. (entry : Entry) × StandsAt shown.table place name entry)
   found (Ok place) has =
       let session = has.0 in
       let here = subst (λ (xs : List Open). slice_get xs place ≡ Some session) same has.1 in (
-        entry_in inside.layout (block_words inside.pool session.block),
-        subst (λ (t : Table). StandsAt t place name (entry_in inside.layout (block_words inside.pool session.block))) table_is (stands_at inside kept place session name here has.2),
+        entry_in_block inside session.block,
+        subst (λ (t : Table). StandsAt t place name (entry_in_block inside session.block)) table_is (stands_at inside kept place session name here has.2),
       )
   found (Err place) has = tt
 
@@ -79,7 +85,8 @@ module _ (inside : Inside) (shown : Opened) (shows : the_view inside ≡ shown) 
   found-within (Ok place) has = let there = found (Ok place) has in slice_get_within shown.table place (name, there.0) there.1.at
   found-within (Err place) has = tt
 
-  pub absent : (r : Result ℕ ℕ) → IfErr r (λ place. IsGapFor sessions place name) → IfNone (result_ok r) (entry_of name shown.table ≡ None)
+  pub absent : (r : Result ℕ ℕ) → IfErr r (λ place. IsGapFor sessions place name)
+      → IfNone (result_ok r) (entry_of name shown.table ≡ None)
   absent (Ok place) gap = tt
   absent (Err place) gap =
       subst (λ (t : Table). entry_of name t ≡ None) table_is
@@ -92,12 +99,10 @@ module _ (inside : Inside) (shown : Opened) (shows : the_view inside ≡ shown) 
 
 -- ---- a session at a place
 
-module _ (inside : Inside) (shown : Opened) (shows : the_view inside ≡ shown) (kept : Kept inside) (place : ℕ) (session : Open) (within : place < length shown.table) (read : session ≡ get_or inside.«open».items place session) where
+module _ (inside : Inside) (shown : Opened) (shows : the_view inside ≡ shown) (kept : Kept inside)
+    (place : ℕ) (session : Open) (within : place < length shown.table) (read : session ≡ get_or inside.«open».items place session) where
   abbrev items : List Open
   items = inside.«open».items
-
-  abbrev entry_now : Entry
-  entry_now = entry_in inside.layout (block_words inside.pool session.block)
 
   here : slice_get items place ≡ Some session
   here =
@@ -114,17 +119,20 @@ module _ (inside : Inside) (shown : Opened) (shows : the_view inside ≡ shown) 
   stood : (name : Name) (entry : Entry) → StandsAt shown.table place name entry → StandsAt (table_in inside) place name entry
   stood name entry stands = subst (λ (o : Opened). StandsAt o.table place name entry) (sym shows) stands
 
-  name_and_entry : (name : Name) (entry : Entry) → StandsAt shown.table place name entry → (session.name ≡ name) × (entry_now ≡ entry)
+  name_and_entry : (name : Name) (entry : Entry) → StandsAt shown.table place name entry
+      → (session.name ≡ name) × (entry_in_block inside session.block ≡ entry)
   name_and_entry name entry stands =
-      some_pair_parts session.name name entry_now entry
+      some_pair_parts session.name name (entry_in_block inside session.block) entry
       (sym (slice_get-map (entry_at inside.layout inside.pool) items place ∙ ap (option_map (entry_at inside.layout inside.pool)) here)
       ∙ (stood name entry stands).at)
 
-  pub entry_here : (name : Name) (entry : Entry) → StandsAt shown.table place name entry → entry ≡ entry_in inside.layout (block_words inside.pool session.block)
+  pub entry_here : (name : Name) (entry : Entry) → StandsAt shown.table place name entry
+      → entry ≡ entry_in_block inside session.block
   entry_here name entry stands = sym (name_and_entry name entry stands).1
 
   -- its block is written
-  module _ (pool : Blocks) (change : Entry → Entry) (keeps : KeepsEntry inside.layout inside.pool pool session.block (change (entry_in inside.layout (block_words inside.pool session.block)))) where
+  module _ (pool : Blocks) (change : Entry → Entry)
+      (keeps : KeepsEntry inside.layout inside.pool pool session.block (change (entry_in_block inside session.block))) where
     pub written : AreKept inside.layout inside.limit pool inside.«open».items (vec_capacity inside.«open»)
     written = subst (λ (p : Blocks). AreKept inside.layout inside.limit p items (vec_capacity inside.«open»)) (sym keeps.written) (record {
       rise = kept.rise;
@@ -135,7 +143,8 @@ module _ (inside : Inside) (shown : Opened) (shows : the_view inside ≡ shown) 
       room = kept.room;
     })
 
-    written_set : (name : Name) (entry : Entry) → StandsAt shown.table place name entry → table_in (record inside { pool = pool }) ≡ set (table_in inside) place (name, change entry)
+    written_set : (name : Name) (entry : Entry) → StandsAt shown.table place name entry
+        → table_in (record inside { pool = pool }) ≡ set (table_in inside) place (name, change entry)
     written_set name entry stands =
         let both = name_and_entry name entry stands in
         ap (λ (p : Blocks). table_of inside.layout p items) keeps.written
@@ -151,7 +160,8 @@ module _ (inside : Inside) (shown : Opened) (shows : the_view inside ≡ shown) 
         ∙ sym (put_at (table_in inside) place name entry (change entry) (table_sorted inside kept) (stood name entry stands).at))
         ∙ ap (λ (o : Opened). record o { table = with_entry name (change entry) o.table }) shows
 
-    pub stands_written : (name : Name) (entry : Entry) → StandsAt shown.table place name entry → StandsAt (table_in (record inside { pool = pool })) place name (change entry)
+    pub stands_written : (name : Name) (entry : Entry) → StandsAt shown.table place name entry
+        → StandsAt (table_in (record inside { pool = pool })) place name (change entry)
     stands_written name entry stands =
         let new : Inside = record inside { pool = pool } in
         let at : slice_get (table_in new) place ≡ Some (name, change entry) =
@@ -164,7 +174,8 @@ module _ (inside : Inside) (shown : Opened) (shows : the_view inside ≡ shown) 
   rise_given =
       let pairs : List (Name × ℕ) = blocks_by_name items in
       let sorted = so (is_sorted order pairs) kept.rise in
-      let at : slice_get pairs place ≡ Some (session.name, session.block) = slice_get-map name_and_block items place ∙ ap (option_map name_and_block) here in
+      let at : slice_get pairs place ≡ Some (session.name, session.block) =
+      slice_get-map name_and_block items place ∙ ap (option_map name_and_block) here in
       let left : where_key order (λ name. not (same_name name session.name)) pairs ≡ blocks_by_name (remove items place) =
       without_at pairs place session.name session.block sorted at ∙ sym (map-remove name_and_block items place) in
       as_true (is_sorted order (blocks_by_name (remove items place)))
@@ -194,7 +205,9 @@ module _ (inside : Inside) (shown : Opened) (shows : the_view inside ≡ shown) 
 
 -- ---- a session opens
 
-module _ (inside : Inside) (shown : Opened) (shows : the_view inside ≡ shown) (kept : Kept inside) (place : ℕ) (name : Name) (block : ℕ) (gap : IsGapFor inside.«open».items place name) (sound : IsSound inside.pool) (free : IsFree inside.pool block) (room : length shown.table < shown.limit) where
+module _ (inside : Inside) (shown : Opened) (shows : the_view inside ≡ shown) (kept : Kept inside)
+    (place : ℕ) (name : Name) (block : ℕ) (gap : IsGapFor inside.«open».items place name) (sound : IsSound inside.pool)
+    (free : IsFree inside.pool block) (room : length shown.table < shown.limit) where
   abbrev before : List Open
   before = inside.«open».items
 

@@ -1,5 +1,5 @@
 -- Lists of pairs in the order of their names: what a look-up by name is at a place.
-use Rattle.std.proofs.Common.{◌≡◌, ◌≢◌, ℕ, zero, suc, ◌+◌, ◌<◌, ◌≤◌, Bool, true, false, cond, T, List, [], ◌∷◌, ◌++◌, length, take, drop, get_or, set, refl, ap, sym, ◌∙◌, subst, Option, Some, None, arith, Ordering, Less, Equal, Greater}
+use Rattle.std.proofs.Common.{◌≡◌, ℕ, zero, suc, ◌≤◌, Bool, true, false, cond, T, List, [], ◌∷◌, length, set, refl, ap, sym, ◌∙◌, subst, Some, None, arith, Ordering, Less, Equal, Greater}
 use Rattle.std.specs.Prelude.{not, ◌&&◌, slice_get}
 use Rattle.std.specs.List.{insert, remove, AllWithin}
 use Rattle.std.specs.Ordering.{nat_cmp, is_eq, is_lt, ordering_reverse}
@@ -54,14 +54,16 @@ module _ {X : Type 0} where
   without_name name es = where_key order (λ k. not (same_name k name)) es
 
   -- a name below all is below each
-  below_at : (a : Name) (es : List (Name × X)) (place : ℕ) (e : Name × X) → T (below_all order a es) → slice_get es place ≡ Some e → order a e.0 ≡ Less
+  below_at : (a : Name) (es : List (Name × X)) (place : ℕ) (e : Name × X) → T (below_all order a es)
+      → slice_get es place ≡ Some e → order a e.0 ≡ Less
   below_at a [] place e all at = absurd (none-some e at)
   below_at a (f ∷ es) zero e all at =
       subst (λ (p : Name × X). order a p.0 ≡ Less) (same_Some f e at) (is_less (order a f.0) (front_so (is_lt (order a f.0)) (below_all order a es) all))
   below_at a (f ∷ es) (suc place) e all at = below_at a es place e (back_so (is_lt (order a f.0)) (below_all order a es) all) at
 
   -- the name at a later place is above the first
-  later : (f : Name × X) (es : List (Name × X)) (place : ℕ) (e : Name × X) → T (is_sorted order (f ∷ es)) → slice_get es place ≡ Some e → order e.0 f.0 ≡ Greater
+  later : (f : Name × X) (es : List (Name × X)) (place : ℕ) (e : Name × X) → T (is_sorted order (f ∷ es))
+      → slice_get es place ≡ Some e → order e.0 f.0 ≡ Greater
   later f es place e sorted at = above f.0 e.0 (below_at f.0 es place e (front_so (below_all order f.0 es) (is_sorted order es) sorted) at)
 
   rest_sorted : (f : Name × X) (es : List (Name × X)) → T (is_sorted order (f ∷ es)) → T (is_sorted order es)
@@ -69,7 +71,8 @@ module _ {X : Type 0} where
 
   -- ---- at a place
 
-  pub find_at : (es : List (Name × X)) (place : ℕ) (name : Name) (x : X) → T (is_sorted order es) → slice_get es place ≡ Some (name, x) → find order name es ≡ Some x
+  pub find_at : (es : List (Name × X)) (place : ℕ) (name : Name) (x : X) → T (is_sorted order es)
+      → slice_get es place ≡ Some (name, x) → find order name es ≡ Some x
   find_at [] place name x sorted at = absurd (none-some (name, x) at)
   find_at (f ∷ es) zero name x sorted at =
       let same : f ≡ (name, x) = same_Some f (name, x) at in
@@ -79,7 +82,8 @@ module _ {X : Type 0} where
       ap (λ o. cond (is_eq o) (Some f.1) (find order name es)) (later f es place (name, x) sorted at)
       ∙ find_at es place name x (rest_sorted f es sorted) at
 
-  pub put_at : (es : List (Name × X)) (place : ℕ) (name : Name) (x y : X) → T (is_sorted order es) → slice_get es place ≡ Some (name, x) → put order name y es ≡ set es place (name, y)
+  pub put_at : (es : List (Name × X)) (place : ℕ) (name : Name) (x y : X) → T (is_sorted order es)
+      → slice_get es place ≡ Some (name, x) → put order name y es ≡ set es place (name, y)
   put_at [] place name x y sorted at = absurd (none-some (name, x) at)
   put_at (f ∷ es) zero name x y sorted at =
       let same : f ≡ (name, x) = same_Some f (name, x) at in
@@ -101,7 +105,8 @@ module _ {X : Type 0} where
   pub put_same : (es : List (Name × X)) (place : ℕ) (name : Name) (x : X) → T (is_sorted order es) → slice_get es place ≡ Some (name, x) → put order name x es ≡ es
   put_same es place name x sorted at = put_at es place name x x sorted at ∙ set_same es place (name, x) at
 
-  pub without_at : (es : List (Name × X)) (place : ℕ) (name : Name) (x : X) → T (is_sorted order es) → slice_get es place ≡ Some (name, x) → without_name name es ≡ remove es place
+  pub without_at : (es : List (Name × X)) (place : ℕ) (name : Name) (x : X) → T (is_sorted order es)
+      → slice_get es place ≡ Some (name, x) → without_name name es ≡ remove es place
   without_at [] place name x sorted at = absurd (none-some (name, x) at)
   without_at (f ∷ es) zero name x sorted at =
       let same : f ≡ (name, x) = same_Some f (name, x) at in
@@ -127,7 +132,8 @@ module _ {X : Type 0} where
     behind = λ k d low high. gap.behind (suc k) d (omega (arith, low)) (omega (arith, high));
   }
 
-  pub put_gap : (es : List (Name × X)) (place : ℕ) (name : Name) (y : X) → IsGap es place name → put order name y es ≡ insert es place (name, y)
+  pub put_gap : (es : List (Name × X)) (place : ℕ) (name : Name) (y : X) → IsGap es place name
+      → put order name y es ≡ insert es place (name, y)
   put_gap [] zero name y gap = refl
   put_gap [] (suc place) name y gap = absurd (omega (arith, gap.within))
   put_gap (f ∷ es) zero name y gap =

@@ -1,5 +1,5 @@
 -- Sessions and the pairs that they are mapped to.
-use Rattle.std.proofs.Common.{◌≡◌, ℕ, zero, suc, ◌<◌, ◌≤◌, Bool, List, [], ◌∷◌, ◌++◌, map, length, take, drop, set, refl, ap, ap₂, sym, ◌∙◌, subst, Some, arith, Less, Greater}
+use Rattle.std.proofs.Common.{◌≡◌, ℕ, zero, suc, ◌≤◌, List, [], ◌∷◌, ◌++◌, map, length, take, drop, set, refl, ap, ap₂, sym, ◌∙◌, subst, Some, arith, Less, Greater}
 use Rattle.std.specs.Prelude.{◌&&◌, slice_get}
 use Rattle.std.specs.List.{insert, remove, AllWithin}
 use Rattle.std.specs.Ordering.{is_lt}
@@ -13,16 +13,19 @@ use Rattle.session_table.proofs.Lookups.{order, IsGap}
 
 -- whatever stands beside the names, they rise alike
 module _ {X Y : Type 0} (f : Open → X) (g : Open → Y) where
-  below_alike : (name : Name) (sessions : List Open) → below_all order name (map (λ (s : Open). (s.name, f s)) sessions) ≡ below_all order name (map (λ (s : Open). (s.name, g s)) sessions)
+  below_alike : (name : Name) (sessions : List Open)
+      → below_all order name (map (λ (s : Open). (s.name, f s)) sessions) ≡ below_all order name (map (λ (s : Open). (s.name, g s)) sessions)
   below_alike name [] = refl
   below_alike name (s ∷ sessions) = ap (λ b. is_lt (order name s.name) && b) (below_alike name sessions)
 
-  pub sorted_alike : (sessions : List Open) → is_sorted order (map (λ (s : Open). (s.name, f s)) sessions) ≡ is_sorted order (map (λ (s : Open). (s.name, g s)) sessions)
+  pub sorted_alike : (sessions : List Open)
+      → is_sorted order (map (λ (s : Open). (s.name, f s)) sessions) ≡ is_sorted order (map (λ (s : Open). (s.name, g s)) sessions)
   sorted_alike [] = refl
   sorted_alike (s ∷ sessions) = ap₂ (λ a b. a && b) (below_alike s.name sessions) (sorted_alike sessions)
 
 module _ {X : Type 0} (f : Open → Name × X) where
-  pub map-insert : (sessions : List Open) (place : ℕ) (s : Open) → map f (insert sessions place s) ≡ insert (map f sessions) place (f s)
+  pub map-insert : (sessions : List Open) (place : ℕ) (s : Open)
+      → map f (insert sessions place s) ≡ insert (map f sessions) place (f s)
   map-insert sessions place s =
       map-append f (take place sessions) (s ∷ drop place sessions)
       ∙ ap₂ (λ a b. a ++ f s ∷ b) (sym (take-map f place sessions)) (sym (drop-map f place sessions))
@@ -32,13 +35,15 @@ module _ {X : Type 0} (f : Open → Name × X) where
       map-append f (take place sessions) (drop (suc place) sessions)
       ∙ ap₂ (λ a b. a ++ b) (sym (take-map f place sessions)) (sym (drop-map f (suc place) sessions))
 
-  within_map : (P : Name × X → Type 0) (sessions : List Open) (low high : ℕ) → high ≤ length sessions → AllWithin (λ s. P (f s)) sessions low high → AllWithin P (map f sessions) low high
+  within_map : (P : Name × X → Type 0) (sessions : List Open) (low high : ℕ) → high ≤ length sessions
+      → AllWithin (λ s. P (f s)) sessions low high → AllWithin P (map f sessions) low high
   within_map P [] low high most all = λ k d l h. absurd (omega (arith, most, h))
   within_map P (s ∷ sessions) low high most all = λ k d l h.
       subst P (sym (get_or-map f (s ∷ sessions) k s d (omega (arith, most, h)))) (all k s l h)
 
 -- a gap among sessions is one among what they are mapped to
-pub gap_map : {X : Type 0} → (f : Open → X) (sessions : List Open) (place : ℕ) (name : Name) → IsGapFor sessions place name → IsGap (map (λ (s : Open). (s.name, f s)) sessions) place name
+pub gap_map : {X : Type 0} → (f : Open → X) (sessions : List Open) (place : ℕ) (name : Name) → IsGapFor sessions place name
+    → IsGap (map (λ (s : Open). (s.name, f s)) sessions) place name
 gap_map {X = X} f sessions place name gap =
     let pair : Open → Name × X = (λ s. (s.name, f s)) in
     let long : length (map pair sessions) ≡ length sessions = length-map sessions pair in
@@ -52,7 +57,8 @@ gap_map {X = X} f sessions place name gap =
     is
 
 -- a place that was set has what was set
-pub slice_get-set : {X : Type 0} (xs : List X) (place : ℕ) (x y : X) → slice_get xs place ≡ Some x → slice_get (set xs place y) place ≡ Some y
+pub slice_get-set : {X : Type 0} (xs : List X) (place : ℕ) (x y : X) → slice_get xs place ≡ Some x
+    → slice_get (set xs place y) place ≡ Some y
 slice_get-set [] place x y at = absurd (none-some x at)
 slice_get-set (z ∷ xs) zero x y at = refl
 slice_get-set (z ∷ xs) (suc place) x y at = slice_get-set xs place x y at

@@ -1,12 +1,12 @@
 -- A change of what a session knows is a change of a word of its block.
-use Rattle.std.proofs.Common.{◌≡◌, ℕ, zero, suc, ◌+◌, ◌<◌, ◌≤◌, Bool, List, length, replicate, take, drop, get_or, set, refl, ap, sym, ◌∙◌, subst, Option, None, arith, get_or-set_same}
+use Rattle.std.proofs.Common.{◌≡◌, ℕ, ◌+◌, ◌<◌, ◌≤◌, Bool, List, replicate, get_or, set, ap, sym, ◌∙◌, subst, Option, None, arith, get_or-set_same}
 use Rattle.std.specs.Prelude.{All}
 use Rattle.std.proofs.Math.Seq.{take-set-lt}
 use Rattle.std.proofs.lemmas.List.{length-set, length-replicate, take-set-le, drop-set-lt, take-replicate, drop-replicate, get_or-replicate}
 use Rattle.std.proofs.lemmas.List.Elements.{All-replicate}
 use Rattle.ranking.specs.Cases.{Case, empty_case}
 use Rattle.session_rules.specs.GraphSystems.{word_of_known}
-use Rattle.session_rules.specs.Sessions.{Entry, with_seen, with_held}
+use Rattle.session_rules.specs.Sessions.{with_seen, with_held}
 use Rattle.session_rules.specs.CaseWords.{case_of_words, AreWords}
 use Rattle.session_rules.proofs.CaseWords.{zeros-say, zeros-are, room-in_words, wire-says, wire-are, part-says, part-are}
 use Rattle.session_table.specs.inner.Blocks.{known_in, state_in, entry_in, noted, point_of, block_size, IsLaidOut}
@@ -31,7 +31,8 @@ module _ (layout : Layout) (block : List ℕ) (laid : IsLaidOut layout block) (p
       ap (λ n. point_of n (state_in layout (noted layout block place known))) (get_or-set_same (set block place w) layout.vars 0 0 (omega (arith, long, same)))
 
   -- it is laid out again if its first words are those of a case
-  noted-laid : AreWords layout.parts layout.wires layout.vars (set (known_in layout block) place (word_of_known known)) → IsLaidOut layout (noted layout block place known)
+  noted-laid : AreWords layout.parts layout.wires layout.vars (set (known_in layout block) place (word_of_known known))
+      → IsLaidOut layout (noted layout block place known)
   noted-laid are = record {
     long = length-set (set block place w) layout.vars 0 ∙ (length-set block place w ∙ laid.long);
     known = subst (AreWords layout.parts layout.wires layout.vars) (sym noted-known) are;
@@ -39,7 +40,8 @@ module _ (layout : Layout) (block : List ℕ) (laid : IsLaidOut layout block) (p
   }
 
   -- and holds the case that they say
-  noted-entry : (after : Case) → case_of_words layout.parts layout.wires (set (known_in layout block) place (word_of_known known)) ≡ after
+  noted-entry : (after : Case)
+      → case_of_words layout.parts layout.wires (set (known_in layout block) place (word_of_known known)) ≡ after
       → entry_in layout (noted layout block place known) ≡ record { known = after; point = None }
   noted-entry after says = λ i. record { known = (ap (case_of_words layout.parts layout.wires) noted-known ∙ says) i; point = noted-point i }
 

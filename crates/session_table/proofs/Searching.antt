@@ -1,7 +1,6 @@
 -- What a binary search by name finds among sessions whose names rise.
 use Rattle.std.specs.Prelude.{◌&&◌}
-use Rattle.std.proofs.Common.{◌≡◌, ℕ, zero, suc, ◌+◌, ◌<◌, Bool, true, false, T, List, [], ◌∷◌, map, length, get_or, refl, ap, sym, ◌∙◌, subst, Some, Result, Ok, Err, IfOk, IfErr, arith, Ordering, Less, Equal, Greater}
-use Rattle.std.specs.Prelude.{slice_get}
+use Rattle.std.proofs.Common.{◌≡◌, ℕ, zero, suc, ◌+◌, ◌<◌, Bool, true, false, T, List, [], ◌∷◌, length, get_or, refl, ap, sym, ◌∙◌, subst, Result, Ok, Err, IfOk, IfErr, arith, Equal}
 use Rattle.std.specs.List.Sorted.{IsSearchInRange, IsBinarySearchResult, IsNonDecreasingBy}
 use Rattle.std.specs.Ordering.{is_lt, ordering_index}
 use Rattle.std.specs.FinMap.Entries.{below_all, is_sorted}
@@ -41,15 +40,18 @@ module _ (sessions : List Open) (rise : NamesRise sessions) (name : Name) where
   searchable = searchable_from_sorted nat_list_cmp_total (λ (s : Open). s.name) sessions name
       (λ k d low high. adjacent sessions k d (so (is_sorted order (blocks_by_name sessions)) rise) high)
 
-  some_session : (place : ℕ) → place < length sessions → ((d : Open) → order (get_or sessions place d).name name ≡ Equal) → HasName sessions place name
+  some_session : (place : ℕ) → place < length sessions → ((d : Open) → order (get_or sessions place d).name name ≡ Equal)
+      → HasName sessions place name
   some_session = by_first sessions
     where
-      by_first : (xs : List Open) → (place : ℕ) → place < length xs → ((d : Open) → order (get_or xs place d).name name ≡ Equal) → HasName xs place name
+      by_first : (xs : List Open) → (place : ℕ) → place < length xs → ((d : Open) → order (get_or xs place d).name name ≡ Equal)
+          → HasName xs place name
       by_first [] place within tied = absurd (omega (arith, within))
       by_first (x ∷ xs) place within tied =
           (get_or (x ∷ xs) place x, slice_get-get_or (x ∷ xs) place x within, tied_names (get_or (x ∷ xs) place x).name name (tied x))
 
-  pub searched : (r : Result ℕ ℕ) → IsSearchInRange r (length sessions) → IsBinarySearchResult (λ (s : Open). order s.name name) sessions r
+  pub searched : (r : Result ℕ ℕ) → IsSearchInRange r (length sessions)
+      → IsBinarySearchResult (λ (s : Open). order s.name name) sessions r
       → IfOk r (λ place. HasName sessions place name) × IfErr r (λ place. IsGapFor sessions place name)
   searched (Ok place) within tied = (some_session place within tied, tt)
   searched (Err place) within parted =

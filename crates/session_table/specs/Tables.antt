@@ -1,5 +1,5 @@
 -- What contracts see of the open sessions.
-use Rattle.std.specs.Prelude.{◌≡◌, ℕ, Option, Some, None, slice_get}
+use Rattle.std.specs.Prelude.{◌≡◌, ℕ, Some, None, slice_get}
 use Rattle.text_rules.specs.Names.{Name}
 use Rattle.ranking.specs.Cases.{empty_case}
 use Rattle.session_rules.specs.Sessions.{Entry, Table, entry_of, with_entry}

@@ -1,9 +1,7 @@
-ghost use Rattle.std.specs.Prelude.{◌≡◌, ◌<◌, length, All, IfSome};
-ghost use Rattle.std.specs.Option.{option_map};
-ghost use Rattle.diagnosis_lister.specs.Listing.{bits_of};
+ghost use Rattle.std.specs.Prelude.{◌≡◌, ◌<◌, length, All};
 ghost use Rattle.scratch_pool.specs.Pools.{IsOut, block_words};
 ghost use Rattle.session_rules.specs.Sessions.{with_seen, with_held};
-ghost use Rattle.session_table.specs.inner.Blocks.{known_in, entry_in, with_point, IsLaidOut};
+ghost use Rattle.session_table.specs.inner.Blocks.{entry_in, with_point, IsLaidOut};
 ghost use Rattle.session_table.specs.inner.Ordered.{KeepsEntry};
 
 use crate::block::Layout;

@@ -1,4 +1,4 @@
-use Rattle.session_table.proofs.Noting.{block-room, held-entry, held-laid}
+use Rattle.session_table.proofs.Noting.{held-entry, held-laid}
 use Rattle.session_table.proofs.block.Layout.hold.Goals as goal
 
 pub returns-clause-entry : goal.returns-clause-entry

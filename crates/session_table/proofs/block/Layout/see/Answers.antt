@@ -1,4 +1,4 @@
-use Rattle.session_table.proofs.Noting.{block-room, seen-entry, seen-laid}
+use Rattle.session_table.proofs.Noting.{seen-entry, seen-laid}
 use Rattle.session_table.proofs.block.Layout.see.Goals as goal
 
 pub returns-clause-entry : goal.returns-clause-entry

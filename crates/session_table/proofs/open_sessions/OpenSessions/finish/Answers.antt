@@ -1,4 +1,4 @@
-use Rattle.std.proofs.Common.{List, ◌∷◌, [], ◌++◌, subst}
+use Rattle.std.proofs.Common.{List, subst}
 use Rattle.session_table.specs.inner.Ordered.{HaveBlocks}
 use Rattle.session_table.specs.declared.in_order.Open.{Open}
 use Rattle.session_table.proofs.Keeping.{out_last, given_last}

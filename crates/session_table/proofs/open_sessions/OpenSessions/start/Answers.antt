@@ -1,4 +1,4 @@
-use Rattle.std.proofs.Common.{◌≡◌, List, ap, sym, ◌∙◌, subst, subst₂}
+use Rattle.std.proofs.Common.{◌≡◌, List, ap, ◌∙◌, subst}
 use Rattle.std.specs.Prelude.{vec_capacity, is_ok, if◌then◌else◌, ⊤}
 use Rattle.std.specs.List.{insert}
 use Rattle.std.proofs.lemmas.Option.{MatchOption-at_some}

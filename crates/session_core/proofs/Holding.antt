@@ -1,6 +1,6 @@
 -- What a service shows of what it holds, and what its changes are.
-use Rattle.std.proofs.Common.{◌≡◌, ◌∙◌, ◌∷◌, ◌++◌, [], ◌<◌, ◌-◌, ℕ, Bool, List, Option, Some, None, IsNone, IsSome, Result, length, replicate, take, drop, refl, ap, sym, subst, codes, arith, rules, length-append}
-use Rattle.std.specs.Prelude.{Contains}
+use Rattle.std.proofs.Common.{◌≡◌, ◌∙◌, ◌∷◌, ◌++◌, [], ◌<◌, ◌-◌, ℕ, Bool, true, false, List, Option, Some, None, IsNone, IsSome, Result, length, replicate, take, drop, refl, ap, sym, subst, codes, arith, rules, length-append}
+use Rattle.std.specs.Prelude.{Contains, if◌then◌else◌}
 use Rattle.std.proofs.Math.Seq.{take-append_seam}
 use Rattle.std.proofs.lemmas.List.{nil_from_length}
 use Rattle.std.proofs.lemmas.List.Quantifiers.{position-Some}
@@ -141,3 +141,9 @@ module _ (old new : Carved) (run : Span) (n : ℕ) (empty : old.runs ≡ []) (lo
 -- a list that was lent whole and written back
 pub written_back : {A : Type 0} (n : ℕ) (new old : List A) → n ≡ length new → take n (new ++ drop (length new) old) ≡ new
 written_back {A} n new old e = ap (λ (k : ℕ). take k (new ++ drop (length new) old)) e ∙ take-append_seam new (drop (length new) old)
+
+-- what is shown of sessions whose table is another, if it is
+pub becomes_so : (subject : Subject) (old new : Opened) (table : Table) (b : Bool) → new ≡ (if b then opened_with old table else old)
+    → shown_of subject new ≡ (if b then record (shown_of subject old) { table = table } else shown_of subject old)
+becomes_so subject old new table true e = ap (shown_of subject) e
+becomes_so subject old new table false e = ap (shown_of subject) e

@@ -44,24 +44,23 @@ module _ (subject : Subject) (session : Name) (entry : Entry) where
         stands = subst (λ (p : Option (List Bool)). StandsAt new place session (record entry { point = p })) point stands;
       }
 
-pub returns-in_default : goal.returns-in_default
-returns-in_default g c = λ session entry stands.
+pub returns-in_default-clause-moves : goal.returns-in_default-clause-moves
+returns-in_default-clause-moves g c = λ session entry stands.
     let subject = c.args.basis.now in
     let known : case_of_words (length subject.parts) (length subject.wires) c.words.result.now ≡ entry.known =
     (λ i. case_of_words (sym c.requires.parts i) (sym c.requires.wires i) c.words.result.now) ∙ sym (c.words.ensures.known session entry stands) in
     let point = sym (c.point.ensures.point session entry stands) in
-    (stays subject session entry c.args.open.now.table c.args.place c.advance.result stands
+    stays subject session entry c.args.open.now.table c.args.place c.advance.result stands
     (c.advance.ensures.step ∙ (λ i. step_of ((system_of subject).consistent (known i)) (rest (all_diagnoses (system_of subject) (known i)) (point i))))
-    c.in_default.not-Found, refl)
+    c.in_default.not-Found
 
-pub returns-in-Found : goal.returns-in-Found
-returns-in-Found g c = λ session entry stands.
+pub returns-in-Found-clause-moves : goal.returns-in-Found-clause-moves
+returns-in-Found-clause-moves g c = λ session entry stands.
     let subject = c.args.basis.now in
     let known : case_of_words (length subject.parts) (length subject.wires) c.words.result.now ≡ entry.known =
     (λ i. case_of_words (sym c.requires.parts i) (sym c.requires.wires i) c.words.result.now) ∙ sym (c.words.ensures.known session entry stands) in
     let point = sym (c.point.ensures.point session entry stands) in
     let is = sym c.in-Found.is ∙ (c.advance.ensures.step ∙ (λ i. step_of ((system_of subject).consistent (known i)) (rest (all_diagnoses (system_of subject) (known i)) (point i)))) in
     let first = c.advance.ensures.state c.in-Found.is ∙ (λ i. get_or (rest (all_diagnoses (system_of subject) (known i)) (point i)) 0 []) in
-    let e = c.set_point.ensures.point session entry stands in
-    (goes_on subject session entry c.args.open.now.table c.set_point.new.self.table c.args.place (bits_of c.advance.new.state) is first (ap (λ (o : Opened). o.table) e) (c.set_point.ensures.stands session entry stands),
-    e ∙ sym (ap (λ (o : Opened). record c.args.open.now { table = o.table }) e))
+    goes_on subject session entry c.args.open.now.table c.set_point.new.self.table c.args.place (bits_of c.advance.new.state) is first
+    (ap (λ (o : Opened). o.table) (c.set_point.ensures.point session entry stands)) (c.set_point.ensures.stands session entry stands)

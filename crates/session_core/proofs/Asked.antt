@@ -1,20 +1,18 @@
 -- Requests that are questions.
-use Rattle.std.proofs.Common.{◌≡◌, ◌∙◌, ◌∷◌, [], ℕ, Bool, List, Option, Some, None, Result, refl, ap, sym}
+use Rattle.std.proofs.Common.{◌≡◌, ◌∷◌, [], ℕ, Some, None, refl, ap, sym}
 use Rattle.text_rules.specs.Names.{Name}
 use Rattle.device_model.specs.Devices.{place_of}
 use Rattle.ranking.specs.Systems.{System}
-use Rattle.script_lang.specs.Script.{Request, Probe as ProbeOf}
+use Rattle.script_lang.specs.Script.{Probe as ProbeOf}
 use Rattle.session_rules.specs.declared.refusal.Refusal.TheVariants.{NoWire}
-use Rattle.session_rules.specs.GraphSystems.{Subject, system_of}
+use Rattle.session_rules.specs.GraphSystems.{Subject}
 use Rattle.session_rules.specs.Replies.{probe_line, if_any}
-use Rattle.session_rules.specs.Sessions.{Entry, Outcome, Declined, outcome_in, when_open, tells, at_place}
-use Rattle.session_rules.specs.Spelling.{Replies}
-use Rattle.session_core.specs.Services.{Shown}
+use Rattle.session_rules.specs.Sessions.{Entry, Outcome, Declined, when_open, tells, at_place}
 use Rattle.session_core.specs.declared.telling.Question.{Question}
 use Rattle.session_core.specs.declared.telling.Question.TheVariants.{Minimum, Probe, Probes, Blame, Graph}
-use Rattle.session_core.specs.inner.Obeying.{Obeys, asked_request, NamesNoWire}
+use Rattle.session_core.specs.inner.Obeying.{asked_request, NamesNoWire}
 use Rattle.session_core.specs.inner.Telling.{told_of, HasPlace}
-use Rattle.session_core.proofs.Obeying.{IsOneMove, NeedsSession, obeys_outcome, asked_open}
+use Rattle.session_core.proofs.Obeying.{IsOneMove, NeedsSession}
 
 pub question-move : (q : Question) → IsOneMove (asked_request q)
 question-move Minimum = λ system limit table session. refl

@@ -1,5 +1,5 @@
 -- A session that moves on, once and so many times.
-use Rattle.std.proofs.Common.{◌≡◌, ◌∙◌, ◌∷◌, ◌++◌, ◌<◌, ◌≤◌, [], ℕ, zero, suc, Bool, true, false, List, map, Option, Some, None, Result, Ok, Err, IsErr, Ordering, Less, Equal, Greater, codes, decimal, refl, ap, sym, subst, append_assoc, append-nil}
+use Rattle.std.proofs.Common.{◌≡◌, ◌∙◌, ◌∷◌, ◌++◌, [], ℕ, suc, Bool, true, false, List, map, Option, Some, None, Result, Ok, Err, IsErr, Ordering, Less, Equal, Greater, codes, decimal, refl, ap, sym, subst, append_assoc, append-nil}
 use Rattle.std.specs.Prelude.{IfOk, slice_index_or}
 use Rattle.std.proofs.lemmas.List.{map-append}
 use Rattle.std.specs.Ordering.{nat_cmp}
@@ -10,7 +10,7 @@ use Rattle.text_rules.specs.Names.{Name}
 use Rattle.text_rules.specs.Tokens.{spaced}
 use Rattle.diag_edge.specs.Edge.{Puts}
 use Rattle.ranking.specs.Ranking.{rest}
-use Rattle.ranking.specs.Systems.{System, all_diagnoses}
+use Rattle.ranking.specs.Systems.{all_diagnoses}
 use Rattle.diagnosis_lister.specs.declared.listing.Step.{Step as Answer}
 use Rattle.diagnosis_lister.specs.declared.listing.Step.TheVariants.{Found, End, Inconsistent}
 use Rattle.script_lang.specs.Script.{Ask, Next, Several}
@@ -19,8 +19,8 @@ use Rattle.session_rules.specs.declared.refusal.Refusal.TheVariants.{NoSession}
 use Rattle.session_rules.specs.Items.{Item, line}
 use Rattle.session_rules.specs.Replies.{Found as Next1, next_of, diagnosis_line, inconsistent, end_line}
 use Rattle.session_rules.specs.Sessions.{Table, Entry, Step, Declined, entry_of, with_entry, carried, moved}
-use Rattle.session_rules.specs.Moves.{moves, listing, goes_on, listing_moves, said}
-use Rattle.session_rules.specs.Spelling.{Writes, WritesPart, Replies}
+use Rattle.session_rules.specs.Moves.{moves, listing, goes_on, listing_moves}
+use Rattle.session_rules.specs.Spelling.{WritesPart, Replies}
 use Rattle.session_rules.specs.Carrying.{Makes, BreaksOff, CarriesOut}
 use Rattle.session_rules.proofs.Spellings.{writes_none, replies_one}
 use Rattle.session_rules.proofs.Broken.{makes_none, makes_more, breaks_after, carries_step}
@@ -28,7 +28,7 @@ use Rattle.session_table.specs.Tables.{StandsAt}
 use Rattle.session_core.specs.Services.{Shown, ChangesTable}
 use Rattle.session_core.specs.inner.Obeying.{Obeys, the_next, next_entry, PointMoves, MovesOn}
 use Rattle.session_core.proofs.Obeying.{obeys_outcome, asked_open}
-use Rattle.session_core.proofs.Stepping.{found_inconsistent, found_end, found_more, found_first}
+use Rattle.session_core.proofs.Stepping.{found_inconsistent, found_end, found_more}
 
 -- ---- a reply that failed
 

@@ -11,13 +11,13 @@ use Rattle.session_rules.specs.declared.refusal.Refusal.TheVariants.{NoSession}
 use Rattle.session_rules.specs.Refusals.{refusal_number, refusal_text}
 use Rattle.session_rules.specs.GraphSystems.{system_of}
 use Rattle.session_rules.specs.Items.{line}
-use Rattle.session_rules.specs.Sessions.{Table, Entry, Step, Outcome, Declined, Done, Change, outcome, when_open, outcome_in, entry_of, carried, changed}
+use Rattle.session_rules.specs.Sessions.{Table, Entry, Step, Outcome, Declined, outcome, when_open, outcome_in, entry_of, carried}
 use Rattle.session_rules.specs.Moves.{moves}
 use Rattle.session_rules.specs.Spelling.{Replies}
 use Rattle.session_rules.specs.Carrying.{CarriesOut}
 use Rattle.session_rules.proofs.Broken.{carries_step}
 use Rattle.session_rules.proofs.Spellings.{replies_one}
-use Rattle.session_core.specs.Services.{Shown, ChangesTable, moves_of}
+use Rattle.session_core.specs.Services.{Shown, moves_of}
 use Rattle.session_core.specs.inner.Obeying.{Obeys}
 
 -- the table of a service is another

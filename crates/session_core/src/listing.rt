@@ -201,7 +201,14 @@ fn move_point<L: Ledger>(
     ensures still { place < length open.new.table }
 {
     let (state, work) = scratch.split_at_mut(basis.parts().len());
-    match advance(basis, open.words(place), open.point(place), state, work, steps) {
+    match advance(
+        basis,
+        open.words(place),
+        open.point(place),
+        state,
+        work,
+        steps,
+    ) {
         Step::Found => {
             open.set_point(place, state);
             Step::Found

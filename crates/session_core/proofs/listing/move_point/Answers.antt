@@ -1,6 +1,5 @@
-use Rattle.std.proofs.Common.{◌≡◌, ◌∙◌, ℕ, List, Bool, Option, Some, [], get_or, length, refl, sym, ap, subst}
+use Rattle.std.proofs.Common.{◌≡◌, ◌∙◌, ℕ, List, Bool, Option, Some, [], get_or, length, sym, ap, subst}
 use Rattle.text_rules.specs.Names.{Name}
-use Rattle.ranking.specs.Cases.{Case}
 use Rattle.ranking.specs.Ranking.{rest}
 use Rattle.ranking.specs.Systems.{all_diagnoses}
 use Rattle.diagnosis_lister.specs.declared.listing.Step.{Step}
@@ -11,7 +10,7 @@ use Rattle.session_rules.specs.GraphSystems.{Subject, system_of}
 use Rattle.session_rules.specs.Replies.{diagnosis_line}
 use Rattle.session_rules.specs.Sessions.{Entry, Table, with_entry}
 use Rattle.session_table.specs.Tables.{Opened, StandsAt}
-use Rattle.session_core.specs.inner.Obeying.{the_next, next_entry, PointMoves}
+use Rattle.session_core.specs.inner.Obeying.{the_next, PointMoves}
 use Rattle.session_core.proofs.Stepping.{point_kept, found_more}
 use Rattle.session_core.proofs.listing.move_point.Goals as goal
 

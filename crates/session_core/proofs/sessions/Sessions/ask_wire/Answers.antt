@@ -1,4 +1,4 @@
-use Rattle.std.proofs.Common.{◌≡◌, ◌∙◌, ◌<◌, ap, subst, sym, refl, length}
+use Rattle.std.proofs.Common.{◌∙◌, ◌<◌, ap, subst, refl, length}
 use Rattle.device_model.specs.Devices.{place_of}
 use Rattle.script_lang.specs.Script.{Probe}
 use Rattle.session_rules.specs.declared.refusal.Refusal.TheVariants.{NoWire}

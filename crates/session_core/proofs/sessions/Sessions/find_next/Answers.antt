@@ -1,16 +1,12 @@
-use Rattle.std.proofs.Common.{◌≡◌, ◌∙◌, ◌+◌, ◌<◌, ◌≤◌, ℕ, List, Bool, [], length, refl, ap, sym, subst, arith, true, Some}
-use Rattle.std.specs.Prelude.{IfSome, Option, if◌then◌else◌}
-use Rattle.text_rules.specs.Names.{Name}
-use Rattle.text_rules.specs.Tokens.{words}
-use Rattle.diagnosis_lister.specs.declared.listing.Step.{Step}
+use Rattle.std.proofs.Common.{◌≡◌, ◌∙◌, length, ap, sym, subst, Some}
+use Rattle.std.specs.Prelude.{IfSome, Option}
 use Rattle.scratch_pool.specs.declared.region.Span.{Span}
 use Rattle.scratch_pool.specs.Regions.{carved, words_used}
 use Rattle.scratch_pool.proofs.Laws.{length-run}
-use Rattle.session_rules.specs.Sessions.{Entry, with_entry, state_of}
 use Rattle.session_table.specs.Tables.{Opened, StandsAt}
 use Rattle.session_core.specs.Services.{Shown}
 use Rattle.session_core.specs.inner.Obeying.{PointMoves}
-use Rattle.session_core.proofs.Holding.{shown_of, opened_with, carve_some, is_last, is_held, carved_long, released_runs, released_words}
+use Rattle.session_core.proofs.Holding.{shown_of, carve_some, is_last, is_held, released_runs, released_words}
 use Rattle.session_core.proofs.sessions.Sessions.find_next.Goals as goal
 
 pub move_point-step-requires-clause-scratch : goal.move_point-step-requires-clause-scratch

@@ -1,4 +1,4 @@
-use Rattle.std.proofs.Common.{◌≡◌, ◌∙◌, ◌∷◌, ◌≤◌, [], List, ap, subst, sym, refl, arith}
+use Rattle.std.proofs.Common.{◌∙◌, ap, subst, refl}
 use Rattle.std.proofs.lemmas.Bool.{and_parts, leb-true}
 use Rattle.std.specs.Prelude.{nat_le, ◌&&◌}
 use Rattle.text_rules.specs.Names.{is_short_name}
@@ -7,7 +7,6 @@ use Rattle.script_lang.specs.Asked.{is_well_asked}
 use Rattle.script_lang.proofs.AskedLemmas.{well_asked}
 use Rattle.script_lang.specs.Script.{Line}
 use Rattle.session_rules.specs.GraphSystems.{system_of}
-use Rattle.session_rules.specs.Sessions.{step}
 use Rattle.session_rules.specs.Moves.{moves}
 use Rattle.session_rules.specs.Carrying.{Makes, CarriesOut}
 use Rattle.session_rules.proofs.Broken.{carries_step}

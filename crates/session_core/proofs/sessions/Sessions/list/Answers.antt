@@ -1,8 +1,7 @@
-use Rattle.std.proofs.Common.{◌≡◌, ◌∙◌, ◌∷◌, ◌+◌, ◌-◌, ◌<◌, ◌≤◌, [], ℕ, suc, Bool, true, false, Ok, Err, subst, ap, sym, refl, arith, length}
+use Rattle.std.proofs.Common.{◌≡◌, ◌∙◌, ◌+◌, ◌-◌, ◌<◌, ℕ, suc, Bool, true, false, Ok, subst, refl, arith}
 use Rattle.std.proofs.lemmas.Option.{slice_get_within}
 use Rattle.diag_edge.specs.declared.outside.WriteFailed.{WriteFailed}
 use Rattle.script_lang.specs.Script.{Several}
-use Rattle.session_rules.specs.Sessions.{Entry, with_entry}
 use Rattle.session_table.specs.Tables.{StandsAt}
 use Rattle.session_core.specs.Services.{Shown}
 use Rattle.session_core.specs.inner.Obeying.{Obeys, MovesOn}
@@ -61,7 +60,7 @@ returns-then-not-branch-clause-obeys g c =
     let lists = subst (λ (left : ℕ). Lists old c.loop.self c.in-Some.place s there.0 n left (g.O.Sink.got c.args.out.now) (g.O.Sink.got c.loop.out)) left (c.loop.invariant.lists there.0 here) in
     let no : c.in_ok-move_on.field-0 ≡ false = c.if-not-branch.true in
     let m = subst (λ (b : Bool). MovesOn {E = WriteFailed} c.loop.self c.move_on.new.self c.in-Some.place s (record there.0 { point = lists.point }) (g.O.Sink.got c.loop.out) (g.O.Sink.got c.move_on.new.out) (Ok b)) no
-        (c.in_ok-move_on.ensures.moves (record there.0 { point = lists.point }) lists.stands) in
+    (c.in_ok-move_on.ensures.moves (record there.0 { point = lists.point }) lists.stands) in
     obeys_several old c.in-Some.place s there.0 n c.move_on.new.self _ _ (Ok tt) (n - 1) _ (let one = c.requires in omega (arith, one)) here.found
     (lists_end old c.in-Some.place s there.0 n c.loop.self c.move_on.new.self (n - (c.loop.counter + 1)) _ _ _ lists m)
     (moved_again old c.in-Some.place s there.0 n c.loop.self c.move_on.new.self (suc (n - (c.loop.counter + 1))) _ _ _ lists _ m)
@@ -76,7 +75,7 @@ loop-preserved g c = record {
       let lists = subst (λ (left : ℕ). Lists old c.loop.self c.in-Some.place s entry n left (g.O.Sink.got c.args.out.now) (g.O.Sink.got c.loop.out)) left (c.loop.invariant.lists entry here) in
       let yes : c.in_ok-move_on.field-0 ≡ true = c.if-not-branch.false in
       let m = subst (λ (b : Bool). MovesOn {E = WriteFailed} c.loop.self c.move_on.new.self c.in-Some.place s (record entry { point = lists.point }) (g.O.Sink.got c.loop.out) (g.O.Sink.got c.move_on.new.out) (Ok b)) yes
-          (c.in_ok-move_on.ensures.moves (record entry { point = lists.point }) lists.stands) in
+      (c.in_ok-move_on.ensures.moves (record entry { point = lists.point }) lists.stands) in
       lists_more old c.in-Some.place s entry n c.loop.self c.move_on.new.self (n - (c.loop.counter + 1)) _ _ _ lists m;
   faults = c.in_ok-move_on.ensures.cause.stayed ∙ c.loop.invariant.faults;
 }
@@ -92,4 +91,3 @@ returns-clause-obeys g c =
     let lists = subst (λ (left : ℕ). Lists old c.loop.self c.in-Some.place s there.0 n left (g.O.Sink.got c.args.out.now) (g.O.Sink.got c.loop.out)) none (c.loop.invariant.lists there.0 here) in
     obeys_several old c.in-Some.place s there.0 n c.loop.self _ _ (Ok tt) (n - 1) _ (let one = c.requires in omega (arith, one)) here.found
     (lists_all old c.in-Some.place s there.0 n c.loop.self _ _ lists) lists.moved
-

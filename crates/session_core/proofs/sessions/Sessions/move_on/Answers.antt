@@ -1,9 +1,8 @@
-use Rattle.std.proofs.Common.{◌≡◌, ◌∙◌, ◌∷◌, ◌<◌, [], Ok, true, false, ap, subst, sym, refl, length}
+use Rattle.std.proofs.Common.{◌≡◌, ◌∙◌, ◌∷◌, [], Ok, true, false, ap, subst, sym, refl}
 use Rattle.session_rules.specs.GraphSystems.{Subject, system_of}
 use Rattle.session_rules.specs.Items.{Item}
 use Rattle.session_rules.specs.Replies.{Found, inconsistent, end_line, diagnosis_line}
 use Rattle.session_rules.specs.Spelling.{Writes, WritesPart}
-use Rattle.session_table.specs.Tables.{StandsAt}
 use Rattle.session_core.specs.Services.{Shown}
 use Rattle.session_core.specs.inner.Obeying.{the_next, next_entry}
 use Rattle.session_core.proofs.Told.{writes_one, part_one}

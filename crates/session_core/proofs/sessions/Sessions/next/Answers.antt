@@ -1,4 +1,4 @@
-use Rattle.std.proofs.Common.{◌≡◌, ◌∙◌, ◌∷◌, [], subst, refl}
+use Rattle.std.proofs.Common.{◌∷◌, [], subst, refl}
 use Rattle.script_lang.specs.Script.{Next}
 use Rattle.session_table.specs.Tables.{StandsAt}
 use Rattle.session_core.specs.Services.{Shown}

@@ -1,16 +1,13 @@
-use Rattle.std.proofs.Common.{◌≡◌, ◌∙◌, ◌+◌, ◌<◌, ◌≤◌, ℕ, List, Bool, [], length, refl, ap, sym, subst, arith, true, Some}
+use Rattle.std.proofs.Common.{◌≡◌, ◌∙◌, length, ap, sym, subst, arith, Some}
 use Rattle.std.specs.Prelude.{IfSome, Option, if◌then◌else◌}
-use Rattle.text_rules.specs.Names.{Name}
 use Rattle.text_rules.specs.Tokens.{words}
-use Rattle.diagnosis_lister.specs.declared.listing.Step.{Step}
 use Rattle.scratch_pool.specs.declared.region.Span.{Span}
 use Rattle.scratch_pool.specs.Regions.{carved, words_used}
 use Rattle.scratch_pool.proofs.Laws.{length-run}
-use Rattle.session_rules.specs.Sessions.{Entry, with_entry, state_of}
+use Rattle.session_rules.specs.Sessions.{with_entry, state_of}
 use Rattle.session_table.specs.Tables.{Opened, StandsAt}
 use Rattle.session_core.specs.Services.{Shown}
-use Rattle.session_core.specs.inner.Obeying.{PointMoves}
-use Rattle.session_core.proofs.Holding.{shown_of, opened_with, becomes_so, carve_some, is_last, is_held, carved_long, released_runs, released_words}
+use Rattle.session_core.proofs.Holding.{shown_of, becomes_so, carve_some, is_last, is_held, released_runs, released_words}
 use Rattle.session_core.proofs.sessions.Sessions.point_at.Goals as goal
 
 pub name_point-are_parts-requires-clause-scratch : goal.name_point-are_parts-requires-clause-scratch
@@ -24,7 +21,7 @@ name_point-are_parts-requires-clause-scratch c =
 pub returns-clause-point : goal.returns-clause-point
 returns-clause-point c = λ session entry stands.
     let here = subst (λ (v : Shown). StandsAt v.table c.args.place session entry) (sym c.self.view_is) stands in
-    subst (λ (v : Shown). shown_of c.self.inside.basis c.name_point-are_parts.new.open ≡ (if c.name_point-are_parts.result then record v { table = with_entry session (record entry { point = Some (state_of (words c.args.names.now) v.subject.parts) }) v.table; } else v)) c.self.view_is
+    subst (λ (v : Shown). shown_of c.self.inside.basis c.name_point-are_parts.new.open ≡ (if c.name_point-are_parts.result then record v { table = with_entry session (record entry { point = Some (state_of (words c.args.names.now) v.subject.parts) }) v.table } else v)) c.self.view_is
     (becomes_so c.self.inside.basis c.self.inside.open c.name_point-are_parts.new.open (with_entry session (record entry { point = Some (state_of (words c.args.names.now) c.self.inside.basis.parts) }) c.self.inside.open.table) c.name_point-are_parts.result (c.name_point-are_parts.ensures.point session entry here))
 
 pub unwrap-run-requires : goal.unwrap-run-requires

@@ -151,7 +151,7 @@ long_course form file long = by form
     no_more = grind arith
 
     by : (form : Form) → course_of (Some form) file ≡ Tells (says long_file_line 1)
-    by (Serve path budget) = rw no_more
+    by (Serve path budget sessions) = rw no_more
     by (Plan path) = rw no_more
     by (Check path) = rw no_more
     by (Compile path budget) = rw no_more

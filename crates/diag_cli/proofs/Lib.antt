@@ -1,3 +1,5 @@
+mod Examples
+pub mod WordLemmas
 pub mod Running
 pub mod ServedDevices
 pub mod Faults

@@ -128,7 +128,7 @@ served_or_refused (Err output) = Tells output
 
 abbrev pub course_of : Option Form → List ℕ → Course
 course_of None file = Tells (says (codes "error: usage\n") 2)
-course_of (Some (Serve path budget)) file = served_or_refused (if_within budget (device_in path file))
+course_of (Some (Serve path budget sessions)) file = served_or_refused (if_within budget (device_in path file))
 course_of (Some (Plan path)) file = Tells (planned (sizes_in (device_in path file)))
 course_of (Some (Check path)) file = Tells (checked (graph_in file))
 course_of (Some (Compile path budget)) file = Tells (compiled budget (device_in path file))

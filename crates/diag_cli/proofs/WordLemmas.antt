@@ -9,7 +9,7 @@ use Rattle.branch_states.specs.declared.measuring.TheConstants.{BUDGET_LIMIT}
 use Rattle.diag_cli.specs.declared.words.TheConstants.{DEFAULT_BUDGET, DEFAULT_SESSIONS, SESSION_LIMIT}
 use Rattle.diag_cli.specs.declared.words.Options.{Options}
 use Rattle.diag_cli.specs.declared.words.Form.{Form as FormRead}
-use Rattle.diag_cli.specs.Words.{Form, Serve, Plan, Check, Compile, no_options, given_once, with_budget, with_sessions, and_option, and_options, form_by, form_of, is_device_path, is_graph_path, are_none, where_taken}
+use Rattle.diag_cli.specs.Words.{Form, Serve, Plan, Check, Compile, no_options, given_once, with_budget, with_sessions, and_option, and_options, form_by, form_of, is_device_path, is_graph_path, are_none, only_if}
 use Rattle.diag_cli.specs.inner.Forms.{meant, IsWithinLimits}
 
 -- ---- words of the code and words of the definition
@@ -179,7 +179,7 @@ or_default P (Some n) number is fits = is
 record GivesWithin (form : Option Form) : Type 0 where
   given : IfSome form IsWithinLimits
 
-one_form : (is_command taken : Bool) (form : Form) (other : Option Form) → IsWithinLimits form → GivesWithin other → GivesWithin (if is_command then where_taken taken form else other)
+one_form : (is_command taken : Bool) (form : Form) (other : Option Form) → IsWithinLimits form → GivesWithin other → GivesWithin (if is_command then only_if taken form else other)
 one_form true true form other is others = record { given = is }
 one_form true false form other is others = record { given = tt }
 one_form false taken form other is others = others

@@ -63,11 +63,11 @@ abbrev pub given_once : Option ℕ → Option ℕ → Option ℕ
 given_once None number = number
 given_once (Some earlier) number = None
 
--- options with a budget
+-- the options that were given, with a budget
 abbrev pub with_budget : Options → Option ℕ → Option Options
 with_budget given number = option_map (λ n. record given { budget = Some n }) (given_once given.budget number)
 
--- options with a number of sessions
+-- the options that were given, with a number of sessions
 abbrev pub with_sessions : Options → Option ℕ → Option Options
 with_sessions given number = option_map (λ n. record given { sessions = Some n }) (given_once given.sessions number)
 
@@ -86,19 +86,19 @@ and_options given (option ∷ value ∷ words) = option_and_then (λ more. and_o
 
 -- ---- words
 
--- a form, where the path and the options are such as it takes
-abbrev pub where_taken : Bool → Form → Option Form
-where_taken taken form = if taken then Some form else None
+-- a form, only where the path and the options are such as it takes
+abbrev pub only_if : Bool → Form → Option Form
+only_if are_taken form = if are_taken then Some form else None
 
 -- a command over a file, with options
 abbrev pub form_by : List ℕ → List ℕ → Options → Option Form
 form_by command path options =
     let budget = unwrap_or options.budget DEFAULT_BUDGET in
     let sessions = unwrap_or options.sessions DEFAULT_SESSIONS in
-    if same_name command (codes "serve") then where_taken (is_device_path path) (Serve path budget sessions)
-    else if same_name command (codes "compile") then where_taken (is_device_path path && is_none options.sessions) (Compile path budget)
-    else if same_name command (codes "plan") then where_taken (is_device_path path && are_none options) (Plan path)
-    else if same_name command (codes "check") then where_taken (is_graph_path path && are_none options) (Check path)
+    if same_name command (codes "serve") then only_if (is_device_path path) (Serve path budget sessions)
+    else if same_name command (codes "compile") then only_if (is_device_path path && is_none options.sessions) (Compile path budget)
+    else if same_name command (codes "plan") then only_if (is_device_path path && are_none options) (Plan path)
+    else if same_name command (codes "check") then only_if (is_graph_path path && are_none options) (Check path)
     else None
 
 -- a command, a file, and options

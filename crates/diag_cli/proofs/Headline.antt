@@ -15,11 +15,11 @@ use Rattle.device_model.specs.Devices.{Device}
 use Rattle.device_model.specs.Diagnosis.{device_system}
 use Rattle.diag_cli.specs.declared.serving.TheConstants.{SCRIPT_LIMIT}
 use Rattle.diag_cli.specs.Words.{Form, Serve, Plan, Check, Compile, path_of}
-use Rattle.diag_cli.specs.Describing.{long_file_line, device_in}
+use Rattle.diag_cli.specs.Describing.{long_file_line, described, device_in}
 use Rattle.diag_cli.specs.Output.{Output, Gives, GivesUnlessMemory, says, no_memory}
-use Rattle.diag_cli.specs.Courses.{End, Ended, Failed, Cut, Course, Tells, Serves, read_error, served, wholly_served, end_of, served_or_refused, course_of}
+use Rattle.diag_cli.specs.Courses.{End, Ended, Failed, Cut, Course, Tells, Serves, read_error, served, wholly_served, end_of, if_within, served_or_refused, course_of}
 use Rattle.diag_cli.specs.Refusals.{or_memory}
-use Rattle.diag_cli.specs.Runs.{Reading, Writing, IsIdle, IsRun}
+use Rattle.diag_cli.specs.Runs.{Reading, Writing, IsIdle, GivesUnlessShort, IsRun}
 use Rattle.diag_cli.specs.inner.Courses.{EndsAs, IsAnswered, IsServed, Follows}
 
 -- ---- what was taken is what was there, up to the limit
@@ -42,6 +42,23 @@ same_file file bytes (Some all) same is = same ∙ is
 pub too_long_is_no_failure : {T : Type 0} (result : Result T LoadError) (error : LoadError) (limit : ℕ) → result ≡ Err error → error ≡ Long limit → result ≡ Err LoadFailed → ⊥
 too_long_is_no_failure result error limit is long failed = let never : ⊥ = cc in never
 
+-- what is said of a short text is said of its file
+pub refused_in : (fault : Option Output) (path file : List ℕ) (budget : ℕ) → length file ≤ TEXT_LIMIT → IsExpectedFault fault (described path file)
+    → IsExpectedFault fault (if_within budget (device_in path file))
+refused_in None path file budget short is = tt
+refused_in (Some output) path file budget short is = ap (if_within budget) (device_is ∙ is)
+  where
+    few : nat_le (length file) TEXT_LIMIT ≡ true
+    few = grind arith
+
+    device_is : device_in path file ≡ described path file
+    device_is = rw few
+
+-- words with a form may run out of memory
+with_form : (form : Form) {output : Output} {status : ℕ} {a b : Option (List ℕ)} → GivesUnlessMemory output status a b → GivesUnlessShort (Some form) output status a b
+with_form form (inl memory) = inl (refl, memory)
+with_form form (inr given) = inr given
+
 module _ (input new_input : Reading) (out new_out : Writing) (status : ℕ) where
   -- ---- a device is served, or its file refused
 
@@ -49,24 +66,24 @@ module _ (input new_input : Reading) (out new_out : Writing) (status : ℕ) wher
       → Follows (served_or_refused expected) input new_input out new_out status
   follows_device expected device is done = subst (λ e. Follows (served_or_refused e) input new_input out new_out status) (sym is) done
 
-  zero_is_not_six : (status ≢ 5 → Gives no_memory status out.got new_out.got) → status ≡ 0 → IsAtEnd new_input.left
-  zero_is_not_six said zero = absurd (omega (arith, zero, (said (λ five. omega (arith, zero, five))).same_status))
+  zero_is_not_six : Gives no_memory status out.got new_out.got → status ≡ 0 → IsAtEnd new_input.left
+  zero_is_not_six said zero = absurd (omega (arith, zero, (said.whole (λ five. omega (arith, zero, five))).0))
 
-  by_memory : (expected : Result Device Output) → IsIdle input new_input → (status ≢ 5 → Gives no_memory status out.got new_out.got)
+  by_memory : (expected : Result Device Output) → IsIdle input new_input → Gives no_memory status out.got new_out.got
       → Follows (served_or_refused expected) input new_input out new_out status
-  by_memory (Ok device) idle said = record { answer = λ whole. inl (said whole); all_read = zero_is_not_six said }
-  by_memory (Err output) idle said = (idle, λ whole. inl (said whole))
+  by_memory (Ok device) idle said = record { answer = λ whole. inl said; all_read = zero_is_not_six said }
+  by_memory (Err output) idle said = (idle, inl said)
 
   pub follows_refusal : (expected : Result Device Output) (fault : Option Output) → IsExpectedFault fault expected → IsIdle input new_input
-      → (status ≢ 5 → Gives (or_memory fault) status out.got new_out.got) → Follows (served_or_refused expected) input new_input out new_out status
+      → Gives (or_memory fault) status out.got new_out.got → Follows (served_or_refused expected) input new_input out new_out status
   follows_refusal expected None is idle said = by_memory expected idle said
   follows_refusal expected (Some output) is idle said =
-      subst (λ e. Follows (served_or_refused e) input new_input out new_out status) (sym is) (idle, λ whole. inr (said whole))
+      subst (λ e. Follows (served_or_refused e) input new_input out new_out status) (sym is) (idle, inr said)
 
   -- ---- clauses of a run over the file
 
   told_of : (course : Course) (output : Output) → course ≡ Tells output → Follows course input new_input out new_out status
-      → IsIdle input new_input × (status ≢ 5 → GivesUnlessMemory output status out.got new_out.got)
+      → IsIdle input new_input × GivesUnlessMemory output status out.got new_out.got
   told_of course output is done = subst (λ c. Follows c input new_input out new_out status) is done
 
   served_of : (course : Course) (system : System) → course ≡ Serves system → Follows course input new_input out new_out status → IsServed system input new_input out new_out status
@@ -94,14 +111,14 @@ module _ (input new_input : Reading) (out new_out : Writing) (status : ℕ) wher
   failed_at : (system : System) (bytes : List ℕ) (end : End) → RoseExactly input.faults new_input.faults (status ≡ 4) → input.faults < new_input.faults
       → Consumes input.left new_input.left bytes → Gives (served system bytes end) status out.got new_out.got
       → (taken : List ℕ) × Consumes input.left new_input.left taken × Gives (served system taken Failed) status out.got new_out.got
-  failed_at system bytes Ended rose rises took gives = absurd (moved rose rises (λ four. omega (arith, four, gives.same_status)))
+  failed_at system bytes Ended rose rises took gives = absurd (moved rose rises (λ four. omega (arith, four, (gives.whole (λ five. omega (arith, four, five))).0)))
   failed_at system bytes Failed rose rises took gives = (bytes, took, gives)
-  failed_at system bytes Cut rose rises took gives = absurd (moved rose rises (λ four. omega (arith, four, gives.same_status)))
+  failed_at system bytes Cut rose rises took gives = absurd (moved rose rises (λ four. omega (arith, four, (gives.whole (λ five. omega (arith, four, five))).0)))
 
   fault_of : (system : System) → RoseExactly input.faults new_input.faults (status ≡ 4) → input.faults < new_input.faults
       → Gives no_memory status out.got new_out.got ⊎ IsAnswered system input new_input out new_out status
       → (bytes : List ℕ) × Consumes input.left new_input.left bytes × Gives (served system bytes Failed) status out.got new_out.got
-  fault_of system rose rises (inl memory) = absurd (moved rose rises (λ four. omega (arith, four, memory.same_status)))
+  fault_of system rose rises (inl memory) = absurd (moved rose rises (λ four. omega (arith, four, (memory.whole (λ five. omega (arith, four, five))).0)))
   fault_of system rose rises (inr answered) = failed_at system answered.bytes answered.end rose rises answered.took answered.gives
 
   -- ---- runs
@@ -124,7 +141,7 @@ module _ (input new_input : Reading) (out new_out : Writing) (status : ℕ) wher
       absent_file = λ gone. absurd (there gone);
       no_file = λ moves. absurd (omega (arith, kept, moves));
       told = on_told (told_bytes (held (path_of form))) (λ bytes same output course.
-          let all = told_of (course_of (Some form) file) output (ap (course_of (Some form)) same ∙ course) done in (all.0, λ whole read. all.1 whole)) is;
+          let all = told_of (course_of (Some form) file) output (ap (course_of (Some form)) same ∙ course) done in (all.0, λ kept. with_form form all.1)) is;
       answer = on_told (told_bytes (held (path_of form))) (λ bytes same system course.
           answer_of system input.left refl reads (served_of (course_of (Some form) file) system (ap (course_of (Some form)) same ∙ course) done)) is;
       script_fault = on_told (told_bytes (held (path_of form))) (λ bytes same system course rises whole.
@@ -170,8 +187,8 @@ module _ (held : List ℕ → Holding) (shelf new_shelf input : Reading) (out ne
   never_rises : {P : Type 0} → input.faults < input.faults → P
   never_rises moves = absurd (omega (arith, moves))
 
-  known : (output : Output) → (status ≢ 5 → Gives output status out.got new_out.got) → (s : ℕ) → status ≡ s → s ≢ 5 → output.status ≢ s → ⊥
-  known output said s is whole other = other (sym ((said (λ five. whole (sym is ∙ five))).same_status) ∙ is)
+  known : (output : Output) → Gives output status out.got new_out.got → (s : ℕ) → status ≡ s → s ≢ 5 → output.status ≢ s → ⊥
+  known output said s is whole other = other (sym ((said.whole (λ five. whole (sym is ∙ five))).0) ∙ is)
 
   module _ (form : Form) where
     all_told : {P : List ℕ → Type 0} (told : Option (List ℕ)) → ((file : List ℕ) → P file) → IfSome told P
@@ -180,16 +197,16 @@ module _ (held : List ℕ → Holding) (shelf new_shelf input : Reading) (out ne
 
     -- The file could not be read.
     pub run_failed : shelf.faults < new_shelf.faults → RoseExactly out.faults new_out.faults (status ≡ 5)
-        → (status ≢ 5 → Gives (says read_error 4) status out.got new_out.got) → IsRun (Some form) held shelf new_shelf input input out new_out status
+        → Gives (says read_error 4) status out.got new_out.got → IsRun (Some form) held shelf new_shelf input input out new_out status
     run_failed moves writes said = record {
       write_fault = writes;
-      read_fault = λ whole. ((λ four. inl moves), λ rises. (said whole).same_status);
+      read_fault = λ whole. ((λ four. inl moves), λ rises. (said.whole whole).0);
       usage = λ whole. ((λ two. absurd (known (says read_error 4) said 2 two (λ e. absurd (omega (arith, e))) (λ e. absurd (omega (arith, e))))), λ none. absurd (let never : ⊥ = cc in never));
       no_name = λ none. absurd (let never : ⊥ = cc in never);
-      absent_file = λ gone whole. (said whole).same_status;
+      absent_file = λ gone whole. (said.whole whole).0;
       no_file = λ rises. (idle, said);
-      told = all_told (told_bytes (held (path_of form))) (λ file output course. (idle, λ whole read. absurd (read (said whole).same_status)));
-      answer = all_told (told_bytes (held (path_of form))) (λ file system course. all_told input.left (λ script whole read. absurd (read (said whole).same_status)));
+      told = all_told (told_bytes (held (path_of form))) (λ file output course. (idle, λ kept. absurd (omega (arith, kept, moves))));
+      answer = all_told (told_bytes (held (path_of form))) (λ file system course. all_told input.left (λ script whole read. absurd (read (said.whole whole).0)));
       script_fault = all_told (told_bytes (held (path_of form))) (λ file system course rises. never_rises rises);
       all_read = all_told (told_bytes (held (path_of form))) (λ file system course zero. absurd (known (says read_error 4) said 0 zero (λ e. absurd (omega (arith, e))) (λ e. absurd (omega (arith, e)))));
       cut = λ seven. absurd (known (says read_error 4) said 7 seven (λ e. absurd (omega (arith, e))) (λ e. absurd (omega (arith, e))));
@@ -198,16 +215,16 @@ module _ (held : List ℕ → Holding) (shelf new_shelf input : Reading) (out ne
     -- One output was given without a look at the script.
     pub run_told : (output : Output) → output.status ≢ 0 → output.status ≢ 2 → output.status ≢ 4 → output.status ≢ 7 → IfSome (told_bytes (held (path_of form))) (IsRight form output)
         → held (path_of form) ≢ absent → new_shelf.faults ≡ shelf.faults → RoseExactly out.faults new_out.faults (status ≡ 5)
-        → (status ≢ 5 → Gives output status out.got new_out.got) → IsRun (Some form) held shelf new_shelf input input out new_out status
+        → Gives output status out.got new_out.got → IsRun (Some form) held shelf new_shelf input input out new_out status
     run_told output no0 no2 no4 no7 right there kept writes said = record {
       write_fault = writes;
-      read_fault = λ whole. ((λ four. absurd (no4 (sym (said whole).same_status ∙ four))), λ rises. elim rises [ inl moves ↦ absurd (omega (arith, kept, moves)) | inr moves ↦ never_rises moves ]);
-      usage = λ whole. ((λ two. absurd (no2 (sym (said whole).same_status ∙ two))), λ none. absurd (let never : ⊥ = cc in never));
+      read_fault = λ whole. ((λ four. absurd (no4 (sym (said.whole whole).0 ∙ four))), λ rises. elim rises [ inl moves ↦ absurd (omega (arith, kept, moves)) | inr moves ↦ never_rises moves ]);
+      usage = λ whole. ((λ two. absurd (no2 (sym (said.whole whole).0 ∙ two))), λ none. absurd (let never : ⊥ = cc in never));
       no_name = λ none. absurd (let never : ⊥ = cc in never);
       absent_file = λ gone. absurd (there gone);
       no_file = λ moves. absurd (omega (arith, kept, moves));
-      told = on_right (told_bytes (held (path_of form))) (λ file is other course. (idle, λ whole read. told_by file other is course (said whole))) right;
-      answer = on_right (told_bytes (held (path_of form))) (λ file is system course. all_told input.left (λ script whole read. answer_by file system script is course (said whole))) right;
+      told = on_right (told_bytes (held (path_of form))) (λ file is other course. (idle, λ kept. with_form form (told_by file other is course said))) right;
+      answer = on_right (told_bytes (held (path_of form))) (λ file is system course. all_told input.left (λ script whole read. answer_by file system script is course said)) right;
       script_fault = all_told (told_bytes (held (path_of form))) (λ file system course rises. never_rises rises);
       all_read = all_told (told_bytes (held (path_of form))) (λ file system course zero. absurd (known output said 0 zero (λ e. absurd (omega (arith, e))) no0));
       cut = λ seven. absurd (known output said 7 seven (λ e. absurd (omega (arith, e))) no7);
@@ -234,16 +251,16 @@ module _ (held : List ℕ → Holding) (shelf new_shelf input : Reading) (out ne
         answer_by file system script (inr is) course gives = absurd (not_both output system (sym is ∙ course))
 
   -- The words have no form.
-  pub run_usage : RoseExactly out.faults new_out.faults (status ≡ 5) → (status ≢ 5 → Gives (says (codes "error: usage\n") 2) status out.got new_out.got)
+  pub run_usage : RoseExactly out.faults new_out.faults (status ≡ 5) → Gives (says (codes "error: usage\n") 2) status out.got new_out.got
       → IsRun None held shelf shelf input input out new_out status
   run_usage writes said = record {
     write_fault = writes;
-    read_fault = λ whole. ((λ four. absurd (let two = (said whole).same_status in omega (arith, four, two))), λ rises. elim rises [ inl moves ↦ absurd (omega (arith, moves)) | inr moves ↦ never_rises moves ]);
-    usage = λ whole. ((λ two. refl), λ none. (said whole).same_status);
+    read_fault = λ whole. ((λ four. absurd (let two = (said.whole whole).0 in omega (arith, four, two))), λ rises. elim rises [ inl moves ↦ absurd (omega (arith, moves)) | inr moves ↦ never_rises moves ]);
+    usage = λ whole. ((λ two. refl), λ none. (said.whole whole).0);
     no_name = λ none. record { taken = refl; faults = refl };
     absent_file = tt;
     no_file = λ moves. absurd (omega (arith, moves));
-    told = λ output course. (idle, λ whole read. inr (subst (λ o. Gives o status out.got new_out.got) (same_output _ output course) (said whole)));
+    told = λ output course. (idle, λ kept. inr (subst (λ o. Gives o status out.got new_out.got) (same_output _ output course) said));
     answer = λ system course. absurd (let never : ⊥ = cc in never);
     script_fault = λ system course rises. never_rises rises;
     all_read = λ system course zero. absurd (let never : ⊥ = cc in never);

@@ -3,6 +3,7 @@ pub mod WordLemmas
 pub mod Running
 pub mod ServedDevices
 pub mod Faults
+pub mod Failing
 pub mod Headline
 pub mod Adapting
 pub mod WholeGraphs

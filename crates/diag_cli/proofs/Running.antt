@@ -1,10 +1,9 @@
 -- What a run over a system wrote.
-use Rattle.std.proofs.Common.{◌≡◌, ℕ, List, [], ◌∷◌, ◌++◌, length, Option, subst, codes}
+use Rattle.std.proofs.Common.{◌≡◌, ℕ, List, [], ◌∷◌, length, Option, subst, codes}
 use Rattle.std.specs.Prelude.{decimal}
 use Rattle.std.specs.Io.KnownBytes.{Appends}
 use Rattle.text_rules.specs.Tokens.{spaced}
 use Rattle.ranking.specs.Systems.{System}
-use Rattle.session_core.specs.Items.{Item}
 use Rattle.session_core.specs.Sessions.{Table}
 use Rattle.session_core.specs.Moves.{said, script_moves}
 use Rattle.session_core.specs.FirstPath.{first_moves, first_replies}
@@ -29,7 +28,3 @@ pub ready_then : (system : System) (table : Table) (lines : List (List ℕ)) (pa
 ready_then system table lines parts wires a b c none p w ready more =
     writes_more a b c (ready_line system ∷ []) (first_replies system [] lines) (ready_put system parts wires a b p w ready)
     (subst (λ (t : Table). Writes b c (first_replies system t lines)) none (subst (Writes b c) (said-first_replies system table lines) more))
-
--- and then a last line
-pub then_last : (system : System) (lines : List (List ℕ)) (last : Item) (a b c : Option (List ℕ)) → Writes a b (ready_and_replies system lines) → Writes b c (last ∷ []) → Writes a c (ready_and_replies system lines ++ last ∷ [])
-then_last system lines last a b c first said = writes_more a b c (ready_and_replies system lines) (last ∷ []) first said

@@ -67,9 +67,9 @@ abbrev pub size_lines : Sizes → List Item
 size_lines sizes = count_line (codes "parts") sizes.parts ∷ count_line (codes "wires") sizes.wires
     ∷ count_line (codes "clauses") sizes.clauses ∷ count_line (codes "sum") sizes.sum ∷ []
 
--- a sum above the budget
-abbrev pub sum_above : ℕ → Output
-sum_above budget = says (spaced (codes "error:" ∷ codes "sum" ∷ codes "above" ∷ decimal budget ∷ [])) 3
+-- the line that tells a sum above the budget
+abbrev pub sum_line : ℕ → List ℕ
+sum_line budget = spaced (codes "error:" ∷ codes "sum" ∷ codes "above" ∷ decimal budget ∷ [])
 
 -- too many clauses
 abbrev pub not_encoded : EncodeError → Output
@@ -78,7 +78,7 @@ not_encoded Memory = no_memory
 
 -- the clauses of a device, whose sum is within a budget
 abbrev pub within : ℕ → Result ClauseList EncodeError → Result ClauseList Output
-within budget (Ok cnf) = if nat_lt budget (sum_of cnf.clauses) then Err (sum_above budget) else Ok cnf
+within budget (Ok cnf) = if nat_lt budget (sum_of cnf.clauses) then Err (says (sum_line budget) 3) else Ok cnf
 within budget (Err error) = Err (not_encoded error)
 
 -- the numbers of parts, wires and clauses, and the sum of the clauses

@@ -45,7 +45,7 @@ fn run_form<H: Shelf, I: Source, O: Sink>(
 /// status.
 ///
 /// `words` are those behind the program's name. `IsRun` says, clause by clause, what holds of each run. What a write that
-/// fails leaves written is said by no clause yet.
+/// fails leaves written of the answers to a script is said by no clause yet.
 pub fn diag<H: Shelf, I: Source, O: Sink>(
     alloc: Global,
     words: &[String],

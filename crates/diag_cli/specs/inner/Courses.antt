@@ -29,5 +29,5 @@ pub record IsServed (system : System) (input new_input : Reading) (out new_out :
 -- what was done, by the course
 abbrev pub Follows : Course → Reading → Reading → Writing → Writing → ℕ → Type 0
 Follows (Tells output) input new_input out new_out status =
-    IsIdle input new_input × (status ≢ 5 → GivesUnlessMemory output status out.got new_out.got)
+    IsIdle input new_input × GivesUnlessMemory output status out.got new_out.got
 Follows (Serves system) input new_input out new_out status = IsServed system input new_input out new_out status

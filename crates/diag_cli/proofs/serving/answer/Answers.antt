@@ -1,9 +1,9 @@
 use Rattle.std.proofs.Common.{inr, refl, arith}
 use Rattle.text_rules.specs.TextLines.{whole_lines, all_lines}
-use Rattle.session_core.specs.Items.{Plain}
 use Rattle.session_core.specs.Services.{system_of}
-use Rattle.diag_cli.specs.Courses.{Ended, Failed, Cut, read_error, script_too_long}
-use Rattle.diag_cli.proofs.Running.{ready_then, then_last}
+use Rattle.diag_cli.specs.Courses.{Ended, Failed, Cut, read_error, script_too_long, ready_and_replies}
+use Rattle.diag_cli.proofs.Failing.{gives_all, gives_after}
+use Rattle.diag_cli.proofs.Running.{ready_then}
 use Rattle.diag_cli.proofs.serving.answer.Goals as goal
 
 pub returns-in-Done-clause-served : goal.returns-in-Done-clause-served
@@ -15,10 +15,8 @@ returns-in-Done-clause-served g c =
         end = Ended;
         took = done.2;
         ends = (done.3.0, done.3.1);
-        gives = record {
-          same_status = refl;
-          text = ready_then (system_of c.args.service.subject) _ (all_lines done.0) _ _ _ _ _ c.requires.none_open c.parts.ensures c.wires.ensures c.in-Ok.ensures.text done.3.2.written;
-        };
+        gives = gives_all _ _ _ _ (λ five. absurd (omega (arith, five))) refl
+            (ready_then (system_of c.args.service.subject) _ (all_lines done.0) _ _ _ _ _ c.requires.none_open c.parts.ensures c.wires.ensures c.in-Ok.ensures.text done.3.2.written);
       });
       all_read = λ _. done.3.0;
     }
@@ -33,13 +31,10 @@ returns-in-ReadFault-clause-served g c =
         end = Failed;
         took = done.2;
         ends = c.in-ReadFault.ensures.read_fault.rose refl;
-        gives = record {
-          same_status = (said whole).same_status;
-          text = then_last (system_of c.args.service.subject) (whole_lines done.0) (Plain read_error) _ _ _
-              (ready_then (system_of c.args.service.subject) _ (whole_lines done.0) _ _ _ _ _ c.requires.none_open c.parts.ensures c.wires.ensures c.in-Ok.ensures.text done.3.1.written) (said whole).text;
-        };
+        gives = gives_after (ready_and_replies (system_of c.args.service.subject) (whole_lines done.0)) read_error _ _ _ _ _
+            (ready_then (system_of c.args.service.subject) _ (whole_lines done.0) _ _ _ _ _ c.requires.none_open c.parts.ensures c.wires.ensures c.in-Ok.ensures.text done.3.1.written) said;
       });
-      all_read = λ zero. absurd (let same = (said (λ five. omega (arith, zero, five))).same_status in omega (arith, zero, same));
+      all_read = λ zero. absurd (let same = (said.whole (λ five. omega (arith, zero, five))).0 in omega (arith, zero, same));
     }
 
 pub returns-clause-served : goal.returns-clause-served
@@ -52,11 +47,8 @@ returns-clause-served g c =
         end = Cut;
         took = done.2;
         ends = done.3.0;
-        gives = record {
-          same_status = (said whole).same_status;
-          text = then_last (system_of c.args.service.subject) (whole_lines done.0) (Plain script_too_long) _ _ _
-              (ready_then (system_of c.args.service.subject) _ (whole_lines done.0) _ _ _ _ _ c.requires.none_open c.parts.ensures c.wires.ensures c.in-Ok.ensures.text done.3.1.written) (said whole).text;
-        };
+        gives = gives_after (ready_and_replies (system_of c.args.service.subject) (whole_lines done.0)) script_too_long _ _ _ _ _
+            (ready_then (system_of c.args.service.subject) _ (whole_lines done.0) _ _ _ _ _ c.requires.none_open c.parts.ensures c.wires.ensures c.in-Ok.ensures.text done.3.1.written) said;
       });
-      all_read = λ zero. absurd (let same = (said (λ five. omega (arith, zero, five))).same_status in omega (arith, zero, same));
+      all_read = λ zero. absurd (let same = (said.whole (λ five. omega (arith, zero, five))).0 in omega (arith, zero, same));
     }

@@ -7,7 +7,8 @@ use Rattle.device_model.specs.declared.component.Component.{Component}
 use Rattle.device_model.specs.Devices.{Device}
 use Rattle.std.specs.Prelude.{Result, Ok, Err}
 use Rattle.bench_reader.specs.Faults.{Fault, fault_number}
-use Rattle.bench_reader.specs.Netlists.{netlist}
+use Rattle.bench_reader.specs.declared.kinds.FlipFlops.TheVariants.{Taken}
+use Rattle.bench_reader.specs.Netlists.{netlist, netlist_with}
 
 -- lines, each with its line feed
 abbrev text : List (List ℕ) → List ℕ
@@ -21,6 +22,10 @@ shown (Err fault) = fault.line ∷ fault_number fault.what ∷ []
 
 abbrev fault_of : List (List ℕ) → List ℕ
 fault_of lines = shown (netlist (text lines))
+
+-- the same netlists with flip-flops taken
+abbrev with_flip_flops : List (List ℕ) → Result Device Fault
+with_flip_flops lines = netlist_with Taken (text lines)
 
 abbrev part : List ℕ → Kind → List ℕ → Component
 part name kind ports = record { name = name; kind = kind; ports = ports }
@@ -128,3 +133,23 @@ long_name = refl
 
 longest_name : fault_of ((codes "INPUT(" ++ replicate 64 97 ++ codes ")") ∷ []) ≡ []
 longest_name = refl
+
+-- ---- flip-flops taken
+
+flip_flop : with_flip_flops (codes "INPUT(d)" ∷ codes "q = DFF(d)" ∷ [])
+    ≡ Ok (device (part (codes "q") Buff (0 ∷ 1 ∷ []) ∷ []) (codes "d" ∷ codes "q" ∷ []))
+flip_flop = refl
+
+-- a flip-flop and a gate that read each other
+flip_flop_in_a_cycle : with_flip_flops (codes "q = dff(n)" ∷ codes "n = NOT(q)" ∷ [])
+    ≡ Ok (device (part (codes "n") Not (1 ∷ 0 ∷ []) ∷ part (codes "q") Buff (0 ∷ 1 ∷ []) ∷ []) (codes "n" ∷ codes "q" ∷ []))
+flip_flop_in_a_cycle = refl
+
+two_inputs_of_a_flip_flop : shown (with_flip_flops (codes "INPUT(a)" ∷ codes "q = DFF(a, a)" ∷ [])) ≡ 2 ∷ 4 ∷ []
+two_inputs_of_a_flip_flop = refl
+
+no_inputs_of_a_taken_flip_flop : shown (with_flip_flops (codes "q = DFF()" ∷ [])) ≡ 1 ∷ 4 ∷ []
+no_inputs_of_a_taken_flip_flop = refl
+
+flip_flop_drives_again : shown (with_flip_flops (codes "INPUT(q)" ∷ codes "q = DFF(q)" ∷ [])) ≡ 2 ∷ 6 ∷ []
+flip_flop_drives_again = refl

@@ -1,40 +1,59 @@
 -- What lines say, from line to line.
-use Rattle.std.proofs.Common.{◌≡◌, ℕ, ◌+◌, true, List, [], ◌∷◌, ◌++◌, map, drop, get_or, length, Option, Some, None, Ok, Err, append_assoc, refl, sym, ap, subst, ◌∙◌, ◌<◌, drop-drop}
-use Rattle.std.specs.Prelude.{Result, is_none}
+use Rattle.std.proofs.Common.{◌≡◌, ℕ, ◌+◌, Bool, true, false, List, [], ◌∷◌, ◌++◌, map, drop, get_or, length, Option, Some, None, Ok, Err, append_assoc, refl, sym, ap, subst, ◌∙◌, ◌<◌, drop-drop}
+use Rattle.std.specs.Prelude.{Result, is_none, if◌then◌else◌}
 use Rattle.std.specs.List.{list_all, filter_map, enumerate_from, flat_map}
 use Rattle.std.proofs.lemmas.Bool.{and_parts, and_from}
 use Rattle.std.proofs.lemmas.List.{drop_more, map-append}
+use Rattle.text_rules.specs.Names.{is_short_name}
 use Rattle.text_rules.specs.Tokens.{tokens}
 use Rattle.text_rules.specs.TextLines.{uncommented}
 use Rattle.bench_reader.specs.declared.fault.BenchFault.{BenchFault}
-use Rattle.bench_reader.specs.Statements.{Statement, statement_of, statement_fault, unless_faulty, reading_of_statement, reading_of, reading}
+use Rattle.bench_reader.specs.declared.fault.BenchFault.TheVariants.{Name as NoName}
+use Rattle.bench_reader.specs.declared.kinds.FlipFlops.{FlipFlops}
+use Rattle.bench_reader.specs.declared.kinds.FlipFlops.TheVariants.{Refused, Taken}
+use Rattle.bench_reader.specs.declared.kinds.NamedKind.{NamedKind}
+use Rattle.bench_reader.specs.declared.kinds.NamedKind.TheVariants.{Combinational, Sequential, Unknown}
+use Rattle.bench_reader.specs.Statements.{Statement, Input, Output, Gate, statement_of, kind_fault, statement_fault, unless_faulty, reading_of_statement, reading_of, reading}
 use Rattle.bench_reader.specs.Netlists.{fault_in, statement_in}
 use Rattle.bench_reader.specs.inner.Steps.{is_faultless}
 
 -- the readings of lines of which the first has a number
-abbrev pub readings_from : ℕ → List (List ℕ) → List (ℕ × Result (Option Statement) BenchFault)
-readings_from number lines = enumerate_from number (map reading lines)
+abbrev pub readings_from : FlipFlops → ℕ → List (List ℕ) → List (ℕ × Result (Option Statement) BenchFault)
+readings_from flip_flops number lines = enumerate_from number (map (reading flip_flops) lines)
 
 -- The faults of all lines are those of what is left, and the statements are these and then those of what is left.
-pub record IsReadTo (number : ℕ) (lines left : List (List ℕ)) (done : List (ℕ × Statement)) : Type 0 where
-  pub no_fault : filter_map fault_in (readings_from 1 lines) ≡ filter_map fault_in (readings_from number left)
-  pub so_far : filter_map statement_in (readings_from 1 lines) ≡ done ++ filter_map statement_in (readings_from number left)
+pub record IsReadTo (flip_flops : FlipFlops) (number : ℕ) (lines left : List (List ℕ)) (done : List (ℕ × Statement)) : Type 0 where
+  pub no_fault : filter_map fault_in (readings_from flip_flops 1 lines) ≡ filter_map fault_in (readings_from flip_flops number left)
+  pub so_far : filter_map statement_in (readings_from flip_flops 1 lines) ≡ done ++ filter_map statement_in (readings_from flip_flops number left)
 
 -- ---- statements without a fault
 
--- a statement that a line makes has no fault
-read_is_faultless : (line : List ℕ) (s : Statement) → reading line ≡ Ok (Some s) → is_faultless s ≡ true
-read_is_faultless line s e = over (tokens true (uncommented line)) e
+-- where a statement has no fault, it has none with flip-flops taken either
+taken_too : (flip_flops : FlipFlops) (s : Statement) → statement_fault flip_flops s ≡ None → is_faultless s ≡ true
+taken_too flip_flops (Input signal) h = ap is_none h
+taken_too flip_flops (Output signal) h = ap is_none h
+taken_too Taken (Gate output kind inputs) h = ap is_none h
+taken_too Refused (Gate output kind inputs) h = by (list_all is_short_name (output ∷ inputs)) kind h
   where
-    by : (f : Statement) (fault : Option BenchFault) → statement_fault f ≡ fault → unless_faulty f fault ≡ Ok (Some s) → is_faultless s ≡ true
-    by f None g h = let same : f ≡ s = cc in ap is_faultless (sym same) ∙ ap is_none g
+    by : (b : Bool) (k : NamedKind) → (if b then kind_fault Refused (length inputs) k else Some NoName) ≡ None → is_none (if b then kind_fault Taken (length inputs) k else Some NoName) ≡ true
+    by true (Combinational gate) h = ap is_none h
+    by true Sequential h = cc
+    by true Unknown h = cc
+    by false k h = cc
+
+-- a statement that a line makes has no fault
+read_is_faultless : (flip_flops : FlipFlops) (line : List ℕ) (s : Statement) → reading flip_flops line ≡ Ok (Some s) → is_faultless s ≡ true
+read_is_faultless flip_flops line s e = over (tokens true (uncommented line)) e
+  where
+    by : (f : Statement) (fault : Option BenchFault) → statement_fault flip_flops f ≡ fault → unless_faulty f fault ≡ Ok (Some s) → is_faultless s ≡ true
+    by f None g h = let same : f ≡ s = cc in ap is_faultless (sym same) ∙ taken_too flip_flops f g
     by f (Some w) g h = cc
 
-    of_statement : (o : Option Statement) → reading_of_statement o ≡ Ok (Some s) → is_faultless s ≡ true
+    of_statement : (o : Option Statement) → reading_of_statement flip_flops o ≡ Ok (Some s) → is_faultless s ≡ true
     of_statement None h = cc
-    of_statement (Some f) h = by f (statement_fault f) refl h
+    of_statement (Some f) h = by f (statement_fault flip_flops f) refl h
 
-    over : (ts : List (List ℕ)) → reading_of ts ≡ Ok (Some s) → is_faultless s ≡ true
+    over : (ts : List (List ℕ)) → reading_of flip_flops ts ≡ Ok (Some s) → is_faultless s ≡ true
     over [] h = cc
     over (t ∷ ts) h = of_statement (statement_of (t ∷ ts)) h
 
@@ -42,15 +61,15 @@ abbrev pub said : ℕ × Statement → Statement
 said s = s.1
 
 -- each statement that lines make has no fault
-pub read_are_faultless : (n : ℕ) (lines : List (List ℕ)) → list_all is_faultless (map said (filter_map statement_in (readings_from n lines))) ≡ true
-read_are_faultless n [] = refl
-read_are_faultless n (line ∷ lines) = by (reading line) refl (read_are_faultless (n + 1) lines)
+pub read_are_faultless : (flip_flops : FlipFlops) (n : ℕ) (lines : List (List ℕ)) → list_all is_faultless (map said (filter_map statement_in (readings_from flip_flops n lines))) ≡ true
+read_are_faultless flip_flops n [] = refl
+read_are_faultless flip_flops n (line ∷ lines) = by (reading flip_flops line) refl (read_are_faultless flip_flops (n + 1) lines)
   where
-    by : (r : Result (Option Statement) BenchFault) → reading line ≡ r → list_all is_faultless (map said (filter_map statement_in (readings_from (n + 1) lines))) ≡ true
-        → list_all is_faultless (map said (filter_map statement_in ((n, r) ∷ readings_from (n + 1) lines))) ≡ true
+    by : (r : Result (Option Statement) BenchFault) → reading flip_flops line ≡ r → list_all is_faultless (map said (filter_map statement_in (readings_from flip_flops (n + 1) lines))) ≡ true
+        → list_all is_faultless (map said (filter_map statement_in ((n, r) ∷ readings_from flip_flops (n + 1) lines))) ≡ true
     by (Ok None) e h = h
     by (Err what) e h = h
-    by (Ok (Some s)) e h = and_from _ _ (read_is_faultless line s e) h
+    by (Ok (Some s)) e h = and_from _ _ (read_is_faultless flip_flops line s e) h
 
 -- ---- statements one after the other
 

@@ -9,6 +9,7 @@ use Rattle.text_rules.specs.Tokens.{Uncut, tokens_left}
 use Rattle.text_rules.proofs.NameLemmas.{equal_if_same}
 use Rattle.text_rules.proofs.TokenLemmas.{length-tokens}
 use Rattle.bench_reader.specs.declared.fault.BenchFault.TheVariants.{Name as NoName}
+use Rattle.bench_reader.specs.declared.kinds.FlipFlops.{FlipFlops}
 use Rattle.bench_reader.specs.declared.kinds.NamedKind.{NamedKind}
 use Rattle.bench_reader.specs.declared.statement.Inputs.{Inputs}
 use Rattle.bench_reader.specs.Statements.{Gate, has_no_mark, is_the_mark, listed_from, inputs_in, statement_of, kind_named, kind_fault, statement_fault}
@@ -95,12 +96,12 @@ statement_of_gate output kind bracket line left behind ts e f g b o k h =
     rw whole (sym (gate_behind output kind ts o k h))
 
 -- What is wrong with a gate whose output and inputs are names is wrong with its kind.
-pub fault_of_gate : (output : Name) (kind : NamedKind) (names : List Name) (count : ℕ) → Some count ≡ count_names names → is_short_name output ≡ true
-    → statement_fault (Gate output kind names) ≡ kind_fault count kind
-fault_of_gate output kind names count c o = rw o (by (list_all is_short_name names) c)
+pub fault_of_gate : (flip_flops : FlipFlops) (output : Name) (kind : NamedKind) (names : List Name) (count : ℕ) → Some count ≡ count_names names → is_short_name output ≡ true
+    → statement_fault flip_flops (Gate output kind names) ≡ kind_fault flip_flops count kind
+fault_of_gate flip_flops output kind names count c o = rw o (by (list_all is_short_name names) c)
   where
     by : (b : Bool) → Some count ≡ (if b then Some (length names) else None)
-        → (if b then kind_fault (length names) kind else Some NoName) ≡ kind_fault count kind
+        → (if b then kind_fault flip_flops (length names) kind else Some NoName) ≡ kind_fault flip_flops count kind
     by true e = cc
     by false e = cc
 

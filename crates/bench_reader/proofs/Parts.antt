@@ -1,25 +1,27 @@
 -- The parts of statements without a fault, over the driven signals in any order.
 use Rattle.std.proofs.Common.{◌≡◌, ℕ, ◌+◌, ◌-◌, Bool, true, false, List, [], ◌∷◌, ◌++◌, map, length, Option, Some, None, refl, ap, ◌∙◌, arith}
-use Rattle.std.specs.Prelude.{◌&&◌, is_none, nat_le, if◌then◌else◌}
+use Rattle.std.specs.Prelude.{◌&&◌, is_none, nat_le, option_map, if◌then◌else◌}
 use Rattle.std.specs.List.{flat_map, list_all}
+use Rattle.std.specs.Option.{option_to_list}
 use Rattle.std.proofs.lemmas.Bool.{and_parts, and_from, leb-true}
 use Rattle.std.proofs.lemmas.List.{length-map, length_push, map-append}
 use Rattle.std.proofs.lemmas.List.Folds.{list_all-append}
 use Rattle.std.proofs.lemmas.Simd.{map-map}
 use Rattle.text_rules.specs.Names.{Name, is_short_name, is_among}
 use Rattle.device_model.specs.declared.component.Kind.{Kind}
-use Rattle.device_model.specs.declared.component.Kind.TheVariants.{Table}
+use Rattle.device_model.specs.declared.component.Kind.TheVariants.{Buff, Table}
 use Rattle.device_model.specs.declared.component.Component.{Component}
 use Rattle.device_model.specs.Devices.{part_names, takes, takes_ports, has_arity, has_wires}
 use Rattle.device_model.specs.Building.{NamedPart, place_in, joined}
 use Rattle.device_model.proofs.Joining.{named, named-joined, joined-wired}
+use Rattle.bench_reader.specs.declared.kinds.FlipFlops.TheVariants.{Taken}
 use Rattle.bench_reader.specs.declared.kinds.NamedKind.{NamedKind}
 use Rattle.bench_reader.specs.declared.kinds.NamedKind.TheVariants.{Combinational, Sequential, Unknown}
 use Rattle.bench_reader.specs.declared.fault.BenchFault.{BenchFault}
 use Rattle.bench_reader.specs.declared.fault.BenchFault.TheVariants.{Name as NoName, Inputs as WrongInputs}
-use Rattle.bench_reader.specs.Statements.{Statement, Input, Output, Gate, kind_fault}
+use Rattle.bench_reader.specs.Statements.{Statement, Input, Output, Gate, part_kind, kind_fault}
 use Rattle.bench_reader.specs.Signals.{driven_by_gate, used}
-use Rattle.bench_reader.specs.Netlists.{part_of}
+use Rattle.bench_reader.specs.Netlists.{part_over, part_of}
 use Rattle.bench_reader.specs.inner.Steps.{is_faultless}
 
 -- ---- what a gate without a fault has
@@ -27,7 +29,7 @@ use Rattle.bench_reader.specs.inner.Steps.{is_faultless}
 pub record IsFaultlessGate (output : Name) (kind : NamedKind) (inputs : List Name) : Type 0 where
   pub named : is_short_name output ≡ true
   pub gate : Kind
-  pub meant : kind ≡ Combinational gate
+  pub meant : part_kind kind ≡ Some gate
   pub taken : takes gate (length inputs) ≡ true
 
 no_fault : (b : Bool) (fault : Option BenchFault) → is_none (if b then fault else Some NoName) ≡ true → (b ≡ true) × (is_none fault ≡ true)
@@ -36,16 +38,16 @@ no_fault false fault h = cc
 
 pub faultless_gate : (output : Name) (kind : NamedKind) (inputs : List Name) → is_faultless (Gate output kind inputs) ≡ true → IsFaultlessGate output kind inputs
 faultless_gate output kind inputs h =
-    let fine = no_fault _ (kind_fault (length inputs) kind) h in
+    let fine = no_fault _ (kind_fault Taken (length inputs) kind) h in
     by kind (and_parts (is_short_name output) (list_all is_short_name inputs) fine.0).0 fine.1
   where
     took : (b : Bool) → is_none {T = BenchFault} (if b then None else Some WrongInputs) ≡ true → b ≡ true
     took true e = refl
     took false e = cc
 
-    by : (m : NamedKind) → is_short_name output ≡ true → is_none (kind_fault (length inputs) m) ≡ true → IsFaultlessGate output m inputs
+    by : (m : NamedKind) → is_short_name output ≡ true → is_none (kind_fault Taken (length inputs) m) ≡ true → IsFaultlessGate output m inputs
     by (Combinational k) s f = record { named = s; gate = k; meant = refl; taken = took (takes k (length inputs)) f }
-    by Sequential s f = cc
+    by Sequential s f = record { named = s; gate = Buff; meant = refl; taken = took (takes Buff (length inputs)) f }
     by Unknown s f = cc
 
 -- ---- one part
@@ -57,7 +59,7 @@ named_names parts = map (λ (part : NamedPart). part.name) parts
 pub names-part_of : (s : Statement) → is_faultless s ≡ true → named_names (part_of s) ≡ driven_by_gate s
 names-part_of (Input signal) h = refl
 names-part_of (Output signal) h = refl
-names-part_of (Gate output kind inputs) h = ap (λ m. named_names (part_of (Gate output m inputs))) (faultless_gate output kind inputs h).meant
+names-part_of (Gate output kind inputs) h = ap (λ k. named_names (option_to_list (option_map (part_over output inputs) k))) (faultless_gate output kind inputs h).meant
 
 takes_one_more : (kind : Kind) (n : ℕ) → takes kind n ≡ true → takes_ports [] kind (n + 1) ≡ true
 takes_one_more (Table t) n h = let none = and_parts (nat_le 1 n) (nat_le n 0) h in absurd (omega (arith, leb-true 1 n none.0, leb-true n 0 none.1))
@@ -72,7 +74,7 @@ module _ (wires : List Name) where
       → list_all fits (part_of (Gate output kind inputs)) ≡ true
   gate_fits output kind inputs gate there =
       let ports = length-map (inputs ++ output ∷ []) (place_in wires) ∙ length_push inputs output in
-      ap (λ m. list_all fits (part_of (Gate output m inputs))) gate.meant
+      ap (λ k. list_all fits (option_to_list (option_map (part_over output inputs) k))) gate.meant
       ∙ and_from _ _ (and_from _ _ (ap (takes_ports [] gate.gate) ports ∙ takes_one_more gate.gate (length inputs) gate.taken) there) refl
 
   pub statement_fits : (s : Statement) → is_faultless s ≡ true → list_all (is_among wires) (driven_by_gate s) ≡ true → list_all (is_among wires) (used s) ≡ true

@@ -28,15 +28,16 @@ use Rattle.bench_reader.specs.declared.fault.BenchFault.{BenchFault}
 use Rattle.bench_reader.specs.declared.fault.BenchFault.TheVariants.{Name as NoName, DrivenTwice, Undriven, TooMany}
 use Rattle.bench_reader.specs.declared.fault.BenchError.{BenchError}
 use Rattle.bench_reader.specs.declared.fault.BenchError.TheVariants.{Bad, Memory}
+use Rattle.bench_reader.specs.declared.kinds.FlipFlops.{FlipFlops}
 use Rattle.bench_reader.specs.declared.statement.NumberedStatement.{NumberedStatement}
 use Rattle.bench_reader.specs.Faults.{Fault, fault_at, told, unless_fault}
 use Rattle.bench_reader.specs.Statements.{Statement, Input, Output, Gate}
 use Rattle.bench_reader.specs.Signals.{driven, driven_by_gate, used, driven_twice, lines_without, undriven}
-use Rattle.bench_reader.specs.Netlists.{part_of, device_of, fault_in, statement_in, too_many, netlist}
+use Rattle.bench_reader.specs.Netlists.{part_of, device_of, fault_in, statement_in, too_many, faults_together, readings, netlist_with}
 use Rattle.bench_reader.specs.inner.Lines.{unnumbered, with_number}
-use Rattle.bench_reader.specs.inner.Steps.{Signals, signals_from, first_undriven, is_too_large, is_faultless, AreFaultless}
+use Rattle.bench_reader.specs.inner.Steps.{statements_or_fault, device_or_fault, Signals, signals_from, first_undriven, is_too_large, is_faultless, AreFaultless}
 use Rattle.bench_reader.proofs.Drivers.{among_keys, Drives-none}
-use Rattle.bench_reader.proofs.Lines.{readings_from, said, read_are_faultless}
+use Rattle.bench_reader.proofs.Lines.{said, read_are_faultless}
 use Rattle.bench_reader.proofs.Twice.{Ends, Splits, splits, gates_once}
 use Rattle.bench_reader.proofs.Parts.{faultless_gate, names-parts, names-joined, statements_fit, arities-joined, wired-joined, named_back}
 
@@ -181,104 +182,100 @@ all_used signals ((line, s) ∷ statements) h = by (list_all (is_among signals) 
     by true e g rest = and_from _ _ e (rest g)
     by false e g rest = cc
 
--- ---- a text, from step to step
+-- ---- statements, from step to step
 
-abbrev readings : List ℕ → List (ℕ × Result (Option Statement) BenchFault)
-readings text = readings_from 1 (all_lines text)
+-- the device, where these are the faults that the statements have together
+abbrev unless_together : List (ℕ × Statement) → List Fault → List Fault → List Fault → Result Device Fault
+unless_together statements twice without many = unless_fault (twice ++ without ++ many) (device_of (map said statements))
 
--- what the lines say, or the first fault of one
-abbrev lines_read : List ℕ → Result (List (ℕ × Statement)) Fault
-lines_read text = unless_fault (filter_map fault_in (readings text)) (filter_map statement_in (readings text))
+module _ (statements : List (ℕ × Statement)) where
+  pub fault_driven : (fault : Fault) → signals_from [] statements ≡ Err fault → device_or_fault statements ≡ Err fault
+  fault_driven fault h =
+      let split : Splits (Err fault) statements [] = subst (λ o. Splits o statements []) h (splits statements [] [] Drives-none) in
+      ap (λ ls. unless_together statements (map (fault_at DrivenTwice) ls) (map (fault_at Undriven) (undriven statements)) (too_many (map said statements))) split.2
+      ∙ ap Err (sym split.1)
 
--- the netlist, where these are the faults that no line has alone
-abbrev unless_later : List (ℕ × Statement) → List Fault → List Fault → List Fault → Result Device Fault
-unless_later statements twice without many = unless_fault (twice ++ without ++ many) (device_of (map said statements))
+  module _ (signals : Signals) (driven_so : signals_from [] statements ≡ Ok signals) where
+    split : (driven_twice statements ≡ []) × Ends signals [] (map said statements)
+    split = subst (λ o. Splits o statements []) driven_so (splits statements [] [] Drives-none)
 
-module _ (text : List ℕ) where
-  pub fault_read : (fault : Fault) → lines_read text ≡ Err fault → netlist text ≡ Err fault
-  fault_read fault h = by (filter_map fault_in (readings text)) refl h
+    members : (m : Name) → is_among (keys_of signals) m ≡ is_among (flat_map driven (map said statements)) m
+    members m = among_keys m signals ∙ sym (split.1.all m)
+
+    without_twice : device_or_fault statements ≡ unless_together statements [] (map (fault_at Undriven) (undriven statements)) (too_many (map said statements))
+    without_twice = ap (λ ls. unless_together statements (map (fault_at DrivenTwice) ls) (map (fault_at Undriven) (undriven statements)) (too_many (map said statements))) split.0
+
+    first : IsFirst (first_undriven (keys_of signals) statements) (undriven statements)
+    first =
+        let there : (m : Name) → is_among (flat_map (λ (s : ℕ × Statement). driven s.1) statements) m ≡ is_among (keys_of signals) m = λ m. ap (λ ns. is_among ns m) (there-said statements) ∙ sym (members m) in
+        first_without (flat_map (λ (s : ℕ × Statement). driven s.1) statements) (keys_of signals) there statements
+
+    pub fault_used : (line : ℕ) → first_undriven (keys_of signals) statements ≡ Some line → device_or_fault statements ≡ Err (fault_at Undriven line)
+    fault_used line h =
+        let is : IsFirst (Some line) (undriven statements) = subst (λ o. IsFirst o (undriven statements)) h first in
+        without_twice ∙ ap (λ ls. unless_together statements [] (map (fault_at Undriven) ls) (too_many (map said statements))) is.1
+
+    module _ (used_so : first_undriven (keys_of signals) statements ≡ None) where
+      many : length (device_of (map said statements)).wires ≡ length (keys_of signals)
+      many = ap length (sym (sorted_distinct-same_tests (keys_of signals) (flat_map driven (map said statements)) members)) ∙ length-sorted_distinct_once (keys_of signals) split.1.once
+
+      without_undriven : device_or_fault statements ≡ unless_together statements [] [] (if is_too_large (map said statements) (keys_of signals) then fault_at TooMany 0 ∷ [] else [])
+      without_undriven =
+          without_twice
+          ∙ ap (λ ls. unless_together statements [] (map (fault_at Undriven) ls) (too_many (map said statements))) (subst (λ o. IsFirst o (undriven statements)) used_so first)
+          ∙ ap (λ n. unless_together statements [] [] (if nat_lt PART_LIMIT (length (flat_map driven_by_gate (map said statements))) || nat_lt WIRE_LIMIT n then fault_at TooMany 0 ∷ [] else [])) many
+
+      pub fault_many : is_too_large (map said statements) (keys_of signals) ≡ true → device_or_fault statements ≡ Err (fault_at TooMany 0)
+      fault_many h = without_undriven ∙ ap (λ b. unless_together statements [] [] (if b then fault_at TooMany 0 ∷ [] else [])) h
+
+      module _ (few : is_too_large (map said statements) (keys_of signals) ≡ false) where
+        pub all_faultless : list_all is_faultless (map said statements) ≡ true → AreFaultless (map said statements) (keys_of signals)
+        all_faultless h =
+            let two = or_parts (nat_lt PART_LIMIT (length (flat_map driven_by_gate (map said statements)))) (nat_lt WIRE_LIMIT (length (keys_of signals))) few in
+            record {
+              faultless = h;
+              gates_once = gates_once statements [] split.0;
+              once = split.1.once;
+              members = members;
+              uses = all_used (keys_of signals) statements used_so;
+              few_parts = ltb-false PART_LIMIT _ two.0;
+              few_wires = ltb-false WIRE_LIMIT _ two.1;
+            }
+
+        pub is_made : device_or_fault statements ≡ Ok (device_of (map said statements))
+        is_made = without_undriven ∙ ap (λ b. unless_together statements [] [] (if b then fault_at TooMany 0 ∷ [] else [])) few
+
+-- ---- a text
+
+module _ (flip_flops : FlipFlops) (text : List ℕ) where
+  fault_read : (fault : Fault) → statements_or_fault (readings flip_flops text) ≡ Err fault → netlist_with flip_flops text ≡ Err fault
+  fault_read fault h = by (filter_map fault_in (readings flip_flops text)) h
     where
-      by : (fs : List Fault) → filter_map fault_in (readings text) ≡ fs → unless_fault fs (filter_map statement_in (readings text)) ≡ Err fault → netlist text ≡ Err fault
-      by [] e g = cc
-      by (f ∷ fs) e g =
-          ap (λ a. unless_fault (a ++ map (fault_at DrivenTwice) (driven_twice (filter_map statement_in (readings text)))
-          ++ map (fault_at Undriven) (undriven (filter_map statement_in (readings text))) ++ too_many (map said (filter_map statement_in (readings text))))
-          (device_of (map said (filter_map statement_in (readings text))))) e ∙ (cc)
+      by : (fs : List Fault) → unless_fault fs (filter_map statement_in (readings flip_flops text)) ≡ Err fault
+          → unless_fault (fs ++ faults_together (filter_map statement_in (readings flip_flops text))) (device_of (map said (filter_map statement_in (readings flip_flops text)))) ≡ Err fault
+      by [] g = cc
+      by (f ∷ fs) g = cc
 
-  module _ (statements : List (ℕ × Statement)) (read : lines_read text ≡ Ok statements) where
-    both : (filter_map fault_in (readings text) ≡ []) × (filter_map statement_in (readings text) ≡ statements)
-    both = by (filter_map fault_in (readings text)) refl read
+  pub handed_read : (error : BenchError) → IsExpectedFault (told error) (statements_or_fault (readings flip_flops text)) → IsExpectedFault (told error) (netlist_with flip_flops text)
+  handed_read (Bad line what) h = fault_read (fault_at what line) h
+  handed_read Memory h = tt
+
+  module _ (statements : List (ℕ × Statement)) (read : statements_or_fault (readings flip_flops text) ≡ Ok statements) where
+    both : (filter_map fault_in (readings flip_flops text) ≡ []) × (filter_map statement_in (readings flip_flops text) ≡ statements)
+    both = by (filter_map fault_in (readings flip_flops text)) refl read
       where
-        by : (fs : List Fault) → filter_map fault_in (readings text) ≡ fs → unless_fault fs (filter_map statement_in (readings text)) ≡ Ok statements
-            → (filter_map fault_in (readings text) ≡ []) × (filter_map statement_in (readings text) ≡ statements)
+        by : (fs : List Fault) → filter_map fault_in (readings flip_flops text) ≡ fs → unless_fault fs (filter_map statement_in (readings flip_flops text)) ≡ Ok statements
+            → (filter_map fault_in (readings flip_flops text) ≡ []) × (filter_map statement_in (readings flip_flops text) ≡ statements)
         by [] e g = (e, cc)
         by (f ∷ fs) e g = cc
 
-    are_faultless : list_all is_faultless (map said statements) ≡ true
-    are_faultless = ap (λ ss. list_all is_faultless (map said ss)) (sym both.1) ∙ read_are_faultless 1 (all_lines text)
+    pub are_faultless : list_all is_faultless (map said statements) ≡ true
+    are_faultless = ap (λ ss. list_all is_faultless (map said ss)) (sym both.1) ∙ read_are_faultless flip_flops 1 (all_lines text)
 
-    without_faults : netlist text ≡ unless_later statements (map (fault_at DrivenTwice) (driven_twice statements)) (map (fault_at Undriven) (undriven statements)) (too_many (map said statements))
-    without_faults =
-        ap (λ ss. unless_fault (filter_map fault_in (readings text) ++ map (fault_at DrivenTwice) (driven_twice ss) ++ map (fault_at Undriven) (undriven ss) ++ too_many (map said ss)) (device_of (map said ss))) both.1
-        ∙ ap (λ fs. unless_fault (fs ++ map (fault_at DrivenTwice) (driven_twice statements) ++ map (fault_at Undriven) (undriven statements) ++ too_many (map said statements)) (device_of (map said statements))) both.0
-
-    pub fault_driven : (fault : Fault) → signals_from [] statements ≡ Err fault → netlist text ≡ Err fault
-    fault_driven fault h =
-        let split : Splits (Err fault) statements [] = subst (λ o. Splits o statements []) h (splits statements [] [] Drives-none) in
-        without_faults
-        ∙ ap (λ ls. unless_later statements (map (fault_at DrivenTwice) ls) (map (fault_at Undriven) (undriven statements)) (too_many (map said statements))) split.2
-        ∙ ap Err (sym split.1)
-
-    module _ (signals : Signals) (driven_so : signals_from [] statements ≡ Ok signals) where
-      split : (driven_twice statements ≡ []) × Ends signals [] (map said statements)
-      split = subst (λ o. Splits o statements []) driven_so (splits statements [] [] Drives-none)
-
-      members : (m : Name) → is_among (keys_of signals) m ≡ is_among (flat_map driven (map said statements)) m
-      members m = among_keys m signals ∙ sym (split.1.all m)
-
-      without_twice : netlist text ≡ unless_later statements [] (map (fault_at Undriven) (undriven statements)) (too_many (map said statements))
-      without_twice =
-          without_faults ∙ ap (λ ls. unless_later statements (map (fault_at DrivenTwice) ls) (map (fault_at Undriven) (undriven statements)) (too_many (map said statements))) split.0
-
-      first : IsFirst (first_undriven (keys_of signals) statements) (undriven statements)
-      first =
-          let there : (m : Name) → is_among (flat_map (λ (s : ℕ × Statement). driven s.1) statements) m ≡ is_among (keys_of signals) m = λ m. ap (λ ns. is_among ns m) (there-said statements) ∙ sym (members m) in
-          first_without (flat_map (λ (s : ℕ × Statement). driven s.1) statements) (keys_of signals) there statements
-
-      pub fault_used : (line : ℕ) → first_undriven (keys_of signals) statements ≡ Some line → netlist text ≡ Err (fault_at Undriven line)
-      fault_used line h =
-          let is : IsFirst (Some line) (undriven statements) = subst (λ o. IsFirst o (undriven statements)) h first in
-          without_twice ∙ ap (λ ls. unless_later statements [] (map (fault_at Undriven) ls) (too_many (map said statements))) is.1
-
-      module _ (used_so : first_undriven (keys_of signals) statements ≡ None) where
-        many : length (device_of (map said statements)).wires ≡ length (keys_of signals)
-        many = ap length (sym (sorted_distinct-same_tests (keys_of signals) (flat_map driven (map said statements)) members)) ∙ length-sorted_distinct_once (keys_of signals) split.1.once
-
-        without_undriven : netlist text ≡ unless_later statements [] [] (if is_too_large (map said statements) (keys_of signals) then fault_at TooMany 0 ∷ [] else [])
-        without_undriven =
-            without_twice
-            ∙ ap (λ ls. unless_later statements [] (map (fault_at Undriven) ls) (too_many (map said statements))) (subst (λ o. IsFirst o (undriven statements)) used_so first)
-            ∙ ap (λ n. unless_later statements [] [] (if nat_lt PART_LIMIT (length (flat_map driven_by_gate (map said statements))) || nat_lt WIRE_LIMIT n then fault_at TooMany 0 ∷ [] else [])) many
-
-        pub fault_many : is_too_large (map said statements) (keys_of signals) ≡ true → netlist text ≡ Err (fault_at TooMany 0)
-        fault_many h = without_undriven ∙ ap (λ b. unless_later statements [] [] (if b then fault_at TooMany 0 ∷ [] else [])) h
-
-        module _ (few : is_too_large (map said statements) (keys_of signals) ≡ false) where
-          pub all_faultless : AreFaultless (map said statements) (keys_of signals)
-          all_faultless =
-              let two = or_parts (nat_lt PART_LIMIT (length (flat_map driven_by_gate (map said statements)))) (nat_lt WIRE_LIMIT (length (keys_of signals))) few in
-              record {
-                faultless = are_faultless;
-                gates_once = gates_once statements [] split.0;
-                once = split.1.once;
-                members = members;
-                uses = all_used (keys_of signals) statements used_so;
-                few_parts = ltb-false PART_LIMIT _ two.0;
-                few_wires = ltb-false WIRE_LIMIT _ two.1;
-              }
-
-          pub is_read : netlist text ≡ Ok (device_of (map said statements))
-          is_read = without_undriven ∙ ap (λ b. unless_later statements [] [] (if b then fault_at TooMany 0 ∷ [] else [])) few
+    pub is_read : netlist_with flip_flops text ≡ device_or_fault statements
+    is_read =
+        ap (λ ss. unless_fault (filter_map fault_in (readings flip_flops text) ++ faults_together ss) (device_of (map said ss))) both.1
+        ∙ ap (λ fs. unless_fault (fs ++ faults_together statements) (device_of (map said statements))) both.0
 
 -- ---- statements without their lines
 
@@ -288,12 +285,6 @@ said-with_number (s ∷ statements) = ap (λ (ss : List Statement). unnumbered s
 
 -- ---- faults that are handed on
 
-module _ (text : List ℕ) where
-  pub handed_read : (error : BenchError) → IsExpectedFault (told error) (lines_read text) → IsExpectedFault (told error) (netlist text)
-  handed_read (Bad line what) h = fault_read text (fault_at what line) h
-  handed_read Memory h = tt
-
-  pub handed_driven : (error : BenchError) (statements : List (ℕ × Statement)) → lines_read text ≡ Ok statements → IsExpectedFault (told error) (signals_from [] statements)
-      → IsExpectedFault (told error) (netlist text)
-  handed_driven (Bad line what) statements read h = fault_driven text statements read (fault_at what line) h
-  handed_driven Memory statements read h = tt
+pub handed_driven : (error : BenchError) (statements : List (ℕ × Statement)) → IsExpectedFault (told error) (signals_from [] statements) → IsExpectedFault (told error) (device_or_fault statements)
+handed_driven (Bad line what) statements h = fault_driven statements (fault_at what line) h
+handed_driven Memory statements h = tt

@@ -1,20 +1,28 @@
 -- Netlists in `.bench` text: the device that a text gives, or the line of its fault and what it is.
-use Rattle.std.specs.Prelude.{ℕ, ◌||◌, List, [], ◌∷◌, ◌++◌, map, length, Option, Some, None, Result, Ok, Err, nat_lt, if◌then◌else◌}
+use Rattle.std.specs.Prelude.{ℕ, ◌||◌, List, [], ◌∷◌, ◌++◌, map, length, Option, Some, None, option_map, Result, Ok, Err, nat_lt, if◌then◌else◌}
 use Rattle.std.specs.List.{filter_map, flat_map, enumerate_from}
+use Rattle.std.specs.Option.{option_to_list}
+use Rattle.text_rules.specs.Names.{Name}
 use Rattle.text_rules.specs.TextLines.{all_lines}
 use Rattle.device_model.specs.declared.limits.TheConstants.{PART_LIMIT, WIRE_LIMIT}
+use Rattle.device_model.specs.declared.component.Kind.{Kind}
 use Rattle.device_model.specs.Devices.{Device}
 use Rattle.device_model.specs.Building.{NamedPart, device_over}
-use Rattle.bench_reader.specs.declared.kinds.NamedKind.TheVariants.{Combinational}
+use Rattle.bench_reader.specs.declared.kinds.FlipFlops.{FlipFlops}
+use Rattle.bench_reader.specs.declared.kinds.FlipFlops.TheVariants.{Refused}
 use Rattle.bench_reader.specs.declared.fault.BenchFault.{BenchFault}
 use Rattle.bench_reader.specs.declared.fault.BenchFault.TheVariants.{DrivenTwice, Undriven, TooMany}
 use Rattle.bench_reader.specs.Faults.{Fault, fault_at, unless_fault}
-use Rattle.bench_reader.specs.Statements.{Statement, Gate, reading}
+use Rattle.bench_reader.specs.Statements.{Statement, Gate, part_kind, reading}
 use Rattle.bench_reader.specs.Signals.{driven_by_gate, driven, driven_twice, undriven}
 
--- the part of a gate: the wires at its ports are its inputs and then its output
+-- the wires at its ports are its inputs and then its output
+abbrev pub part_over : Name → List Name → Kind → NamedPart
+part_over output inputs kind = record { name = output; kind = kind; wires = inputs ++ output ∷ [] }
+
+-- the part of a gate or of a flip-flop
 abbrev pub part_of : Statement → List NamedPart
-part_of (Gate output (Combinational kind) inputs) = record { name = output; kind = kind; wires = inputs ++ output ∷ [] } ∷ []
+part_of (Gate output kind inputs) = option_to_list (option_map (part_over output inputs) (part_kind kind))
 part_of statement = []
 
 -- a part for each gate, and a wire for each driven signal
@@ -37,19 +45,27 @@ too_many statements =
     then fault_at TooMany 0 ∷ []
     else []
 
--- every fault, in the order in which the first one counts
-abbrev pub faults : List (ℕ × Result (Option Statement) BenchFault) → List (ℕ × Statement) → List Fault
-faults readings statements =
-    filter_map fault_in readings
-    ++ map (fault_at DrivenTwice) (driven_twice statements)
+-- the faults that statements have together, in the order in which the first one counts
+abbrev pub faults_together : List (ℕ × Statement) → List Fault
+faults_together statements =
+    map (fault_at DrivenTwice) (driven_twice statements)
     ++ map (fault_at Undriven) (undriven statements)
     ++ too_many (map (λ (s : ℕ × Statement). s.1) statements)
 
+-- A fault that a line has alone counts before these.
 abbrev pub netlist_of : List (ℕ × Result (Option Statement) BenchFault) → Result Device Fault
 netlist_of readings =
     let statements = filter_map statement_in readings in
-    unless_fault (faults readings statements) (device_of (map (λ (s : ℕ × Statement). s.1) statements))
+    unless_fault (filter_map fault_in readings ++ faults_together statements) (device_of (map (λ (s : ℕ × Statement). s.1) statements))
 
--- The device of a text whose lines are numbered from 1, or its first fault.
+-- what the lines of a text say, numbered from 1
+abbrev pub readings : FlipFlops → List ℕ → List (ℕ × Result (Option Statement) BenchFault)
+readings flip_flops text = enumerate_from 1 (map (reading flip_flops) (all_lines text))
+
+-- The device of a text or its first fault, where flip-flops are refused or taken.
+abbrev pub netlist_with : FlipFlops → List ℕ → Result Device Fault
+netlist_with flip_flops text = netlist_of (readings flip_flops text)
+
+-- The netlist of a text has gates alone.
 abbrev pub netlist : List ℕ → Result Device Fault
-netlist text = netlist_of (enumerate_from 1 (map reading (all_lines text)))
+netlist text = netlist_with Refused text

@@ -5,8 +5,11 @@ use Rattle.std.specs.Map.{lookup}
 use Rattle.text_rules.specs.Names.{Name, same_name, is_short_name, is_mark}
 use Rattle.text_rules.specs.TextLines.{uncommented}
 use Rattle.text_rules.specs.Tokens.{tokens}
+use Rattle.device_model.specs.declared.component.Kind.{Kind}
 use Rattle.device_model.specs.declared.component.Kind.TheVariants.{And, Or, Nand, Nor, Xor, Xnor, Not, Buff}
 use Rattle.device_model.specs.Devices.{takes}
+use Rattle.bench_reader.specs.declared.kinds.FlipFlops.{FlipFlops}
+use Rattle.bench_reader.specs.declared.kinds.FlipFlops.TheVariants.{Refused}
 use Rattle.bench_reader.specs.declared.kinds.NamedKind.{NamedKind}
 use Rattle.bench_reader.specs.declared.kinds.NamedKind.TheVariants.{Combinational, Sequential, Unknown}
 use Rattle.bench_reader.specs.declared.fault.BenchFault.{BenchFault}
@@ -39,7 +42,7 @@ kinds = (codes "AND", Combinational And)
     ∷ (codes "DFF", Sequential)
     ∷ []
 
--- what a word names, in capital or in small letters: a gate, a part that keeps its value for a time, or nothing
+-- what a word names, in capital or in small letters: a gate, a flip-flop, which keeps its value for a time, or nothing
 abbrev pub kind_named : Name → NamedKind
 kind_named word = unwrap_or (lookup (same_name (capitals word)) kinds) Unknown
 
@@ -83,17 +86,28 @@ statement_of tokens = None
 
 -- ---- faults
 
-abbrev pub kind_fault : ℕ → NamedKind → Option BenchFault
-kind_fault inputs Unknown = Some NoKind
-kind_fault inputs Sequential = Some KeepsItsValue
-kind_fault inputs (Combinational kind) = if takes kind inputs then None else Some WrongInputs
+-- the kind of a part: a flip-flop is a buffer
+abbrev pub part_kind : NamedKind → Option Kind
+part_kind (Combinational kind) = Some kind
+part_kind Sequential = Some Buff
+part_kind Unknown = None
+
+-- a kind that is not known, or a number of inputs that it does not take
+abbrev pub inputs_fault : ℕ → Option Kind → Option BenchFault
+inputs_fault inputs None = Some NoKind
+inputs_fault inputs (Some kind) = if takes kind inputs then None else Some WrongInputs
+
+-- A flip-flop that is refused is told whatever its inputs; one that is taken has those of a buffer.
+abbrev pub kind_fault : FlipFlops → ℕ → NamedKind → Option BenchFault
+kind_fault Refused inputs Sequential = Some KeepsItsValue
+kind_fault flip_flops inputs kind = inputs_fault inputs (part_kind kind)
 
 -- A signal that is no name is told before the kind, and a kind that is not known before its inputs.
-abbrev pub statement_fault : Statement → Option BenchFault
-statement_fault (Input signal) = if is_short_name signal then None else Some NoName
-statement_fault (Output signal) = if is_short_name signal then None else Some NoName
-statement_fault (Gate output kind inputs) =
-    if list_all is_short_name (output ∷ inputs) then kind_fault (length inputs) kind else Some NoName
+abbrev pub statement_fault : FlipFlops → Statement → Option BenchFault
+statement_fault flip_flops (Input signal) = if is_short_name signal then None else Some NoName
+statement_fault flip_flops (Output signal) = if is_short_name signal then None else Some NoName
+statement_fault flip_flops (Gate output kind inputs) =
+    if list_all is_short_name (output ∷ inputs) then kind_fault flip_flops (length inputs) kind else Some NoName
 
 -- ---- lines
 
@@ -101,14 +115,14 @@ abbrev pub unless_faulty : Statement → Option BenchFault → Result (Option St
 unless_faulty statement None = Ok (Some statement)
 unless_faulty statement (Some fault) = Err fault
 
-abbrev pub reading_of_statement : Option Statement → Result (Option Statement) BenchFault
-reading_of_statement None = Err NoForm
-reading_of_statement (Some statement) = unless_faulty statement (statement_fault statement)
+abbrev pub reading_of_statement : FlipFlops → Option Statement → Result (Option Statement) BenchFault
+reading_of_statement flip_flops None = Err NoForm
+reading_of_statement flip_flops (Some statement) = unless_faulty statement (statement_fault flip_flops statement)
 
-abbrev pub reading_of : List (List ℕ) → Result (Option Statement) BenchFault
-reading_of [] = Ok None
-reading_of (t ∷ ts) = reading_of_statement (statement_of (t ∷ ts))
+abbrev pub reading_of : FlipFlops → List (List ℕ) → Result (Option Statement) BenchFault
+reading_of flip_flops [] = Ok None
+reading_of flip_flops (t ∷ ts) = reading_of_statement flip_flops (statement_of (t ∷ ts))
 
 -- A line says nothing or makes a statement, or has a fault.
-abbrev pub reading : List ℕ → Result (Option Statement) BenchFault
-reading line = reading_of (tokens true (uncommented line))
+abbrev pub reading : FlipFlops → List ℕ → Result (Option Statement) BenchFault
+reading flip_flops line = reading_of flip_flops (tokens true (uncommented line))

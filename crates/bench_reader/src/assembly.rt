@@ -11,7 +11,6 @@ ghost use Rattle.bench_reader.specs.inner.Lines.{input_names, meaning, unnumbere
 ghost use Rattle.bench_reader.specs.inner.Steps.{signals_in, is_faultless, AreFaultless};
 
 use crate::fault::BenchError;
-use crate::kinds::NamedKind;
 use crate::signals::Signals;
 use crate::statement::{Inputs, NumberedStatement, Statement, has_no_mark};
 use device_model::{BuildError, Component, Device, Name, WIRE_LIMIT, Wires};
@@ -46,7 +45,7 @@ fn ports_of(
     Wires::new(alloc, &ports)
 }
 
-// The part of a gate.
+// The part of a gate or of a flip-flop.
 fn part_of(
     alloc: Global,
     signals: &Signals<'_>,
@@ -59,10 +58,13 @@ fn part_of(
 {
     let Statement::Gate {
         output,
-        kind: NamedKind::Combinational(kind),
+        kind,
         inputs,
     } = *statement
     else {
+        return Ok(None);
+    };
+    let Some(kind) = kind.part_kind() else {
         return Ok(None);
     };
     let name = Name::new(alloc, output)?;

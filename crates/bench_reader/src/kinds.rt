@@ -1,19 +1,41 @@
 ghost use Rattle.std.specs.Prelude.{◌≡◌, true};
 ghost use Rattle.std.specs.List.{list_all};
 ghost use Rattle.text_rules.specs.Names.{same_name};
-ghost use Rattle.bench_reader.specs.Statements.{capitals, kind_named};
+ghost use Rattle.bench_reader.specs.Statements.{capitals, kind_named, part_kind};
 ghost use Rattle.bench_reader.specs.inner.Lines.{is_capital};
 
 use device_model::Kind;
+
+/// Whether flip-flops are taken.
+#[derive(Clone, Copy, Debug, PartialEq, Eq)]
+pub enum FlipFlops {
+    /// A flip-flop is a fault.
+    Refused,
+    /// A flip-flop is read as a buffer.
+    Taken,
+}
 
 /// What the word of a kind names.
 #[derive(Clone, Copy, Debug, PartialEq, Eq)]
 pub enum NamedKind {
     /// A gate, whose output follows its inputs at once.
     Combinational(Kind),
-    /// A part that keeps its value from one time to the next.
+    /// A flip-flop, which keeps its value from one time to the next.
     Sequential,
     Unknown,
+}
+
+impl NamedKind {
+    /// The kind of the part: a flip-flop is a buffer.
+    pub fn part_kind(self) -> Option<Kind>
+        ensures { result ≡ part_kind self }
+    {
+        match self {
+            NamedKind::Combinational(kind) => Some(kind),
+            NamedKind::Sequential => Some(Kind::Buff),
+            NamedKind::Unknown => None,
+        }
+    }
 }
 
 // Whether a word is a keyword of capital letters, which may be written in capital letters, small letters or both.

@@ -7,7 +7,7 @@ ghost use Rattle.bench_reader.specs.Signals.{driven_by_gate};
 ghost use Rattle.bench_reader.specs.inner.Lines.{line_tokens, input_tokens, input_names, meaning, meaning_of_line, unnumbered, is_close, count_names};
 
 use crate::fault::BenchFault;
-use crate::kinds::{NamedKind, kind_named, spells};
+use crate::kinds::{FlipFlops, NamedKind, kind_named, spells};
 use text_rules::{Tokens, is_mark, is_short_name, uncommented};
 
 /// So many tokens stand before the inputs of a gate.
@@ -185,19 +185,21 @@ fn count_names(inputs: Inputs<'_>) -> Option<usize>
 }
 
 // What is wrong with the kind of a gate, or else with the number of its inputs.
-fn kind_fault(kind: NamedKind, inputs: usize) -> Option<BenchFault>
-    ensures { result ≡ kind_fault inputs kind }
+fn kind_fault(flip_flops: FlipFlops, kind: NamedKind, inputs: usize) -> Option<BenchFault>
+    ensures { result ≡ kind_fault flip_flops inputs kind }
 {
-    match kind {
-        NamedKind::Unknown => Some(BenchFault::Kind),
-        NamedKind::Sequential => Some(BenchFault::Sequential),
-        NamedKind::Combinational(kind) => (!kind.takes(inputs)).then_some(BenchFault::Inputs),
+    if let (FlipFlops::Refused, NamedKind::Sequential) = (flip_flops, kind) {
+        return Some(BenchFault::Sequential);
+    }
+    match kind.part_kind() {
+        None => Some(BenchFault::Kind),
+        Some(kind) => (!kind.takes(inputs)).then_some(BenchFault::Inputs),
     }
 }
 
 // What is wrong with a statement: a name, or else its kind, or else the number of inputs.
-fn fault_of(statement: &Statement<'_>) -> Option<BenchFault>
-    ensures { result ≡ statement_fault (meaning statement.now) }
+fn fault_of(flip_flops: FlipFlops, statement: &Statement<'_>) -> Option<BenchFault>
+    ensures { result ≡ statement_fault flip_flops (meaning statement.now) }
 {
     match *statement {
         Statement::Input(signal) | Statement::Output(signal) => {
@@ -208,15 +210,15 @@ fn fault_of(statement: &Statement<'_>) -> Option<BenchFault>
             kind,
             inputs,
         } => match count_names(inputs) {
-            Some(count) if is_short_name(output) => kind_fault(kind, count),
+            Some(count) if is_short_name(output) => kind_fault(flip_flops, kind, count),
             _ => Some(BenchFault::Name),
         },
     }
 }
 
 /// Reads one line.
-pub fn read_line(line: &[u8]) -> Result<Option<Statement<'_>>, BenchFault>
-    ensures { meaning_of_line result ≡ reading line.now }
+pub fn read_line(flip_flops: FlipFlops, line: &[u8]) -> Result<Option<Statement<'_>>, BenchFault>
+    ensures { meaning_of_line result ≡ reading flip_flops line.now }
 {
     let line = uncommented(line);
     let mut tokens = Tokens::with_marks(line);
@@ -226,7 +228,7 @@ pub fn read_line(line: &[u8]) -> Result<Option<Statement<'_>>, BenchFault>
     let Some(statement) = statement_of(line, first, tokens) else {
         return Err(BenchFault::Line);
     };
-    match fault_of(&statement) {
+    match fault_of(flip_flops, &statement) {
         Some(fault) => Err(fault),
         None => Ok(Some(statement)),
     }

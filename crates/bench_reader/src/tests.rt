@@ -1,4 +1,6 @@
-use crate::{BenchError, read_bench};
+use crate::kinds::FlipFlops;
+use crate::statement::read_line;
+use crate::{BenchError, BenchFault, read_bench};
 use std::test::Fail;
 use text_rules::TEXT_LIMIT;
 
@@ -36,5 +38,14 @@ fn tells_faults(rt: HostRuntime) -> Result<(), Fail> {
         assert_eq!(rt; what.number(), number, "{text}");
         assert_eq!(rt; what.name(), name, "{text}");
     }
+    Ok(())
+}
+
+#[test]
+fn takes_flip_flops_of_one_input(rt: HostRuntime) -> Result<(), Fail> {
+    let fault = read_line(FlipFlops::Taken, b"q = DFF(d)").err();
+    assert_eq!(rt; fault, None);
+    let fault = read_line(FlipFlops::Taken, b"q = DFF(a, a)").err();
+    assert_eq!(rt; fault, Some(BenchFault::Inputs));
     Ok(())
 }

@@ -3,10 +3,10 @@ use Rattle.std.proofs.Common.{◌≡◌, ◌≢◌, ℕ, List, [], ◌∷◌, �
 use Rattle.std.specs.Prelude.{MatchResult}
 use Rattle.std.specs.Io.KnownBytes.{Appends}
 use Rattle.diag_edge.specs.Edge.{AppendsPrefix, Puts}
-use Rattle.session_core.specs.Items.{Item, Plain}
-use Rattle.session_core.specs.Spelling.{Writes, WritesPart, Replies}
-use Rattle.session_core.proofs.Spellings.{replies_one, spells_one, writes_more}
-use Rattle.session_core.proofs.Begun.{HaveSpellings, part_more, part_after}
+use Rattle.session_rules.specs.Items.{Item, Plain}
+use Rattle.session_rules.specs.Spelling.{Writes, WritesPart, Replies}
+use Rattle.session_rules.proofs.Spellings.{replies_one, spells_one, writes_more}
+use Rattle.session_rules.proofs.Begun.{HaveSpellings, part_more, part_after}
 use Rattle.diag_cli.specs.declared.refusal.Refusal.{Refusal}
 use Rattle.diag_cli.specs.declared.refusal.Refusal.TheVariants.{Fault, Header, Counts, Bits, Shared, Above, Sum, Memory}
 use Rattle.diag_cli.specs.Output.{Output, Gives, says}

@@ -14,9 +14,9 @@ use Rattle.clause_encoder.specs.Encoding.{encoded, Describes}
 use Rattle.branch_states.specs.Branches.{sum_of}
 use Rattle.dnnf_compiler.specs.Compiled.{SaysAll}
 use Rattle.dnnf_compiler.proofs.Laws.{graph_of_device}
-use Rattle.session_core.specs.Items.{Item, Whole}
-use Rattle.session_core.specs.Spelling.{IsWholeOf}
-use Rattle.session_core.proofs.Spellings.{replies_one}
+use Rattle.session_rules.specs.Items.{Item, Whole}
+use Rattle.session_rules.specs.Spelling.{IsWholeOf}
+use Rattle.session_rules.proofs.Spellings.{replies_one}
 use Rattle.diag_cli.specs.Output.{Output, Gives, GivesUnlessMemory}
 use Rattle.diag_cli.specs.Describing.{described, device_in}
 use Rattle.diag_cli.specs.Courses.{within, graph_by, compiled}

@@ -6,7 +6,8 @@ use Rattle.std.proofs.lemmas.Bool.{and_parts, leb-true}
 use Rattle.text_rules.specs.Names.{same_name}
 use Rattle.text_rules.specs.Numbers.{value_behind, are_digits, has_leading_zero, number_in, plain_number_in}
 use Rattle.branch_states.specs.declared.measuring.TheConstants.{BUDGET_LIMIT}
-use Rattle.diag_cli.specs.declared.words.TheConstants.{DEFAULT_BUDGET, DEFAULT_SESSIONS, SESSION_LIMIT}
+use Rattle.session_core.specs.declared.limits.TheConstants.{SESSION_LIMIT}
+use Rattle.diag_cli.specs.declared.words.TheConstants.{DEFAULT_BUDGET, DEFAULT_SESSIONS}
 use Rattle.diag_cli.specs.declared.words.Options.{Options}
 use Rattle.diag_cli.specs.declared.words.Form.{Form as FormRead}
 use Rattle.diag_cli.specs.Words.{Form, Serve, Plan, Check, Compile, no_options, given_once, with_budget, with_sessions, and_option, and_options, form_by, form_of, is_device_path, is_graph_path, are_none, only_if}

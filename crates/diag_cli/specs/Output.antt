@@ -1,7 +1,7 @@
 -- What a run writes, and the status that it ends with.
 use Rattle.std.specs.Prelude.{◌≡◌, ◌≢◌, ◌⊎◌, ℕ, List, [], ◌∷◌, Option, codes}
-use Rattle.session_core.specs.Items.{Item, Plain}
-use Rattle.session_core.specs.Spelling.{Writes, WritesPart}
+use Rattle.session_rules.specs.Items.{Item, Plain}
+use Rattle.session_rules.specs.Spelling.{Writes, WritesPart}
 
 pub record Output : Type 0 where
   pub items : List Item

@@ -3,7 +3,7 @@ use Rattle.std.specs.Prelude.{◌≡◌, ◌≢◌, ◌⊎◌, ◌↔◌, ◌+�
 use Rattle.std.specs.Option.{IsSome}
 use Rattle.std.specs.Io.KnownBytes.{Consumes, IsAtEnd}
 use Rattle.diag_edge.specs.Edge.{RoseExactly, Holding, absent}
-use Rattle.ranking.specs.Systems.{System}
+use Rattle.session_rules.specs.Items.{Item}
 use Rattle.diag_cli.specs.declared.serving.TheConstants.{SCRIPT_LIMIT}
 use Rattle.diag_cli.specs.Words.{Form, named_file, told_file}
 use Rattle.diag_cli.specs.Output.{Output, Gives, GivesUnlessMemory, no_memory, says}
@@ -46,13 +46,13 @@ pub record IsRun (form : Option Form) (held : List ℕ → Holding) (shelf new_s
   -- and the file, or memory ran out for words with a form.
   pub told : IfSome (told_file held form) (λ file. (output : Output) → course_of form file ≡ Tells output →
       IsIdle input new_input × (new_shelf.faults ≡ shelf.faults → GivesUnlessShort form output status out.got new_out.got))
-  -- Where a script is answered, what is written is the output for the system and the script, unless memory ran out.
-  pub answer : IfSome (told_file held form) (λ file. (system : System) → course_of form file ≡ Serves system →
-      IfSome input.left (λ script. status ≢ 5 → status ≢ 4 → GivesUnlessMemory (wholly_served system script) status out.got new_out.got))
+  -- Where a script is answered, what is written is the output for the answers and the script, unless memory ran out.
+  pub answer : IfSome (told_file held form) (λ file. (answers : List (List ℕ) → List Item) → course_of form file ≡ Serves answers →
+      IfSome input.left (λ script. status ≢ 5 → status ≢ 4 → GivesUnlessMemory (wholly_served answers script) status out.got new_out.got))
   -- Where a read of the script failed, the lines that a line feed had ended were answered before.
-  pub script_fault : IfSome (told_file held form) (λ file. (system : System) → course_of form file ≡ Serves system →
+  pub script_fault : IfSome (told_file held form) (λ file. (answers : List (List ℕ) → List Item) → course_of form file ≡ Serves answers →
       input.faults < new_input.faults → status ≢ 5 →
-      (bytes : List ℕ) × Consumes input.left new_input.left bytes × Gives (served system bytes Failed) status out.got new_out.got)
+      (bytes : List ℕ) × Consumes input.left new_input.left bytes × Gives (served answers bytes Failed) status out.got new_out.got)
   -- With status 0 a script that is answered was read to its end, and with status 7 exactly the limit was taken of it.
-  pub all_read : IfSome (told_file held form) (λ file. (system : System) → course_of form file ≡ Serves system → status ≡ 0 → IsAtEnd new_input.left)
+  pub all_read : IfSome (told_file held form) (λ file. (answers : List (List ℕ) → List Item) → course_of form file ≡ Serves answers → status ≡ 0 → IsAtEnd new_input.left)
   pub cut : status ≡ 7 → new_input.taken ≡ input.taken + SCRIPT_LIMIT

@@ -6,7 +6,8 @@ use Rattle.text_rules.specs.Numbers.{plain_number_in}
 use Rattle.branch_states.specs.declared.measuring.TheConstants.{BUDGET_LIMIT}
 use Rattle.diag_edge.specs.Edge.{Holding, told_bytes}
 use Rattle.diag_cli.specs.declared.words.Options.{Options}
-use Rattle.diag_cli.specs.declared.words.TheConstants.{DEFAULT_BUDGET, DEFAULT_SESSIONS, SESSION_LIMIT}
+use Rattle.session_core.specs.declared.limits.TheConstants.{SESSION_LIMIT}
+use Rattle.diag_cli.specs.declared.words.TheConstants.{DEFAULT_BUDGET, DEFAULT_SESSIONS}
 
 -- ---- forms
 

@@ -4,7 +4,7 @@ ghost use Rattle.clause_encoder.specs.Encoding.{encoded};
 ghost use Rattle.diag_cli.specs.Describing.{device_in};
 ghost use Rattle.diag_cli.specs.Output.{Gives, GivesUnlessMemory};
 ghost use Rattle.diag_cli.specs.Courses.{count_line, size_lines, within, sizes_by, sizes_in, planned};
-ghost use Rattle.session_core.specs.Spelling.{Replies};
+ghost use Rattle.session_rules.specs.Spelling.{Replies};
 ghost use Rattle.diag_cli.specs.Refusals.{Finds};
 
 use crate::describing::described;

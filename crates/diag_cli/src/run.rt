@@ -37,12 +37,11 @@ pub(crate) fn run_file<I: Source, O: Sink>(
     ensures cut { result ≡ 7 → I.taken input.new ≡ I.taken input.old + SCRIPT_LIMIT }
 {
     match form {
-        // one session is served for now
         Form::Serve {
             path,
             budget,
-            sessions: _,
-        } => serve_file(alloc, path, file, budget, input, out),
+            sessions,
+        } => serve_file(alloc, path, file, budget, sessions, input, out),
         Form::Plan { path } => plan_file(alloc, path, file, out),
         Form::Check { path: _ } => check_file(alloc, file, out),
         Form::Compile { path, budget } => compile_file(alloc, path, file, budget, out),

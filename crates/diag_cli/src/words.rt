@@ -5,13 +5,11 @@ ghost use Rattle.diag_cli.specs.Words.{form_of, form_by, are_none, given_once, a
 ghost use Rattle.diag_cli.specs.inner.Forms.{meant, IsWithinLimits};
 
 use branch_states::BUDGET_LIMIT;
+use session_core::SESSION_LIMIT;
 use text_rules::plain_number;
 
 /// The budget where the words give none.
 pub const DEFAULT_BUDGET: u32 = 2_097_152;
-
-/// The most sessions that a service may be asked to hold open at a time.
-pub const SESSION_LIMIT: u32 = 1_024;
 
 /// How many sessions may be open at a time where the words give no number.
 pub const DEFAULT_SESSIONS: u32 = 16;

@@ -14,5 +14,6 @@ mod tests;
 mod writing;
 
 pub use error::NnfError;
+pub use lines::{add_header, add_node};
 pub use reading::read_nnf;
 pub use writing::write_nnf;

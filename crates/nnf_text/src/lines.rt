@@ -9,8 +9,8 @@ use diag_edge::{Chunk, Sink, WriteFailed};
 use graph_rules::NodeKind;
 use itoa::Integer;
 
-// Adds the line of the numbers of nodes, edges and variables.
-pub(crate) fn add_header<O: Sink>(
+/// Adds the line of the numbers of nodes, edges and variables.
+pub fn add_header<O: Sink>(
     chunk: &mut Chunk,
     out: &mut O,
     nodes: u32,
@@ -25,8 +25,8 @@ pub(crate) fn add_header<O: Sink>(
     add_listed(chunk, out, &[u64::from(nodes), edges, u64::from(vars)])
 }
 
-// Adds the line of a node.
-pub(crate) fn add_node<O: Sink>(
+/// Adds the line of a node.
+pub fn add_node<O: Sink>(
     chunk: &mut Chunk,
     out: &mut O,
     kind: NodeKind,

@@ -9,6 +9,7 @@ use Rattle.text_rules.specs.Tokens.{words}
 use Rattle.text_rules.specs.Numbers.{number_in, value_behind, are_digits, has_leading_zero}
 use Rattle.script_lang.specs.declared.limits.TheConstants.{COUNT_LIMIT, LINE_LIMIT}
 use Rattle.script_lang.specs.Asked.{is_well_named, is_well_asked}
+use Rattle.script_lang.specs.declared.refusal.LineRefusal.TheVariants.{TooLong}
 use Rattle.script_lang.specs.Script.{Request, Start, Stop, See, Unsee, Hold, Unhold, Min, Next, Several, After, Probe, Probes, Blame, Dnnf, Line, Blank, Refused, is_script_name, on_session, on_name, on_value, on_pair, if_value, on_count, if_count, on_names, at_equals, value_in, read_by, read_as, commands, begins_comment, line_of_words, line_of}
 
 choice : (test : Bool) (one other : Line) → (test ≡ true → is_well_asked one ≡ true) → is_well_asked other ≡ true → is_well_asked (if test then one else other) ≡ true
@@ -120,4 +121,4 @@ well-line_of_words (word ∷ ws) = choice (begins_comment word) Blank (read_as w
 
 -- what a line asks has names that are names, and a count from 1 to a million
 pub well_asked : (line : List ℕ) → is_well_asked (line_of line) ≡ true
-well_asked line = choice (nat_lt LINE_LIMIT (length line)) (Refused 5) (line_of_words (words line)) (λ _. refl) (well-line_of_words (words line))
+well_asked line = choice (nat_lt LINE_LIMIT (length line)) (Refused TooLong) (line_of_words (words line)) (λ _. refl) (well-line_of_words (words line))

@@ -1,7 +1,9 @@
 -- Worked rows: what the definitions give at lines of which a reader can say it beforehand. Their check computes both sides.
-use Rattle.std.proofs.Common.{◌≡◌, ℕ, true, false, List, [], ◌∷◌, ◌++◌, length, codes, replicate, refl, arith}
+use Rattle.std.proofs.Common.{◌≡◌, ℕ, true, false, List, [], ◌∷◌, ◌++◌, length, map, codes, replicate, refl, arith}
 use Rattle.script_lang.proofs.LineLemmas.{line_of-too_long}
-use Rattle.script_lang.specs.Script.{Blank, Refused, Ask, Start, Stop, See, Unsee, Hold, Unhold, Min, Next, Several, After, Probe, Probes, Blame, Dnnf, line_of, refusal_text}
+use Rattle.script_lang.specs.Script.{Blank, Refused, Ask, Start, Stop, See, Unsee, Hold, Unhold, Min, Next, Several, After, Probe, Probes, Blame, Dnnf, line_of}
+use Rattle.script_lang.specs.Refusals.{refusal_number, refusal_text}
+use Rattle.script_lang.specs.declared.refusal.LineRefusal.TheVariants.{UnknownCommand, BadWords, BadName, BadValue, TooLong}
 
 -- ---- each command
 
@@ -79,99 +81,104 @@ only_blanks = refl
 
 -- ---- unknown commands
 
-no_command : line_of (codes "frob S") ≡ Refused 1
+no_command : line_of (codes "frob S") ≡ Refused UnknownCommand
 no_command = refl
 
-command_in_capitals : line_of (codes "OPEN S") ≡ Refused 1
+command_in_capitals : line_of (codes "OPEN S") ≡ Refused UnknownCommand
 command_in_capitals = refl
 
 -- ---- bad words
 
-no_session : line_of (codes "open") ≡ Refused 2
+no_session : line_of (codes "open") ≡ Refused BadWords
 no_session = refl
 
-word_too_many : line_of (codes "open S T") ≡ Refused 2
+word_too_many : line_of (codes "open S T") ≡ Refused BadWords
 word_too_many = refl
 
-no_session_behind_after : line_of (codes "after") ≡ Refused 2
+no_session_behind_after : line_of (codes "after") ≡ Refused BadWords
 no_session_behind_after = refl
 
-no_equals_sign : line_of (codes "see S a") ≡ Refused 2
+no_equals_sign : line_of (codes "see S a") ≡ Refused BadWords
 no_equals_sign = refl
 
 -- a number sign within a line begins no comment
-number_sign_behind_a_command : line_of (codes "open S # note") ≡ Refused 2
+number_sign_behind_a_command : line_of (codes "open S # note") ≡ Refused BadWords
 number_sign_behind_a_command = refl
 
 -- words are tried before names
-bad_words_and_a_bad_name : line_of (codes "see S( a") ≡ Refused 2
+bad_words_and_a_bad_name : line_of (codes "see S( a") ≡ Refused BadWords
 bad_words_and_a_bad_name = refl
 
 -- ---- bad names
 
-bracket_in_a_name : line_of (codes "open a(b") ≡ Refused 3
+bracket_in_a_name : line_of (codes "open a(b") ≡ Refused BadName
 bracket_in_a_name = refl
 
-empty_name : line_of (codes "see S =0") ≡ Refused 3
+empty_name : line_of (codes "see S =0") ≡ Refused BadName
 empty_name = refl
 
-equals_sign_in_a_name : line_of (codes "unsee S a=1") ≡ Refused 3
+equals_sign_in_a_name : line_of (codes "unsee S a=1") ≡ Refused BadName
 equals_sign_in_a_name = refl
 
 session_of_64_bytes : line_of (codes "min " ++ replicate 64 97) ≡ Ask (replicate 64 97) Min
 session_of_64_bytes = refl
 
-session_of_65_bytes : line_of (codes "min " ++ replicate 65 97) ≡ Refused 3
+session_of_65_bytes : line_of (codes "min " ++ replicate 65 97) ≡ Refused BadName
 session_of_65_bytes = refl
 
-bad_name_among_parts : line_of (codes "after S b c,d") ≡ Refused 3
+bad_name_among_parts : line_of (codes "after S b c,d") ≡ Refused BadName
 bad_name_among_parts = refl
 
 -- names are tried before values
-bad_name_and_a_bad_value : line_of (codes "list S( 0") ≡ Refused 3
+bad_name_and_a_bad_value : line_of (codes "list S( 0") ≡ Refused BadName
 bad_name_and_a_bad_value = refl
 
 -- ---- bad values
 
-neither_zero_nor_one : line_of (codes "see S a=2") ≡ Refused 4
+neither_zero_nor_one : line_of (codes "see S a=2") ≡ Refused BadValue
 neither_zero_nor_one = refl
 
-neither_sound_nor_faulty : line_of (codes "hold S b=no") ≡ Refused 4
+neither_sound_nor_faulty : line_of (codes "hold S b=no") ≡ Refused BadValue
 neither_sound_nor_faulty = refl
 
-second_equals_sign : line_of (codes "see S a=0=1") ≡ Refused 4
+second_equals_sign : line_of (codes "see S a=0=1") ≡ Refused BadValue
 second_equals_sign = refl
 
-no_value : line_of (codes "see S a=") ≡ Refused 4
+no_value : line_of (codes "see S a=") ≡ Refused BadValue
 no_value = refl
 
-count_of_zero : line_of (codes "list S 0") ≡ Refused 4
+count_of_zero : line_of (codes "list S 0") ≡ Refused BadValue
 count_of_zero = refl
 
-count_with_a_leading_zero : line_of (codes "list S 01") ≡ Refused 4
+count_with_a_leading_zero : line_of (codes "list S 01") ≡ Refused BadValue
 count_with_a_leading_zero = refl
 
-count_above_a_million : line_of (codes "list S 1000001") ≡ Refused 4
+count_above_a_million : line_of (codes "list S 1000001") ≡ Refused BadValue
 count_above_a_million = refl
 
 -- ---- lines that are too long
 
-line_of_a_byte_too_many : (line : List ℕ) → length line ≡ 1048577 → line_of line ≡ Refused 5
+line_of_a_byte_too_many : (line : List ℕ) → length line ≡ 1048577 → line_of line ≡ Refused TooLong
 line_of_a_byte_too_many line long = line_of-too_long line (omega arith)
 
 -- ---- what a refusal says
 
-unknown_command_says : refusal_text 1 ≡ codes "unknown command"
+unknown_command_says : refusal_text UnknownCommand ≡ codes "unknown command"
 unknown_command_says = refl
 
-bad_words_say : refusal_text 2 ≡ codes "bad words"
+bad_words_say : refusal_text BadWords ≡ codes "bad words"
 bad_words_say = refl
 
-bad_name_says : refusal_text 3 ≡ codes "bad name"
+bad_name_says : refusal_text BadName ≡ codes "bad name"
 bad_name_says = refl
 
-bad_value_says : refusal_text 4 ≡ codes "bad value"
+bad_value_says : refusal_text BadValue ≡ codes "bad value"
 bad_value_says = refl
 
-too_long_says : refusal_text 5 ≡ codes "line too long"
+too_long_says : refusal_text TooLong ≡ codes "line too long"
 too_long_says = refl
+
+-- ---- and its number
+
+numbers_of_refusals : map refusal_number (UnknownCommand ∷ BadWords ∷ BadName ∷ BadValue ∷ TooLong ∷ []) ≡ 1 ∷ 2 ∷ 3 ∷ 4 ∷ 5 ∷ []
+numbers_of_refusals = refl

@@ -1,5 +1,4 @@
 -- What the values that the code hands on mean, in the words of the definitions.
-use Rattle.std.specs.Prelude.{ℕ, List, [], ◌∷◌, Option, Some, None, Result, Ok, Err}
 use Rattle.text_rules.specs.Tokens.{words}
 use Rattle.script_lang.specs.Script as script
 use Rattle.script_lang.specs.declared.line.Line.{Line}
@@ -22,4 +21,4 @@ meaning (line.Probe session name) = script.Ask session.now (script.Probe name.no
 meaning (line.Probes session) = script.Ask session.now script.Probes
 meaning (line.Blame session) = script.Ask session.now script.Blame
 meaning (line.Dnnf session) = script.Ask session.now script.Dnnf
-meaning (line.Refused number) = script.Refused number
+meaning (line.Refused refusal) = script.Refused refusal

@@ -7,6 +7,8 @@ use Rattle.text_rules.specs.Names.{Name, same_name, is_name, is_short_name}
 use Rattle.text_rules.specs.Tokens.{words}
 use Rattle.text_rules.specs.Numbers.{plain_number_in}
 use Rattle.device_model.specs.declared.limits.TheConstants.{NAME_LIMIT}
+use Rattle.script_lang.specs.declared.refusal.LineRefusal.{LineRefusal}
+use Rattle.script_lang.specs.declared.refusal.LineRefusal.TheVariants.{UnknownCommand, BadWords, BadName, BadValue, TooLong}
 use Rattle.script_lang.specs.declared.limits.TheConstants.{COUNT_LIMIT, LINE_LIMIT}
 
 -- what a line asks of a session
@@ -26,10 +28,10 @@ pub data Request : Type 0 where
   Blame : Request
   Dnnf : Request
 
--- nothing, a refusal with its number, or a session and what is asked of it
+-- nothing, a refusal, or a session and what is asked of it
 pub data Line : Type 0 where
   Blank : Line
-  Refused : (number : ℕ) → Line
+  Refused : (refusal : LineRefusal) → Line
   Ask : (session : Name) (request : Request) → Line
 
 -- a name of a wire or of a part
@@ -38,13 +40,13 @@ is_script_name word = is_name NAME_LIMIT word
 
 -- a session alone
 abbrev pub on_session : Request → List (List ℕ) → Line
-on_session request (s ∷ []) = if is_short_name s then Ask s request else Refused 3
-on_session request ws = Refused 2
+on_session request (s ∷ []) = if is_short_name s then Ask s request else Refused BadName
+on_session request ws = Refused BadWords
 
 -- a session and a name
 abbrev pub on_name : (Name → Request) → List (List ℕ) → Line
-on_name request (s ∷ name ∷ []) = if is_short_name s && is_script_name name then Ask s (request name) else Refused 3
-on_name request ws = Refused 2
+on_name request (s ∷ name ∷ []) = if is_short_name s && is_script_name name then Ask s (request name) else Refused BadName
+on_name request ws = Refused BadWords
 
 -- what stands before the first equals sign, and after it
 abbrev pub at_equals : List ℕ → Option (List ℕ × List ℕ)
@@ -56,33 +58,33 @@ abbrev pub value_in : List ℕ → List ℕ → List ℕ → Option Bool
 value_in one other word = if same_name word one then Some true else if same_name word other then Some false else None
 
 abbrev pub if_value : Name → (Bool → Request) → Option Bool → Line
-if_value s request None = Refused 4
+if_value s request None = Refused BadValue
 if_value s request (Some value) = Ask s (request value)
 
 abbrev pub on_pair : List ℕ → List ℕ → (Name → Bool → Request) → Name → Option (List ℕ × List ℕ) → Line
-on_pair one other request s None = Refused 2
+on_pair one other request s None = Refused BadWords
 on_pair one other request s (Some pair) =
-    if is_short_name s && is_script_name pair.0 then if_value s (request pair.0) (value_in one other pair.1) else Refused 3
+    if is_short_name s && is_script_name pair.0 then if_value s (request pair.0) (value_in one other pair.1) else Refused BadName
 
 -- a session, and a name with one of two values
 abbrev pub on_value : List ℕ → List ℕ → (Name → Bool → Request) → List (List ℕ) → Line
 on_value one other request (s ∷ pair ∷ []) = on_pair one other request s (at_equals pair)
-on_value one other request ws = Refused 2
+on_value one other request ws = Refused BadWords
 
 abbrev pub if_count : Name → (ℕ → Request) → Option ℕ → Line
-if_count s request None = Refused 4
+if_count s request None = Refused BadValue
 if_count s request (Some count) = Ask s (request count)
 
 -- a session and a count from 1 to a million
 abbrev pub on_count : (ℕ → Request) → List (List ℕ) → Line
 on_count request (s ∷ count ∷ []) =
-    if is_short_name s then if_count s request (plain_number_in 7 1 COUNT_LIMIT count) else Refused 3
-on_count request ws = Refused 2
+    if is_short_name s then if_count s request (plain_number_in 7 1 COUNT_LIMIT count) else Refused BadName
+on_count request ws = Refused BadWords
 
 -- a session and any number of names
 abbrev pub on_names : (List Name → Request) → List (List ℕ) → Line
-on_names request [] = Refused 2
-on_names request (s ∷ names) = if is_short_name s && list_all is_script_name names then Ask s (request names) else Refused 3
+on_names request [] = Refused BadWords
+on_names request (s ∷ names) = if is_short_name s && list_all is_script_name names then Ask s (request names) else Refused BadName
 
 -- the command words, and how the words behind each are read
 abbrev pub commands : List (List ℕ × (List (List ℕ) → Line))
@@ -104,7 +106,7 @@ commands = (codes "open", on_session Start)
 
 -- a first word that is no command is refused
 abbrev pub read_by : Option (List (List ℕ) → Line) → List (List ℕ) → Line
-read_by None ws = Refused 1
+read_by None ws = Refused UnknownCommand
 read_by (Some reading) ws = reading ws
 
 abbrev pub read_as : List ℕ → List (List ℕ) → Line
@@ -121,13 +123,4 @@ line_of_words (word ∷ ws) = if begins_comment word then Blank else read_as wor
 
 -- A line that is too long is refused, a comment too.
 abbrev pub line_of : List ℕ → Line
-line_of bytes = if nat_lt LINE_LIMIT (length bytes) then Refused 5 else line_of_words (words bytes)
-
--- what a refusal of a line says
-abbrev pub refusal_text : ℕ → List ℕ
-refusal_text number =
-    if number == 1 then codes "unknown command"
-    else if number == 2 then codes "bad words"
-    else if number == 3 then codes "bad name"
-    else if number == 4 then codes "bad value"
-    else codes "line too long"
+line_of bytes = if nat_lt LINE_LIMIT (length bytes) then Refused TooLong else line_of_words (words bytes)

@@ -5,7 +5,9 @@ mod cutting;
 mod limits;
 mod line;
 mod parsing;
+mod refusal;
 
 pub use limits::{COUNT_LIMIT, LINE_LIMIT};
 pub use line::Line;
 pub use parsing::parse_line;
+pub use refusal::LineRefusal;

@@ -1,3 +1,5 @@
+use crate::refusal::LineRefusal;
+
 /// What a line of a script asks. Its names are spelled as names are, but not looked up:
 /// there need be no such session, wire or part.
 #[derive(Clone, Copy, Debug)]
@@ -70,7 +72,6 @@ pub enum Line<'a> {
     Dnnf {
         session: &'a [u8],
     },
-    /// 1 unknown command, 2 bad words, 3 bad name, 4 bad value, 5 line too long. Where several hold,
-    /// the length counts first, and otherwise the lowest number.
-    Refused(u8),
+    /// Nothing that can be asked.
+    Refused(LineRefusal),
 }

@@ -9,19 +9,9 @@ ghost use Rattle.script_lang.specs.Script.{Request, Ask, See, Hold, begins_comme
 use crate::cutting::{at_equals, one_word, split_word, two_words};
 use crate::limits::{COUNT_LIMIT, LINE_LIMIT};
 use crate::line::Line;
+use crate::refusal::LineRefusal;
 use device_model::NAME_LIMIT;
 use text_rules::{Tokens, is_name, is_short_name, plain_number};
-
-// The numbers of the refusals.
-const UNKNOWN_COMMAND: u8 = 1;
-
-const BAD_WORDS: u8 = 2;
-
-const BAD_NAME: u8 = 3;
-
-const BAD_VALUE: u8 = 4;
-
-const TOO_LONG: u8 = 5;
 
 fn is_script_name(word: &[u8]) -> bool
     ensures { result ≡ is_script_name word.now }
@@ -30,19 +20,19 @@ fn is_script_name(word: &[u8]) -> bool
 }
 
 // A session alone. What is asked of it does not matter to how it is read, here and below.
-fn session_in(text: &[u8]) -> Result<&[u8], u8>
+fn session_in(text: &[u8]) -> Result<&[u8], LineRefusal>
     ensures { (request : Request)
         → asked_by (λ session. Ask session.now request) result ≡ on_session request (words text.now) }
 {
     match one_word(text) {
         Some(session) if is_short_name(session) => Ok(session),
-        Some(_) => Err(BAD_NAME),
-        None => Err(BAD_WORDS),
+        Some(_) => Err(LineRefusal::BadName),
+        None => Err(LineRefusal::BadWords),
     }
 }
 
 // A session and a name.
-fn name_in(text: &[u8]) -> Result<(&[u8], &[u8]), u8>
+fn name_in(text: &[u8]) -> Result<(&[u8], &[u8]), LineRefusal>
     ensures { (request : Name → Request)
         → asked_by (λ found. Ask found.0.now (request found.1.now)) result
         ≡ on_name request (words text.now) }
@@ -51,44 +41,48 @@ fn name_in(text: &[u8]) -> Result<(&[u8], &[u8]), u8>
         Some((session, name)) if is_short_name(session) && is_script_name(name) => {
             Ok((session, name))
         }
-        Some(_) => Err(BAD_NAME),
-        None => Err(BAD_WORDS),
+        Some(_) => Err(LineRefusal::BadName),
+        None => Err(LineRefusal::BadWords),
     }
 }
 
 // A session, and a name with one of two values.
-fn value_in<'a>(text: &'a [u8], one: &[u8], other: &[u8]) -> Result<(&'a [u8], &'a [u8], bool), u8>
+fn value_in<'a>(
+    text: &'a [u8],
+    one: &[u8],
+    other: &[u8],
+) -> Result<(&'a [u8], &'a [u8], bool), LineRefusal>
     ensures { (request : Name → Bool → Request)
         → asked_by (λ found. Ask found.0.now (request found.1.now found.2)) result
         ≡ on_value one.now other.now request (words text.now) }
 {
-    let (session, pair) = two_words(text).ok_or(BAD_WORDS)?;
-    let (name, value) = at_equals(pair).ok_or(BAD_WORDS)?;
+    let (session, pair) = two_words(text).ok_or(LineRefusal::BadWords)?;
+    let (name, value) = at_equals(pair).ok_or(LineRefusal::BadWords)?;
     if !is_short_name(session) || !is_script_name(name) {
-        return Err(BAD_NAME);
+        return Err(LineRefusal::BadName);
     }
     if value == one {
         Ok((session, name, true))
     } else if value == other {
         Ok((session, name, false))
     } else {
-        Err(BAD_VALUE)
+        Err(LineRefusal::BadValue)
     }
 }
 
 // A session and a count from 1 to a million.
-fn count_in(text: &[u8]) -> Result<(&[u8], u32), u8>
+fn count_in(text: &[u8]) -> Result<(&[u8], u32), LineRefusal>
     ensures { (request : ℕ → Request)
         → asked_by (λ found. Ask found.0.now (request found.1)) result
         ≡ on_count request (words text.now) }
 {
-    let (session, count) = two_words(text).ok_or(BAD_WORDS)?;
+    let (session, count) = two_words(text).ok_or(LineRefusal::BadWords)?;
     if !is_short_name(session) {
-        return Err(BAD_NAME);
+        return Err(LineRefusal::BadName);
     }
     match plain_number(7, 1, COUNT_LIMIT, count) {
         Some(count) => Ok((session, count as u32)),
-        None => Err(BAD_VALUE),
+        None => Err(LineRefusal::BadValue),
     }
 }
 
@@ -100,21 +94,21 @@ fn are_script_names(text: &[u8]) -> bool
 }
 
 // A session, and the text of the names behind it.
-fn names_in(text: &[u8]) -> Result<(&[u8], &[u8]), u8>
+fn names_in(text: &[u8]) -> Result<(&[u8], &[u8]), LineRefusal>
     ensures { (request : List Name → Request)
         → asked_by (λ found. Ask found.0.now (request (words found.1.now))) result
         ≡ on_names request (words text.now) }
 {
-    let (session, names) = split_word(text).ok_or(BAD_WORDS)?;
+    let (session, names) = split_word(text).ok_or(LineRefusal::BadWords)?;
     if is_short_name(session) && are_script_names(names) {
         Ok((session, names))
     } else {
-        Err(BAD_NAME)
+        Err(LineRefusal::BadName)
     }
 }
 
 // A session, and a wire with a bit.
-fn see_in(text: &[u8]) -> Result<Line<'_>, u8>
+fn see_in(text: &[u8]) -> Result<Line<'_>, LineRefusal>
     ensures { asked_by meaning result ≡ on_value (codes "1") (codes "0") See (words text.now) }
 {
     let (session, name, bit) = value_in(text, b"1", b"0")?;
@@ -122,7 +116,7 @@ fn see_in(text: &[u8]) -> Result<Line<'_>, u8>
 }
 
 // A session, and a part with a word for sound or faulty.
-fn hold_in(text: &[u8]) -> Result<Line<'_>, u8>
+fn hold_in(text: &[u8]) -> Result<Line<'_>, LineRefusal>
     ensures { asked_by meaning result ≡ on_value (codes "ok") (codes "bad") Hold (words text.now) }
 {
     let (session, name, ok) = value_in(text, b"ok", b"bad")?;
@@ -136,7 +130,7 @@ fn same_word(word: &[u8], other: &[u8]) -> bool
 }
 
 // What a command and the text behind it say.
-fn read_command<'a>(command: &[u8], text: &'a [u8]) -> Result<Line<'a>, u8>
+fn read_command<'a>(command: &[u8], text: &'a [u8]) -> Result<Line<'a>, LineRefusal>
     ensures { asked_by meaning result ≡ read_as command.now (words text.now) }
 {
     if same_word(command, b"open") {
@@ -168,7 +162,7 @@ fn read_command<'a>(command: &[u8], text: &'a [u8]) -> Result<Line<'a>, u8>
     } else if same_word(command, b"dnnf") {
         session_in(text).map(|session| Line::Dnnf { session })
     } else {
-        Err(UNKNOWN_COMMAND)
+        Err(LineRefusal::UnknownCommand)
     }
 }
 
@@ -184,14 +178,14 @@ pub fn parse_line(line: &[u8]) -> Line<'_>
     ensures { meaning result ≡ line_of line.now }
 {
     if line.len() > LINE_LIMIT {
-        return Line::Refused(TOO_LONG);
+        return Line::Refused(LineRefusal::TooLong);
     }
     match split_word(line) {
         None => Line::Blank,
         Some((command, _)) if begins_comment(command) => Line::Blank,
         Some((command, text)) => match read_command(command, text) {
             Ok(line) => line,
-            Err(number) => Line::Refused(number),
+            Err(refusal) => Line::Refused(refusal),
         },
     }
 }

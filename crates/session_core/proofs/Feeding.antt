@@ -5,12 +5,12 @@ use Rattle.std.proofs.lemmas.Grind.{common_steps}
 use Rattle.std.proofs.lemmas.List.{take_more}
 use Rattle.std.specs.Io.KnownBytes.{Consumes, Keeps}
 use Rattle.text_rules.specs.TextLines.{last_line, whole_lines, all_lines}
-use Rattle.session_core.specs.Sessions.{Table, Step}
-use Rattle.session_core.specs.Moves.{left_by, script_moves}
-use Rattle.session_core.specs.Serving.{Makes, BreaksOff, CarriesOut}
+use Rattle.session_rules.specs.Sessions.{Table, Step}
+use Rattle.session_rules.specs.Moves.{left_by, script_moves}
+use Rattle.session_rules.specs.Carrying.{Makes, BreaksOff, CarriesOut}
 use Rattle.session_core.specs.inner.Gathering.{ended_from, rest_from, IsCut, Fed}
 use Rattle.session_core.proofs.Lines.{take-take-same, cut_push, ended_from-start, rest_from-start}
-use Rattle.session_core.proofs.Broken.{makes_none, makes_more, breaks_before, breaks_after, script_moves-append}
+use Rattle.session_rules.proofs.Broken.{makes_none, makes_more, breaks_before, breaks_after, script_moves-append}
 
 ended_from-append : (l xs ys : List ℕ) → ended_from l (xs ++ ys) ≡ ended_from l xs ++ ended_from (rest_from l xs) ys
 ended_from-append l [] ys = refl

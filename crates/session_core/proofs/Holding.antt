@@ -1,54 +1,143 @@
--- What a service holds, as its session opens and sees wires.
-use Rattle.std.proofs.Common.{◌≡◌, ℕ, ◌+◌, ◌<◌, ◌≤◌, Bool, List, [], ◌∷◌, ◌++◌, length, replicate, take, drop, get_or, set, All, Some, sym, ap, subst, ◌∙◌, arith}
+-- What a service shows of what it holds, and what its changes are.
+use Rattle.std.proofs.Common.{◌≡◌, ◌∙◌, ◌∷◌, ◌++◌, [], ◌<◌, ◌-◌, ℕ, Bool, List, Option, Some, None, IsNone, IsSome, Result, length, replicate, take, drop, refl, ap, sym, subst, codes, arith, rules, length-append}
+use Rattle.std.specs.Prelude.{Contains}
 use Rattle.std.proofs.Math.Seq.{take-append_seam}
-use Rattle.std.proofs.lemmas.List.{length-set, length-replicate, get_or-replicate}
+use Rattle.std.proofs.lemmas.List.{nil_from_length}
 use Rattle.std.proofs.lemmas.List.Quantifiers.{position-Some}
 use Rattle.text_rules.specs.Names.{Name, same_name}
-use Rattle.graph_rules.specs.Graphs.{Graph}
-use Rattle.ranking.specs.Cases.{empty_case}
+use Rattle.text_rules.specs.Tokens.{spaced}
+use Rattle.diag_edge.specs.Edge.{Puts}
 use Rattle.device_model.specs.Devices.{place_of}
-use Rattle.conditioner.specs.Words.{word_of}
-use Rattle.session_core.specs.inner.CaseWords.{case_of_words, AreCaseWords}
-use Rattle.session_core.specs.inner.Held.{AreWordsOf, HasRoom}
-use Rattle.session_core.proofs.Answering.{seen_too}
-use Rattle.session_core.proofs.CaseWords.{zeros-say, zeros-are, noted-says, noted-are}
+use Rattle.probe_report.specs.declared.verdicts.Blame.{Blame}
+use Rattle.ranking.specs.Systems.{System}
+use Rattle.scratch_pool.specs.declared.region.Span.{Span}
+use Rattle.scratch_pool.specs.Words.{written}
+use Rattle.scratch_pool.specs.Regions.{Carved, IsLast, carved, words_used, free_words}
+use Rattle.scratch_pool.proofs.Laws.{carved-held}
+use Rattle.scratch_pool.proofs.Written.{length-written}
+use Rattle.script_lang.specs.Script.{Request}
+use Rattle.session_rules.specs.declared.refusal.Refusal.TheVariants.{NoWire, NoPart}
+use Rattle.session_rules.specs.GraphSystems.{Subject, system_of}
+use Rattle.session_rules.specs.Items.{line}
+use Rattle.session_rules.specs.Sessions.{Table, Entry, Outcome, Declined, Done, Becomes, outcome_in, when_open, becomes, at_wire, at_part, at_place, with_entry, with_seen, with_held}
+use Rattle.session_rules.proofs.Spellings.{replies_one}
+use Rattle.session_table.specs.Tables.{Opened}
+use Rattle.session_core.specs.Services.{Shown}
+use Rattle.session_core.specs.inner.Holding.{HoldsTogether}
+use Rattle.session_core.specs.inner.Obeying.{Obeys, seen_request, held_request}
+use Rattle.session_core.proofs.Obeying.{with_table, IsOneMove, NeedsSession, obeys_outcome}
 
--- a list that was lent whole and written back
-pub written_back : (n : ℕ) (new old : List ℕ) → n ≡ length new → take n (new ++ drop (length new) old) ≡ new
-written_back n new old e = ap (λ (k : ℕ). take k (new ++ drop (length new) old)) e ∙ take-append_seam new (drop (length new) old)
+-- what is shown over a subject, with these sessions
+abbrev pub shown_of : Subject → Opened → Shown
+shown_of subject opened = record { subject = subject; limit = opened.limit; table = opened.table }
 
-all-zero : (b n : ℕ) → 0 < b → All (λ w. w < b) (replicate n 0)
-all-zero b n some k d h = subst (λ w. w < b) (sym (get_or-replicate n k 0 d (omega (arith, length-replicate {A = ℕ} n 0, h)))) some
-
--- words all 0 are those of a case of which nothing is known
-pub words-zero : (parts wires : List Name) (graph : Graph) (words : List ℕ) (n : ℕ) → words ≡ replicate n 0 → n ≡ graph.vars → length parts + length wires ≤ graph.vars → AreWordsOf parts wires graph words
-words-zero parts wires graph words n e long room = subst (AreWordsOf parts wires graph) (sym e) (record {
-  long = length-replicate {A = ℕ} n 0 ∙ long;
-  small = all-zero 3 n (omega arith);
-  case = zeros-are (length parts) (length wires) n (omega (arith, long, room));
-})
-
-pub case-zero : (parts wires : List Name) (words : List ℕ) (n : ℕ) → words ≡ replicate n 0 → length parts + length wires ≤ n → case_of_words (length parts) (length wires) words ≡ empty_case (length wires) (length parts)
-case-zero parts wires words n e room = ap (case_of_words (length parts) (length wires)) e ∙ zeros-say (length parts) (length wires) n room
-
-pub room-new : (parts : List Name) (graph : Graph) (values state : List ℕ) (n m : ℕ) → values ≡ replicate n 0 → state ≡ replicate m 0 → n ≡ length graph.nodes → m ≡ length parts → HasRoom parts graph values state
-room-new parts graph values state n m v s e f = record {
-  one_a_node = ap length v ∙ length-replicate {A = ℕ} n 0 ∙ e;
-  one_a_part = ap length s ∙ length-replicate {A = ℕ} m 0 ∙ f;
-  bits = subst (All (λ w. w < 2)) (sym s) (all-zero 2 m (omega arith));
-}
+-- sessions with another table
+abbrev pub opened_with : Opened → Table → Opened
+opened_with opened table = record opened { table = table }
 
 pub place-within : (name : Name) (names : List Name) (place : ℕ) → Some place ≡ place_of name names → place < length names
 place-within name names place e = (position-Some (same_name name) names place [] (sym e)).0
 
-module _ (parts wires : List Name) (graph : Graph) (words new : List ℕ) (wire : ℕ) (bit : Bool) (are : AreWordsOf parts wires graph words) (within : wire < length wires)
-    (e : new ≡ set words (length parts + wire) (word_of bit)) where
-  pub words-noted : All (λ w. w < 3) new → AreWordsOf parts wires graph new
-  words-noted small = record {
-    long = ap length e ∙ length-set words (length parts + wire) (word_of bit) ∙ are.long;
-    small = small;
-    case = subst (AreCaseWords (length parts) (length wires)) (sym e) (noted-are (length parts) (length wires) words are.case wire within bit);
-  }
+-- parts of a service fit together also where the table is another
+pub holds_more : (subject : Subject) (old new : Opened) (scratch : Carved) (verdicts : List Blame) (table : Table) → HoldsTogether subject old scratch verdicts → new ≡ opened_with old table → HoldsTogether subject new scratch verdicts
+holds_more subject old new scratch verdicts table h e = record {
+  parts = ap (λ (o : Opened). o.parts) e ∙ h.parts;
+  wires = ap (λ (o : Opened). o.wires) e ∙ h.wires;
+  vars = ap (λ (o : Opened). o.vars) e ∙ h.vars;
+  unused = h.unused;
+  room = h.room;
+  one_a_part = h.one_a_part;
+}
 
-  pub case-noted : case_of_words (length parts) (length wires) new ≡ seen_too (case_of_words (length parts) (length wires) words) wire bit
-  case-noted = ap (case_of_words (length parts) (length wires)) e ∙ noted-says (length parts) (length wires) words are.case wire within bit
+-- a session became another, and a word was said
+pub obeys_becomes : {T E : Type 0} (subject : Subject) (old new : Opened) (session : Name) (request : Request) (entry : Entry) (word : List ℕ) (before after : Option (List ℕ)) (result : Result T E)
+    → IsOneMove request → outcome_in (system_of subject) old.limit old.table session request ≡ becomes session entry word
+    → new ≡ opened_with old (with_entry session entry old.table) → Puts before after result (spaced (session ∷ word ∷ []))
+    → Obeys (shown_of subject old) (shown_of subject new) session request before after result
+obeys_becomes subject old new session request entry word before after result one is e put =
+    obeys_outcome (shown_of subject old) session request one before after result (becomes session entry word) (shown_of subject new) is (ap (shown_of subject) e)
+    (replies_one before after result (line (session ∷ word ∷ [])) _ refl put)
+
+-- ---- wires that are seen, and parts that are held
+
+pub seen-move : (name : Name) (bit : Option Bool) → IsOneMove (seen_request name bit)
+seen-move name None = λ system limit table session. refl
+seen-move name (Some bit) = λ system limit table session. refl
+
+pub seen-needs : (name : Name) (bit : Option Bool) → NeedsSession (seen_request name bit)
+seen-needs name None = λ system session full. refl
+seen-needs name (Some bit) = λ system session full. refl
+
+seen-open : (system : System) (session : Name) (entry : Entry) (name : Name) (bit : Option Bool)
+    → when_open system session entry (seen_request name bit) ≡ at_wire system name (λ wire. becomes session (with_seen entry wire bit) (codes "ok"))
+seen-open system session entry name None = refl
+seen-open system session entry name (Some bit) = refl
+
+pub seen-at : (system : System) (session : Name) (entry : Entry) (name : Name) (bit : Option Bool) (wire : ℕ) → Some wire ≡ place_of name system.wires
+    → when_open system session entry (seen_request name bit) ≡ becomes session (with_seen entry wire bit) (codes "ok")
+seen-at system session entry name bit wire e =
+    seen-open system session entry name bit ∙ ap (at_place NoWire (λ w. becomes session (with_seen entry w bit) (codes "ok"))) (sym e)
+
+pub seen-nowhere : (system : System) (session : Name) (entry : Entry) (name : Name) (bit : Option Bool) → None ≡ place_of name system.wires → when_open system session entry (seen_request name bit) ≡ Declined NoWire
+seen-nowhere system session entry name bit e =
+    seen-open system session entry name bit ∙ ap (at_place NoWire (λ w. becomes session (with_seen entry w bit) (codes "ok"))) (sym e)
+
+pub held-move : (name : Name) (ok : Option Bool) → IsOneMove (held_request name ok)
+held-move name None = λ system limit table session. refl
+held-move name (Some ok) = λ system limit table session. refl
+
+pub held-needs : (name : Name) (ok : Option Bool) → NeedsSession (held_request name ok)
+held-needs name None = λ system session full. refl
+held-needs name (Some ok) = λ system session full. refl
+
+held-open : (system : System) (session : Name) (entry : Entry) (name : Name) (ok : Option Bool)
+    → when_open system session entry (held_request name ok) ≡ at_part system name (λ part. becomes session (with_held entry part ok) (codes "ok"))
+held-open system session entry name None = refl
+held-open system session entry name (Some ok) = refl
+
+pub held-at : (system : System) (session : Name) (entry : Entry) (name : Name) (ok : Option Bool) (part : ℕ) → Some part ≡ place_of name system.parts
+    → when_open system session entry (held_request name ok) ≡ becomes session (with_held entry part ok) (codes "ok")
+held-at system session entry name ok part e =
+    held-open system session entry name ok ∙ ap (at_place NoPart (λ p. becomes session (with_held entry p ok) (codes "ok"))) (sym e)
+
+pub held-nowhere : (system : System) (session : Name) (entry : Entry) (name : Name) (ok : Option Bool) → None ≡ place_of name system.parts → when_open system session entry (held_request name ok) ≡ Declined NoPart
+held-nowhere system session entry name ok e =
+    held-open system session entry name ok ∙ ap (at_place NoPart (λ p. becomes session (with_held entry p ok) (codes "ok"))) (sym e)
+
+-- ---- scratch that is carved whole, and released
+
+pub carve_some : {R : Type 0} (scratch : Carved) (n : ℕ) (run : Option R) → scratch.runs ≡ [] → length scratch.words ≡ n → (IsNone run → free_words scratch < n) → IsSome run
+carve_some scratch n (Some run) empty long none = refl
+carve_some {R} scratch n None empty long none =
+    let free : free_words scratch ≡ length scratch.words = ap (λ (rs : List Span). length scratch.words - words_used rs) empty ∙ minus_none (length scratch.words) in
+    absurd (let there : IsNone {T = R} None = refl in let less = none there in omega (arith, less, free, long))
+  where
+    minus_none : (m : ℕ) → m - words_used [] ≡ m
+    minus_none m = omega arith
+
+module _ (old new : Carved) (run : Span) (n : ℕ) (empty : old.runs ≡ []) (long : length old.words ≡ n) (is : new ≡ carved old run) where
+  one_run : new.runs ≡ run ∷ []
+  one_run = ap (λ (r : Carved). r.runs) is ∙ ap (λ (rs : List Span). rs ++ run ∷ []) empty
+
+  pub is_last : IsLast new.runs run
+  is_last = ([], one_run)
+
+  pub is_held : Contains new.runs run
+  is_held = subst (λ (r : Carved). Contains r.runs run) (sym is) (carved-held old run)
+
+  pub carved_long : length new.words ≡ n
+  carved_long = ap (λ (r : Carved). length r.words) is ∙ (length-written old.words run.start (replicate run.len 0) ∙ long)
+
+  -- after the release nothing is in use, and all words are there
+  pub released_runs : (after : Carved) → new.runs ≡ after.runs ++ run ∷ [] → after.runs ≡ []
+  released_runs after e =
+      let all = length-append after.runs (run ∷ []) in
+      let one = ap length (sym one_run ∙ e) in
+      nil_from_length after.runs (omega (arith, all, one))
+
+  pub released_words : (after : Carved) (lent : List ℕ) → after.words ≡ written new.words run.start lent → length after.words ≡ n
+  released_words after lent e = ap length e ∙ (length-written new.words run.start lent ∙ carved_long)
+
+-- a list that was lent whole and written back
+pub written_back : {A : Type 0} (n : ℕ) (new old : List A) → n ≡ length new → take n (new ++ drop (length new) old) ≡ new
+written_back {A} n new old e = ap (λ (k : ℕ). take k (new ++ drop (length new) old)) e ∙ take-append_seam new (drop (length new) old)

@@ -7,15 +7,15 @@ use Rattle.text_rules.specs.Names.{Name}
 use Rattle.text_rules.specs.Tokens.{spaced}
 use Rattle.ranking.specs.Ranking.{cost, least, least_with, is_at_most, diagnoses}
 use Rattle.ranking.specs.Systems.{System}
-use Rattle.session_core.specs.Items.{Plain, line}
-use Rattle.session_core.specs.Replies.{faulty_names, min_line, min_text}
+use Rattle.session_rules.specs.Items.{Plain, line}
+use Rattle.session_rules.specs.Replies.{faulty_names, min_line, min_text}
 
 filter-none : {A : Type 0} (xs : List A) → filter (λ x. false) xs ≡ []
 filter-none [] = refl
 filter-none (x ∷ xs) = filter-none xs
 
 -- where there is no least cost there is no diagnosis
-no_diagnosis : (costs : List ℕ) (hs : List (List Bool)) → least costs hs ≡ None → diagnoses costs hs ≡ []
+pub no_diagnosis : (costs : List ℕ) (hs : List (List Bool)) → least costs hs ≡ None → diagnoses costs hs ≡ []
 no_diagnosis costs hs none = ap (λ (o : Option ℕ). filter (λ h. is_at_most (cost costs h) o) hs) none ∙ filter-none hs
 
 above_high : (c k m : ℕ) → nat_le c m ≡ false → min c k ≤ m → k ≤ m
@@ -43,7 +43,7 @@ some_low costs n m (h ∷ hs) e low r =
     low_next costs m n h hs (least costs hs) (λ k f. some_low costs k m hs f) e low (nat_le (cost costs h) m) refl r
 
 -- where there is a least cost there is a diagnosis
-some_diagnosis : (costs : List ℕ) (n : ℕ) (hs : List (List Bool)) → least costs hs ≡ Some n → diagnoses costs hs ≡ [] → ⊥
+pub some_diagnosis : (costs : List ℕ) (n : ℕ) (hs : List (List Bool)) → least costs hs ≡ Some n → diagnoses costs hs ≡ [] → ⊥
 some_diagnosis costs n hs e none =
     some_low costs n n hs e (omega arith) (ap (λ (o : Option ℕ). filter (λ h. is_at_most (cost costs h) o) hs) (sym e) ∙ none)
 

@@ -2,25 +2,30 @@
 use Rattle.std.proofs.Common.{◌≡◌, ℕ, suc, ◌+◌, ◌<◌, ◌≤◌, Bool, true, false, List, [], ◌∷◌, ◌++◌, length, map, drop, Option, Some, None, refl, sym, ◌∙◌, ap, append_assoc, get_or, add-one, codes, subst, Result, IsErr}
 use Rattle.std.specs.Prelude.{◌==◌, if◌then◌else◌}
 use Rattle.diag_edge.specs.Edge.{AppendsPrefix}
+use denote.Ref.{Bor}
+use Rattle.std.specs.List.{flat_map}
 use Rattle.std.proofs.lemmas.List.Concat.{flat_map-append}
+use Rattle.std.proofs.lemmas.List.Folds.{flat_map-map}
 use Rattle.diag_edge.specs.Adding.{Grown, Adds}
 use Rattle.diag_edge.proofs.Added.{grown_more, part_more, adds_first, spaced-first}
 use Rattle.text_rules.specs.Names.{Name}
 use Rattle.text_rules.specs.Tokens.{spaced}
 use Rattle.ranking.proofs.Drops.{drop-item, drop-past}
 use Rattle.diagnosis_lister.specs.Listing.{bits_of}
-use Rattle.session_core.specs.Replies.{faulty_names}
-use Rattle.session_core.specs.Services.{spaced_before}
+use Rattle.session_rules.specs.Replies.{faulty_names}
+use Rattle.session_core.specs.inner.Texts.{spaced_before}
 
--- the line of `min` is what its pieces make
-pub min_pieces : (session : Name) (digits : List ℕ) (names : List Name)
-    → (session ++ spaced_before (codes "min" ∷ digits ∷ [])) ++ (spaced_before names ++ 10 ∷ []) ≡ spaced (session ∷ codes "min" ∷ digits ∷ names)
-min_pieces session digits names =
-    let front : List Name = codes "min" ∷ digits ∷ [] in
-    append_assoc session (spaced_before front) (spaced_before names ++ 10 ∷ [])
+-- a line is what its pieces make
+pub line_pieces : (session : Name) (words : List (Bor (List ℕ))) (names : List Name)
+    → (session ++ flat_map (λ word. 32 ∷ word.now) words) ++ (spaced_before names ++ 10 ∷ []) ≡ spaced (session ∷ (map (λ word. word.now) words ++ names))
+line_pieces session words names =
+    let front : List Name = map (λ (word : Bor (List ℕ)). word.now) words in
+    let same : flat_map (λ (word : Bor (List ℕ)). 32 ∷ word.now) words ≡ spaced_before front = sym (flat_map-map (λ (w : List ℕ). 32 ∷ w) (λ (word : Bor (List ℕ)). word.now) words) in
+    ap (λ t. (session ++ t) ++ (spaced_before names ++ 10 ∷ [])) same
+    ∙ (append_assoc session (spaced_before front) (spaced_before names ++ 10 ∷ [])
     ∙ ap (λ t. session ++ t) (sym (append_assoc (spaced_before front) (spaced_before names) (10 ∷ []))
     ∙ ap (λ t. t ++ 10 ∷ []) (sym (flat_map-append (λ name. 32 ∷ name) front names)))
-    ∙ spaced-first session (front ++ names)
+    ∙ spaced-first session (front ++ names))
 
 -- the faulty parts among those that are left
 pub faulty-drop : (parts : List Name) (state : List ℕ) (i : ℕ) → i < length parts → i < length state

@@ -1,10 +1,3 @@
-pub mod Items
-pub mod Replies
-pub mod Sessions
-pub mod FirstPath
-pub mod Moves
-pub mod Spelling
-pub mod Serving
-pub mod GraphSystems
 pub mod Services
+pub mod Serving
 pub mod inner

@@ -1,36 +1,19 @@
 -- What contracts see of a service.
-use Rattle.std.specs.Prelude.{ℕ, Bool, true, false, List, [], ◌∷◌, None, is_some}
-use Rattle.std.specs.List.{flat_map}
-use Rattle.text_rules.specs.Names.{Name}
-use Rattle.ranking.specs.Cases.{Case}
-use Rattle.ranking.specs.Systems.{System}
-use Rattle.graph_rules.specs.Graphs.{Graph}
-use Rattle.session_core.specs.Sessions.{Table, entry_of}
-use Rattle.session_core.specs.GraphSystems.{graph_system}
+use Rattle.std.specs.Prelude.{◌≡◌, ℕ, List}
+use Rattle.session_rules.specs.Sessions.{Table, Step}
+use Rattle.session_rules.specs.Moves.{line_moves}
+use Rattle.session_rules.specs.GraphSystems.{Subject, system_of}
 
--- what is asked over: the names of parts and wires, what the failure of each part costs, and a graph
-pub record Subject : Type 0 where
-  pub parts : List Name
-  pub wires : List Name
-  pub costs : List ℕ
-  pub graph : Graph
-
-abbrev pub system_of : Subject → System
-system_of subject = graph_system subject.parts subject.wires subject.costs subject.graph
-
--- and the sessions that are open
+-- what is asked over, how many sessions may be open, and those that are
 pub record Shown : Type 0 where
   pub subject : Subject
+  pub limit : ℕ
   pub table : Table
 
--- the table of one session at most, which knows a case
-abbrev pub table_with : Bool → Name → Case → Table
-table_with false name known = []
-table_with true name known = (name, record { known = known; point = None }) ∷ []
+-- the moves of a line, from a table
+abbrev pub moves_of : Shown → Table → List ℕ → List Step
+moves_of shown table bytes = line_moves (system_of shown.subject) shown.limit table bytes
 
-abbrev pub is_open_as : Name → Table → Bool
-is_open_as session table = is_some (entry_of session table)
-
--- names with a space before each
-abbrev pub spaced_before : List Name → List ℕ
-spaced_before names = flat_map (λ name. 32 ∷ name) names
+-- nothing but the table changed
+abbrev pub ChangesTable : Shown → Shown → Type 0
+ChangesTable old new = new ≡ record old { table = new.table }

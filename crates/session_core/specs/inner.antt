@@ -1,4 +1,7 @@
 -- What only the private contracts of this crate cite.
 pub mod Gathering
-pub mod CaseWords
-pub mod Held
+pub mod Bases
+pub mod Texts
+pub mod Telling
+pub mod Holding
+pub mod Obeying

@@ -1,12 +1,18 @@
 //! Sessions over names and a graph: a service that answers a script line by line.
 #![tactic(auto)]
 
+mod asking;
+mod basis;
+mod limits;
 mod line_buffer;
+mod listing;
 mod name_table;
 mod replies;
 mod service;
 mod serving;
 mod sessions;
+mod telling;
 
+pub use limits::{SERVED_NODES, SERVED_VARIABLES, SESSION_LIMIT};
 pub use service::Service;
 pub use serving::ServeEnd;

@@ -1,24 +1,68 @@
-//! The replies to lines, each of which is one call of the sink where it is short.
-ghost use Rattle.std.specs.Prelude.{◌≡◌, [], ◌∷◌, ◌++◌, length, decimal, codes};
+//! The lines of replies, each of which is one call of the sink where it is short.
+ghost use Rattle.std.specs.Prelude.{◌≡◌, [], ◌∷◌, ◌++◌, length, map, decimal, codes};
+ghost use Rattle.std.specs.List.{flat_map};
+ghost use Rattle.text_rules.specs.Tokens.{spaced};
 ghost use Rattle.diag_edge.specs.Adding.{Adds};
 ghost use Rattle.diag_edge.specs.Edge.{HasCause, Puts};
 ghost use Rattle.diagnosis_lister.specs.Listing.{bits_of};
-ghost use Rattle.session_core.specs.FirstPath.{not_yet};
-ghost use Rattle.session_core.specs.Replies.{faulty_names, min_text};
-ghost use Rattle.session_core.specs.Services.{spaced_before};
-ghost use Rattle.session_core.specs.Spelling.{Replies};
-ghost use Rattle.text_rules.specs.Tokens.{spaced};
+ghost use Rattle.session_rules.specs.Refusals.{refusal_number, refusal_text};
+ghost use Rattle.script_lang.specs.Refusals as line_refusals;
+ghost use Rattle.session_rules.specs.Replies.{faulty_names, count_text, min_text};
+ghost use Rattle.session_core.specs.inner.Texts.{blame_text, spaced_before};
 
 use device_model::Name;
 use diag_edge::{Chunk, Sink, WriteFailed, put_line};
 use itoa::Buffer;
+use probe_report::Blame;
+use script_lang::LineRefusal;
+use session_rules::Refusal;
 
-// The reply to what is not built yet.
-pub(crate) fn put_not_yet<O: Sink>(out: &mut O) -> Result<(), WriteFailed>
-    ensures reply { Replies (O.got out.old) (O.got out.new) result (not_yet []).items }
+// Why a line asks nothing.
+pub(crate) fn put_line_refusal<O: Sink>(
+    out: &mut O,
+    refusal: LineRefusal,
+) -> Result<(), WriteFailed>
+    ensures text { Puts (O.got out.old) (O.got out.new) result
+        (spaced (codes "error" ∷ decimal (line_refusals.refusal_number refusal)
+        ∷ line_refusals.refusal_text refusal ∷ [])) }
     ensures cause { HasCause (O.faults out.old) (O.faults out.new) result }
 {
-    out.put(b"not yet\n")
+    put_line(
+        out,
+        &[
+            b"error",
+            Buffer::new().format(refusal.number()).as_bytes(),
+            refusal.text().as_bytes(),
+        ],
+    )
+}
+
+// Why what is asked of a session is not done.
+pub(crate) fn put_refusal<O: Sink>(
+    out: &mut O,
+    session: &[u8],
+    refusal: Refusal,
+) -> Result<(), WriteFailed>
+    ensures text { Puts (O.got out.old) (O.got out.new) result
+        (spaced (session.now ∷ codes "error" ∷ decimal (refusal_number refusal) ∷ refusal_text refusal ∷ [])) }
+    ensures cause { HasCause (O.faults out.old) (O.faults out.new) result }
+{
+    put_line(
+        out,
+        &[
+            session,
+            b"error",
+            Buffer::new().format(refusal.number()).as_bytes(),
+            text_of(refusal),
+        ],
+    )
+}
+
+// What a refusal says.
+fn text_of<'a>(refusal: Refusal) -> &'a [u8]
+    ensures { result.now ≡ refusal_text refusal }
+{
+    refusal.text().as_bytes()
 }
 
 // The line of `min`: the least cost and the names of the faulty parts, or that no state agrees.
@@ -36,26 +80,31 @@ pub(crate) fn put_min<O: Sink>(
 {
     match fewest {
         None => put_line(out, &[session, b"inconsistent"]),
-        Some(fewest) => put_diagnosis(out, session, fewest, parts, state),
+        Some(fewest) => put_faulty(
+            out,
+            session,
+            &[b"min", Buffer::new().format(fewest).as_bytes()],
+            parts,
+            state,
+        ),
     }
 }
 
-// The same, where a state agrees.
-fn put_diagnosis<O: Sink>(
+// The session, some words, and the names of the faulty parts.
+pub(crate) fn put_faulty<O: Sink>(
     out: &mut O,
     session: &[u8],
-    fewest: u32,
+    words: &[&[u8]],
     parts: &[Name],
     state: &[u32],
 ) -> Result<(), WriteFailed>
     requires { length state.now ≡ length parts.now }
     ensures text { Puts (O.got out.old) (O.got out.new) result
-        (spaced (session.now ∷ codes "min" ∷ decimal fewest
-        ∷ faulty_names parts.now (bits_of state.now))) }
+        (spaced (session.now ∷ (map (λ word. word.now) words.now ++ faulty_names parts.now (bits_of state.now)))) }
     ensures cause { HasCause (O.faults out.old) (O.faults out.new) result }
 {
     let mut chunk = Chunk::new();
-    add_diagnosis(&mut chunk, out, session, fewest, parts, state)?;
+    add_diagnosis(&mut chunk, out, session, words, parts, state)?;
     chunk.put(out)
 }
 
@@ -64,34 +113,34 @@ fn add_diagnosis<O: Sink>(
     chunk: &mut Chunk,
     out: &mut O,
     session: &[u8],
-    fewest: u32,
+    words: &[&[u8]],
     parts: &[Name],
     state: &[u32],
 ) -> Result<(), WriteFailed>
     requires { length state.now ≡ length parts.now }
     ensures bytes { Adds (O.got out.old) (O.got out.new) chunk.old chunk.new result
-        ((session.now ++ spaced_before (codes "min" ∷ decimal fewest ∷ []))
+        ((session.now ++ flat_map (λ word. 32 ∷ word.now) words.now)
         ++ (spaced_before (faulty_names parts.now (bits_of state.now)) ++ 10 ∷ [])) }
     ensures cause { HasCause (O.faults out.old) (O.faults out.new) result }
 {
-    add_front(chunk, out, session, fewest)?;
+    add_front(chunk, out, session, words)?;
     add_back(chunk, out, parts, state)
 }
 
-// That line up to the fewest faults.
+// That line up to the names of parts.
 #[tactic(auto, using(diag_edge::proofs::Added::adds_on))]
 fn add_front<O: Sink>(
     chunk: &mut Chunk,
     out: &mut O,
     session: &[u8],
-    fewest: u32,
+    words: &[&[u8]],
 ) -> Result<(), WriteFailed>
     ensures bytes { Adds (O.got out.old) (O.got out.new) chunk.old chunk.new result
-        (session.now ++ spaced_before (codes "min" ∷ decimal fewest ∷ [])) }
+        (session.now ++ flat_map (λ word. 32 ∷ word.now) words.now) }
     ensures cause { HasCause (O.faults out.old) (O.faults out.new) result }
 {
     chunk.add(out, session)?;
-    chunk.add_words(out, &[b"min", Buffer::new().format(fewest).as_bytes()])
+    chunk.add_words(out, words)
 }
 
 // The rest of that line.
@@ -129,4 +178,66 @@ fn add_faulty<O: Sink>(
         }
     }
     Ok(())
+}
+
+// The line of `probe`: the least cost where a wire is 0, and where it is 1.
+pub(crate) fn put_probe<O: Sink>(
+    out: &mut O,
+    session: &[u8],
+    name: &[u8],
+    zero: Option<u32>,
+    one: Option<u32>,
+) -> Result<(), WriteFailed>
+    ensures text { Puts (O.got out.old) (O.got out.new) result
+        (spaced (session.now ∷ codes "probe" ∷ name.now ∷ count_text zero ∷ count_text one ∷ [])) }
+    ensures cause { HasCause (O.faults out.old) (O.faults out.new) result }
+{
+    let mut of_zero = Buffer::new();
+    let mut of_one = Buffer::new();
+    put_line(
+        out,
+        &[
+            session,
+            b"probe",
+            name,
+            count_text(zero, &mut of_zero),
+            count_text(one, &mut of_one),
+        ],
+    )
+}
+
+// A cost, or a dash where there is none.
+fn count_text(count: Option<u32>, buffer: &mut Buffer) -> &[u8]
+    ensures { result.now ≡ count_text count }
+{
+    match count {
+        Some(count) => buffer.format(count).as_bytes(),
+        None => b"-",
+    }
+}
+
+// The line of a part under `blame`.
+pub(crate) fn put_blame<O: Sink>(
+    out: &mut O,
+    session: &[u8],
+    name: &[u8],
+    blame: Blame,
+) -> Result<(), WriteFailed>
+    ensures text { Puts (O.got out.old) (O.got out.new) result
+        (spaced (session.now ∷ codes "blame" ∷ name.now ∷ blame_text blame ∷ [])) }
+    ensures cause { HasCause (O.faults out.old) (O.faults out.new) result }
+{
+    put_line(out, &[session, b"blame", name, blame_word(blame)])
+}
+
+// The word of a verdict.
+fn blame_word<'a>(blame: Blame) -> &'a [u8]
+    ensures { result.now ≡ blame_text blame }
+{
+    match blame {
+        Blame::Always => b"always",
+        Blame::Sometimes => b"sometimes",
+        Blame::Never => b"never",
+        Blame::Inconsistent => b"inconsistent",
+    }
 }

@@ -2,10 +2,10 @@ ghost use Rattle.std.specs.Prelude.{◌≡◌, ◌≤◌, ◌<◌, ◌+◌, [], 
 ghost use Rattle.text_rules.specs.Names.{names_rise};
 ghost use Rattle.conditioner.specs.Models.{total_cost};
 ghost use Rattle.diag_edge.specs.Edge.{HasCause};
-ghost use Rattle.session_core.specs.FirstPath.{first_moves};
-ghost use Rattle.session_core.specs.Services.{system_of};
-ghost use Rattle.session_core.specs.Serving.{CarriesOut};
+ghost use Rattle.session_rules.specs.Carrying.{CarriesOut};
+ghost use Rattle.session_core.specs.Services.{moves_of, ChangesTable};
 
+use crate::limits::{SERVED_NODES, SERVED_VARIABLES, SESSION_LIMIT};
 use crate::line_buffer::LineBuffer;
 use crate::sessions::Sessions;
 use device_model::{Name, PART_LIMIT, WIRE_LIMIT};
@@ -15,8 +15,8 @@ use node_store::Graph;
 use std::alloc::Global;
 use std::marker::Model;
 
-/// Sessions over names and a graph, and the line that is being read. It takes all its memory when it is made.
-#[derive(Drop)]
+/// Sessions over names and a graph, and the line that is being read. It takes all its memory when it is made, and none later.
+/// It is not `Drop`: [`Service::finish`] spends it.
 pub struct Service {
     pub(crate) sessions: Sessions,
     pub(crate) gathered: LineBuffer,
@@ -32,13 +32,14 @@ impl Model for Service {
 
 impl Service {
     /// A service over the names of parts and wires, what the failure of each part costs, and a graph whose variables are the
-    /// parts, the wires, and inner ones. No session is open, and at most one may be. `Err` means that memory ran out.
+    /// parts, the wires, and inner ones. No session is open, and at most so many may be. `Err` means that memory ran out.
     pub fn over(
         alloc: Global,
         parts: Vec<Name>,
         wires: Vec<Name>,
         costs: Vec<u32>,
         graph: Graph,
+        sessions: u32,
     ) -> Result<Service, Memory>
         requires parts_rise { names_rise parts.items ≡ true }
         requires wires_rise { names_rise wires.items ≡ true }
@@ -48,19 +49,32 @@ impl Service {
         requires dear { All (λ c. 0 < c) costs.items }
         requires total { total_cost costs.items < TOTAL_LIMIT }
         requires vars { length parts.items + length wires.items ≤ graph.vars }
+        requires few_vars { graph.vars ≤ SERVED_VARIABLES }
+        requires few_nodes { length graph.nodes < SERVED_NODES }
+        requires sessions { sessions ≤ SESSION_LIMIT }
         ensures { IfOk result (λ service. service
             ≡ record {
               subject = record { parts = parts.items; wires = wires.items; costs = costs.items; graph = graph };
+              limit = sessions;
               table = [];
             }) }
     {
-        let Ok(sessions) = Sessions::new(alloc, parts, wires, costs, graph) else {
+        let Ok(gathered) = LineBuffer::new(alloc) else {
             return Err(Memory);
         };
-        match LineBuffer::new(alloc) {
-            Ok(gathered) => Ok(Service { sessions, gathered }),
+        match Sessions::new(alloc, parts, wires, costs, graph, sessions) {
+            Ok(sessions) => Ok(Service { sessions, gathered }),
             Err(_) => Err(Memory),
         }
+    }
+
+    /// Closes all sessions, and gives all memory back.
+    pub fn finish(self) {
+        let Service {
+            sessions,
+            gathered: _,
+        } = self;
+        sessions.finish();
     }
 
     /// The number of parts.
@@ -82,9 +96,9 @@ impl Service {
     /// beginning was written at most.
     pub fn line<O: Sink>(&mut self, line: &[u8], out: &mut O) -> Result<(), WriteFailed>
         ensures carried { CarriesOut self.old.table self.new.table
-            (first_moves (system_of self.old.subject) self.old.table line.now)
+            (moves_of self.old self.old.table line.now)
             (O.got out.old) (O.got out.new) result }
-        ensures subject { self.new.subject ≡ self.old.subject }
+        ensures stays { ChangesTable self.old self.new }
         ensures cause { HasCause (O.faults out.old) (O.faults out.new) result }
     {
         self.sessions.line(line, out)

@@ -2,10 +2,10 @@ ghost use Rattle.std.specs.Prelude.{◌≡◌, ◌+◌, ◌-◌, ◌^◌, ◌<�
 ghost use Rattle.std.specs.Io.KnownBytes.{Consumes, IsAtEnd};
 ghost use Rattle.text_rules.specs.TextLines.{last_line};
 ghost use Rattle.diag_edge.specs.Edge.{HasCause, RoseExactly};
-ghost use Rattle.session_core.specs.FirstPath.{first_moves};
-ghost use Rattle.session_core.specs.Services.{system_of};
-ghost use Rattle.session_core.specs.Moves.{script_moves};
-ghost use Rattle.session_core.specs.Serving.{BreaksOff, CarriesOut, Served};
+ghost use Rattle.session_rules.specs.Moves.{script_moves};
+ghost use Rattle.session_rules.specs.Carrying.{BreaksOff, CarriesOut};
+ghost use Rattle.session_core.specs.Services.{moves_of, ChangesTable};
+ghost use Rattle.session_core.specs.Serving.{Served};
 ghost use Rattle.session_core.specs.inner.Gathering.{Fed, ended_from};
 
 use crate::line_buffer::LineBuffer;
@@ -38,14 +38,14 @@ fn take_byte<O: Sink>(
     byte: u8,
     out: &mut O,
 ) -> Result<(), WriteFailed>
-    ensures ok { OnOk result (Fed (first_moves (system_of sessions.old.subject))
+    ensures ok { OnOk result (Fed (moves_of sessions.old)
         sessions.old.table sessions.new.table gathered.old gathered.new (byte ∷ [])
         (O.got out.old) (O.got out.new)) }
     ensures err { OnErr result (BreaksOff sessions.new.table
-        (script_moves (first_moves (system_of sessions.old.subject)) sessions.old.table
+        (script_moves (moves_of sessions.old) sessions.old.table
         (ended_from gathered.old (byte ∷ [])))
         (O.got out.old) (O.got out.new)) }
-    ensures subject { sessions.new.subject ≡ sessions.old.subject }
+    ensures stays { ChangesTable sessions.old sessions.new }
     ensures cause { HasCause (O.faults out.old) (O.faults out.new) result }
 {
     if byte == b'\n' {
@@ -64,14 +64,14 @@ fn feed<O: Sink>(
     piece: &[u8],
     out: &mut O,
 ) -> Result<(), WriteFailed>
-    ensures ok { OnOk result (Fed (first_moves (system_of sessions.old.subject))
+    ensures ok { OnOk result (Fed (moves_of sessions.old)
         sessions.old.table sessions.new.table gathered.old gathered.new piece.now
         (O.got out.old) (O.got out.new)) }
     ensures err { OnErr result (BreaksOff sessions.new.table
-        (script_moves (first_moves (system_of sessions.old.subject)) sessions.old.table
+        (script_moves (moves_of sessions.old) sessions.old.table
         (ended_from gathered.old piece.now))
         (O.got out.old) (O.got out.new)) }
-    ensures subject { sessions.new.subject ≡ sessions.old.subject }
+    ensures stays { ChangesTable sessions.old sessions.new }
     ensures cause { HasCause (O.faults out.old) (O.faults out.new) result }
 {
     for byte in piece {
@@ -87,10 +87,10 @@ fn finish<O: Sink>(
     out: &mut O,
 ) -> Result<(), WriteFailed>
     ensures carried { CarriesOut sessions.old.table sessions.new.table
-        (script_moves (first_moves (system_of sessions.old.subject)) sessions.old.table
+        (script_moves (moves_of sessions.old) sessions.old.table
         (last_line gathered.now))
         (O.got out.old) (O.got out.new) result }
-    ensures subject { sessions.new.subject ≡ sessions.old.subject }
+    ensures stays { ChangesTable sessions.old sessions.new }
     ensures cause { HasCause (O.faults out.old) (O.faults out.new) result }
 {
     if gathered.as_slice().is_empty() {
@@ -121,10 +121,10 @@ fn serve_from<I: Source, O: Sink>(
     // The bytes that were taken, and what was done with them.
     ensures served { (bytes : List ℕ) × (I.taken input.new ≡ I.taken input.old + length bytes)
         × Consumes (I.left input.old) (I.left input.new) bytes
-        × Served result (first_moves (system_of sessions.old.subject))
+        × Served result (moves_of sessions.old)
         sessions.old.table sessions.new.table bytes limit (IsAtEnd (I.left input.new))
         (O.got out.old) (O.got out.new) }
-    ensures subject { sessions.new.subject ≡ sessions.old.subject }
+    ensures stays { ChangesTable sessions.old sessions.new }
 {
     let mut piece = [0u8; PIECE];
     let mut taken = 0u64;
@@ -167,10 +167,10 @@ impl Service {
         // The bytes that were taken, and what was done with them.
         ensures served { (bytes : List ℕ) × (I.taken input.new ≡ I.taken input.old + length bytes)
             × Consumes (I.left input.old) (I.left input.new) bytes
-            × Served result (first_moves (system_of self.old.subject))
+            × Served result (moves_of self.old)
             self.old.table self.new.table bytes limit (IsAtEnd (I.left input.new))
             (O.got out.old) (O.got out.new) }
-        ensures subject { self.new.subject ≡ self.old.subject }
+        ensures stays { ChangesTable self.old self.new }
     {
         self.gathered.clear();
         serve_from(&mut self.sessions, &mut self.gathered, input, out, limit)

@@ -1,18 +1,32 @@
 -- The steps from the statements of lines to a device: each gives what the next one needs, or a fault.
 use Rattle.std.specs.Prelude.{◌≡◌, ℕ, ◌≤◌, Bool, true, List, [], ◌∷◌, map, length, Option, Some, None, is_none, nat_lt, ◌||◌, Result, Ok, Err, if◌then◌else◌}
-use Rattle.std.specs.List.{list_all, flat_map}
+use Rattle.std.specs.List.{list_all, filter_map, flat_map}
 use Rattle.std.specs.Map.{lookup}
 use Rattle.std.specs.Borrow.{Bor}
 use Rattle.indexmap.specs.IndexMap.{IndexMap, insert_entry}
 use Rattle.text_rules.specs.Names.{Name, same_name, is_among}
 use Rattle.device_model.specs.declared.limits.TheConstants.{PART_LIMIT, WIRE_LIMIT}
+use Rattle.device_model.specs.Devices.{Device}
 use Rattle.device_model.specs.Building.{repeated}
+use Rattle.bench_reader.specs.declared.fault.BenchFault.{BenchFault}
 use Rattle.bench_reader.specs.declared.fault.BenchFault.TheVariants.{DrivenTwice}
+use Rattle.bench_reader.specs.declared.kinds.FlipFlops.TheVariants.{Taken}
 use Rattle.bench_reader.specs.declared.signals.Driver.{Driver}
 use Rattle.bench_reader.specs.declared.signals.Driver.TheVariants.{Outside, Gate as ByGate}
-use Rattle.bench_reader.specs.Faults.{Fault, fault_at}
+use Rattle.bench_reader.specs.Faults.{Fault, fault_at, unless_fault}
 use Rattle.bench_reader.specs.Statements.{Statement, Input, Output, Gate, statement_fault}
 use Rattle.bench_reader.specs.Signals.{driven_by_gate, driven, used}
+use Rattle.bench_reader.specs.Netlists.{device_of, fault_in, statement_in, faults_together}
+
+-- ---- what is read
+
+-- the statements of lines, or the first fault that a line has alone
+abbrev pub statements_or_fault : List (ℕ × Result (Option Statement) BenchFault) → Result (List (ℕ × Statement)) Fault
+statements_or_fault readings = unless_fault (filter_map fault_in readings) (filter_map statement_in readings)
+
+-- the device of statements of which none has a fault alone, or the first one that they have together
+abbrev pub device_or_fault : List (ℕ × Statement) → Result Device Fault
+device_or_fault statements = unless_fault (faults_together statements) (device_of (map (λ (s : ℕ × Statement). s.1) statements))
 
 -- ---- what is driven
 
@@ -62,8 +76,9 @@ first_undriven signals ((line, statement) ∷ statements) =
 abbrev pub is_too_large : List Statement → List Name → Bool
 is_too_large statements signals = nat_lt PART_LIMIT (length (flat_map driven_by_gate statements)) || nat_lt WIRE_LIMIT (length signals)
 
+-- whether nothing is wrong with a statement where flip-flops are taken: what was refused is no longer among them
 abbrev pub is_faultless : Statement → Bool
-is_faultless statement = is_none (statement_fault statement)
+is_faultless statement = is_none (statement_fault Taken statement)
 
 -- The statements have no fault, and these are the signals that they drive.
 pub record AreFaultless (statements : List Statement) (signals : List Name) : Type 0 where

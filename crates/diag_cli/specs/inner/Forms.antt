@@ -1,7 +1,7 @@
 -- What the forms in the code mean.
 use Rattle.std.specs.Prelude.{◌≤◌}
 use Rattle.branch_states.specs.declared.measuring.TheConstants.{BUDGET_LIMIT}
-use Rattle.diag_cli.specs.declared.words.TheConstants.{SESSION_LIMIT}
+use Rattle.session_core.specs.declared.limits.TheConstants.{SESSION_LIMIT}
 use Rattle.diag_cli.specs.declared.words.Form.{Form as FormRead}
 use Rattle.diag_cli.specs.declared.words.Form.TheVariants.{Serve as ServeRead, Plan as PlanRead, Check as CheckRead, Compile as CompileRead}
 use Rattle.diag_cli.specs.Words.{Form, Serve, Plan, Check, Compile}

@@ -1,11 +1,12 @@
 -- What is found in the text behind a command.
 use Rattle.std.specs.Prelude.{ℕ, List, [], ◌∷◌, Option, Some, None, Result, Ok, Err}
+use Rattle.script_lang.specs.declared.refusal.LineRefusal.{LineRefusal}
 use Rattle.script_lang.specs.Script as script
 
--- what is asked by what was found, or the refusal with its number
-abbrev pub asked_by : {Found : Type 0} → (Found → script.Line) → Result Found ℕ → script.Line
+-- what is asked by what was found, or the refusal
+abbrev pub asked_by : {Found : Type 0} → (Found → script.Line) → Result Found LineRefusal → script.Line
 asked_by ask (Ok found) = ask found
-asked_by ask (Err number) = script.Refused number
+asked_by ask (Err refusal) = script.Refused refusal
 
 -- the word of a text of one word
 abbrev pub only_word : List (List ℕ) → Option (List ℕ)

@@ -1,8 +1,8 @@
 -- Bytes of a script that are taken piece by piece, and the beginning of a line that is gathered from them.
 use Rattle.std.specs.Prelude.{◌≡◌, ℕ, List, [], ◌∷◌, ◌++◌, take, Option, ◌==◌, if◌then◌else◌}
-use Rattle.session_core.specs.Sessions.{Table, Step}
-use Rattle.session_core.specs.Moves.{script_moves}
-use Rattle.session_core.specs.Serving.{Makes}
+use Rattle.session_rules.specs.Sessions.{Table, Step}
+use Rattle.session_rules.specs.Moves.{script_moves}
+use Rattle.session_rules.specs.Carrying.{Makes}
 
 -- the lines that line feeds end, where a line has begun already
 abbrev pub ended_from : List ℕ → List ℕ → List (List ℕ)

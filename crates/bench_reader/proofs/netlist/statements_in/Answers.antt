@@ -12,8 +12,8 @@ loop-line-init c =
     let started = c.into_iter-line-iterator.ensures.into_iter_gives ∙ c.new-line-items.ensures in (
       omega (arith, length-all_lines c.args.text.now, ap (λ t. length (all_lines t)) started, c.requires),
       record {
-        no_fault = ap (λ t. filter_map fault_in (readings_from 1 (all_lines t))) (sym started);
-        so_far = ap (λ t. filter_map statement_in (readings_from 1 (all_lines t))) (sym started)
-            ∙ ap (λ done. map with_number done ++ filter_map statement_in (readings_from 1 (all_lines c.into_iter-line-iterator.result))) (sym c.new-statements.ensures.items);
+        no_fault = ap (λ t. filter_map fault_in (readings_from c.args.flip_flops 1 (all_lines t))) (sym started);
+        so_far = ap (λ t. filter_map statement_in (readings_from c.args.flip_flops 1 (all_lines t))) (sym started)
+            ∙ ap (λ done. map with_number done ++ filter_map statement_in (readings_from c.args.flip_flops 1 (all_lines c.into_iter-line-iterator.result))) (sym c.new-statements.ensures.items);
       },
     )

@@ -8,4 +8,4 @@ use Rattle.bench_reader.proofs.netlist.statements_in.Given as goal
 abbrev pub invariant-loop-line : goal.invariant-loop-line
 invariant-loop-line l =
     (l.number + length (all_lines l.line-iterator) ≤ TEXT_LIMIT)
-    × IsReadTo (l.number + 1) (all_lines l.text) (all_lines l.line-iterator) (map with_number l.statements.items)
+    × IsReadTo l.flip_flops (l.number + 1) (all_lines l.text) (all_lines l.line-iterator) (map with_number l.statements.items)

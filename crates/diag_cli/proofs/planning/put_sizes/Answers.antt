@@ -1,5 +1,5 @@
 use Rattle.std.proofs.Common.{◌∷◌, [], codes, refl}
-use Rattle.session_core.specs.Items.{Item}
+use Rattle.session_rules.specs.Items.{Item}
 use Rattle.diag_cli.specs.declared.planning.Sizes.{Sizes}
 use Rattle.diag_cli.specs.Courses.{count_line}
 use Rattle.diag_cli.proofs.Failing.{replies_then, replies_cut}

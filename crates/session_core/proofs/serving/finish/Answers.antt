@@ -1,6 +1,5 @@
 use Rattle.std.proofs.Common.{◌≡◌, ◌==◌, ◌∙◌, ap, sym, length, false}
-use Rattle.session_core.specs.FirstPath.{first_moves}
-use Rattle.session_core.specs.Services.{system_of}
+use Rattle.session_core.specs.Services.{moves_of}
 use Rattle.session_core.proofs.Feeding.{carries_last}
 use Rattle.session_core.proofs.serving.finish.Goals as goal
 
@@ -9,4 +8,4 @@ returns-clause-carried g c =
     let some : (length c.args.gathered.now == 0) ≡ false =
     ap (λ bytes. length bytes == 0) (sym c.as_slice.ensures) ∙ sym c.is_empty.ensures ∙ c.if-is_empty.false in
     let got = g.O.Sink.got in
-    carries_last (first_moves (system_of c.args.sessions.now.subject)) _ _ (got c.args.out.now) (got c.line.new.out) _ _ _ c.as_slice-2.ensures some c.line.ensures.carried
+    carries_last (moves_of c.args.sessions.now) _ _ (got c.args.out.now) (got c.line.new.out) _ _ _ c.as_slice-2.ensures some c.line.ensures.carried

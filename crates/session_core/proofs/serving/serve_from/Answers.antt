@@ -1,13 +1,15 @@
-use Rattle.std.proofs.Common.{arith, ◌≡◌, ◌∙◌, ◌++◌, take, drop, inl, inr, subst, length-append, length-take}
+use Rattle.std.proofs.Common.{arith, ◌≡◌, ◌∙◌, ◌++◌, ℕ, List, take, drop, inl, inr, subst, length-append, length-take}
 use Rattle.std.proofs.lemmas.Grind.{common_steps}
 use Rattle.session_core.specs.inner.Gathering.{Fed, ended_from}
-use Rattle.session_core.specs.Moves.{script_moves}
-use Rattle.session_core.specs.Serving.{BreaksOff}
-use Rattle.session_core.specs.Services.{system_of}
-use Rattle.session_core.specs.FirstPath.{first_moves}
+use Rattle.session_rules.specs.Moves.{script_moves}
+use Rattle.session_rules.specs.Sessions.{Table, Step}
+use Rattle.session_rules.specs.Carrying.{Makes, BreaksOff}
+use Rattle.text_rules.specs.TextLines.{last_line}
+use Rattle.session_core.specs.Services.{moves_of}
 use Rattle.diag_edge.proofs.Growing.{consumes_more, consumes_end}
-use Rattle.session_core.proofs.Lines.{first_moves_are_cut}
+use Rattle.session_core.proofs.Lines.{moves_are_cut}
 use Rattle.session_core.proofs.Feeding.{makes_all, makes_whole, breaks_all, breaks_whole, fed_more, breaks_fed, consumes_kept}
+use Rattle.session_core.proofs.Staying.{stays_more, moves_stay}
 use Rattle.session_core.proofs.serving.serve_from.Goals as goal
 
 pub returns-clause-served : goal.returns-clause-served
@@ -25,7 +27,7 @@ returns-in-Err-clause-served g c =
       loop.so_far.0,
       omega (arith, loop.taken, loop.so_far.1, c.in-Err.ensures.taken),
       consumes_kept _ _ _ _ loop.so_far.2 c.in-Err.ensures.bytes,
-      (omega (arith, loop.so_far.1, loop.within), makes_whole loop.so_far.3),
+      (omega (arith, loop.so_far.1, c.loop-taken-test.true), makes_whole loop.so_far.3),
     )
 
 pub returns-in-Ok-finish-clause-served : goal.returns-in-Ok-finish-clause-served
@@ -37,7 +39,9 @@ returns-in-Ok-finish-clause-served g c =
       (
         c.in-Ok.ensures.bytes.1 c.if-count-eq0.true (grind (arith, common_steps)),
         omega (arith, loop.so_far.1, c.loop-taken-test.true),
-        makes_all (g.O.Sink.got c.finish.new.out) (first_moves_are_cut (system_of c.args.sessions.now.subject)) loop.so_far.3 (rw loop.subject at c.in-Ok-finish.ensures.carried),
+        makes_all (g.O.Sink.got c.finish.new.out) (moves_are_cut c.args.sessions.now) loop.so_far.3 
+        (subst (λ (one : Table → List ℕ → List Step). Makes c.loop-taken.sessions.table c.finish.new.sessions.table (script_moves one c.loop-taken.sessions.table (last_line c.loop-taken.gathered)) (g.O.Sink.got c.loop-taken.out) (g.O.Sink.got c.finish.new.out))
+        (moves_stay c.args.sessions.now c.loop-taken.sessions loop.stays) c.in-Ok-finish.ensures.carried),
       ),
     )
 
@@ -51,7 +55,10 @@ returns-in-Err-finish-clause-served g c =
         omega (arith, loop.so_far.1, loop.within),
         inr (
           c.in-Ok.ensures.bytes.1 c.if-count-eq0.true (grind (arith, common_steps)),
-          breaks_all {u = c.finish.new.sessions.table} {c = g.O.Sink.got c.finish.new.out} (first_moves_are_cut (system_of c.args.sessions.now.subject)) loop.so_far.3 (rw loop.subject at c.in-Err-finish.ensures.carried),
+          omega (arith, loop.so_far.1, c.loop-taken-test.true),
+          breaks_all {u = c.finish.new.sessions.table} {c = g.O.Sink.got c.finish.new.out} (moves_are_cut c.args.sessions.now) loop.so_far.3 
+          (subst (λ (one : Table → List ℕ → List Step). BreaksOff c.finish.new.sessions.table (script_moves one c.loop-taken.sessions.table (last_line c.loop-taken.gathered)) (g.O.Sink.got c.loop-taken.out) (g.O.Sink.got c.finish.new.out))
+          (moves_stay c.args.sessions.now c.loop-taken.sessions loop.stays) c.in-Err-finish.ensures.carried),
         ),
       ),
     )
@@ -59,32 +66,34 @@ returns-in-Err-finish-clause-served g c =
 pub returns-in-Err-feed-clause-served : goal.returns-in-Err-feed-clause-served
 returns-in-Err-feed-clause-served g c =
     let loop = c.loop-taken.invariant in
-    let system = system_of c.args.sessions.now.subject in
+    let same_moves = moves_stay c.args.sessions.now c.loop-taken.sessions loop.stays in
     let bytes = take c.in-Ok.count c.read.new.into in
     let same : take c.in-Ok.count (c.read.new.into ++ drop c.min-room.result c.loop-taken.piece) ≡ bytes = grind (arith, common_steps) in
     let got = g.O.Sink.got in
-    let broken : BreaksOff c.feed.new.sessions.table (script_moves (first_moves system) c.loop-taken.sessions.table (ended_from c.loop-taken.gathered bytes)) (got c.loop-taken.out) (got c.feed.new.out) =
-    subst (λ xs. BreaksOff c.feed.new.sessions.table (script_moves (first_moves system) c.loop-taken.sessions.table (ended_from c.loop-taken.gathered xs)) (got c.loop-taken.out) (got c.feed.new.out)) same (rw loop.subject at c.in-Err-feed.ensures.err) in (
+    let broken : BreaksOff c.feed.new.sessions.table (script_moves (moves_of c.args.sessions.now) c.loop-taken.sessions.table (ended_from c.loop-taken.gathered bytes)) (got c.loop-taken.out) (got c.feed.new.out) =
+    subst (λ xs. BreaksOff c.feed.new.sessions.table (script_moves (moves_of c.args.sessions.now) c.loop-taken.sessions.table (ended_from c.loop-taken.gathered xs)) (got c.loop-taken.out) (got c.feed.new.out)) same 
+    (subst (λ (one : Table → List ℕ → List Step). BreaksOff c.feed.new.sessions.table (script_moves one c.loop-taken.sessions.table (ended_from c.loop-taken.gathered (take c.in-Ok.count (c.read.new.into ++ drop c.min-room.result c.loop-taken.piece)))) (got c.loop-taken.out) (got c.feed.new.out)) same_moves c.in-Err-feed.ensures.err) in (
       loop.so_far.0 ++ bytes,
       grind (arith, common_steps, length-append, length-take),
       consumes_more _ _ _ _ _ loop.so_far.2 c.in-Ok.ensures.bytes.0,
       (
         grind (arith, common_steps, length-append, length-take),
-        inl (breaks_whole (first_moves system) c.args.sessions.now.table _ _ _ (loop.so_far.0 ++ bytes) (breaks_fed bytes (first_moves_are_cut system) loop.so_far.3 broken)),
+        inl (breaks_whole (moves_of c.args.sessions.now) c.args.sessions.now.table _ _ _ (loop.so_far.0 ++ bytes) (breaks_fed bytes (moves_are_cut c.args.sessions.now) loop.so_far.3 broken)),
       ),
     )
 
 pub loop-taken-preserved : goal.loop-taken-preserved
 loop-taken-preserved g c =
     let loop = c.loop-taken.invariant in
-    let system = system_of c.args.sessions.now.subject in
+    let same_moves = moves_stay c.args.sessions.now c.loop-taken.sessions loop.stays in
     let bytes = take c.in-Ok.count c.read.new.into in
     let same : take c.in-Ok.count (c.read.new.into ++ drop c.min-room.result c.loop-taken.piece) ≡ bytes = grind (arith, common_steps) in
-    let fed : Fed (first_moves system) c.loop-taken.sessions.table c.feed.new.sessions.table c.loop-taken.gathered c.feed.new.gathered bytes (g.O.Sink.got c.loop-taken.out) (g.O.Sink.got c.feed.new.out) =
-    subst (λ xs. Fed (first_moves system) c.loop-taken.sessions.table c.feed.new.sessions.table c.loop-taken.gathered c.feed.new.gathered xs (g.O.Sink.got c.loop-taken.out) (g.O.Sink.got c.feed.new.out)) same (rw loop.subject at c.in-Ok-feed.ensures.ok) in
+    let fed : Fed (moves_of c.args.sessions.now) c.loop-taken.sessions.table c.feed.new.sessions.table c.loop-taken.gathered c.feed.new.gathered bytes (g.O.Sink.got c.loop-taken.out) (g.O.Sink.got c.feed.new.out) =
+    subst (λ xs. Fed (moves_of c.args.sessions.now) c.loop-taken.sessions.table c.feed.new.sessions.table c.loop-taken.gathered c.feed.new.gathered xs (g.O.Sink.got c.loop-taken.out) (g.O.Sink.got c.feed.new.out)) same 
+    (subst (λ (one : Table → List ℕ → List Step). Fed one c.loop-taken.sessions.table c.feed.new.sessions.table c.loop-taken.gathered c.feed.new.gathered (take c.in-Ok.count (c.read.new.into ++ drop c.min-room.result c.loop-taken.piece)) (g.O.Sink.got c.loop-taken.out) (g.O.Sink.got c.feed.new.out)) same_moves c.in-Ok-feed.ensures.ok) in
     record {
-      so_far = (loop.so_far.0 ++ bytes, grind (arith, common_steps), consumes_more _ _ _ _ _ loop.so_far.2 c.in-Ok.ensures.bytes.0, fed_more (first_moves_are_cut system) loop.so_far.3 fed);
-      subject = c.in-Ok-feed.ensures.subject ∙ loop.subject;
+      so_far = (loop.so_far.0 ++ bytes, grind (arith, common_steps), consumes_more _ _ _ _ _ loop.so_far.2 c.in-Ok.ensures.bytes.0, fed_more (moves_are_cut c.args.sessions.now) loop.so_far.3 fed);
+      stays = stays_more c.args.sessions.now c.loop-taken.sessions c.feed.new.sessions loop.stays c.in-Ok-feed.ensures.stays;
       taken = omega (arith, c.in-Ok.ensures.taken, loop.taken);
       reads = c.in-Ok.ensures.cause.stayed ∙ loop.reads;
       writes = c.in-Ok-feed.ensures.cause.stayed ∙ loop.writes;

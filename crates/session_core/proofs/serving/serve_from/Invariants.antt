@@ -1,7 +1,6 @@
 use Rattle.std.proofs.Common.{◌≡◌, ◌+◌, ◌-◌, ◌≤◌, ℕ, List, [], length}
 use Rattle.std.specs.Io.KnownBytes.{Consumes}
-use Rattle.session_core.specs.Services.{system_of}
-use Rattle.session_core.specs.FirstPath.{first_moves}
+use Rattle.session_core.specs.Services.{moves_of, ChangesTable}
 use Rattle.session_core.specs.inner.Gathering.{Fed}
 use Rattle.session_core.proofs.serving.serve_from.Given as goal
 
@@ -13,8 +12,8 @@ invariant-loop-taken g l =
     record {
       so_far : (bytes : List ℕ) × (l.taken ≡ length bytes)
           × Consumes (I.left l.fn.input) (I.left l.input) bytes
-          × Fed (first_moves (system_of l.fn.sessions.subject)) l.fn.sessions.table l.sessions.table [] l.gathered bytes (O.got l.fn.out) (O.got l.out);
-      subject : l.sessions.subject ≡ l.fn.sessions.subject;
+          × Fed (moves_of l.fn.sessions) l.fn.sessions.table l.sessions.table [] l.gathered bytes (O.got l.fn.out) (O.got l.out);
+      stays : ChangesTable l.fn.sessions l.sessions;
       taken : I.taken l.input ≡ I.taken l.fn.input + l.taken;
       reads : I.faults l.input ≡ I.faults l.fn.input;
       writes : O.faults l.out ≡ O.faults l.fn.out;

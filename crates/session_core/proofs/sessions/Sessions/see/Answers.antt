@@ -1,55 +1,51 @@
-use Rattle.std.proofs.Common.{◌≡◌, ◌<◌, ◌∙◌, ◌∷◌, [], ◌+◌, ℕ, List, All, set, refl, sym, ap, subst, length, codes, arith, true}
-use Rattle.conditioner.specs.Words.{word_of}
-use Rattle.script_lang.specs.Script.{Ask, See}
-use Rattle.session_core.specs.Items.{line}
-use Rattle.session_core.specs.FirstPath.{first_step}
-use Rattle.session_core.specs.Sessions.{Step}
-use Rattle.session_core.specs.Services.{Subject, Shown, table_with, system_of, is_open_as}
-use Rattle.session_core.specs.Spelling.{Replies}
-use Rattle.session_core.specs.inner.CaseWords.{case_of_words}
-use Rattle.session_core.proofs.Answering.{see-any}
-use Rattle.session_core.proofs.Holding.{written_back, words-noted, case-noted, place-within}
-use Rattle.session_core.proofs.Spellings.{replies_one}
+use Rattle.std.proofs.Common.{◌∙◌, ◌∷◌, [], ap, subst, refl, codes, arith}
+use Rattle.session_rules.specs.declared.refusal.Refusal.TheVariants.{NoWire}
+use Rattle.session_rules.specs.GraphSystems.{system_of}
+use Rattle.session_rules.specs.Sessions.{with_seen, with_entry}
+use Rattle.session_core.specs.Services.{Shown}
+use Rattle.session_core.specs.inner.Obeying.{Obeys, seen_request}
+use Rattle.session_core.proofs.Obeying.{obeys_closed, obeys_refusal, asked_open}
+use Rattle.session_core.proofs.Holding.{shown_of, place-within, holds_more, obeys_becomes, seen-move, seen-needs, seen-at, seen-nowhere}
 use Rattle.session_core.proofs.sessions.Sessions.see.Goals as goal
+
+pub returns-in_default-clause-obeys : goal.returns-in_default-clause-obeys
+returns-in_default-clause-obeys g c =
+    let shown = shown_of c.self.inside.basis c.self.inside.open in
+    let s = c.args.session.now in
+    let request = seen_request c.args.name.now c.args.bit in
+    subst (λ (v : Shown). Obeys v v s request (g.O.Sink.got c.args.out.now) (g.O.Sink.got c.put_refusal.new.out) c.put_refusal.result) c.self.view_is
+    (obeys_closed shown s request (seen-move c.args.name.now c.args.bit) _ _ _ (seen-needs c.args.name.now c.args.bit) c.in_default.ensures.none c.put_refusal.ensures.text)
+
+pub see-requires-clause-wire : goal.see-requires-clause-wire
+see-requires-clause-wire g c =
+    let here = place-within c.args.name.now c.self.inside.basis.wires c.in-Some-find_wire.wire c.in-Some-find_wire.ensures in omega (arith, here, c.self.invariant.wires)
+
+pub returns-in-None-clause-obeys : goal.returns-in-None-clause-obeys
+returns-in-None-clause-obeys g c =
+    let shown = shown_of c.self.inside.basis c.self.inside.open in
+    let system = system_of c.self.inside.basis in
+    let s = c.args.session.now in
+    let request = seen_request c.args.name.now c.args.bit in
+    let there = c.in-Some.ensures.some in
+    subst (λ (v : Shown). Obeys v v s request (g.O.Sink.got c.args.out.now) (g.O.Sink.got c.put_refusal-in-None.new.out) c.put_refusal-in-None.result) c.self.view_is
+    (obeys_refusal shown s request (seen-move c.args.name.now c.args.bit) _ _ _ NoWire
+    (asked_open shown s request there.0 there.1.found ∙ seen-nowhere system s there.0 c.args.name.now c.args.bit c.in-None.ensures)
+    c.put_refusal-in-None.ensures.text)
+
+pub returns-in-Some-find_wire-clause-obeys : goal.returns-in-Some-find_wire-clause-obeys
+returns-in-Some-find_wire-clause-obeys g c =
+    let subject = c.self.inside.basis in
+    let opened = c.self.inside.open in
+    let s = c.args.session.now in
+    let request = seen_request c.args.name.now c.args.bit in
+    let there = c.in-Some.ensures.some in
+    let entry = with_seen there.0 c.in-Some-find_wire.wire c.args.bit in
+    subst (λ (v : Shown). Obeys v (shown_of subject c.see.new.self) s request (g.O.Sink.got c.args.out.now) (g.O.Sink.got c.put_line.new.out) c.put_line.result) c.self.view_is
+    (obeys_becomes subject opened c.see.new.self s request entry (codes "ok") _ _ _ (seen-move c.args.name.now c.args.bit)
+    (asked_open (shown_of subject opened) s request there.0 there.1.found ∙ seen-at (system_of subject) s there.0 c.args.name.now c.args.bit c.in-Some-find_wire.wire c.in-Some-find_wire.ensures)
+    (c.see.ensures s there.0 there.1) c.put_line.ensures.bytes)
 
 pub invariant_of-self : goal.invariant_of-self
 invariant_of-self g c =
-    let s = c.self.inside in
-    let held = c.self.invariant in
-    let same : length c.deref_mut.result.now ≡ length s.words.items = ap length c.deref_mut.ensures.value in
-    let whole = written_back s.words.len c.note.new.words s.words.items (omega (arith, c.note.auto.words, same)) in
-    let new = whole ∙ c.note.ensures.noted ∙ (λ i. set (c.deref_mut.ensures.value i) (length (c.as_slice.ensures.names i) + c.in-Some.wire) (word_of c.args.bit)) in (
-      held.0,
-      words-noted s.parts s.wires s.graph s.words.items _ c.in-Some.wire c.args.bit held.1 (place-within _ _ _ c.in-Some.ensures) new
-          (subst (λ (ws : List ℕ). All (λ w. w < 3) ws) (sym whole) c.note.ensures.words),
-      held.2,
-      held.3,
-    )
-
-pub returns-in-Some-clause-reply : goal.returns-in-Some-clause-reply
-returns-in-Some-clause-reply g c =
-    let s = c.self.inside in
-    let session = c.args.session.now in
-    let known = case_of_words (length s.parts) (length s.wires) s.words.items in
-    let subject : Subject = record { parts = s.parts; wires = s.wires; costs = s.costs.items; graph = s.graph } in
-    let opened = ap (λ (v : Shown). is_open_as session v.table) c.self.view_is ∙ sym c.if-not-is_open_as.ensures in
-    let sees = see-any (system_of subject) session s.name.items c.args.name.now c.args.bit s.is_open known c.in-Some.wire opened c.in-Some.ensures in
-    let here = ap (λ (v : Shown). (first_step (system_of v.subject) v.table (Ask session (See c.args.name.now c.args.bit))).items) c.self.view_is in
-    subst (λ items. Replies (g.O.Sink.got c.args.out.now) (g.O.Sink.got c.put_line.new.out) c.put_line.result items) (sym (ap (λ (t : Step). t.items) sees) ∙ here)
-    (replies_one _ _ _ (line (session ∷ codes "ok" ∷ [])) _ refl c.put_line.ensures.bytes)
-
-pub returns-in-Some-clause-table : goal.returns-in-Some-clause-table
-returns-in-Some-clause-table g c =
-    let s = c.self.inside in
-    let held = c.self.invariant in
-    let session = c.args.session.now in
-    let known = case_of_words (length s.parts) (length s.wires) s.words.items in
-    let subject : Subject = record { parts = s.parts; wires = s.wires; costs = s.costs.items; graph = s.graph } in
-    let opened = ap (λ (v : Shown). is_open_as session v.table) c.self.view_is ∙ sym c.if-not-is_open_as.ensures in
-    let sees = see-any (system_of subject) session s.name.items c.args.name.now c.args.bit s.is_open known c.in-Some.wire opened c.in-Some.ensures in
-    let here = ap (λ (v : Shown). (first_step (system_of v.subject) v.table (Ask session (See c.args.name.now c.args.bit))).table) c.self.view_is in
-    let same : length c.deref_mut.result.now ≡ length s.words.items = ap length c.deref_mut.ensures.value in
-    let whole = written_back s.words.len c.note.new.words s.words.items (omega (arith, c.note.auto.words, same)) in
-    let new = whole ∙ c.note.ensures.noted ∙ (λ i. set (c.deref_mut.ensures.value i) (length (c.as_slice.ensures.names i) + c.in-Some.wire) (word_of c.args.bit)) in
-    let case = case-noted s.parts s.wires s.graph s.words.items _ c.in-Some.wire c.args.bit held.1 (place-within _ _ _ c.in-Some.ensures) new in
-    ap (table_with s.is_open s.name.items) case ∙ sym (ap (λ (t : Step). t.table) sees) ∙ here
+    let there = c.in-Some.ensures.some in
+    holds_more c.self.inside.basis c.self.inside.open c.see.new.self c.self.inside.scratch c.self.inside.verdicts.items _ c.self.invariant (c.see.ensures c.args.session.now there.0 there.1)

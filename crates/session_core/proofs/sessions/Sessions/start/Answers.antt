@@ -1,52 +1,55 @@
-use Rattle.std.proofs.Common.{◌≡◌, ◌∙◌, ◌∷◌, ◌++◌, [], ℕ, List, replicate, refl, sym, ap, subst, length, codes, arith, true, false}
-use Rattle.std.specs.Prelude.{is_ok, if◌then◌else◌}
+use Rattle.std.proofs.Common.{◌≡◌, ◌∙◌, Bool, true, false, None, length, subst, refl, sym, codes, arith}
+use Rattle.std.proofs.lemmas.Bool.Decides.{nat_tests}
+use Rattle.text_rules.specs.Names.{Name}
 use Rattle.ranking.specs.Cases.{empty_case}
-use Rattle.script_lang.specs.Script.{Ask, Start}
-use Rattle.session_core.specs.Items.{line}
-use Rattle.session_core.specs.FirstPath.{first_step}
-use Rattle.session_core.specs.Services.{Subject, table_with, system_of}
-use Rattle.session_core.specs.Spelling.{Replies}
-use Rattle.session_core.specs.inner.CaseWords.{case_of_words}
-use Rattle.session_core.proofs.Answering.{start-first}
-use Rattle.session_core.proofs.Holding.{written_back, words-zero, case-zero}
-use Rattle.session_core.proofs.Spellings.{replies_one}
+use Rattle.std.specs.Prelude.{nat_le, if◌then◌else◌}
+use Rattle.script_lang.specs.Script.{Start}
+use Rattle.session_rules.specs.declared.refusal.Refusal.TheVariants.{OpenAlready, Full}
+use Rattle.session_rules.specs.GraphSystems.{system_of}
+use Rattle.session_rules.specs.Sessions.{Declined, becomes, outcome, outcome_in, entry_of, new_entry, with_entry}
+use Rattle.session_core.specs.Services.{Shown}
+use Rattle.session_core.specs.inner.Obeying.{Obeys}
+use Rattle.session_core.proofs.Obeying.{obeys_refusal, asked_open}
+use Rattle.session_core.proofs.Holding.{shown_of, opened_with, holds_more, obeys_becomes}
 use Rattle.session_core.proofs.sessions.Sessions.start.Goals as goal
 
+pub returns-in-Some-clause-obeys : goal.returns-in-Some-clause-obeys
+returns-in-Some-clause-obeys g c =
+    let shown = shown_of c.self.inside.basis c.self.inside.open in
+    let s = c.args.session.now in
+    let there = c.in-Some.ensures.some in
+    subst (λ (v : Shown). Obeys v v s Start (g.O.Sink.got c.args.out.now) (g.O.Sink.got c.put_refusal.new.out) c.put_refusal.result) c.self.view_is
+    (obeys_refusal shown s Start (λ system limit table session. refl) _ _ _ OpenAlready (asked_open shown s Start there.0 there.1.found) c.put_refusal.ensures.text)
+
+-- what opens a session comes to, where it is not open
+opened : (shown : Shown) (s : Name) (full : Bool) → entry_of s shown.table ≡ None → full ≡ nat_le shown.limit (length shown.table)
+    → outcome_in (system_of shown.subject) shown.limit shown.table s Start ≡ (if full then Declined Full else becomes s (new_entry (system_of shown.subject)) (codes "open"))
+opened shown s full none e =
+    (λ i. outcome (system_of shown.subject) s (sym e i) (none i) Start)
+
+pub returns-in-None-clause-obeys : goal.returns-in-None-clause-obeys
+returns-in-None-clause-obeys g c =
+    let shown = shown_of c.self.inside.basis c.self.inside.open in
+    let s = c.args.session.now in
+    subst (λ (v : Shown). Obeys v v s Start (g.O.Sink.got c.args.out.now) (g.O.Sink.got c.put_refusal-in-None.new.out) c.put_refusal-in-None.result) c.self.view_is
+    (obeys_refusal shown s Start (λ system limit table session. refl) _ _ _ Full (opened shown s true c.in-None.ensures.none c.if-is_full.ensures) c.put_refusal-in-None.ensures.text)
+
+pub returns-in-None-2-clause-obeys : goal.returns-in-None-2-clause-obeys
+returns-in-None-2-clause-obeys g c =
+    let subject = c.self.inside.basis in
+    let sessions = c.self.inside.open in
+    let s = c.args.session.now in
+    let fresh : c.start.new.self ≡ opened_with sessions (with_entry s (new_entry (system_of subject)) sessions.table) =
+    c.start.ensures ∙ (λ i. opened_with sessions (with_entry s (record { known = empty_case (c.self.invariant.wires i) (c.self.invariant.parts i); point = None }) sessions.table)) in
+    subst (λ (v : Shown). Obeys v (shown_of subject c.start.new.self) s Start (g.O.Sink.got c.args.out.now) (g.O.Sink.got c.put_line.new.out) c.put_line.result) c.self.view_is
+    (obeys_becomes subject sessions c.start.new.self s Start (new_entry (system_of subject)) (codes "open") _ _ _ (λ system limit table session. refl)
+    (opened (shown_of subject sessions) s false c.in-None-2.ensures.none c.if-is_full.ensures) fresh c.put_line.ensures.bytes)
+
+pub start-requires-clause-room : goal.start-requires-clause-room
+start-requires-clause-room g c = grind (arith, nat_tests, c.if-is_full.ensures)
+
+pub start-requires-clause-closed : goal.start-requires-clause-closed
+start-requires-clause-closed g c = c.in-None-2.ensures.none
+
 pub invariant_of-self : goal.invariant_of-self
-invariant_of-self g c =
-    let s = c.self.inside in
-    let held = c.self.invariant in
-    let same : length c.deref_mut.result.now ≡ length s.words.items = ap length c.deref_mut.ensures.value in
-    let new = written_back s.words.len c.forget.new.words s.words.items (omega (arith, c.forget.auto.words, same)) ∙ c.forget.ensures in (
-      held.0,
-      words-zero s.parts s.wires s.graph _ (length c.deref_mut.result.now) new (same ∙ held.1.long) (omega (arith, held.1.case.room, held.1.long)),
-      held.2,
-      omega (arith, held.3, c.clear.ensures.capacity, c.extend_from_slice.ensures.capacity),
-    )
-
-pub returns-clause-reply : goal.returns-clause-reply
-returns-clause-reply g c =
-    let s = c.self.inside in
-    let session = c.args.session.now in
-    let known = case_of_words (length s.parts) (length s.wires) s.words.items in
-    let subject : Subject = record { parts = s.parts; wires = s.wires; costs = s.costs.items; graph = s.graph } in
-    let opened = ap (λ b. (first_step (system_of subject) (table_with b s.name.items known) (Ask session Start)).items) c.if-self.false in
-    let here = ap (λ v. (first_step (system_of v.subject) v.table (Ask session Start)).items) c.self.view_is in
-    subst (λ items. Replies (g.O.Sink.got c.args.out.now) (g.O.Sink.got c.put_line.new.out) c.put_line.result items) (sym opened ∙ here)
-    (replies_one _ _ _ (line (session ∷ codes "open" ∷ [])) _ refl c.put_line.ensures.bytes)
-
-pub returns-clause-table : goal.returns-clause-table
-returns-clause-table g c =
-    let s = c.self.inside in
-    let session = c.args.session.now in
-    let held = c.self.invariant in
-    let known = case_of_words (length s.parts) (length s.wires) s.words.items in
-    let subject : Subject = record { parts = s.parts; wires = s.wires; costs = s.costs.items; graph = s.graph } in
-    let same : length c.deref_mut.result.now ≡ length s.words.items = ap length c.deref_mut.ensures.value in
-    let new = written_back s.words.len c.forget.new.words s.words.items (omega (arith, c.forget.auto.words, same)) ∙ c.forget.ensures in
-    let case = case-zero s.parts s.wires _ (length c.deref_mut.result.now) new (omega (arith, held.1.case.room, same)) in
-    let opened = ap (λ b. (first_step (system_of subject) (table_with b s.name.items known) (Ask session Start)).table) c.if-self.false in
-    let here = ap (λ v. (first_step (system_of v.subject) v.table (Ask session Start)).table) c.self.view_is in
-    let name : c.extend_from_slice.new.self.items ≡ session =
-    c.extend_from_slice.ensures.items ∙ (λ i. if is_ok (c.unwrap.ensures i) then (c.clear.ensures.items i ++ session) else c.clear.ensures.items i) in
-    (λ i. table_with true (name i) (case i)) ∙ sym opened ∙ here
+invariant_of-self g c = holds_more c.self.inside.basis c.self.inside.open c.start.new.self c.self.inside.scratch c.self.inside.verdicts.items _ c.self.invariant c.start.ensures

@@ -1,0 +1,2 @@
+pub mod Projecting
+pub mod inner

@@ -1,0 +1,63 @@
+-- The graph of the health states that a graph allows under words, and the text that it is written as.
+use Rattle.std.specs.Prelude.{◌≡◌, ℕ, ◌-◌, Bool, true, false, List, [], ◌∷◌, ◌++◌, map, length, take, Option, Some, None, nat_le, slice_index, if◌then◌else◌, Ok, Err}
+use Rattle.std.specs.List.{list_any, filter_map, enumerate_from, range_with_len}
+use Rattle.std.specs.Cmp.Lexicographic.{pointwise}
+use Rattle.ranking.specs.Bits.{same_bit}
+use Rattle.graph_rules.specs.declared.NodeKind.{NodeKind}
+use Rattle.graph_rules.specs.declared.NodeKind.TheVariants.{Literal, And, Or}
+use Rattle.graph_rules.specs.Graphs.{Node, Graph, literal_node, Decomposable, holds}
+use Rattle.graph_rules.specs.GraphTexts.{Parsed}
+use Rattle.graph_rules.specs.WrittenGraphs.{graph_text}
+use Rattle.conditioner.specs.declared.leaves.Leaf.{Leaf}
+use Rattle.conditioner.specs.declared.leaves.Leaf.TheVariants.{True, False, Open}
+use Rattle.conditioner.specs.Words.{known_of, known, leaf_of}
+
+-- A literal, which has no kids, becomes an and where it is true, and an or where it is false. An open one stays where its
+-- variable is a part's, and becomes an and where it is any other's, since that can have the bit that makes it true.
+abbrev pub projected_literal : ℕ → ℕ → Bool → Leaf → NodeKind
+projected_literal parts var positive True = And
+projected_literal parts var positive False = Or
+projected_literal parts var positive Open = if nat_le var parts then Literal var positive else And
+
+-- what a node becomes under the words
+abbrev pub projected_kind : List ℕ → ℕ → NodeKind → NodeKind
+projected_kind words parts (Literal var positive) =
+    projected_literal parts var positive (leaf_of positive (known_of (slice_index words (var - 1))))
+projected_kind words parts And = And
+projected_kind words parts Or = Or
+
+-- kids stay
+abbrev pub projected_node : List ℕ → ℕ → Node → Node
+projected_node words parts node = record { what = projected_kind words parts node.what; kids = node.kids }
+
+-- the literal of a part of which something is known
+abbrev pub held_literal : ℕ × Option Bool → Option Node
+held_literal (part, None) = None
+held_literal (part, Some ok) = Some (literal_node part ok)
+
+-- those of all such parts, in order
+abbrev pub held_literals : List ℕ → ℕ → List Node
+held_literals words parts = filter_map held_literal (enumerate_from 1 (known (take parts words)))
+
+-- an and over the root of so many nodes and over so many literals that follow them
+abbrev pub root_with : ℕ → ℕ → Node
+root_with nodes literals = record { what = And; kids = (nodes - 1) ∷ range_with_len nodes literals }
+
+-- the nodes of a graph under the words, the literals of held parts, and an and over its root and these
+abbrev pub projection : Graph → List ℕ → ℕ → Graph
+projection graph words parts =
+    let held = held_literals words parts in
+    record {
+      nodes = map (projected_node words parts) graph.nodes ++ (held ++ root_with (length graph.nodes) (length held) ∷ []);
+      vars = parts;
+    }
+
+abbrev pub projected_text : Graph → List ℕ → ℕ → List ℕ
+projected_text graph words parts = graph_text (projection graph words parts)
+
+-- a graph over so many parts, decomposable, and true for these states alone
+abbrev pub IsGraphOf : ℕ → List (List Bool) → Parsed → Type 0
+IsGraphOf parts states (Err refusal) = false ≡ true
+IsGraphOf parts states (Ok graph) =
+    (graph.vars ≡ parts) × Decomposable graph.nodes
+    × ((h : List Bool) → length h ≡ parts → holds graph h ≡ list_any (pointwise same_bit h) states)

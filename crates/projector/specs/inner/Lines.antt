@@ -1,0 +1,10 @@
+-- The lines of the literals of held parts.
+use Rattle.std.specs.Prelude.{ℕ, Bool, List, [], Option, Some, None}
+use Rattle.text_rules.specs.Tokens.{spaced}
+use Rattle.graph_rules.specs.Graphs.{literal_node}
+use Rattle.graph_rules.specs.WrittenGraphs.{node_words}
+
+-- the line of a part of which something or nothing is known
+abbrev pub held_line : ℕ × Option Bool → List ℕ
+held_line (part, None) = []
+held_line (part, Some ok) = spaced (node_words (literal_node part ok))

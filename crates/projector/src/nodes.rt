@@ -1,0 +1,60 @@
+ghost use Rattle.std.specs.Prelude.{◌≡◌, ◌<◌, length, All, true};
+ghost use Rattle.std.specs.List.{flat_map};
+ghost use Rattle.diag_edge.specs.Adding.{Adds};
+ghost use Rattle.diag_edge.specs.Edge.{HasCause};
+ghost use Rattle.text_rules.specs.Tokens.{spaced};
+ghost use Rattle.graph_rules.specs.GraphTexts.{variable_fits};
+ghost use Rattle.graph_rules.specs.WrittenGraphs.{node_words};
+ghost use Rattle.projector.specs.Projecting.{projected_literal, projected_kind, projected_node};
+
+use conditioner::{Leaf, leaf};
+use diag_edge::{Chunk, Sink, WriteFailed};
+use graph_rules::NodeKind;
+use nnf_text::add_node;
+use node_store::Graph;
+
+// What a literal becomes.
+fn projected_literal(parts: u32, var: u32, positive: bool, leaf: Leaf) -> NodeKind
+    ensures { result ≡ projected_literal parts var positive leaf }
+{
+    match leaf {
+        Leaf::False => NodeKind::Or,
+        Leaf::Open if var <= parts => NodeKind::Literal { var, positive },
+        Leaf::True | Leaf::Open => NodeKind::And,
+    }
+}
+
+// What a node becomes under the words.
+fn projected_kind(words: &[u32], parts: u32, kind: NodeKind) -> NodeKind
+    requires words { All (λ w. w < 3) words.now }
+    requires fits { variable_fits (length words.now) kind ≡ true }
+    ensures { result ≡ projected_kind words.now parts kind }
+{
+    match kind {
+        NodeKind::Literal { var, positive } => {
+            projected_literal(parts, var, positive, leaf(words, var, positive))
+        }
+        NodeKind::And | NodeKind::Or => kind,
+    }
+}
+
+// Adds the line of each node under the words.
+pub(crate) fn add_nodes<O: Sink>(
+    chunk: &mut Chunk,
+    out: &mut O,
+    graph: &Graph,
+    words: &[u32],
+    parts: u32,
+) -> Result<(), WriteFailed>
+    requires words { length words.now ≡ graph.now.vars }
+    requires small { All (λ w. w < 3) words.now }
+    ensures bytes { Adds (O.got out.old) (O.got out.new) chunk.old chunk.new result
+        (flat_map (λ node. spaced (node_words (projected_node words.now parts node))) graph.now.nodes) }
+    ensures cause { HasCause (O.faults out.old) (O.faults out.new) result }
+{
+    for node in 0..graph.len() {
+        let kind = projected_kind(words, parts, graph.what(node));
+        add_node(chunk, out, kind, graph.kids(node))?;
+    }
+    Ok(())
+}

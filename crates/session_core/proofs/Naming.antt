@@ -1,0 +1,70 @@
+-- The state in which named parts are faulty: how a word for each part is marked, name by name.
+use Rattle.std.proofs.Common.{◌≡◌, ◌∙◌, ℕ, ◌<◌, ◌≤◌, ◌∷◌, [], ◌==◌, Bool, true, List, Some, None, false, not, length, get_or, set, ap, refl, sym, inl, inr, arith}
+use Rattle.std.specs.Prelude.{◌||◌}
+use Rattle.std.specs.List.{position_or_len}
+use Rattle.std.proofs.lemmas.Bool.{cases_eq, or_right}
+use Rattle.std.proofs.lemmas.Grind.{common_steps}
+use Rattle.std.proofs.lemmas.List.{ext_get_or, length-map, get_or-map, get_or-set_same, get_or-set_other}
+use Rattle.std.proofs.lemmas.List.Folds.{list_any_at, list_any_none}
+use Rattle.std.proofs.lemmas.List.Quantifiers.{position-Some}
+use Rattle.std.proofs.lemmas.List.Sums.{fails_before_first}
+use Rattle.text_rules.specs.Names.{Name, same_name, is_among, names_rise}
+use Rattle.text_rules.proofs.NameLemmas.{equal_if_same, same_if_equal}
+use Rattle.device_model.specs.Devices.{place_of}
+use Rattle.device_model.specs.Building.{place_in}
+use Rattle.device_model.proofs.Naming.{same_name-other}
+use Rattle.device_model.proofs.CallerLemmas.{place_in-names_rise}
+use Rattle.diagnosis_lister.specs.Listing.{bits_of}
+use Rattle.session_rules.specs.Sessions.{state_of}
+
+-- a name that has a place is among the names, and one that has none is not
+pub is_among-at : (name : Name) (names : List Name) (place : ℕ) → Some place ≡ place_of name names → is_among names name ≡ true
+is_among-at name names place found =
+    let there = position-Some (same_name name) names place [] (sym found) in
+    list_any_at (same_name name) names place [] there.0 there.1
+
+pub is_among-nowhere : (name : Name) (names : List Name) → None ≡ place_of name names → is_among names name ≡ false
+is_among-nowhere name names missing =
+    let past : length names ≤ position_or_len (same_name name) names = grind (arith, common_steps) in
+    list_any_none (same_name name) names (λ k d l. fails_before_first (same_name name) names k d (omega arith))
+
+module _ (parts : List Name) where
+  -- a part is among all names exactly where its word is marked, or where it is among the names that are left
+  abbrev pub AreMarked : List Name → List ℕ → List Name → Type 0
+  AreMarked all state left = (k : ℕ) → k < length parts
+      → is_among all (get_or parts k []) ≡ (not (get_or state k 0 == 0) || is_among left (get_or parts k []))
+
+  -- the word at the place of the next name is marked
+  pub marked_more : (all left : List Name) (name : Name) (state : List ℕ) (place : ℕ)
+      → names_rise parts ≡ true → Some place ≡ place_of name parts → length state ≡ length parts
+      → AreMarked all state (name ∷ left) → AreMarked all (set state place 1) left
+  marked_more all left name state place rise found long before k l =
+      let there = position-Some (same_name name) parts place [] (sym found) in
+      let is : name ≡ get_or parts place [] = equal_if_same _ _ there.1 in
+      elim (cases_eq k place) [
+        | inl e ↦
+            let on : get_or (set state place 1) k 0 ≡ 1 = rw e (get_or-set_same state place 1 0 (omega arith)) in
+            let same : same_name (get_or parts k []) name ≡ true = same_if_equal _ _ (ap (λ (i : ℕ). get_or parts i []) e ∙ sym is) in
+            rw on (rw same at (before k l) ∙ or_right _ _ refl)
+        | inr off ↦
+            let kept : get_or (set state place 1) k 0 ≡ get_or state k 0 = get_or-set_other state place k 1 0 off in
+            let other : same_name (get_or parts k []) name ≡ false = same_name-other _ _
+            (λ e. off (sym (place_in-names_rise parts k rise l) ∙ ap (place_in parts) (e ∙ is)
+            ∙ place_in-names_rise parts place rise there.0)) in
+            rw kept (rw other at (before k l))
+      ]
+
+  unmarked : (a off : Bool) → a ≡ (not off || false) → off ≡ not a
+  unmarked a true e = ap not (sym e)
+  unmarked a false e = ap not (sym e)
+
+  -- no name is left
+  pub marked_all : (all : List Name) (state : List ℕ) → length state ≡ length parts → AreMarked all state [] → bits_of state ≡ state_of all parts
+  marked_all all state long marked =
+      let is_named : Name → Bool = λ part. not (is_among all part) in
+      ext_get_or true (bits_of state) (state_of all parts) (omega (arith, length-map state (λ s. s == 0), length-map parts is_named))
+      (λ k l.
+      let low : k < length parts = omega (arith, length-map state (λ s. s == 0)) in
+      get_or-map (λ s. s == 0) state k 0 true (omega arith)
+      ∙ unmarked _ _ (marked k low)
+      ∙ sym (get_or-map is_named parts k [] true low))

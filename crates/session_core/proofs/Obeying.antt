@@ -1,0 +1,67 @@
+-- Requests that are one move.
+use Rattle.std.proofs.Common.{◌≡◌, ◌∙◌, ◌∷◌, [], ℕ, Bool, List, Option, Some, None, Result, codes, decimal, refl, ap, sym, subst}
+use Rattle.std.specs.Prelude.{nat_le, length}
+use Rattle.text_rules.specs.Names.{Name}
+use Rattle.text_rules.specs.Tokens.{spaced}
+use Rattle.diag_edge.specs.Edge.{Puts}
+use Rattle.ranking.specs.Systems.{System}
+use Rattle.script_lang.specs.Script.{Request, Ask}
+use Rattle.session_rules.specs.declared.refusal.Refusal.{Refusal}
+use Rattle.session_rules.specs.declared.refusal.Refusal.TheVariants.{NoSession}
+use Rattle.session_rules.specs.Refusals.{refusal_number, refusal_text}
+use Rattle.session_rules.specs.GraphSystems.{system_of}
+use Rattle.session_rules.specs.Items.{line}
+use Rattle.session_rules.specs.Sessions.{Table, Entry, Step, Outcome, Declined, Done, Change, outcome, when_open, outcome_in, entry_of, carried, changed}
+use Rattle.session_rules.specs.Moves.{moves}
+use Rattle.session_rules.specs.Spelling.{Replies}
+use Rattle.session_rules.specs.Carrying.{CarriesOut}
+use Rattle.session_rules.proofs.Broken.{carries_step}
+use Rattle.session_rules.proofs.Spellings.{replies_one}
+use Rattle.session_core.specs.Services.{Shown, ChangesTable}
+use Rattle.session_core.specs.inner.Obeying.{Obeys}
+
+-- the table of a service is another
+abbrev pub with_table : Shown → Table → Shown
+with_table shown table = record shown { table = table }
+
+-- a request is one move
+abbrev pub IsOneMove : Request → Type 0
+IsOneMove request = (system : System) (limit : ℕ) (table : Table) (session : Name)
+    → moves system limit table (Ask session request) ≡ carried table session (outcome_in system limit table session request) ∷ []
+
+-- and is declined where the session is not open
+abbrev pub NeedsSession : Request → Type 0
+NeedsSession request = (system : System) (session : Name) (full : Bool) → outcome system session full None request ≡ Declined NoSession
+
+-- what an open session answers is told by its entry
+pub asked_open : (old : Shown) (session : Name) (request : Request) (entry : Entry) → entry_of session old.table ≡ Some entry → outcome_in (system_of old.subject) old.limit old.table session request ≡ when_open (system_of old.subject) session entry request
+asked_open old session request entry found = ap (λ (e : Option Entry). outcome (system_of old.subject) session (nat_le old.limit (length old.table)) e request) found
+
+module _ {T E : Type 0} (old : Shown) (session : Name) (request : Request) (one : IsOneMove request) (before after : Option (List ℕ)) (result : Result T E) where
+  the_outcome : Outcome
+  the_outcome = outcome_in (system_of old.subject) old.limit old.table session request
+
+  -- what a request comes to
+  pub obeys_outcome : (to : Outcome) (new : Shown) → outcome_in (system_of old.subject) old.limit old.table session request ≡ to
+      → new ≡ with_table old (carried old.table session to).table → Replies before after result (carried old.table session to).items → Obeys old new session request before after result
+  obeys_outcome to new is becomes reply = record {
+    carried = subst (λ (ms : List Step). CarriesOut old.table new.table ms before after result) (sym (one (system_of old.subject) old.limit old.table session))
+        (carries_step old.table new.table (carried old.table session to) (carried old.table session (outcome_in (system_of old.subject) old.limit old.table session request)) before after result
+        (ap (carried old.table session) (sym is)) reply (ap (λ (s : Shown). s.table) becomes));
+    stays = becomes ∙ sym (ap (λ (s : Shown). with_table old s.table) becomes);
+  }
+
+  -- a refusal
+  pub obeys_refusal : (refusal : Refusal) → outcome_in (system_of old.subject) old.limit old.table session request ≡ Declined refusal
+      → Puts before after result (spaced (session ∷ codes "error" ∷ decimal (refusal_number refusal) ∷ refusal_text refusal ∷ [])) → Obeys old old session request before after result
+  obeys_refusal refusal is put =
+      obeys_outcome (Declined refusal) old is refl
+      (replies_one before after result (line (session ∷ codes "error" ∷ decimal (refusal_number refusal) ∷ refusal_text refusal ∷ [])) _ refl put)
+
+  -- a session that is not open
+  pub obeys_closed : NeedsSession request → entry_of session old.table ≡ None
+      → Puts before after result (spaced (session ∷ codes "error" ∷ decimal 6 ∷ codes "no session" ∷ [])) → Obeys old old session request before after result
+  obeys_closed needs none put =
+      obeys_refusal NoSession
+      (ap (λ (e : Option Entry). outcome (system_of old.subject) session (nat_le old.limit (length old.table)) e request) none ∙ needs (system_of old.subject) session (nat_le old.limit (length old.table)))
+      put

@@ -1,0 +1,174 @@
+-- What is told of a case, by what the graph answers under its words.
+use Rattle.std.proofs.Common.{◌≡◌, ◌≢◌, ℕ, zero, suc, ◌+◌, ◌<◌, ◌≤◌, Bool, true, false, not, List, [], ◌∷◌, ◌++◌, map, length, get_or, drop, Option, Some, None, refl, ap, ap₂, sym, ◌∙◌, subst, arith, codes, add-one}
+use Rattle.std.specs.Prelude.{is_some, slice_get, if◌then◌else◌}
+use Rattle.std.specs.List.{list_all, list_any}
+use Rattle.std.proofs.lemmas.List.{get_or-map}
+use Rattle.text_rules.specs.Names.{Name}
+use Rattle.text_rules.specs.Tokens.{spaced}
+use Rattle.ranking.specs.Bits.{bit_in}
+use Rattle.ranking.specs.Cases.{Case}
+use Rattle.ranking.specs.Ranking.{cost, least, least_with, least_of, diagnoses}
+use Rattle.ranking.specs.Systems.{System}
+use Rattle.ranking.proofs.Drops.{drop-item, drop-past}
+use Rattle.conditioner.specs.Words.{known_of}
+use Rattle.probe_report.specs.declared.verdicts.Blame.{Blame}
+use Rattle.probe_report.specs.Verdicts.{verdict as verdict_on}
+use Rattle.session_rules.specs.Items.{Item, line}
+use Rattle.session_rules.specs.Replies.{inconsistent, seen_at, least_at, count_text, probe_line, probe_lines, verdict, blame_lines, if_any}
+use Rattle.session_rules.specs.GraphSystems.{Subject, system_of}
+use Rattle.session_rules.proofs.Begun.{HaveSpellings}
+use Rattle.session_rules.proofs.ProbeWords.{word_there}
+use Rattle.session_core.specs.inner.Bases.{IsBasis, AreKnown, case_in}
+use Rattle.session_core.specs.inner.Texts.{blame_text}
+use Rattle.session_core.specs.inner.Telling.{unseen_line, verdict_lines}
+use Rattle.session_core.proofs.Minimum.{no_diagnosis, some_diagnosis}
+
+-- ---- a wire that is seen or not
+
+by_word : (n : ℕ) (seen : Option Bool) → seen ≡ known_of n → is_some seen ≡ is_some (known_of n)
+by_word n seen e = ap is_some e
+
+open_word : (n : ℕ) → n ≡ 0 → is_some (known_of n) ≡ false
+open_word zero e = refl
+open_word (suc n) e = absurd (omega (arith, e))
+
+fixed_word : (n : ℕ) → n ≢ 0 → is_some (known_of n) ≡ true
+fixed_word zero e = absurd (e refl)
+fixed_word (suc zero) e = refl
+fixed_word (suc (suc n)) e = refl
+
+module _ (subject : Subject) (words : List ℕ) (basis : IsBasis subject) (are : AreKnown subject words) (wire : ℕ) (within : wire < length subject.wires) where
+  abbrev place : ℕ
+  place = length subject.parts + wire
+
+  seen-word : seen_at (case_in subject words) wire ≡ known_of (get_or words place 0)
+  seen-word =
+      let room = basis.vars in
+      let long = are.long in
+      let inside : place < length words = omega (arith, room, long, within) in
+      sym (word_there subject.parts subject.wires subject.costs subject.graph subject.graph.vars words basis.costs refl are wire within)
+      ∙ get_or-map known_of words place 0 None inside
+
+  pub unseen-none : (s name : Name) (n : ℕ) → n ≡ place → get_or words n 0 ≢ 0 → unseen_line (system_of subject) s (case_in subject words) name wire ≡ []
+  unseen-none s name n is some =
+      ap (λ b. elim b as (λ (_ : Bool). List Item) [ true ↦ [] | false ↦ probe_line (system_of subject) s (case_in subject words) name wire ∷ [] ])
+      (ap is_some seen-word ∙ fixed_word (get_or words place 0) (subst (λ m. get_or words m 0 ≢ 0) is some))
+
+  pub unseen-one : (s name : Name) (n : ℕ) → n ≡ place → get_or words n 0 ≡ 0 → unseen_line (system_of subject) s (case_in subject words) name wire ≡ probe_line (system_of subject) s (case_in subject words) name wire ∷ []
+  unseen-one s name n is none =
+      ap (λ b. elim b as (λ (_ : Bool). List Item) [ true ↦ [] | false ↦ probe_line (system_of subject) s (case_in subject words) name wire ∷ [] ])
+      (ap is_some seen-word ∙ open_word (get_or words place 0) (ap (λ m. get_or words m 0) (sym is) ∙ none))
+
+-- ---- lines that are left
+
+-- the lines from a wire on begin with its own
+pub lines-next : (system : System) (s : Name) (known : Case) (names : List Name) (i : ℕ) → i < length names
+    → probe_lines system s known i (drop i names) ≡ unseen_line system s known (get_or names i []) i ++ probe_lines system s known (i + 1) (drop (i + 1) names)
+lines-next system s known names i h =
+    ap (probe_lines system s known i) (drop-item names i [] h)
+    ∙ (by (is_some (seen_at known i))
+    ∙ ap (λ n. unseen_line system s known (get_or names i []) i ++ probe_lines system s known (i + 1) (drop n names)) (sym (add-one i)))
+  where
+    rest : List Item
+    rest = probe_lines system s known (i + 1) (drop (suc i) names)
+
+    by : (b : Bool) → (elim b [ true ↦ rest | false ↦ probe_line system s known (get_or names i []) i ∷ rest ])
+        ≡ (elim b as (λ (_ : Bool). List Item) [ true ↦ [] | false ↦ probe_line system s known (get_or names i []) i ∷ [] ]) ++ rest
+    by true = refl
+    by false = refl
+
+pub lines-end : (system : System) (s : Name) (known : Case) (names : List Name) (i : ℕ) → length names ≤ i → probe_lines system s known i (drop i names) ≡ []
+lines-end system s known names i h = rw (drop-past names i h) refl
+
+pub lines-have : (system : System) (s : Name) (known : Case) (i : ℕ) (names : List Name) → HaveSpellings (probe_lines system s known i names)
+lines-have system s known i [] = tt
+lines-have system s known i (name ∷ names) = by (is_some (seen_at known i)) (lines-have system s known (i + 1) names)
+  where
+    by : (b : Bool) → HaveSpellings (probe_lines system s known (i + 1) names) → HaveSpellings (elim b [ true ↦ probe_lines system s known (i + 1) names | false ↦ probe_line system s known name i ∷ probe_lines system s known (i + 1) names ])
+    by true more = more
+    by false more = ((_, refl), more)
+
+-- and the verdicts from a part on
+pub verdicts-next : (s : Name) (names : List Name) (verdicts : List Blame) (i : ℕ) (v : Blame) → i < length names → i < length verdicts
+    → verdict_lines s (drop i names) (drop i verdicts) ≡ (line (s ∷ codes "blame" ∷ get_or names i [] ∷ blame_text (get_or verdicts i v) ∷ []) ∷ []) ++ verdict_lines s (drop (i + 1) names) (drop (i + 1) verdicts)
+verdicts-next s names verdicts i v h g = rw (add-one i, drop-item names i [] h, drop-item verdicts i v g) refl
+
+pub verdicts-end : (s : Name) (names : List Name) (verdicts : List Blame) (i : ℕ) → length names ≤ i → verdict_lines s (drop i names) (drop i verdicts) ≡ []
+verdicts-end s names verdicts i h = rw (drop-past names i h) refl
+
+pub verdicts-have : (s : Name) (names : List Name) (verdicts : List Blame) → HaveSpellings (verdict_lines s names verdicts)
+verdicts-have s [] verdicts = tt
+verdicts-have s (name ∷ names) [] = tt
+verdicts-have s (name ∷ names) (v ∷ verdicts) = ((_, refl), verdicts-have s names verdicts)
+
+-- ---- whether some state agrees
+
+pub least-some : (costs : List ℕ) (h : List Bool) (hs : List (List Bool)) → is_some (least costs (h ∷ hs)) ≡ true
+least-some costs h hs = by (least_of (map (cost costs) hs))
+  where
+    by : (o : Option ℕ) → is_some (least_with (cost costs h) o) ≡ true
+    by None = refl
+    by (Some m) = refl
+
+pub if_any-none : (costs : List ℕ) (s : Name) (hs : List (List Bool)) (items : List Item) → false ≡ is_some (least costs hs) → if_any s hs items ≡ inconsistent s ∷ []
+if_any-none costs s [] items e = refl
+if_any-none costs s (h ∷ hs) items e = absurd (let no : false ≡ true = e ∙ least-some costs h hs in let never : ⊥ = cc in never)
+
+pub if_any-some : (costs : List ℕ) (s : Name) (hs : List (List Bool)) (items : List Item) → true ≡ is_some (least costs hs) → if_any s hs items ≡ items
+if_any-some costs s [] items e = absurd (let never : ⊥ = cc in never)
+if_any-some costs s (h ∷ hs) items e = refl
+
+by_least-none : (costs : List ℕ) (s : Name) (hs : List (List Bool)) (items : List Item) (o : Option ℕ) → least costs hs ≡ o → false ≡ is_some o → if_any s (diagnoses costs hs) items ≡ inconsistent s ∷ []
+by_least-none costs s hs items None e f = ap (λ ds. if_any s ds items) (no_diagnosis costs hs e)
+by_least-none costs s hs items (Some n) e f = absurd (let never : ⊥ = cc in never)
+
+pub if_diagnosis-none : (costs : List ℕ) (s : Name) (hs : List (List Bool)) (items : List Item) → false ≡ is_some (least costs hs) → if_any s (diagnoses costs hs) items ≡ inconsistent s ∷ []
+if_diagnosis-none costs s hs items e = by_least-none costs s hs items (least costs hs) refl e
+
+-- a list that is not empty
+if_any-nonempty : (s : Name) (ds : List (List Bool)) (items : List Item) → ds ≢ [] → if_any s ds items ≡ items
+if_any-nonempty s [] items some = absurd (some refl)
+if_any-nonempty s (d ∷ ds) items some = refl
+
+by_least-some : (costs : List ℕ) (hs : List (List Bool)) (o : Option ℕ) → least costs hs ≡ o → true ≡ is_some o → diagnoses costs hs ≢ []
+by_least-some costs hs None e f = absurd (let never : ⊥ = cc in never)
+by_least-some costs hs (Some n) e f = λ none. some_diagnosis costs n hs e none
+
+pub has_diagnosis : (costs : List ℕ) (hs : List (List Bool)) → true ≡ is_some (least costs hs) → diagnoses costs hs ≢ []
+has_diagnosis costs hs e = by_least-some costs hs (least costs hs) refl e
+
+pub if_diagnosis-some : (costs : List ℕ) (s : Name) (hs : List (List Bool)) (items : List Item) → true ≡ is_some (least costs hs) → if_any s (diagnoses costs hs) items ≡ items
+if_diagnosis-some costs s hs items e = if_any-nonempty s (diagnoses costs hs) items (has_diagnosis costs hs e)
+
+-- ---- blame
+
+same_word : (b : Bool) (faulty : List Bool) → blame_text (verdict_on (b ∷ faulty)) ≡ verdict (b ∷ faulty)
+same_word b faulty = by (list_all (λ x. x) (b ∷ faulty)) (list_any (λ x. x) (b ∷ faulty))
+  where
+    by : (all any : Bool) → blame_text (if all then Blame.Always else if any then Blame.Sometimes else Blame.Never) ≡ (if all then codes "always" else if any then codes "sometimes" else codes "never")
+    by true any = refl
+    by false true = refl
+    by false false = refl
+
+verdict_word : (ds : List (List Bool)) (part : ℕ) → ds ≢ [] → blame_text (verdict_on (map (λ (state : List Bool). not (bit_in state part)) ds)) ≡ verdict (map (λ (state : List Bool). not (bit_in state part)) ds)
+verdict_word [] part some = absurd (some refl)
+verdict_word (d ∷ ds) part some = same_word (not (bit_in d part)) (map (λ (state : List Bool). not (bit_in state part)) ds)
+
+-- The lines by the verdicts are those by the diagnoses.
+pub blame_lines-are : (s : Name) (ds : List (List Bool)) (part : ℕ) (names : List Name) (verdicts : List Blame) → ds ≢ [] → length verdicts ≡ length names
+    → ((i : ℕ) → i < length names → slice_get verdicts i ≡ Some (verdict_on (map (λ (state : List Bool). not (bit_in state (part + i))) ds)))
+    → verdict_lines s names verdicts ≡ blame_lines s ds part names
+blame_lines-are s ds part [] verdicts some long each = refl
+blame_lines-are s ds part (name ∷ names) [] some long each = absurd (omega (arith, long))
+blame_lines-are s ds part (name ∷ names) (v ∷ verdicts) some long each =
+    let first : Some v ≡ Some (verdict_on (map (λ (state : List Bool). not (bit_in state (part + 0))) ds)) = each 0 (omega arith) in
+    let here : part + 0 ≡ part = omega arith in
+    let same : v ≡ verdict_on (map (λ (state : List Bool). not (bit_in state part)) ds) = (let e : v ≡ verdict_on (map (λ (state : List Bool). not (bit_in state (part + 0))) ds) = cc in e ∙ ap (λ n. verdict_on (map (λ (state : List Bool). not (bit_in state n)) ds)) here) in
+    ap₂ (λ word lines. line (s ∷ codes "blame" ∷ name ∷ word ∷ []) ∷ lines)
+    (ap blame_text same ∙ verdict_word ds part some)
+    (blame_lines-are s ds (part + 1) names verdicts some (omega (arith, long)) (λ i h. later i h))
+  where
+    later : (i : ℕ) → i < length names → slice_get verdicts i ≡ Some (verdict_on (map (λ (state : List Bool). not (bit_in state (part + 1 + i))) ds))
+    later i h =
+        let next : part + suc i ≡ part + 1 + i = omega arith in
+        each (suc i) (omega (arith, h)) ∙ ap (λ n. Some (verdict_on (map (λ (state : List Bool). not (bit_in state n)) ds))) next

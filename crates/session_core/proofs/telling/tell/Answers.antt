@@ -1,0 +1,50 @@
+use Rattle.std.proofs.Common.{◌∷◌, ◌++◌, [], ℕ, List, length, codes, sym, subst}
+use Rattle.ranking.specs.Systems.{least_cost, all_diagnoses}
+use Rattle.session_rules.specs.GraphSystems.{system_of}
+use Rattle.session_rules.specs.Items.{Projected, line}
+use Rattle.session_rules.specs.Replies.{min_line, probe_line, probe_lines, blame_lines, end_line, if_any}
+use Rattle.session_rules.specs.Spelling.{Replies}
+use Rattle.session_core.specs.declared.telling.Question.{Question}
+use Rattle.session_core.specs.declared.telling.Question.TheVariants as question
+use Rattle.session_core.specs.inner.Bases.{case_in}
+use Rattle.session_core.specs.inner.Telling.{told_of}
+use Rattle.session_core.proofs.telling.tell.Goals as goal
+
+pub returns-in-Minimum-clause-reply : goal.returns-in-Minimum-clause-reply
+returns-in-Minimum-clause-reply g c =
+    let basis = c.args.basis.now in
+    let system = system_of basis in
+    let s = c.args.session.now in
+    subst (λ (q : Question). Replies (g.O.Sink.got c.args.out.now) (g.O.Sink.got c.tell_minimum.new.out) c.tell_minimum.result (told_of system s (case_in basis c.args.known.now) q)) (sym c.in-Minimum.is)
+    (subst (λ (words : List ℕ). Replies (g.O.Sink.got c.args.out.now) (g.O.Sink.got c.tell_minimum.new.out) c.tell_minimum.result (told_of system s (case_in basis words) (question.Minimum))) c.copy_from_slice.ensures.after c.tell_minimum.ensures.reply)
+
+pub returns-in-Probe-clause-reply : goal.returns-in-Probe-clause-reply
+returns-in-Probe-clause-reply g c =
+    let basis = c.args.basis.now in
+    let system = system_of basis in
+    let s = c.args.session.now in
+    subst (λ (q : Question). Replies (g.O.Sink.got c.args.out.now) (g.O.Sink.got c.tell_probe.new.out) c.tell_probe.result (told_of system s (case_in basis c.args.known.now) q)) (sym c.in-Probe.is)
+    (subst (λ (words : List ℕ). Replies (g.O.Sink.got c.args.out.now) (g.O.Sink.got c.tell_probe.new.out) c.tell_probe.result (told_of system s (case_in basis words) (question.Probe c.in-Probe.wire c.in-Probe.name))) c.copy_from_slice.ensures.after c.tell_probe.ensures.reply)
+
+pub returns-in-Probes-clause-reply : goal.returns-in-Probes-clause-reply
+returns-in-Probes-clause-reply g c =
+    let basis = c.args.basis.now in
+    let system = system_of basis in
+    let s = c.args.session.now in
+    subst (λ (q : Question). Replies (g.O.Sink.got c.args.out.now) (g.O.Sink.got c.tell_probes.new.out) c.tell_probes.result (told_of system s (case_in basis c.args.known.now) q)) (sym c.in-Probes.is)
+    (subst (λ (words : List ℕ). Replies (g.O.Sink.got c.args.out.now) (g.O.Sink.got c.tell_probes.new.out) c.tell_probes.result (told_of system s (case_in basis words) (question.Probes))) c.copy_from_slice.ensures.after c.tell_probes.ensures.reply)
+
+pub returns-in-Blame-clause-reply : goal.returns-in-Blame-clause-reply
+returns-in-Blame-clause-reply g c =
+    let basis = c.args.basis.now in
+    let system = system_of basis in
+    let s = c.args.session.now in
+    subst (λ (q : Question). Replies (g.O.Sink.got c.args.out.now) (g.O.Sink.got c.tell_blame.new.out) c.tell_blame.result (told_of system s (case_in basis c.args.known.now) q)) (sym c.in-Blame.is)
+    (subst (λ (words : List ℕ). Replies (g.O.Sink.got c.args.out.now) (g.O.Sink.got c.tell_blame.new.out) c.tell_blame.result (told_of system s (case_in basis words) (question.Blame))) c.copy_from_slice.ensures.after c.tell_blame.ensures.reply)
+
+pub returns-in-Graph-clause-reply : goal.returns-in-Graph-clause-reply
+returns-in-Graph-clause-reply g c =
+    let basis = c.args.basis.now in
+    let system = system_of basis in
+    let s = c.args.session.now in
+    subst (λ (q : Question). Replies (g.O.Sink.got c.args.out.now) (g.O.Sink.got c.tell_graph.new.out) c.tell_graph.result (told_of system s (case_in basis c.args.known.now) q)) (sym c.in-Graph.is) c.tell_graph.ensures.reply

@@ -1,0 +1,96 @@
+//! Requests that leave every session as it is.
+ghost use Rattle.std.specs.Prelude.{◌≡◌, ◌<◌, length};
+ghost use Rattle.diag_edge.specs.Edge.{HasCause};
+ghost use Rattle.script_lang.specs.Script.{Probe};
+ghost use Rattle.session_rules.specs.GraphSystems.{system_of};
+ghost use Rattle.session_rules.specs.Sessions.{Entry};
+ghost use Rattle.session_rules.specs.Spelling.{Replies};
+ghost use Rattle.session_table.specs.Tables.{StandsAt};
+ghost use Rattle.session_core.specs.inner.Obeying.{Obeys, asked_request, NamesNoWire};
+ghost use Rattle.session_core.specs.inner.Telling.{told_of, HasPlace};
+
+use crate::replies::put_refusal;
+use crate::sessions::Sessions;
+use crate::telling::{Question, tell};
+use diag_edge::{Sink, WriteFailed};
+use minimiser::Steps;
+use session_rules::Refusal;
+use std::marker::Brand;
+use std::sync::ledger::{Blank, Ledger};
+
+impl Sessions {
+    // Tells what is asked of a session's case.
+    pub(crate) fn ask<O: Sink>(
+        &mut self,
+        session: &[u8],
+        question: Question<'_>,
+        out: &mut O,
+    ) -> Result<(), WriteFailed>
+        requires { NamesNoWire question }
+        ensures obeys { Obeys self.old self.new session.now (asked_request question.entry)
+            (O.got out.old) (O.got out.new) result }
+        ensures cause { HasCause (O.faults out.old) (O.faults out.new) result }
+    {
+        match self.open.find(session) {
+            None => put_refusal(out, session, Refusal::NoSession),
+            Some(place) => self.tell_at::<O, Brand>(Blank::new(1), place, session, question, out),
+        }
+    }
+
+    // Tells the least costs where a wire is 0 and where it is 1.
+    pub(crate) fn ask_wire<O: Sink>(
+        &mut self,
+        session: &[u8],
+        name: &[u8],
+        out: &mut O,
+    ) -> Result<(), WriteFailed>
+        ensures obeys { Obeys self.old self.new session.now (Probe name.now) (O.got out.old) (O.got out.new) result }
+        ensures cause { HasCause (O.faults out.old) (O.faults out.new) result }
+    {
+        let Some(place) = self.open.find(session) else {
+            return put_refusal(out, session, Refusal::NoSession);
+        };
+        match self.basis.find_wire(name) {
+            None => put_refusal(out, session, Refusal::NoWire),
+            Some(wire) => {
+                let question = Question::Probe { wire, name };
+                self.tell_at::<O, Brand>(Blank::new(1), place, session, question, out)
+            }
+        }
+    }
+
+    // Tells what is asked of the case of the session at a place, by passes that are counted from 0.
+    fn tell_at<O: Sink, L: Ledger>(
+        &mut self,
+        blank: Blank,
+        place: usize,
+        session: &[u8],
+        question: Question<'_>,
+        out: &mut O,
+    ) -> Result<(), WriteFailed>
+        requires name { blank.name ≡ L.name }
+        requires shares { blank.parts ≡ L.parts }
+        requires some { 0 < blank.parts }
+        requires place { place < length self.old.table }
+        requires question { HasPlace self.old.subject question }
+        ensures reply { (entry : Entry) → StandsAt self.old.table place session.now entry
+            → Replies (O.got out.old) (O.got out.new) result
+            (told_of (system_of self.old.subject) session.now entry.known question.entry) }
+        ensures same { self.new ≡ self.old }
+        ensures cause { HasCause (O.faults out.old) (O.faults out.new) result }
+    {
+        let run = self.scratch.carve(self.basis.room()).unwrap();
+        let told = tell(
+            &self.basis,
+            self.open.words(place),
+            self.scratch.run_mut(&run),
+            &mut self.verdicts,
+            session,
+            question,
+            out,
+            &mut Steps::<L>::new(blank),
+        );
+        self.scratch.release(run);
+        told
+    }
+}

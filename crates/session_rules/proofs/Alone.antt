@@ -1,0 +1,215 @@
+-- A session among others is answered as it is alone.
+use Rattle.std.proofs.Common.{◌≡◌, ℕ, Bool, true, false, List, [], ◌∷◌, ◌++◌, length, drop, get_or, refl, ap, ap₂, sym, ◌∙◌, subst, Some, None, Option, arith, length-append}
+use Rattle.std.specs.Prelude.{codes, nat_le, if◌then◌else◌}
+use Rattle.std.specs.Fmt.{decimal}
+use Rattle.std.specs.List.{list_all, flat_map}
+use Rattle.text_rules.specs.Names.{Name, is_among}
+use Rattle.text_rules.proofs.NameLemmas.{equal_if_same}
+use Rattle.device_model.specs.Devices.{place_of}
+use Rattle.script_lang.specs.Script.{Line, Blank, Refused, Ask, Request, Start, Stop, See, Unsee, Hold, Unhold, Min, Next, Several, After, Probe, Probes, Blame, Dnnf, line_of}
+use Rattle.ranking.specs.Systems.{System, all_diagnoses}
+use Rattle.session_rules.specs.declared.refusal.Refusal.{Refusal}
+use Rattle.session_rules.specs.declared.refusal.Refusal.TheVariants.{OpenAlready, Full, NoWire, NoPart}
+use Rattle.session_rules.specs.Refusals.{refusal_number, refusal_text}
+use Rattle.session_rules.specs.Items.{Item, Plain, Projected, Whole, line}
+use Rattle.session_rules.specs.Replies.{next_of, repeat_steps, probe_line, if_any}
+use Rattle.session_rules.specs.Sessions.{Table, Entry, Outcome, Declined, carried, step, entry_of, outcome, when_open, at_place, becomes, tells, with_seen, with_held, state_of, new_entry, replies}
+use Rattle.session_rules.specs.Moves.{line_step}
+use Rattle.session_rules.specs.Alone.{Answer, lines_of, dialogue, names_session, closes_session, own_answers, Opens, AreAnsweredAlone}
+use Rattle.session_rules.proofs.Locality.{after_outcome, same_as_itself, own_step, own_items, others-stay}
+
+-- what lines are answered one after the other are the replies to them
+pub dialogue-replies : (system : System) (limit : ℕ) (table : Table) (lines : List (List ℕ)) → flat_map (λ (answer : Answer). answer.items) (dialogue system limit table lines) ≡ replies system limit table lines
+dialogue-replies system limit table [] = refl
+dialogue-replies system limit table (bytes ∷ lines) =
+    let now = line_step system limit table bytes in
+    ap (λ items. now.items ++ items) (dialogue-replies system limit now.table lines)
+
+-- ---- an open session stays open until it is closed
+
+-- so its entry becomes another at most
+abbrev StaysOpen : Outcome → Entry → Type 0
+StaysOpen o entry = (new : Entry) × (after_outcome o (Some entry) ≡ Some new)
+
+at_place-open : (entry : Entry) (refusal : Refusal) (act : ℕ → Outcome) (place : Option ℕ) → ((i : ℕ) → StaysOpen (act i) entry) → StaysOpen (at_place refusal act place) entry
+at_place-open entry refusal act None each = (entry, refl)
+at_place-open entry refusal act (Some i) each = each i
+
+either-open : (entry : Entry) (test : Bool) (one other : Outcome) → StaysOpen one entry → StaysOpen other entry → StaysOpen (if test then one else other) entry
+either-open entry true one other first second = first
+either-open entry false one other first second = second
+
+when_open-open : (system : System) (s : Name) (entry : Entry) (request : Request) → closes_session s (Ask s request) ≡ false → StaysOpen (when_open system s entry request) entry
+when_open-open system s entry Start goes = (entry, refl)
+when_open-open system s entry Stop goes = absurd (let closes = same_as_itself s in let never : ⊥ = cc in never)
+when_open-open system s entry (See name bit) goes =
+    at_place-open entry NoWire (λ wire. becomes s (with_seen entry wire (Some bit)) (codes "ok")) (place_of name system.wires) (λ i. (with_seen entry i (Some bit), refl))
+when_open-open system s entry (Unsee name) goes =
+    at_place-open entry NoWire (λ wire. becomes s (with_seen entry wire None) (codes "ok")) (place_of name system.wires) (λ i. (with_seen entry i None, refl))
+when_open-open system s entry (Hold name ok) goes =
+    at_place-open entry NoPart (λ part. becomes s (with_held entry part (Some ok)) (codes "ok")) (place_of name system.parts) (λ i. (with_held entry i (Some ok), refl))
+when_open-open system s entry (Unhold name) goes =
+    at_place-open entry NoPart (λ part. becomes s (with_held entry part None) (codes "ok")) (place_of name system.parts) (λ i. (with_held entry i None, refl))
+when_open-open system s entry Min goes = (entry, refl)
+when_open-open system s entry Next goes = (record entry { point = (next_of system s (all_diagnoses system entry.known) entry.point).point }, refl)
+when_open-open system s entry (Several count) goes = (record entry { point = (repeat_steps (next_of system s (all_diagnoses system entry.known)) count entry.point).point }, refl)
+when_open-open system s entry (After names) goes =
+    either-open entry (list_all (λ name. is_among system.parts name) names) (becomes s (record entry { point = Some (state_of names system.parts) }) (codes "ok")) (Declined NoPart)
+    (record entry { point = Some (state_of names system.parts) }, refl) (entry, refl)
+when_open-open system s entry (Probe name) goes =
+    at_place-open entry NoWire (λ wire. tells (if_any s (system.consistent entry.known) (probe_line system s entry.known name wire ∷ []))) (place_of name system.wires) (λ i. (entry, refl))
+when_open-open system s entry Probes goes = (entry, refl)
+when_open-open system s entry Blame goes = (entry, refl)
+when_open-open system s entry Dnnf goes = (entry, refl)
+
+-- ---- a refusal is no opening
+
+abbrev bytes_of : Item → List ℕ
+bytes_of (Plain bytes) = bytes
+bytes_of (Projected parts states) = []
+bytes_of (Whole device vars most) = []
+
+abbrev first_bytes : List Item → List ℕ
+first_bytes [] = []
+first_bytes (item ∷ items) = bytes_of item
+
+-- a refusal is longer than what says that a session is open
+refused_apart : (s tail : List ℕ) → length (s ++ (32 ∷ (codes "error" ++ (32 ∷ tail)))) ≡ length (s ++ (32 ∷ (codes "open" ++ 10 ∷ []))) → ⊥
+refused_apart s tail e =
+    let long = length-append s (32 ∷ (codes "error" ++ (32 ∷ tail))) in
+    let short = length-append s (32 ∷ (codes "open" ++ 10 ∷ [])) in
+    omega (arith, long, short, e)
+
+declined_apart : (s : Name) (refusal : Refusal) (t : Table) → (carried t s (Declined refusal)).items ≡ line (s ∷ codes "open" ∷ []) ∷ [] → ⊥
+declined_apart s refusal t e = refused_apart s (decimal (refusal_number refusal) ++ (32 ∷ (refusal_text refusal ++ 10 ∷ []))) (ap (λ items. length (first_bytes items)) e)
+
+-- ---- the answers of one session
+
+module _ (system : System) (limit : ℕ) (s : Name) where
+  abbrev among : Table → List (List ℕ) → List Answer
+  among = dialogue system limit
+
+  abbrev alone : Table → List (List ℕ) → List Answer
+  alone = dialogue system 1
+
+  -- these are the answers that the same lines have alone, from a table
+  abbrev AsAlone : List Answer → Table → Type 0
+  AsAlone answers u = answers ≡ alone u (lines_of answers)
+
+  -- the session is open, with the same entry in both tables
+  abbrev Both : Table → Table → Type 0
+  Both t u = (entry : Entry) × (entry_of s t ≡ Some entry) × (entry_of s u ≡ Some entry)
+
+  outcome-open : (m : ℕ) (request : Request) (t : Table) (entry : Entry) → entry_of s t ≡ Some entry → outcome system s (nat_le m (length t)) (entry_of s t) request ≡ when_open system s entry request
+  outcome-open m request t entry is = ap (λ e. outcome system s (nat_le m (length t)) e request) is
+
+  -- an open session is told the same from both tables
+  told : (request : Request) (t u : Table) (both : Both t u) → (step system limit t (Ask s request)).items ≡ (step system 1 u (Ask s request)).items
+  told request t u (entry, a, b) =
+      ap (λ o. (carried t s o).items) (outcome-open limit request t entry a)
+      ∙ (own_items s (when_open system s entry request) t u
+      ∙ ap (λ o. (carried u s o).items) (sym (outcome-open 1 request u entry b)))
+
+  -- and goes on the same
+  left : (m : ℕ) (request : Request) (t : Table) (entry : Entry) → entry_of s t ≡ Some entry → entry_of s (step system m t (Ask s request)).table ≡ after_outcome (when_open system s entry request) (Some entry)
+  left m request t entry is =
+      own_step s (outcome system s (nat_le m (length t)) (entry_of s t) request) t ∙ ap₂ after_outcome (outcome-open m request t entry is) is
+
+  still : (request : Request) (t u : Table) → Both t u → closes_session s (Ask s request) ≡ false → Both (step system limit t (Ask s request)).table (step system 1 u (Ask s request)).table
+  still request t u (entry, a, b) goes =
+      let new = when_open-open system s entry request goes in
+      (new.0, left limit request t entry a ∙ new.1, left 1 request u entry b ∙ new.1)
+
+  the_request : (l : Line) → names_session s l ≡ true → (request : Request) × (l ≡ Ask s request)
+  the_request Blank e = absurd (let never : ⊥ = cc in never)
+  the_request (Refused refusal) e = absurd (let never : ⊥ = cc in never)
+  the_request (Ask r request) e = (request, ap (λ n. Ask n request) (equal_if_same r s e))
+
+  abbrev first_answer : Table → List ℕ → Answer
+  first_answer t bytes = record { bytes = bytes; items = (line_step system limit t bytes).items }
+
+  -- the answers from a line on that names the session, by whether it closes it
+  abbrev own_from : Bool → Table → List ℕ → List (List ℕ) → List Answer
+  own_from closes t bytes lines =
+      let now = line_step system limit t bytes in
+      first_answer t bytes ∷ (if closes then [] else own_answers s (among now.table lines))
+
+  -- what holds for all tables with an entry of the session holds after its own line
+  own-alone : (bytes : List ℕ) (lines : List (List ℕ)) (t u : Table) → Both t u → (request : Request) → line_of bytes ≡ Ask s request
+      → ((v w : Table) → Both v w → AsAlone (own_answers s (among v lines)) w) → (closes : Bool) → closes_session s (line_of bytes) ≡ closes
+      → AsAlone (own_from closes t bytes lines) u
+  own-alone bytes lines t u both request asked more closes is =
+      let items : (line_step system limit t bytes).items ≡ (line_step system 1 u bytes).items =
+      ap (λ l. (step system limit t l).items) asked ∙ (told request t u both ∙ sym (ap (λ l. (step system 1 u l).items) asked)) in
+      ap₂ (λ now rest. record { bytes = bytes; items = now } ∷ rest) items (by closes is)
+    where
+      by : (closes : Bool) → closes_session s (line_of bytes) ≡ closes
+          → AsAlone (if closes then [] else own_answers s (among (line_step system limit t bytes).table lines)) (line_step system 1 u bytes).table
+      by true is = refl
+      by false is =
+          more (line_step system limit t bytes).table (line_step system 1 u bytes).table
+          (subst (λ l. Both (step system limit t l).table (step system 1 u l).table) (sym asked)
+          (still request t u both (sym (ap (closes_session s) asked) ∙ is)))
+
+  -- an open session is answered as it would be from any table with its entry
+  open-alone : (lines : List (List ℕ)) (t u : Table) → Both t u → AsAlone (own_answers s (among t lines)) u
+  open-alone [] t u both = refl
+  open-alone (bytes ∷ lines) t u both = by (open-alone lines) (names_session s (line_of bytes)) refl
+    where
+      by : ((v w : Table) → Both v w → AsAlone (own_answers s (among v lines)) w) → (named : Bool) → names_session s (line_of bytes) ≡ named
+          → AsAlone (if named then own_from (closes_session s (line_of bytes)) t bytes lines else own_answers s (among (line_step system limit t bytes).table lines)) u
+      by more true named = let asked = the_request (line_of bytes) named in own-alone bytes lines t u both asked.0 asked.1 more (closes_session s (line_of bytes)) refl
+      by more false apart =
+          more (line_step system limit t bytes).table u
+          (both.0, others-stay system limit (line_of bytes) t s apart ∙ both.1, both.2)
+
+  -- a session that is opened was not open, and there was room
+  opened : (full : Bool) (entry : Option Entry) (t : Table) → (carried t s (outcome system s full entry Start)).items ≡ line (s ∷ codes "open" ∷ []) ∷ []
+      → outcome system s full entry Start ≡ becomes s (new_entry system) (codes "open")
+  opened full (Some entry) t e = absurd (declined_apart s OpenAlready t e)
+  opened true None t e = absurd (declined_apart s Full t e)
+  opened false None t e = refl
+
+  -- from the line that opens it on, whatever others do, a session has the answers that its lines have alone
+  opening-alone : (bytes : List ℕ) (lines : List (List ℕ)) (t : Table) → Opens s (first_answer t bytes) → AsAlone (own_answers s (among t (bytes ∷ lines))) []
+  opening-alone bytes lines t opens =
+      let asked = opens.asked in
+      let free : outcome system s (nat_le limit (length t)) (entry_of s t) Start ≡ becomes s (new_entry system) (codes "open") =
+      opened (nat_le limit (length t)) (entry_of s t) t (sym (ap (λ l. (step system limit t l).items) asked) ∙ opens.said) in
+      let named : names_session s (line_of bytes) ≡ true = ap (names_session s) asked ∙ same_as_itself s in
+      let goes : closes_session s (line_of bytes) ≡ false = ap (closes_session s) asked in
+      let items : (line_step system limit t bytes).items ≡ (line_step system 1 [] bytes).items = opens.said ∙ sym (ap (λ l. (step system 1 [] l).items) asked) in
+      let new_among : entry_of s (line_step system limit t bytes).table ≡ Some (new_entry system) =
+      ap (λ l. entry_of s (step system limit t l).table) asked
+      ∙ (own_step s (outcome system s (nat_le limit (length t)) (entry_of s t) Start) t ∙ ap (λ o. after_outcome o (entry_of s t)) free) in
+      let new_alone : entry_of s (line_step system 1 [] bytes).table ≡ Some (new_entry system) =
+      ap (λ l. entry_of s (step system 1 [] l).table) asked ∙ own_step s (outcome system s false None Start) [] in
+      subst (λ b. AsAlone (if b then own_from (closes_session s (line_of bytes)) t bytes lines else own_answers s (among (line_step system limit t bytes).table lines)) []) (sym named)
+      (subst (λ b. AsAlone (own_from b t bytes lines) []) (sym goes)
+      (ap₂ (λ now rest. record { bytes = bytes; items = now } ∷ rest) items
+      (open-alone lines (line_step system limit t bytes).table (line_step system 1 [] bytes).table (new_entry system, new_among, new_alone))))
+
+  -- what stands from an answer on is a dialogue from some table
+  from_answer : (table : Table) (lines : List (List ℕ)) (before later : List Answer) (opening : Answer) → among table lines ≡ before ++ opening ∷ later
+      → (t : Table) × (bytes : List ℕ) × (rest : List (List ℕ)) × (opening ∷ later ≡ among t (bytes ∷ rest))
+  from_answer table [] [] later opening e = absurd (let never : ⊥ = cc in never)
+  from_answer table [] (b ∷ before) later opening e = absurd (let never : ⊥ = cc in never)
+  from_answer table (bytes ∷ lines) [] later opening e = (table, bytes, lines, sym e)
+  from_answer table (bytes ∷ lines) (b ∷ before) later opening e =
+      from_answer (line_step system limit table bytes).table lines before later opening (ap (λ (answers : List Answer). drop 1 answers) e)
+
+-- Wherever a session opens, its own lines from there to its end have the answers that they have alone.
+pub answered_alone : (system : System) (limit : ℕ) (table : Table) (lines : List (List ℕ)) → AreAnsweredAlone system limit table lines
+answered_alone system limit table lines session before later opening split opens =
+    let from = from_answer system limit session table lines before later opening split in
+    let first : opening ≡ first_answer system limit session from.0 from.1 = ap (λ (answers : List Answer). get_or answers 0 opening) from.3 in
+    subst (λ answers. AsAlone system limit session (own_answers session answers) []) (sym from.3)
+    (opening-alone system limit session from.1 from.2 from.0 (subst (Opens session) first opens))
+
+-- so together those answers are the replies to a script of these lines
+pub replied_alone : (system : System) (limit : ℕ) (table : Table) (lines : List (List ℕ)) (session : Name) (before later : List Answer) (opening : Answer)
+    → dialogue system limit table lines ≡ before ++ opening ∷ later → Opens session opening
+    → flat_map (λ (answer : Answer). answer.items) (own_answers session (opening ∷ later)) ≡ replies system 1 [] (lines_of (own_answers session (opening ∷ later)))
+replied_alone system limit table lines session before later opening split opens =
+    ap (flat_map (λ (answer : Answer). answer.items)) (answered_alone system limit table lines session before later opening split opens)
+    ∙ dialogue-replies system 1 [] (lines_of (own_answers session (opening ∷ later)))

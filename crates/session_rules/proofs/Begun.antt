@@ -1,0 +1,49 @@
+-- Beginnings of texts.
+use Rattle.std.proofs.Common.{ℕ, List, [], ◌∷◌, ◌++◌, Option, refl, sym, subst, append_assoc, append-nil}
+use Rattle.diag_edge.proofs.Growing.{grows_more}
+use Rattle.session_rules.specs.Items.{Item}
+use Rattle.session_rules.specs.Spelling.{Spelled, Spells, Begins, Writes, WritesPart}
+use Rattle.session_rules.proofs.Spellings.{spells_more}
+
+-- some text spells each of the items
+abbrev pub HaveSpellings : List Item → Type 0
+HaveSpellings [] = Unit {0}
+HaveSpellings (item ∷ items) = ((text : List ℕ) × Spelled item text) × HaveSpellings items
+
+-- then some text spells them together
+pub spelling : (items : List Item) → HaveSpellings items → (text : List ℕ) × Spells items text
+spelling [] h = ([], refl)
+spelling (item ∷ items) h = let more = spelling items h.1 in (h.0.0 ++ more.0, (h.0.0, more.0, refl, h.0.1, more.1))
+
+pub have_after : (xs ys : List Item) → HaveSpellings (xs ++ ys) → HaveSpellings ys
+have_after [] ys h = h
+have_after (x ∷ xs) ys h = have_after xs ys h.1
+
+pub have_both : (xs ys : List Item) → HaveSpellings xs → HaveSpellings ys → HaveSpellings (xs ++ ys)
+have_both [] ys h k = k
+have_both (x ∷ xs) ys h k = (h.0, have_both xs ys h.1 k)
+
+-- what begins some items begins more of them
+pub begins_more : (xs ys : List Item) (text : List ℕ) → Begins xs text → HaveSpellings ys → Begins (xs ++ ys) text
+begins_more xs ys text begun h =
+    let more = spelling ys h in
+    (begun.0 ++ more.0, subst (Spells (xs ++ ys)) (append_assoc text begun.0 more.0) (spells_more xs ys (text ++ begun.0) more.0 begun.1 more.1))
+
+-- and so does what begins the later ones, after a text that spells the first
+pub begins_after : (xs ys : List Item) (front text : List ℕ) → Spells xs front → Begins ys text → Begins (xs ++ ys) (front ++ text)
+begins_after xs ys front text spelled begun =
+    (begun.0, subst (Spells (xs ++ ys)) (sym (append_assoc front text begun.0)) (spells_more xs ys front (text ++ begun.0) spelled begun.1))
+
+-- a text that spells items begins them
+pub begins_whole : (items : List Item) (text : List ℕ) → Spells items text → Begins items text
+begins_whole items text spelled = ([], subst (Spells items) (sym (append-nil text)) spelled)
+
+pub part_more : (a b : Option (List ℕ)) (xs ys : List Item) → WritesPart a b xs → HaveSpellings ys → WritesPart a b (xs ++ ys)
+part_more a b xs ys part h = record { text = part.text; begun = begins_more xs ys part.text part.begun h; grown = part.grown }
+
+pub part_after : (a b c : Option (List ℕ)) (xs ys : List Item) → Writes a b xs → WritesPart b c ys → WritesPart a c (xs ++ ys)
+part_after a b c xs ys first part = record {
+  text = first.text ++ part.text;
+  begun = begins_after xs ys first.text part.text first.spelled part.begun;
+  grown = grows_more a b c first.text part.text first.grown part.grown;
+}

@@ -1,0 +1,115 @@
+-- What is answered keeps a place for each wire and each part in every case.
+use Rattle.std.proofs.Common.{◌≡◌, ℕ, Bool, true, false, [], ◌∷◌, length, refl, ap, sym, ◌∙◌, Option, Some, None, subst, Equal}
+use Rattle.std.specs.Prelude.{cond, not, nat_le, codes, if◌then◌else◌}
+use Rattle.std.specs.List.{list_all}
+use Rattle.std.specs.Ordering.{nat_cmp, is_eq}
+use Rattle.std.specs.Cmp.Lexicographic.{slice_cmp}
+use Rattle.std.specs.FinMap.Entries.{find-put, find-where_key}
+use Rattle.std.proofs.lemmas.Map.Text.{is_eq-slice_cmp}
+use Rattle.std.proofs.lemmas.Cmp.{nat_list_cmp_total}
+use Rattle.std.proofs.lemmas.List.{length-set, length-replicate}
+use Rattle.text_rules.specs.Names.{Name, same_name, is_among}
+use Rattle.text_rules.proofs.NameLemmas.{equal_if_same}
+use Rattle.device_model.specs.Devices.{place_of}
+use Rattle.script_lang.specs.Script.{Line, Blank, Refused, Ask, Request, Start, Stop, See, Unsee, Hold, Unhold, Min, Next, Several, After, Probe, Probes, Blame, Dnnf}
+use Rattle.ranking.specs.Systems.{System}
+use Rattle.session_rules.specs.declared.refusal.Refusal.{Refusal}
+use Rattle.session_rules.specs.declared.refusal.Refusal.TheVariants.{Full, NoWire, NoPart}
+use Rattle.session_rules.specs.Replies.{probe_line, if_any}
+use Rattle.session_rules.specs.Sessions.{Entry, Table, Outcome, Declined, Done, Change, Stays, Becomes, Ends, entry_of, without, changed, carried, when_open, outcome, outcome_in, at_place, becomes, tells, step, with_seen, with_held, state_of, new_entry}
+use Rattle.session_rules.specs.GraphSystems.{IsCaseOf, HasCasesOf}
+
+-- the empty table has no case
+pub HasCases-empty : (system : System) → HasCasesOf system []
+HasCases-empty system session entry e = absurd (let never : ⊥ = cc in never)
+
+equal_names : (a b : Name) → slice_cmp nat_cmp a b ≡ Equal → a ≡ b
+equal_names a b tie = equal_if_same a b (sym (is_eq-slice_cmp a b) ∙ ap is_eq tie)
+
+-- the entry that is found when one is taken out
+pub entry_of-without : (r s : Name) (table : Table) → entry_of r (without s table) ≡ cond (not (same_name r s)) (entry_of r table) None
+entry_of-without r s table =
+    find-where_key (slice_cmp nat_cmp) (λ n. not (same_name n s)) r (λ x tie. ap (λ n. not (same_name n s)) (sym (equal_names r x tie))) table
+
+abbrev pub ChangeKeeps : System → Change → Type 0
+ChangeKeeps system Stays = Unit {0}
+ChangeKeeps system (Becomes entry) = IsCaseOf system entry.known
+ChangeKeeps system Ends = Unit {0}
+
+abbrev Keeps : System → Outcome → Type 0
+Keeps system (Declined refusal) = Unit {0}
+Keeps system (Done change items) = ChangeKeeps system change
+
+module _ (system : System) where
+  placed : (refusal : Refusal) (act : ℕ → Outcome) (place : Option ℕ) → ((i : ℕ) → Keeps system (act i)) → Keeps system (at_place refusal act place)
+  placed refusal act None k = tt
+  placed refusal act (Some i) k = k i
+
+  chosen : (b : Bool) (one other : Outcome) → Keeps system one → Keeps system other → Keeps system (if b then one else other)
+  chosen true one other h k = h
+  chosen false one other h k = k
+
+  seen-keeps : (s : Name) (entry : Entry) (bit : Option Bool) → IsCaseOf system entry.known → (i : ℕ) → Keeps system (becomes s (with_seen entry i bit) (codes "ok"))
+  seen-keeps s entry bit h i = (length-set entry.known.seen i bit ∙ h.0, h.1)
+
+  held-keeps : (s : Name) (entry : Entry) (ok : Option Bool) → IsCaseOf system entry.known → (i : ℕ) → Keeps system (becomes s (with_held entry i ok) (codes "ok"))
+  held-keeps s entry ok h i = (h.0, length-set entry.known.held i ok ∙ h.1)
+
+  when_open-keeps : (s : Name) (entry : Entry) → IsCaseOf system entry.known → (request : Request) → Keeps system (when_open system s entry request)
+  when_open-keeps s entry h Start = tt
+  when_open-keeps s entry h Stop = tt
+  when_open-keeps s entry h (See name bit) = placed NoWire (λ i. becomes s (with_seen entry i (Some bit)) (codes "ok")) (place_of name system.wires) (seen-keeps s entry (Some bit) h)
+  when_open-keeps s entry h (Unsee name) = placed NoWire (λ i. becomes s (with_seen entry i None) (codes "ok")) (place_of name system.wires) (seen-keeps s entry None h)
+  when_open-keeps s entry h (Hold name ok) = placed NoPart (λ i. becomes s (with_held entry i (Some ok)) (codes "ok")) (place_of name system.parts) (held-keeps s entry (Some ok) h)
+  when_open-keeps s entry h (Unhold name) = placed NoPart (λ i. becomes s (with_held entry i None) (codes "ok")) (place_of name system.parts) (held-keeps s entry None h)
+  when_open-keeps s entry h Min = tt
+  when_open-keeps s entry h Next = h
+  when_open-keeps s entry h (Several count) = h
+  when_open-keeps s entry h (After names) =
+      chosen (list_all (λ name. is_among system.parts name) names) (becomes s (record entry { point = Some (state_of names system.parts) }) (codes "ok")) (Declined NoPart) h tt
+  when_open-keeps s entry h (Probe name) =
+      placed NoWire (λ wire. tells (if_any s (system.consistent entry.known) (probe_line system s entry.known name wire ∷ []))) (place_of name system.wires) (λ i. tt)
+  when_open-keeps s entry h Probes = tt
+  when_open-keeps s entry h Blame = tt
+  when_open-keeps s entry h Dnnf = tt
+
+  new-keeps : IsCaseOf system (new_entry system).known
+  new-keeps = (length-replicate (length system.wires) None, length-replicate (length system.parts) None)
+
+  outcome-keeps : (s : Name) (full : Bool) (entry : Option Entry) → ((e : Entry) → entry ≡ Some e → IsCaseOf system e.known) → (request : Request) → Keeps system (outcome system s full entry request)
+  outcome-keeps s full (Some entry) h request = when_open-keeps s entry (h entry refl) request
+  outcome-keeps s full None h Start = chosen full (Declined Full) (becomes s (new_entry system) (codes "open")) tt new-keeps
+  outcome-keeps s full None h request = tt
+
+  -- an entry found after a change is the new one or an old one
+  put_found : (b : Bool) (entry found : Entry) (old : Option Entry) → IsCaseOf system entry.known → ((e : Entry) → old ≡ Some e → IsCaseOf system e.known)
+      → cond b (Some entry) old ≡ Some found → IsCaseOf system found.known
+  put_found true entry found old h k e = let same : entry ≡ found = cc in subst (λ (x : Entry). IsCaseOf system x.known) same h
+  put_found false entry found old h k e = k found e
+
+  kept_found : (b : Bool) (found : Entry) (old : Option Entry) → ((e : Entry) → old ≡ Some e → IsCaseOf system e.known)
+      → cond b old None ≡ Some found → IsCaseOf system found.known
+  kept_found true found old k e = k found e
+  kept_found false found old k e = absurd (let never : ⊥ = cc in never)
+
+  pub changed-keeps : (s : Name) (change : Change) (table : Table) → ChangeKeeps system change → HasCasesOf system table → HasCasesOf system (changed s change table)
+  changed-keeps s Stays table h k = k
+  changed-keeps s (Becomes entry) table h k = λ r found e.
+      put_found (is_eq (slice_cmp nat_cmp r s)) entry found (entry_of r table) h (k r)
+      (sym (find-put (slice_cmp nat_cmp) nat_list_cmp_total r s entry table) ∙ e)
+  changed-keeps s Ends table h k = λ r found e.
+      kept_found (not (same_name r s)) found (entry_of r table) (k r) (sym (entry_of-without r s table) ∙ e)
+
+  outcome_in-keeps : (limit : ℕ) (table : Table) (s : Name) (request : Request) → HasCasesOf system table → Keeps system (outcome_in system limit table s request)
+  outcome_in-keeps limit table s request h = outcome-keeps s (nat_le limit (length table)) (entry_of s table) (h s) request
+
+  carried-keeps : (s : Name) (o : Outcome) (table : Table) → Keeps system o → HasCasesOf system table → HasCasesOf system (carried table s o).table
+  carried-keeps s (Declined refusal) table h k = k
+  carried-keeps s (Done change items) table h k = changed-keeps s change table h k
+
+  -- a line keeps the lengths of all cases
+  pub step-keeps : (limit : ℕ) (table : Table) (l : Line) → HasCasesOf system table → HasCasesOf system (step system limit table l).table
+  step-keeps limit table Blank h = h
+  step-keeps limit table (Refused refusal) h = h
+  step-keeps limit table (Ask s request) h =
+      carried-keeps s (outcome_in system limit table s request) table (outcome_in-keeps limit table s request h) h

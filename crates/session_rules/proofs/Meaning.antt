@@ -1,0 +1,107 @@
+-- A graph that is true exactly where a device fits has the device's consistent states.
+use Rattle.std.proofs.Common.{◌≡◌, ℕ, zero, suc, ◌+◌, ◌-◌, Bool, true, false, ◌&&◌, List, [], ◌∷◌, ◌++◌, map, length, replicate, refl, ap, ap₂, sym, ◌∙◌, Option, Some, None, arith, append_assoc}
+use Rattle.std.specs.List.{list_any}
+use Rattle.std.proofs.Math.Bool.{and-true, and_assoc}
+use Rattle.std.proofs.lemmas.List.{map-append, length-map}
+use Rattle.ranking.specs.Bits.{lists_of_bits}
+use Rattle.ranking.specs.Cases.{Case, agrees_at, agrees}
+use Rattle.ranking.specs.Ranking.{Test, passing}
+use Rattle.graph_rules.specs.Graphs.{Graph, holds}
+use Rattle.device_model.specs.declared.component.Component.{Component}
+use Rattle.device_model.specs.Devices.{Device, part_names, fits}
+use Rattle.device_model.specs.Diagnosis.{is_consistent, device_system}
+use Rattle.dnnf_compiler.specs.Compiled.{IsGraphOf}
+use Rattle.conditioner.specs.Words.{known_of}
+use Rattle.conditioner.specs.Models.{has_model, fits_words}
+use Rattle.session_rules.specs.GraphSystems.{word_of_known, case_words, compiled_system, IsCaseOf}
+use Rattle.session_rules.proofs.Enumerated.{Agree, passing-same, any-same, any-split, any-and}
+
+-- what is known of some bits and of others behind them
+agrees-append : (ks js : List (Option Bool)) (bits others : List Bool) → length ks ≡ length bits → agrees (ks ++ js) (bits ++ others) ≡ (agrees ks bits && agrees js others)
+agrees-append [] js [] others e = refl
+agrees-append (k ∷ ks) js [] others e = absurd (omega (arith, e))
+agrees-append [] js (b ∷ bits) others e = absurd (omega (arith, e))
+agrees-append (k ∷ ks) js (b ∷ bits) others e =
+    let shorter : length ks ≡ length bits = omega (arith, e) in
+    rw (agrees-append ks js bits others shorter, and_assoc (agrees_at k b) (agrees ks bits) (agrees js others)) refl
+
+agrees-zeros : (n : ℕ) (bits : List Bool) → agrees (map known_of (replicate n 0)) bits ≡ true
+agrees-zeros zero bits = refl
+agrees-zeros (suc n) [] = refl
+agrees-zeros (suc n) (b ∷ bits) = agrees-zeros n bits
+
+-- the word of what is known says it
+pub known_of-word : (k : Option Bool) → known_of (word_of_known k) ≡ k
+known_of-word None = refl
+known_of-word (Some true) = refl
+known_of-word (Some false) = refl
+
+pub all_known : (ks : List (Option Bool)) → map known_of (map word_of_known ks) ≡ ks
+all_known [] = refl
+all_known (k ∷ ks) = ap₂ (λ x xs. x ∷ xs) (known_of-word k) (all_known ks)
+
+-- and the words of a case say what the case does, and nothing of the inner variables
+pub known-case_words : (vars : ℕ) (known : Case) → map known_of (case_words vars known)
+    ≡ known.held ++ (known.seen ++ map known_of (replicate (vars - (length known.held + length known.seen)) 0))
+known-case_words vars known =
+    let zeros : List ℕ = replicate (vars - (length known.held + length known.seen)) 0 in
+    map-append known_of (map word_of_known known.held) (map word_of_known known.seen ++ zeros)
+    ∙ ap₂ (λ x y. x ++ y) (all_known known.held)
+    (map-append known_of (map word_of_known known.seen) zeros ∙ ap (λ x. x ++ map known_of zeros) (all_known known.seen))
+
+-- bits fit the words of a case where they agree with the case
+pub fits-case_words : (vars : ℕ) (known : Case) (state wires inner : List Bool) → length known.held ≡ length state → length known.seen ≡ length wires
+    → fits_words (case_words vars known) (state ++ (wires ++ inner)) ≡ (agrees known.held state && agrees known.seen wires)
+fits-case_words vars known state wires inner held seen =
+    let n : ℕ = vars - (length known.held + length known.seen) in
+    let zeros : List (Option Bool) = map known_of (replicate n 0) in
+    ap (λ ks. agrees ks (state ++ (wires ++ inner))) (known-case_words vars known)
+    ∙ agrees-append known.held (known.seen ++ zeros) state (wires ++ inner) held
+    ∙ ap (λ b. agrees known.held state && b)
+    (agrees-append known.seen zeros wires inner seen ∙ ap (λ b. agrees known.seen wires && b) (agrees-zeros n inner) ∙ and-true (agrees known.seen wires))
+
+module _ (device : Device) (graph : Graph) (is : IsGraphOf device graph) (known : Case) (case : IsCaseOf (device_system device) known) where
+  named : length (part_names device.parts) ≡ length device.parts
+  named = length-map device.parts (λ (part : Component). part.name)
+
+  abbrev words : List ℕ
+  words = case_words graph.vars known
+
+  abbrev inner_count : ℕ
+  inner_count = graph.vars - (length device.parts + length device.wires)
+
+  -- the bits fit the words and make the graph true
+  abbrev is_model : Test
+  is_model bits = fits_words words bits && holds graph bits
+
+  for_wires : (state wires : List Bool) → length state ≡ length device.parts → length wires ≡ length device.wires
+      → list_any (λ inner. is_model (state ++ (wires ++ inner))) (lists_of_bits inner_count)
+      ≡ (agrees known.held state && (agrees known.seen wires && fits device state wires))
+  for_wires state wires states all =
+      let held : length known.held ≡ length state = case.1 ∙ named ∙ sym states in
+      let seen : length known.seen ≡ length wires = case.0 ∙ sym all in
+      let agreed : Bool = agrees known.held state && agrees known.seen wires in
+      (λ j. list_any (λ inner. fits-case_words graph.vars known state wires inner held seen j && holds graph (state ++ (wires ++ inner))) (lists_of_bits inner_count))
+      ∙ any-and agreed (λ inner. holds graph (state ++ (wires ++ inner))) (lists_of_bits inner_count)
+      ∙ (λ j. agreed && list_any (λ inner. holds graph (sym (append_assoc state wires inner) j)) (lists_of_bits (graph.vars - (sym states j + sym all j))))
+      ∙ ap (λ b. agreed && b) (is.meaning state wires states all)
+      ∙ and_assoc (agrees known.held state) (agrees known.seen wires) (fits device state wires)
+
+  for_state : Agree (length device.parts) (is_consistent device known) (has_model graph (fits_words words) (length device.parts))
+  for_state state states =
+      let room = is.room in
+      let parted : graph.vars - length device.parts ≡ length device.wires + inner_count = omega (arith, room) in
+      let of_wires : Test = λ wires. agrees known.held state && (agrees known.seen wires && fits device state wires) in
+      sym (
+      ap (λ n. list_any (λ others. is_model (state ++ others)) (lists_of_bits n)) parted
+      ∙ any-split (length device.wires) inner_count (λ others. is_model (state ++ others))
+      ∙ any-same (length device.wires) (λ wires. list_any (λ inner. is_model (state ++ (wires ++ inner))) (lists_of_bits inner_count)) of_wires
+      (λ wires all. for_wires state wires states all)
+      ∙ any-and (agrees known.held state) (λ wires. agrees known.seen wires && fits device state wires) (lists_of_bits (length device.wires))
+      )
+
+  -- for every case of the device its graph has the same consistent states
+  pub same_consistent : (compiled_system device graph).consistent known ≡ (device_system device).consistent known
+  same_consistent =
+      ap (λ n. passing n (has_model graph (fits_words words) n)) named
+      ∙ sym (passing-same (length device.parts) (is_consistent device known) (has_model graph (fits_words words) (length device.parts)) for_state)

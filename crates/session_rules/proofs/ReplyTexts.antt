@@ -1,0 +1,191 @@
+-- Every reply over a graph has a text, so what was written where a script broke off begins its replies.
+use Rattle.std.proofs.Common.{◌≡◌, ℕ, zero, suc, ◌+◌, ◌^◌, ◌<◌, ◌≤◌, Bool, true, false, List, [], ◌∷◌, ◌++◌, length, Option, Some, None, refl, sym, ap, ◌∙◌, subst, arith}
+use Rattle.std.specs.Prelude.{nat_le, if◌then◌else◌, codes, is_some}
+use Rattle.std.specs.List.{list_all}
+use Rattle.text_rules.specs.Names.{Name, is_among}
+use Rattle.ranking.specs.Cases.{Case}
+use Rattle.ranking.specs.Ranking.{rest}
+use Rattle.ranking.specs.Systems.{System, least_cost, all_diagnoses}
+use Rattle.device_model.specs.Devices.{place_of}
+use Rattle.graph_rules.specs.Graphs.{IsGraph}
+use Rattle.projector.specs.Projecting.{projected_text}
+use Rattle.projector.proofs.Projected.{projected_text-is_neat, projected_text-means}
+use Rattle.script_lang.specs.Script.{Line, Blank, Refused, Ask, Request, Start, Stop, See, Unsee, Hold, Unhold, Min, Next, Several, After, Probe, Probes, Blame, Dnnf, line_of}
+use Rattle.session_rules.specs.declared.refusal.Refusal.{Refusal}
+use Rattle.session_rules.specs.declared.refusal.Refusal.TheVariants.{Full, NoWire, NoPart}
+use Rattle.session_rules.specs.Items.{Item, Projected}
+use Rattle.session_rules.specs.Replies.{Found, Listed, min_line, found, next_of, repeat_steps, seen_at, probe_line, probe_lines, blame_lines, if_any, end_line, diagnosis_line}
+use Rattle.session_rules.specs.Sessions.{Table, Entry, Outcome, Declined, Done, at_place, becomes, tells, with_seen, with_held, new_entry, state_of, when_open, outcome, outcome_in, entry_of, carried, step, replies}
+use Rattle.session_rules.specs.Moves.{said, left_by, line_moves, script_moves}
+use Rattle.session_rules.specs.Spelling.{Spelled, WritesPart}
+use Rattle.session_rules.specs.Carrying.{Makes, BreaksOff}
+use Rattle.session_rules.specs.GraphSystems.{Subject, system_of, case_words, IsCaseOf, HasCasesOf}
+use Rattle.session_rules.proofs.Whole.{said-replies}
+use Rattle.session_rules.proofs.Begun.{HaveSpellings, have_both}
+use Rattle.session_rules.proofs.Broken.{breaks_before, script_moves-append, made_begins, broken_replies}
+use Rattle.session_rules.proofs.CaseWords.{length-case_words}
+use Rattle.session_rules.proofs.Keeping.{step-keeps}
+use Rattle.session_rules.proofs.KeepingMoves.{lines-keep}
+
+-- some text spells an item
+abbrev HasText : Item → Type 0
+HasText item = (text : List ℕ) × Spelled item text
+
+-- ---- lines that depend on what there is
+
+found-has : (s : Name) (shown : List Bool → Item) → ((state : List Bool) → HasText (shown state)) → (point : Option (List Bool)) (ds later : List (List Bool)) → HasText (found s shown point ds later).item
+found-has s shown h point [] later = (_, refl)
+found-has s shown h point (d ∷ ds) [] = (_, refl)
+found-has s shown h point (d ∷ ds) (state ∷ later) = h state
+
+steps-have : (next : Option (List Bool) → Found) → ((point : Option (List Bool)) → HasText (next point).item) → (n : ℕ) (point : Option (List Bool)) → HaveSpellings (repeat_steps next n point).items
+steps-have next h zero point = tt
+steps-have next h (suc n) point =
+    let f = next point in
+    elim f.more as (λ more. HaveSpellings (elim more as (λ _. Listed) [
+      | true ↦ (let more = repeat_steps next n f.point in record { items = f.item ∷ more.items; point = more.point })
+      | false ↦ record { items = f.item ∷ []; point = f.point }
+    ]).items) [
+      | true ↦ (h point, steps-have next h n f.point)
+      | false ↦ (h point, tt)
+    ]
+
+if_any-have : (s : Name) (states : List (List Bool)) (items : List Item) → HaveSpellings items → HaveSpellings (if_any s states items)
+if_any-have s [] items h = ((_, refl), tt)
+if_any-have s (state ∷ states) items h = h
+
+blame_lines-have : (s : Name) (ds : List (List Bool)) (part : ℕ) (names : List Name) → HaveSpellings (blame_lines s ds part names)
+blame_lines-have s ds part [] = tt
+blame_lines-have s ds part (name ∷ names) = ((_, refl), blame_lines-have s ds (part + 1) names)
+
+abbrev OutcomeHas : Outcome → Type 0
+OutcomeHas (Declined refusal) = Unit {0}
+OutcomeHas (Done change items) = HaveSpellings items
+
+placed : (refusal : Refusal) (act : ℕ → Outcome) (place : Option ℕ) → ((i : ℕ) → OutcomeHas (act i)) → OutcomeHas (at_place refusal act place)
+placed refusal act None h = tt
+placed refusal act (Some i) h = h i
+
+chosen : (b : Bool) (one other : Outcome) → OutcomeHas one → OutcomeHas other → OutcomeHas (if b then one else other)
+chosen true one other h k = h
+chosen false one other h k = k
+
+-- a change after which one word is said
+ok_at : (s : Name) (changed : ℕ → Entry) (refusal : Refusal) (place : Option ℕ) → OutcomeHas (at_place refusal (λ i. becomes s (changed i) (codes "ok")) place)
+ok_at s changed refusal place = placed refusal (λ i. becomes s (changed i) (codes "ok")) place (λ i. ((_, refl), tt))
+
+carried-has : (s : Name) (o : Outcome) (table : Table) → OutcomeHas o → HaveSpellings (carried table s o).items
+carried-has s (Declined refusal) table h = ((_, refl), tt)
+carried-has s (Done change items) table h = h
+
+module _ (system : System) where
+  min-has : (s : Name) (fewest : Option ℕ) (ds : List (List Bool)) → HasText (min_line system s fewest ds)
+  min-has s fewest [] = (_, refl)
+  min-has s fewest (d ∷ ds) = (_, refl)
+
+  next-has : (s : Name) (ds : List (List Bool)) (point : Option (List Bool)) → HasText (next_of system s ds point).item
+  next-has s ds point = found-has s (diagnosis_line system s) (λ state. (_, refl)) point ds (rest ds point)
+
+  probe_lines-have : (s : Name) (known : Case) (wire : ℕ) (names : List Name) → HaveSpellings (probe_lines system s known wire names)
+  probe_lines-have s known wire [] = tt
+  probe_lines-have s known wire (name ∷ names) =
+      elim (is_some (seen_at known wire)) as (λ b. HaveSpellings (elim b as (λ _. List Item) [
+        | true ↦ probe_lines system s known (wire + 1) names
+        | false ↦ probe_line system s known name wire ∷ probe_lines system s known (wire + 1) names
+      ])) [
+        | true ↦ probe_lines-have s known (wire + 1) names
+        | false ↦ ((_, refl), probe_lines-have s known (wire + 1) names)
+      ]
+
+  -- Where the states of each case have a text
+  module _ (projected : (known : Case) → IsCaseOf system known → HasText (Projected (length system.parts) (system.consistent known))) where
+    when_open-has : (s : Name) (entry : Entry) → IsCaseOf system entry.known → (request : Request) → OutcomeHas (when_open system s entry request)
+    when_open-has s entry h Start = tt
+    when_open-has s entry h Stop = ((_, refl), tt)
+    when_open-has s entry h (See name bit) = ok_at s (λ i. with_seen entry i (Some bit)) NoWire (place_of name system.wires)
+    when_open-has s entry h (Unsee name) = ok_at s (λ i. with_seen entry i None) NoWire (place_of name system.wires)
+    when_open-has s entry h (Hold name ok) = ok_at s (λ i. with_held entry i (Some ok)) NoPart (place_of name system.parts)
+    when_open-has s entry h (Unhold name) = ok_at s (λ i. with_held entry i None) NoPart (place_of name system.parts)
+    when_open-has s entry h Min = (min-has s (least_cost system entry.known) (all_diagnoses system entry.known), tt)
+    when_open-has s entry h Next = (next-has s (all_diagnoses system entry.known) entry.point, tt)
+    when_open-has s entry h (Several count) =
+        let ds = all_diagnoses system entry.known in steps-have (next_of system s ds) (next-has s ds) count entry.point
+    when_open-has s entry h (After names) =
+        chosen (list_all (λ name. is_among system.parts name) names) (becomes s (record entry { point = Some (state_of names system.parts) }) (codes "ok")) (Declined NoPart) ((_, refl), tt) tt
+    when_open-has s entry h (Probe name) =
+        let states = system.consistent entry.known in
+        placed NoWire (λ wire. tells (if_any s states (probe_line system s entry.known name wire ∷ []))) (place_of name system.wires)
+        (λ wire. if_any-have s states (probe_line system s entry.known name wire ∷ []) ((_, refl), tt))
+    when_open-has s entry h Probes =
+        let lines = probe_lines system s entry.known 0 system.wires in
+        if_any-have s (system.consistent entry.known) (lines ++ end_line s ∷ [])
+        (have_both lines (end_line s ∷ []) (probe_lines-have s entry.known 0 system.wires) ((_, refl), tt))
+    when_open-has s entry h Blame =
+        let ds = all_diagnoses system entry.known in
+        let lines = blame_lines s ds 0 system.parts in
+        if_any-have s ds (lines ++ end_line s ∷ []) (have_both lines (end_line s ∷ []) (blame_lines-have s ds 0 system.parts) ((_, refl), tt))
+    when_open-has s entry h Dnnf = ((_, refl), (projected entry.known h, tt))
+
+    outcome-has : (s : Name) (full : Bool) (entry : Option Entry) → ((e : Entry) → entry ≡ Some e → IsCaseOf system e.known) → (request : Request) → OutcomeHas (outcome system s full entry request)
+    outcome-has s full (Some entry) h request = when_open-has s entry (h entry refl) request
+    outcome-has s full None h Start = chosen full (Declined Full) (becomes s (new_entry system) (codes "open")) tt ((_, refl), tt)
+    outcome-has s full None h request = tt
+
+    step-has : (limit : ℕ) (table : Table) (l : Line) → HasCasesOf system table → HaveSpellings (step system limit table l).items
+    step-has limit table Blank h = tt
+    step-has limit table (Refused refusal) h = ((_, refl), tt)
+    step-has limit table (Ask s request) h =
+        carried-has s (outcome_in system limit table s request) table (outcome-has s (nat_le limit (length table)) (entry_of s table) (h s) request)
+
+    lines-have : (limit : ℕ) (table : Table) (lines : List (List ℕ)) → HasCasesOf system table → HaveSpellings (replies system limit table lines)
+    lines-have limit table [] h = tt
+    lines-have limit table (l ∷ lines) h =
+        let after = step system limit table (line_of l) in
+        have_both after.items (replies system limit after.table lines) (step-has limit table (line_of l) h)
+        (lines-have limit after.table lines (step-keeps system limit table (line_of l) h))
+
+-- ---- over a graph
+
+module _ (subject : Subject) (is : IsGraph subject.graph) (room : length subject.parts + length subject.wires ≤ subject.graph.vars) (few : length subject.graph.nodes + length subject.parts + 1 < 2 ^ 32) where
+  abbrev system : System
+  system = system_of subject
+
+  projected-has : (known : Case) → IsCaseOf system known → HasText (Projected (length subject.parts) (system.consistent known))
+  projected-has known h =
+      let parts = length subject.parts in
+      let words = case_words subject.graph.vars known in
+      let long = length-case_words subject.graph.vars known (omega (arith, h.0, h.1, room)) in
+      let narrow : parts ≤ subject.graph.vars = omega (arith, room) in (
+        projected_text subject.graph words parts,
+        (projected_text-is_neat subject.graph words parts is long narrow few, projected_text-means subject.graph words parts is long narrow few),
+      )
+
+  -- each reply to a script has some text
+  pub replies-have : (limit : ℕ) (table : Table) (lines : List (List ℕ)) → HasCasesOf (system_of subject) table → HaveSpellings (replies (system_of subject) limit table lines)
+  replies-have = lines-have system projected-has
+
+  -- what was written where it broke off begins its replies
+  pub broken_begins_replies : (limit : ℕ) (old new : Table) (lines : List (List ℕ)) (a b : Option (List ℕ)) → HasCasesOf (system_of subject) old
+      → BreaksOff new (script_moves (line_moves (system_of subject) limit) old lines) a b → WritesPart a b (replies (system_of subject) limit old lines)
+  broken_begins_replies limit old new lines a b h broke = broken_replies system limit old new lines a b broke (replies-have limit old lines h)
+
+  -- also where more lines were to come
+  pub broken_begins_more : (limit : ℕ) (old new : Table) (lines more : List (List ℕ)) (a b : Option (List ℕ)) → HasCasesOf (system_of subject) old
+      → BreaksOff new (script_moves (line_moves (system_of subject) limit) old lines) a b → WritesPart a b (replies (system_of subject) limit old (lines ++ more))
+  broken_begins_more limit old new lines more a b h broke =
+      let one = line_moves system limit in
+      let later = script_moves one (left_by old (script_moves one old lines)) more in
+      broken_begins_replies limit old new (lines ++ more) a b h
+      (subst (λ ms. BreaksOff new ms a b) (sym (script_moves-append one old lines more)) (breaks_before later broke))
+
+  -- and what was written of a script that was carried out begins its replies and those to more lines
+  pub made_begins_more : (limit : ℕ) (old new : Table) (lines more : List (List ℕ)) (a b : Option (List ℕ)) → HasCasesOf (system_of subject) old
+      → Makes old new (script_moves (line_moves (system_of subject) limit) old lines) a b → WritesPart a b (replies (system_of subject) limit old (lines ++ more))
+  made_begins_more limit old new lines more a b h made =
+      let one = line_moves system limit in
+      let after = left_by old (script_moves one old lines) in
+      let later = script_moves one after more in
+      let cases = subst (λ t. HasCasesOf system t) made.table (lines-keep system limit old new lines a b h made) in
+      let have = subst HaveSpellings (sym (said-replies system limit after more)) (replies-have limit after more cases) in
+      let all = ap said (sym (script_moves-append one old lines more)) ∙ said-replies system limit old (lines ++ more) in
+      subst (WritesPart a b) all (made_begins later made have)

@@ -1,0 +1,139 @@
+-- Two systems of the same names and costs, whose consistent states are the same for each case of theirs, answer alike.
+use Rattle.std.proofs.Common.{◌≡◌, ℕ, suc, ◌+◌, Bool, true, false, List, [], ◌∷◌, ◌++◌, map, length, refl, sym, subst, ap, ap₂, ◌∙◌, Option, Some, None, set}
+use Rattle.std.specs.Prelude.{nat_le, codes, is_some}
+use Rattle.std.proofs.lemmas.List.{length-set}
+use Rattle.text_rules.specs.Names.{Name}
+use Rattle.ranking.specs.Cases.{Case}
+use Rattle.ranking.specs.Ranking.{least, diagnoses}
+use Rattle.ranking.specs.Systems.{System}
+use Rattle.device_model.specs.Devices.{place_of}
+use Rattle.script_lang.specs.Script.{Line, Blank, Refused, Ask, Request, Start, Stop, See, Unsee, Hold, Unhold, Min, Next, Several, After, Probe, Probes, Blame, Dnnf, line_of}
+use Rattle.session_rules.specs.declared.refusal.Refusal.{Refusal}
+use Rattle.session_rules.specs.declared.refusal.Refusal.TheVariants.{NoWire}
+use Rattle.session_rules.specs.Items.{Item, Projected, line}
+use Rattle.session_rules.specs.Replies.{min_line, next_of, repeat_steps, least_at, seen_at, probe_line, probe_lines, count_text, if_any, end_line, blame_lines}
+use Rattle.session_rules.specs.Sessions.{Entry, Table, Step, Outcome, entry_of, carried, when_open, outcome, outcome_in, at_place, tells, moved, step, run, after_lines, replies}
+use Rattle.session_rules.specs.Moves.{left_by, listing, goes_on, listing_moves, moves, line_moves, script_moves}
+use Rattle.session_rules.specs.GraphSystems.{IsCaseOf, HasCasesOf}
+use Rattle.session_rules.proofs.Keeping.{step-keeps}
+use Rattle.session_rules.proofs.Whole.{line_moves-whole}
+
+-- Two ways to answer that agree while something holds, which lines keep
+module _ (one other : Table → List ℕ → Step) (Holds : Table → Type 0) (kept : (t : Table) (l : List ℕ) → Holds t → Holds (one t l).table) (agree : (t : Table) (l : List ℕ) → Holds t → one t l ≡ other t l) where
+  run-same : (t : Table) (ls : List (List ℕ)) → Holds t → run one t ls ≡ run other t ls
+  run-same t [] h = refl
+  run-same t (l ∷ ls) h = ap₂ (λ x y. x ++ y) (ap (λ s. s.items) (agree t l h)) (run-same (one t l).table ls (kept t l h) ∙ ap (λ s. run other s.table ls) (agree t l h))
+
+  after_lines-same : (t : Table) (ls : List (List ℕ)) → Holds t → after_lines one t ls ≡ after_lines other t ls
+  after_lines-same t [] h = refl
+  after_lines-same t (l ∷ ls) h = after_lines-same (one t l).table ls (kept t l h) ∙ ap (λ s. after_lines other s.table ls) (agree t l h)
+
+-- and two ways to answer by moves
+module _ (one other : Table → List ℕ → List Step) (Holds : Table → Type 0) (kept : (t : Table) (l : List ℕ) → Holds t → Holds (left_by t (one t l))) (agree : (t : Table) (l : List ℕ) → Holds t → one t l ≡ other t l) where
+  moves_of_lines-same : (t : Table) (ls : List (List ℕ)) → Holds t → script_moves one t ls ≡ script_moves other t ls
+  moves_of_lines-same t [] h = refl
+  moves_of_lines-same t (l ∷ ls) h =
+      ap (λ ms. one t l ++ ms) (moves_of_lines-same (left_by t (one t l)) ls (kept t l h))
+      ∙ ap (λ first. first ++ script_moves other (left_by t first) ls) (agree t l h)
+
+-- one acts as the other where it finds a place
+same_place : (refusal : Refusal) (one other : ℕ → Outcome) (place : Option ℕ) → ((i : ℕ) → one i ≡ other i) → at_place refusal one place ≡ at_place refusal other place
+same_place refusal one other None e = refl
+same_place refusal one other (Some i) e = e i
+
+module _ (system : System) (consistent : Case → List (List Bool)) (same : (known : Case) → IsCaseOf system known → system.consistent known ≡ consistent known) where
+  -- the system with the other states
+  abbrev other : System
+  other = record system { consistent = consistent }
+
+  least_at-same : (known : Case) (wire : ℕ) (bit : Bool) (seen : Option Bool) → IsCaseOf system known → least_at system known wire bit seen ≡ least_at other known wire bit seen
+  least_at-same known wire bit None h =
+      ap (least system.costs) (same (record known { seen = set known.seen wire (Some bit) }) (length-set known.seen wire (Some bit) ∙ h.0, h.1))
+  least_at-same known wire true (Some true) h = ap (least system.costs) (same known h)
+  least_at-same known wire false (Some false) h = ap (least system.costs) (same known h)
+  least_at-same known wire true (Some false) h = refl
+  least_at-same known wire false (Some true) h = refl
+
+  probe_line-same : (s : Name) (known : Case) (name : Name) (wire : ℕ) → IsCaseOf system known → probe_line system s known name wire ≡ probe_line other s known name wire
+  probe_line-same s known name wire h =
+      ap₂ (λ x y. line (s ∷ codes "probe" ∷ name ∷ count_text x ∷ count_text y ∷ []))
+      (least_at-same known wire false (seen_at known wire) h)
+      (least_at-same known wire true (seen_at known wire) h)
+
+  probe_lines-same : (s : Name) (known : Case) (wire : ℕ) (names : List Name) → IsCaseOf system known → probe_lines system s known wire names ≡ probe_lines other s known wire names
+  probe_lines-same s known wire [] h = refl
+  probe_lines-same s known wire (name ∷ names) h =
+      ap₂ (λ l ls. elim (is_some (seen_at known wire)) as (λ _. List Item) [ true ↦ ls | false ↦ l ∷ ls ])
+      (probe_line-same s known name wire h) (probe_lines-same s known (wire + 1) names h)
+
+  when_open-same : (s : Name) (entry : Entry) (request : Request) → IsCaseOf system entry.known → when_open system s entry request ≡ when_open other s entry request
+  when_open-same s entry Start h = refl
+  when_open-same s entry Stop h = refl
+  when_open-same s entry (See name bit) h = refl
+  when_open-same s entry (Unsee name) h = refl
+  when_open-same s entry (Hold name ok) h = refl
+  when_open-same s entry (Unhold name) h = refl
+  when_open-same s entry Min h =
+      ap (λ hs. tells (min_line system s (least system.costs hs) (diagnoses system.costs hs) ∷ [])) (same entry.known h)
+  when_open-same s entry Next h =
+      ap (λ hs. let n = next_of system s (diagnoses system.costs hs) entry.point in moved entry n.point (n.item ∷ [])) (same entry.known h)
+  when_open-same s entry (Several count) h =
+      ap (λ hs. let l = repeat_steps (next_of system s (diagnoses system.costs hs)) count entry.point in moved entry l.point l.items) (same entry.known h)
+  when_open-same s entry (After names) h = refl
+  when_open-same s entry (Probe name) h =
+      same_place NoWire
+      (λ wire. tells (if_any s (system.consistent entry.known) (probe_line system s entry.known name wire ∷ [])))
+      (λ wire. tells (if_any s (consistent entry.known) (probe_line other s entry.known name wire ∷ [])))
+      (place_of name system.wires)
+      (λ wire. ap₂ (λ hs l. tells (if_any s hs (l ∷ []))) (same entry.known h) (probe_line-same s entry.known name wire h))
+  when_open-same s entry Probes h =
+      ap₂ (λ hs ls. tells (if_any s hs (ls ++ end_line s ∷ []))) (same entry.known h) (probe_lines-same s entry.known 0 system.wires h)
+  when_open-same s entry Blame h =
+      ap (λ hs. tells (if_any s (diagnoses system.costs hs) (blame_lines s (diagnoses system.costs hs) 0 system.parts ++ end_line s ∷ []))) (same entry.known h)
+  when_open-same s entry Dnnf h =
+      ap (λ hs. tells (line (s ∷ codes "dnnf" ∷ []) ∷ Projected (length system.parts) hs ∷ [])) (same entry.known h)
+
+  outcome-same : (s : Name) (full : Bool) (entry : Option Entry) (request : Request) → ((e : Entry) → entry ≡ Some e → IsCaseOf system e.known)
+      → outcome system s full entry request ≡ outcome other s full entry request
+  outcome-same s full (Some entry) request h = when_open-same s entry request (h entry refl)
+  outcome-same s full None Start h = refl
+  outcome-same s full None request h = refl
+
+  outcome_in-same : (limit : ℕ) (table : Table) (s : Name) (request : Request) → HasCasesOf system table → outcome_in system limit table s request ≡ outcome_in other limit table s request
+  outcome_in-same limit table s request h = outcome-same s (nat_le limit (length table)) (entry_of s table) request (h s)
+
+  -- a line is one step in both
+  pub step-same : (limit : ℕ) (table : Table) (l : Line) → HasCasesOf system table → step system limit table l ≡ step other limit table l
+  step-same limit table Blank h = refl
+  step-same limit table (Refused refusal) h = refl
+  step-same limit table (Ask s request) h = ap (carried table s) (outcome_in-same limit table s request h)
+
+  listing_moves-same : (table : Table) (s : Name) (count : ℕ) (entry : Option Entry) → ((e : Entry) → entry ≡ Some e → IsCaseOf system e.known)
+      → listing_moves system table s count entry ≡ listing_moves other table s count entry
+  listing_moves-same table s count None h = refl
+  listing_moves-same table s count (Some entry) h =
+      ap (λ hs. map (goes_on table s entry) (listing (next_of system s (diagnoses system.costs hs)) count entry.point)) (same entry.known (h entry refl))
+
+  moves-same : (limit : ℕ) (table : Table) (l : Line) → HasCasesOf system table → moves system limit table l ≡ moves other limit table l
+  moves-same limit table (Ask s (Several (suc n))) h = listing_moves-same table s (suc n) (entry_of s table) (h s)
+  moves-same limit table l h = ap (λ (move : Step). move ∷ []) (step-same limit table l h)
+
+  -- the moves of a line are the same in both, and those of a script
+  pub line_moves-same : (limit : ℕ) (table : Table) (bytes : List ℕ) → HasCasesOf system table → line_moves system limit table bytes ≡ line_moves other limit table bytes
+  line_moves-same limit table bytes = moves-same limit table (line_of bytes)
+
+  line_moves-keep : (limit : ℕ) (table : Table) (bytes : List ℕ) → HasCasesOf system table → HasCasesOf system (left_by table (line_moves system limit table bytes))
+  line_moves-keep limit table bytes h =
+      subst (λ (s : Step). HasCasesOf system s.table) (sym (line_moves-whole system limit table bytes)) (step-keeps system limit table (line_of bytes) h)
+
+  pub script_moves-same : (limit : ℕ) (table : Table) (lines : List (List ℕ)) → HasCasesOf system table
+      → script_moves (line_moves system limit) table lines ≡ script_moves (line_moves other limit) table lines
+  script_moves-same limit = moves_of_lines-same _ _ (HasCasesOf system) (line_moves-keep limit) (line_moves-same limit)
+
+  -- a script has the same replies in both, and leaves the same table
+  pub replies-same : (limit : ℕ) (table : Table) (lines : List (List ℕ)) → HasCasesOf system table → replies system limit table lines ≡ replies other limit table lines
+  replies-same limit = run-same _ _ (HasCasesOf system) (λ t l. step-keeps system limit t (line_of l)) (λ t l. step-same limit t (line_of l))
+
+  pub tables-same : (limit : ℕ) (table : Table) (lines : List (List ℕ)) → HasCasesOf system table
+      → after_lines (λ t l. step system limit t (line_of l)) table lines ≡ after_lines (λ t l. step other limit t (line_of l)) table lines
+  tables-same limit = after_lines-same _ _ (HasCasesOf system) (λ t l. step-keeps system limit t (line_of l)) (λ t l. step-same limit t (line_of l))

@@ -1,0 +1,81 @@
+-- Moves taken whole are steps.
+use Rattle.std.proofs.Common.{◌≡◌, ℕ, zero, suc, Bool, true, false, List, [], ◌∷◌, ◌++◌, map, refl, ap, ap₂, sym, ◌∙◌, Option, Some, None, append_assoc, append-nil}
+use Rattle.std.specs.Prelude.{nat_le, length}
+use Rattle.text_rules.specs.Names.{Name}
+use Rattle.ranking.specs.Systems.{System, all_diagnoses}
+use Rattle.script_lang.specs.Script.{Line, Ask, Several, line_of}
+use Rattle.session_rules.specs.Replies.{Found, Listed, next_of, repeat_steps}
+use Rattle.session_rules.specs.Sessions.{Table, Entry, Step, with_entry, entry_of, carried, outcome, step, run, after_lines, replies}
+use Rattle.session_rules.specs.Moves.{said, left_by, whole, listing, goes_on, listing_moves, moves, line_moves, line_step, script_moves}
+
+one_move : (table : Table) (s : Step) → whole table (s ∷ []) ≡ s
+one_move table s = ap (λ items. record { table = s.table; items = items }) (append-nil s.items)
+
+module _ (table : Table) (session : Name) (entry : Entry) (next : Option (List Bool) → Found) where
+  -- a listing as one step
+  abbrev listed : Listed → Step
+  listed l = record { table = with_entry session (record entry { point = l.point }) table; items = l.items }
+
+  -- more steps, or none
+  abbrev later : Bool → ℕ → Option (List Bool) → List Found
+  later more n point = elim more as (λ _. List Found) [ true ↦ listing next n point | false ↦ [] ]
+
+  abbrev found_first : Bool → ℕ → Found → Listed
+  found_first more n f =
+      elim more as (λ _. Listed) [
+        | true ↦ (let more = repeat_steps next n f.point in record { items = f.item ∷ more.items; point = more.point })
+        | false ↦ record { items = f.item ∷ []; point = f.point }
+      ]
+
+  listing-whole : (n : ℕ) (more : Bool) (f : Found) (before : Table) → whole before (map (goes_on table session entry) (f ∷ later more n f.point)) ≡ listed (found_first more n f)
+  listing-whole n false f before = refl
+  listing-whole zero true f before = refl
+  listing-whole (suc n) true f before =
+      ap (λ s. record { table = s.table; items = f.item ∷ s.items }) (listing-whole n (next f.point).more (next f.point) (goes_on table session entry f).table)
+
+listing_moves-whole : (system : System) (table : Table) (session : Name) (full : Bool) (n : ℕ) (entry : Option Entry)
+    → whole table (listing_moves system table session (suc n) entry) ≡ carried table session (outcome system session full entry (Several (suc n)))
+listing_moves-whole system table session full n None = one_move table _
+listing_moves-whole system table session full n (Some entry) =
+    let next = next_of system session (all_diagnoses system entry.known) in
+    listing-whole table session entry next n (next entry.point).more (next entry.point) table
+
+moves-whole : (system : System) (limit : ℕ) (table : Table) (l : Line) → whole table (moves system limit table l) ≡ step system limit table l
+moves-whole system limit table (Ask session (Several (suc n))) = listing_moves-whole system table session (nat_le limit (length table)) n (entry_of session table)
+moves-whole system limit table l = one_move table (step system limit table l)
+
+-- the moves of a line come to its step
+pub line_moves-whole : (system : System) (limit : ℕ) (table : Table) (bytes : List ℕ) → whole table (line_moves system limit table bytes) ≡ step system limit table (line_of bytes)
+line_moves-whole system limit table bytes = moves-whole system limit table (line_of bytes)
+
+pub said-append : (ms ns : List Step) → said (ms ++ ns) ≡ said ms ++ said ns
+said-append [] ns = refl
+said-append (m ∷ ms) ns = ap (λ items. m.items ++ items) (said-append ms ns) ∙ sym (append_assoc m.items (said ms) (said ns))
+
+pub left_by-append : (t : Table) (ms ns : List Step) → left_by t (ms ++ ns) ≡ left_by (left_by t ms) ns
+left_by-append t [] ns = refl
+left_by-append t (m ∷ ms) ns = left_by-append m.table ms ns
+
+-- the moves of a script come to what its lines' steps say, and to the table after them
+module _ (many : Table → List ℕ → List Step) (one : Table → List ℕ → Step) (same : (t : Table) (l : List ℕ) → whole t (many t l) ≡ one t l) where
+  script_moves-whole : (t : Table) (ls : List (List ℕ)) → whole t (script_moves many t ls) ≡ record { table = after_lines one t ls; items = run one t ls }
+  script_moves-whole t [] = refl
+  script_moves-whole t (l ∷ ls) =
+      let first = many t l in
+      let rest = script_moves many (left_by t first) ls in
+      ap₂ (λ a b. record { table = a; items = b }) (left_by-append t first rest) (said-append first rest)
+      ∙ (ap (λ s. record { table = s.table; items = said first ++ s.items }) (script_moves-whole (left_by t first) ls)
+      ∙ ap (λ s. record { table = after_lines one s.table ls; items = s.items ++ run one s.table ls }) (same t l))
+
+  script_moves-said : (t : Table) (ls : List (List ℕ)) → said (script_moves many t ls) ≡ run one t ls
+  script_moves-said t ls = ap (λ s. s.items) (script_moves-whole t ls)
+
+  script_moves-left : (t : Table) (ls : List (List ℕ)) → left_by t (script_moves many t ls) ≡ after_lines one t ls
+  script_moves-left t ls = ap (λ s. s.table) (script_moves-whole t ls)
+
+-- the moves of a script say its replies, and leave the table after it
+pub said-replies : (system : System) (limit : ℕ) (table : Table) (lines : List (List ℕ)) → said (script_moves (line_moves system limit) table lines) ≡ replies system limit table lines
+said-replies system limit = script_moves-said (line_moves system limit) (line_step system limit) (line_moves-whole system limit)
+
+pub left_by-lines : (system : System) (limit : ℕ) (table : Table) (lines : List (List ℕ)) → left_by table (script_moves (line_moves system limit) table lines) ≡ after_lines (line_step system limit) table lines
+left_by-lines system limit = script_moves-left (line_moves system limit) (line_step system limit) (line_moves-whole system limit)

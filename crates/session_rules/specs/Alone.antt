@@ -1,0 +1,67 @@
+-- A session among others: what it is answered is what it would be answered alone.
+use Rattle.std.specs.Prelude.{◌≡◌, ℕ, Bool, true, false, List, [], ◌∷◌, ◌++◌, map, length, nat_le, codes, if◌then◌else◌}
+use Rattle.text_rules.specs.Names.{Name, same_name}
+use Rattle.ranking.specs.Systems.{System}
+use Rattle.script_lang.specs.Script.{Line, Ask, Start, Stop, line_of}
+use Rattle.session_rules.specs.Items.{Item, line}
+use Rattle.session_rules.specs.Sessions.{Table, entry_of, step}
+use Rattle.session_rules.specs.Moves.{line_step}
+
+-- a line, and what it was answered
+pub record Answer : Type 0 where
+  pub bytes : List ℕ
+  pub items : List Item
+
+abbrev pub lines_of : List Answer → List (List ℕ)
+lines_of answers = map (λ (answer : Answer). answer.bytes) answers
+
+-- lines, each with its answer
+abbrev pub dialogue : System → ℕ → Table → List (List ℕ) → List Answer
+dialogue system limit table [] = []
+dialogue system limit table (bytes ∷ lines) =
+    let now = line_step system limit table bytes in
+    record { bytes = bytes; items = now.items } ∷ dialogue system limit now.table lines
+
+-- whether a line asks something of this session
+abbrev pub names_session : Name → Line → Bool
+names_session session (Ask other request) = same_name other session
+names_session session line = false
+
+-- whether it asks that the session ends
+abbrev pub closes_session : Name → Line → Bool
+closes_session session (Ask other Stop) = same_name other session
+closes_session session line = false
+
+-- of these answers those to lines that name a session, up to the first that closes it
+abbrev pub own_answers : Name → List Answer → List Answer
+own_answers session [] = []
+own_answers session (answer ∷ answers) =
+    let asked = line_of answer.bytes in
+    let later = if closes_session session asked then [] else own_answers session answers in
+    if names_session session asked then answer ∷ later else own_answers session answers
+
+-- the line opens a session, and is answered so
+pub record Opens (session : Name) (answer : Answer) : Type 0 where
+  pub asked : line_of answer.bytes ≡ Ask session Start
+  pub said : answer.items ≡ line (session ∷ codes "open" ∷ []) ∷ []
+
+-- Wherever a session opens among these lines, its own lines from there to its end have the answers that they have alone.
+abbrev pub AreAnsweredAlone : System → ℕ → Table → List (List ℕ) → Type 0
+AreAnsweredAlone system limit table lines =
+    (session : Name) (before later : List Answer) (opening : Answer)
+    → dialogue system limit table lines ≡ before ++ opening ∷ later → Opens session opening
+    → let own = own_answers session (opening ∷ later) in own ≡ dialogue system 1 [] (lines_of own)
+
+-- A line sees of a table the entry of the session that it names, and where it opens one whether there is room.
+pub record LooksSame (limit : ℕ) (line : Line) (one other : Table) : Type 0 where
+  pub entries : (session : Name) → names_session session line ≡ true → entry_of session one ≡ entry_of session other
+  pub room : (session : Name) → line ≡ Ask session Start → nat_le limit (length one) ≡ nat_le limit (length other)
+
+-- What a line is answered, and what becomes of the session that it names, hangs on no more than that, and it changes no other.
+pub record IsItsOwn (system : System) (limit : ℕ) (line : Line) : Type 0 where
+  pub answer : (one other : Table) → LooksSame limit line one other
+      → (step system limit one line).items ≡ (step system limit other line).items
+  pub named : (one other : Table) → LooksSame limit line one other → (session : Name) → names_session session line ≡ true
+      → entry_of session (step system limit one line).table ≡ entry_of session (step system limit other line).table
+  pub others : (table : Table) (session : Name) → names_session session line ≡ false
+      → entry_of session (step system limit table line).table ≡ entry_of session table

@@ -1,0 +1,52 @@
+-- A system whose consistent states are the models of a graph. Its variables are the parts, then the wires, then inner ones.
+use Rattle.std.specs.Prelude.{◌≡◌, ℕ, ◌+◌, ◌-◌, Bool, List, ◌++◌, map, length, replicate, Option, Some, None}
+use Rattle.text_rules.specs.Names.{Name}
+use Rattle.ranking.specs.Cases.{Case}
+use Rattle.ranking.specs.Systems.{System}
+use Rattle.graph_rules.specs.Graphs.{Graph}
+use Rattle.device_model.specs.Devices.{Device, part_names, part_costs}
+use Rattle.conditioner.specs.Words.{word_of}
+use Rattle.conditioner.specs.Models.{models}
+use Rattle.session_rules.specs.Sessions.{Entry, Table, entry_of}
+
+-- the word that says what is known of a variable
+abbrev pub word_of_known : Option Bool → ℕ
+word_of_known None = 0
+word_of_known (Some bit) = word_of bit
+
+-- what a case says of so many variables: nothing of the inner ones
+abbrev pub case_words : ℕ → Case → List ℕ
+case_words vars known =
+    map word_of_known known.held
+    ++ (map word_of_known known.seen ++ replicate (vars - (length known.held + length known.seen)) 0)
+
+abbrev pub graph_system : List Name → List Name → List ℕ → Graph → System
+graph_system parts wires costs graph = record {
+  parts = parts;
+  wires = wires;
+  costs = costs;
+  consistent = λ known. models graph (case_words graph.vars known) (length parts);
+}
+
+-- what a service asks over: the names of parts and wires, what the failure of each part costs, and a graph
+pub record Subject : Type 0 where
+  pub parts : List Name
+  pub wires : List Name
+  pub costs : List ℕ
+  pub graph : Graph
+
+abbrev pub system_of : Subject → System
+system_of subject = graph_system subject.parts subject.wires subject.costs subject.graph
+
+-- the system of a device's graph
+abbrev pub compiled_system : Device → Graph → System
+compiled_system device graph = graph_system (part_names device.parts) device.wires (part_costs device) graph
+
+-- a case has a place for each wire and each part
+abbrev pub IsCaseOf : System → Case → Type 0
+IsCaseOf system known = (length known.seen ≡ length system.wires) × (length known.held ≡ length system.parts)
+
+-- the case of each open session has
+abbrev pub HasCasesOf : System → Table → Type 0
+HasCasesOf system table =
+    (session : Name) (entry : Entry) → entry_of session table ≡ Some entry → IsCaseOf system entry.known

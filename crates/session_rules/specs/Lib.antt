@@ -1,0 +1,10 @@
+pub mod Items
+pub mod Refusals
+pub mod Replies
+pub mod Sessions
+pub mod Moves
+pub mod Spelling
+pub mod Carrying
+pub mod CaseWords
+pub mod GraphSystems
+pub mod Alone

@@ -1,0 +1,60 @@
+-- A line's step, reply by reply.
+use Rattle.std.specs.Prelude.{ℕ, zero, suc, Bool, true, false, List, [], ◌∷◌, ◌++◌, map, Option, Some, None}
+use Rattle.text_rules.specs.Names.{Name}
+use Rattle.ranking.specs.Systems.{System, all_diagnoses}
+use Rattle.script_lang.specs.Script.{Line, Ask, Several, line_of}
+use Rattle.session_rules.specs.declared.refusal.Refusal.TheVariants.{NoSession}
+use Rattle.session_rules.specs.Items.{Item}
+use Rattle.session_rules.specs.Replies.{Found, next_of}
+use Rattle.session_rules.specs.Sessions.{Table, Entry, Step, Declined, with_entry, entry_of, carried, step}
+
+-- what moves say, one after the other
+abbrev pub said : List Step → List Item
+said [] = []
+said (move ∷ moves) = move.items ++ said moves
+
+-- the table that they leave
+abbrev pub left_by : Table → List Step → Table
+left_by table [] = table
+left_by table (move ∷ moves) = left_by move.table moves
+
+-- all of them as one step
+abbrev pub whole : Table → List Step → Step
+whole table moves = record { table = left_by table moves; items = said moves }
+
+-- what at most so many steps find, up to the first that finds nothing
+abbrev pub listing : (Option (List Bool) → Found) → ℕ → Option (List Bool) → List Found
+listing next zero point = []
+listing next (suc n) point =
+    let f = next point in f ∷ (elim f.more as (λ _. List Found) [ true ↦ listing next n f.point | false ↦ [] ])
+
+-- the session goes on after what was found
+abbrev pub goes_on : Table → Name → Entry → Found → Step
+goes_on table session entry f =
+    record { table = with_entry session (record entry { point = f.point }) table; items = f.item ∷ [] }
+
+-- each reply of a listing is a move
+abbrev pub listing_moves : System → Table → Name → ℕ → Option Entry → List Step
+listing_moves system table session count None = carried table session (Declined NoSession) ∷ []
+listing_moves system table session count (Some entry) =
+    map (goes_on table session entry)
+    (listing (next_of system session (all_diagnoses system entry.known)) count entry.point)
+
+-- every other line is one move
+abbrev pub moves : System → ℕ → Table → Line → List Step
+moves system limit table (Ask session (Several (suc n))) =
+    listing_moves system table session (suc n) (entry_of session table)
+moves system limit table line = step system limit table line ∷ []
+
+-- the moves of a line, and its step
+abbrev pub line_moves : System → ℕ → Table → List ℕ → List Step
+line_moves system limit table bytes = moves system limit table (line_of bytes)
+
+abbrev pub line_step : System → ℕ → Table → List ℕ → Step
+line_step system limit table bytes = step system limit table (line_of bytes)
+
+-- the moves of lines that are answered one after the other
+abbrev pub script_moves : (Table → List ℕ → List Step) → Table → List (List ℕ) → List Step
+script_moves one table [] = []
+script_moves one table (line ∷ lines) =
+    let first = one table line in first ++ script_moves one (left_by table first) lines

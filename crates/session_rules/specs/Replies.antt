@@ -1,0 +1,113 @@
+-- The lines of replies: a minimum, the diagnoses one after the other, and what is told of wires and parts.
+use Rattle.std.specs.Prelude.{ℕ, zero, suc, ◌+◌, Bool, true, false, not, List, [], ◌∷◌, map, Option, Some, None, set, slice_index_or, codes, is_some, if◌then◌else◌}
+use Rattle.std.specs.Fmt.{decimal}
+use Rattle.std.specs.List.{list_any, list_all}
+use Rattle.text_rules.specs.Names.{Name}
+use Rattle.ranking.specs.Bits.{bit_in}
+use Rattle.ranking.specs.Cases.{Case}
+use Rattle.ranking.specs.Ranking.{rest}
+use Rattle.ranking.specs.Systems.{System, least_cost}
+use Rattle.session_rules.specs.Items.{Item, line}
+
+-- the names of the faulty parts
+abbrev pub faulty_names : List Name → List Bool → List Name
+faulty_names [] state = []
+faulty_names (name ∷ names) [] = []
+faulty_names (name ∷ names) (true ∷ state) = faulty_names names state
+faulty_names (name ∷ names) (false ∷ state) = name ∷ faulty_names names state
+
+abbrev pub inconsistent : Name → Item
+inconsistent session = line (session ∷ codes "inconsistent" ∷ [])
+
+abbrev pub end_line : Name → Item
+end_line session = line (session ∷ codes "end" ∷ [])
+
+abbrev pub count_text : Option ℕ → List ℕ
+count_text None = codes "-"
+count_text (Some n) = decimal n
+
+-- the words of that line: the least cost and the names of the faulty parts, or that no state agrees
+abbrev pub min_text : Name → List Name → Option ℕ → List Bool → List Name
+min_text session parts None state = session ∷ codes "inconsistent" ∷ []
+min_text session parts (Some fewest) state = session ∷ codes "min" ∷ decimal fewest ∷ faulty_names parts state
+
+-- the least cost, and one of the diagnoses
+abbrev pub min_line : System → Name → Option ℕ → List (List Bool) → Item
+min_line system session fewest [] = inconsistent session
+min_line system session fewest (state ∷ states) =
+    line (session ∷ codes "min" ∷ count_text fewest ∷ faulty_names system.parts state)
+
+-- the state that comes next, the point after it, and whether there was one
+pub record Found : Type 0 where
+  pub item : Item
+  pub point : Option (List Bool)
+  pub more : Bool
+
+-- the first of the states that come later, of all that there are
+abbrev pub found : Name → (List Bool → Item) → Option (List Bool) → List (List Bool) → List (List Bool) → Found
+found session shown point [] later = record { item = inconsistent session; point = point; more = false }
+found session shown point (d ∷ ds) [] = record { item = end_line session; point = point; more = false }
+found session shown point (d ∷ ds) (state ∷ later) = record { item = shown state; point = Some state; more = true }
+
+abbrev pub diagnosis_line : System → Name → List Bool → Item
+diagnosis_line system session state = line (session ∷ codes "diag" ∷ faulty_names system.parts state)
+
+abbrev pub next_of : System → Name → List (List Bool) → Option (List Bool) → Found
+next_of system session ds point = found session (diagnosis_line system session) point ds (rest ds point)
+
+-- what some steps wrote, and the point after them
+pub record Listed : Type 0 where
+  pub items : List Item
+  pub point : Option (List Bool)
+
+-- at most so many steps, up to the first that finds nothing
+abbrev pub repeat_steps : (Option (List Bool) → Found) → ℕ → Option (List Bool) → Listed
+repeat_steps next zero point = record { items = []; point = point }
+repeat_steps next (suc n) point =
+    let f = next point in
+    elim f.more [
+      | true ↦ (let more = repeat_steps next n f.point in record { items = f.item ∷ more.items; point = more.point })
+      | false ↦ record { items = f.item ∷ []; point = f.point }
+    ]
+
+-- the least cost where a wire is seen so too, if that is not against what was seen
+abbrev pub least_at : System → Case → ℕ → Bool → Option Bool → Option ℕ
+least_at system known wire bit None = least_cost system (record known { seen = set known.seen wire (Some bit) })
+least_at system known wire true (Some true) = least_cost system known
+least_at system known wire false (Some false) = least_cost system known
+least_at system known wire true (Some false) = None
+least_at system known wire false (Some true) = None
+
+abbrev pub seen_at : Case → ℕ → Option Bool
+seen_at known wire = slice_index_or known.seen wire None
+
+abbrev pub probe_line : System → Name → Case → Name → ℕ → Item
+probe_line system session known name wire =
+    line (session ∷ codes "probe" ∷ name ∷ count_text (least_at system known wire false (seen_at known wire))
+    ∷ count_text (least_at system known wire true (seen_at known wire)) ∷ [])
+
+-- a line for each wire that is not seen, from this place on
+abbrev pub probe_lines : System → Name → Case → ℕ → List Name → List Item
+probe_lines system session known wire [] = []
+probe_lines system session known wire (name ∷ names) =
+    elim (is_some (seen_at known wire)) [
+      | true ↦ probe_lines system session known (wire + 1) names
+      | false ↦ probe_line system session known name wire ∷ probe_lines system session known (wire + 1) names
+    ]
+
+-- in all, in some but not all, or in none
+abbrev pub verdict : List Bool → List ℕ
+verdict faulty =
+    if list_all (λ b. b) faulty then codes "always" else if list_any (λ b. b) faulty then codes "sometimes" else codes "never"
+
+-- a line for each part, from this place on
+abbrev pub blame_lines : Name → List (List Bool) → ℕ → List Name → List Item
+blame_lines session ds part [] = []
+blame_lines session ds part (name ∷ names) =
+    line (session ∷ codes "blame" ∷ name ∷ verdict (map (λ state. not (bit_in state part)) ds) ∷ [])
+    ∷ blame_lines session ds (part + 1) names
+
+-- these items, or the one that says so where no state agrees
+abbrev pub if_any : Name → List (List Bool) → List Item → List Item
+if_any session [] items = inconsistent session ∷ []
+if_any session (state ∷ states) items = items

@@ -1,0 +1,161 @@
+-- Sessions over a system, and the replies to the lines of a script.
+use Rattle.std.specs.Prelude.{ℕ, Bool, not, List, [], ◌∷◌, ◌++◌, map, length, Option, Some, None, set, codes, nat_le, if◌then◌else◌}
+use Rattle.std.specs.Fmt.{decimal}
+use Rattle.std.specs.Ordering.{nat_cmp}
+use Rattle.std.specs.Cmp.Lexicographic.{slice_cmp}
+use Rattle.std.specs.List.{list_all, filter}
+use Rattle.std.specs.FinMap.{find, put}
+use Rattle.text_rules.specs.Names.{Name, same_name, is_among}
+use Rattle.ranking.specs.Cases.{Case, empty_case}
+use Rattle.device_model.specs.Devices.{place_of}
+use Rattle.script_lang.specs.Script.{Line, Blank, Refused, Ask, Request, Start, Stop, See, Unsee, Hold, Unhold, Min, Next, Several, After, Probe, Probes, Blame, Dnnf, line_of}
+use Rattle.ranking.specs.Systems.{System, least_cost, all_diagnoses}
+use Rattle.script_lang.specs.Refusals as line_refusals
+use Rattle.session_rules.specs.declared.refusal.Refusal.{Refusal}
+use Rattle.session_rules.specs.declared.refusal.Refusal.TheVariants.{NoSession, OpenAlready, Full, NoWire, NoPart}
+use Rattle.session_rules.specs.Refusals.{refusal_number, refusal_text}
+use Rattle.session_rules.specs.Items.{Item, Projected, line}
+use Rattle.session_rules.specs.Replies.{end_line, min_line, next_of, repeat_steps, probe_line, probe_lines, blame_lines, if_any}
+
+-- what a session knows, and the state after which it goes on
+pub record Entry : Type 0 where
+  pub known : Case
+  pub point : Option (List Bool)
+
+-- the open sessions, by name
+abbrev pub Table : Type 0
+Table = List (Name × Entry)
+
+abbrev pub entry_of : Name → Table → Option Entry
+entry_of session table = find (slice_cmp nat_cmp) session table
+
+abbrev pub with_entry : Name → Entry → Table → Table
+with_entry session entry table = put (slice_cmp nat_cmp) session entry table
+
+abbrev pub without : Name → Table → Table
+without session table = filter (λ e. not (same_name e.0 session)) table
+
+-- the session as it is when it opens
+abbrev pub new_entry : System → Entry
+new_entry system = record { known = empty_case (length system.wires) (length system.parts); point = None }
+
+-- what becomes of a session
+pub data Change : Type 0 where
+  Stays : Change
+  Becomes : (entry : Entry) → Change
+  Ends : Change
+
+-- a refusal, or a change and what is written
+pub data Outcome : Type 0 where
+  Declined : (refusal : Refusal) → Outcome
+  Done : (change : Change) (items : List Item) → Outcome
+
+abbrev pub tells : List Item → Outcome
+tells items = Done Stays items
+
+-- the session becomes this, and one word is said
+abbrev pub becomes : Name → Entry → List ℕ → Outcome
+becomes session entry word = Done (Becomes entry) (line (session ∷ word ∷ []) ∷ [])
+
+-- what is done at a place, or the refusal where there is none
+abbrev pub at_place : Refusal → (ℕ → Outcome) → Option ℕ → Outcome
+at_place refusal act None = Declined refusal
+at_place refusal act (Some place) = act place
+
+abbrev pub at_wire : System → Name → (ℕ → Outcome) → Outcome
+at_wire system name act = at_place NoWire act (place_of name system.wires)
+
+abbrev pub at_part : System → Name → (ℕ → Outcome) → Outcome
+at_part system name act = at_place NoPart act (place_of name system.parts)
+
+-- A change of what is known leaves no point.
+abbrev pub with_seen : Entry → ℕ → Option Bool → Entry
+with_seen entry wire bit = record { known = record entry.known { seen = set entry.known.seen wire bit }; point = None }
+
+abbrev pub with_held : Entry → ℕ → Option Bool → Entry
+with_held entry part ok = record { known = record entry.known { held = set entry.known.held part ok }; point = None }
+
+-- the state whose faulty parts are those named
+abbrev pub state_of : List Name → List Name → List Bool
+state_of named parts = map (λ part. not (is_among named part)) parts
+
+-- the same session with another point
+abbrev pub moved : Entry → Option (List Bool) → List Item → Outcome
+moved entry point items = Done (Becomes (record entry { point = point })) items
+
+-- what an open session answers
+abbrev pub when_open : System → Name → Entry → Request → Outcome
+when_open system s entry Start = Declined OpenAlready
+when_open system s entry Stop = Done Ends (line (s ∷ codes "closed" ∷ []) ∷ [])
+when_open system s entry (See name bit) = at_wire system name (λ wire. becomes s (with_seen entry wire (Some bit)) (codes "ok"))
+when_open system s entry (Unsee name) = at_wire system name (λ wire. becomes s (with_seen entry wire None) (codes "ok"))
+when_open system s entry (Hold name ok) = at_part system name (λ part. becomes s (with_held entry part (Some ok)) (codes "ok"))
+when_open system s entry (Unhold name) = at_part system name (λ part. becomes s (with_held entry part None) (codes "ok"))
+when_open system s entry Min =
+    tells (min_line system s (least_cost system entry.known) (all_diagnoses system entry.known) ∷ [])
+when_open system s entry Next =
+    let f = next_of system s (all_diagnoses system entry.known) entry.point in moved entry f.point (f.item ∷ [])
+when_open system s entry (Several count) =
+    let ds = all_diagnoses system entry.known in
+    let l = repeat_steps (next_of system s ds) count entry.point in moved entry l.point l.items
+when_open system s entry (After names) =
+    if list_all (λ name. is_among system.parts name) names
+    then becomes s (record entry { point = Some (state_of names system.parts) }) (codes "ok")
+    else Declined NoPart
+when_open system s entry (Probe name) = at_wire system name (λ wire.
+    tells (if_any s (system.consistent entry.known) (probe_line system s entry.known name wire ∷ [])))
+when_open system s entry Probes =
+    tells (if_any s (system.consistent entry.known) (probe_lines system s entry.known 0 system.wires ++ end_line s ∷ []))
+when_open system s entry Blame =
+    let ds = all_diagnoses system entry.known in tells (if_any s ds (blame_lines s ds 0 system.parts ++ end_line s ∷ []))
+when_open system s entry Dnnf =
+    tells (line (s ∷ codes "dnnf" ∷ []) ∷ Projected (length system.parts) (system.consistent entry.known) ∷ [])
+
+-- What is answered hangs on the session's own entry alone, and where it is not open on whether there is room.
+abbrev pub outcome : System → Name → Bool → Option Entry → Request → Outcome
+outcome system s full (Some entry) request = when_open system s entry request
+outcome system s full None Start = if full then Declined Full else becomes s (new_entry system) (codes "open")
+outcome system s full None request = Declined NoSession
+
+abbrev pub changed : Name → Change → Table → Table
+changed session Stays table = table
+changed session (Becomes entry) table = with_entry session entry table
+changed session Ends table = without session table
+
+-- the table after a line, and what the line is answered
+pub record Step : Type 0 where
+  pub table : Table
+  pub items : List Item
+
+abbrev pub carried : Table → Name → Outcome → Step
+carried table session (Declined refusal) = record {
+  table = table;
+  items = line (session ∷ codes "error" ∷ decimal (refusal_number refusal) ∷ refusal_text refusal ∷ []) ∷ [];
+}
+carried table session (Done change items) = record { table = changed session change table; items = items }
+
+-- what a request comes to, where at most so many sessions may be open
+abbrev pub outcome_in : System → ℕ → Table → Name → Request → Outcome
+outcome_in system limit table session request =
+    outcome system session (nat_le limit (length table)) (entry_of session table) request
+
+abbrev pub step : System → ℕ → Table → Line → Step
+step system limit table Blank = record { table = table; items = [] }
+step system limit table (Refused refusal) = record {
+  table = table;
+  items = line (codes "error" ∷ decimal (line_refusals.refusal_number refusal) ∷ line_refusals.refusal_text refusal ∷ []) ∷ [];
+}
+step system limit table (Ask session request) = carried table session (outcome_in system limit table session request)
+
+-- what lines are answered one after the other, and the table that they leave
+abbrev pub run : (Table → List ℕ → Step) → Table → List (List ℕ) → List Item
+run step_by table [] = []
+run step_by table (l ∷ lines) = (step_by table l).items ++ run step_by (step_by table l).table lines
+
+abbrev pub after_lines : (Table → List ℕ → Step) → Table → List (List ℕ) → Table
+after_lines step_by table [] = table
+after_lines step_by table (l ∷ lines) = after_lines step_by (step_by table l).table lines
+
+-- the replies to the lines of a script
+abbrev pub replies : System → ℕ → Table → List (List ℕ) → List Item
+replies system limit table lines = run (λ t l. step system limit t (line_of l)) table lines

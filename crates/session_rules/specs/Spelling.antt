@@ -1,0 +1,47 @@
+-- Which bytes spell a list of items.
+use Rattle.std.specs.Prelude.{◌≡◌, ◌≤◌, ℕ, true, false, List, [], ◌∷◌, ◌++◌, length, Option, Result, MatchResult, Ok, Err}
+use Rattle.std.specs.Io.KnownBytes.{Appends}
+use Rattle.text_rules.specs.Tokens.{is_neat}
+use Rattle.graph_rules.specs.Graphs.{Decomposable}
+use Rattle.graph_rules.specs.GraphTexts.{Parsed, parsed}
+use Rattle.device_model.specs.Devices.{Device}
+use Rattle.dnnf_compiler.specs.Compiled.{IsGraphOf as MeansDevice}
+use Rattle.projector.specs.Projecting.{IsGraphOf}
+use Rattle.session_rules.specs.Items.{Item, Plain, Projected, Whole}
+
+-- a graph over so many variables, decomposable, with at most so many nodes, that means a device
+abbrev pub IsWholeOf : Device → ℕ → ℕ → Parsed → Type 0
+IsWholeOf device vars most (Err refusal) = false ≡ true
+IsWholeOf device vars most (Ok graph) =
+    (graph.vars ≡ vars) × Decomposable graph.nodes × (length graph.nodes ≤ most) × MeansDevice device graph
+
+abbrev pub Spelled : Item → List ℕ → Type 0
+Spelled (Plain bytes) text = text ≡ bytes
+Spelled (Projected parts states) text = (is_neat text ≡ true) × IsGraphOf parts states (parsed text)
+Spelled (Whole device vars most) text = (is_neat text ≡ true) × IsWholeOf device vars most (parsed text)
+
+-- the text is those of the items, one after the other
+abbrev pub Spells : List Item → List ℕ → Type 0
+Spells [] text = text ≡ []
+Spells (item ∷ items) text =
+    (front : List ℕ) × (rest : List ℕ) × (text ≡ front ++ rest) × Spelled item front × Spells items rest
+
+-- some rest makes the text spell the items
+abbrev pub Begins : List Item → List ℕ → Type 0
+Begins items text = (rest : List ℕ) × Spells items (text ++ rest)
+
+-- known bytes grew by a text that spells the items
+pub record Writes (before after : Option (List ℕ)) (items : List Item) : Type 0 where
+  pub text : List ℕ
+  pub spelled : Spells items text
+  pub grown : Appends before after text
+
+-- they grew by the beginning of one
+pub record WritesPart (before after : Option (List ℕ)) (items : List Item) : Type 0 where
+  pub text : List ℕ
+  pub begun : Begins items text
+  pub grown : Appends before after text
+
+-- the items were written, or begun
+abbrev pub Replies : {T E : Type 0} → Option (List ℕ) → Option (List ℕ) → Result T E → List Item → Type 0
+Replies before after result items = MatchResult result (λ _. Writes before after items) (λ _. WritesPart before after items)

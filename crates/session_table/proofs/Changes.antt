@@ -1,0 +1,264 @@
+-- What is done to the fields of the open sessions is what their contracts tell of the table.
+use Rattle.std.proofs.Common.{◌≡◌, ℕ, ◌<◌, ◌≤◌, T, List, length, get_or, set, replicate, refl, ap, ap₂, sym, ◌∙◌, subst, Some, None, Result, Ok, Err, IfOk, IfErr, arith}
+use Rattle.std.specs.Prelude.{not, slice_get, IsErr, IfSome, IfNone, vec_capacity}
+use Rattle.std.specs.List.{insert, remove}
+use Rattle.std.specs.Option.{option_map}
+use Rattle.std.specs.Result.{result_ok}
+use Rattle.std.specs.FinMap.Entries.{is_sorted, put, where_key, is_sorted-put, is_sorted-where_key}
+use Rattle.std.proofs.lemmas.Cmp.{nat_list_cmp_total}
+use Rattle.std.proofs.lemmas.List.{length-map}
+use Rattle.std.proofs.lemmas.List.Edits.{length-insert, length-remove}
+use Rattle.std.proofs.lemmas.Option.{slice_get-map, slice_get_within, slice_get_read, some_pair_parts, none-some}
+use Rattle.text_rules.specs.Names.{Name, same_name}
+use Rattle.ranking.specs.Cases.{empty_case}
+use Rattle.scratch_pool.specs.Pools.{Blocks, IsOut, IsFree, IsSound, block_words, taken, given}
+use Rattle.scratch_pool.proofs.Laws.{taken-zeroed, taken-out, taken-free, given-free}
+use Rattle.session_rules.specs.Sessions.{Entry, Table, entry_of, with_entry, without}
+use Rattle.session_table.specs.Tables.{Opened, StandsAt, fresh_entry}
+use Rattle.session_table.specs.inner.Blocks.{entry_in, block_size, IsLaidOut}
+use Rattle.session_table.specs.inner.Ordered.{entry_at, table_of, blocks_by_name, NamesRise, AreKept, HasName, IsGapFor, KeepsEntry}
+use Rattle.session_table.specs.declared.in_order.Open.{Open}
+use Rattle.session_table.specs.declared.open_sessions.OpenSessions.TheInside.{Inside}
+use Rattle.session_table.specs.contracts.open_sessions.OpenSessions.{the_view}
+use Rattle.session_table.proofs.Lookups.{order, IsGap, find_at, put_at, put_same, without_at, put_gap, find_gap}
+use Rattle.session_table.proofs.Mapping.{sorted_alike, map-insert, map-remove, gap_map, slice_get-set}
+use Rattle.session_table.proofs.Searching.{so, as_true}
+use Rattle.session_table.proofs.Noting.{zeros-entry, zeros-laid}
+use Rattle.session_table.proofs.Keeping.{out_at, laid_at, have_insert, given_at, written_at, have_written, none_taken, table_taken, have_taken}
+
+-- what holds of the fields
+abbrev pub Kept : Inside → Type 0
+Kept inside = AreKept inside.layout inside.limit inside.pool inside.«open».items (vec_capacity inside.«open»)
+
+-- the table that the fields make
+abbrev pub table_in : Inside → Table
+table_in inside = table_of inside.layout inside.pool inside.«open».items
+
+-- the entry of a block
+abbrev pub entry_in_block : Inside → ℕ → Entry
+entry_in_block inside block = entry_in inside.layout (block_words inside.pool block)
+
+abbrev name_and_block : Open → Name × ℕ
+name_and_block session = (session.name, session.block)
+
+-- the table is in the order of its names
+table_sorted : (inside : Inside) → Kept inside → T (is_sorted order (table_in inside))
+table_sorted inside kept =
+    subst T (sorted_alike (λ session. session.block) (λ session. entry_in_block inside session.block) inside.«open».items)
+    (so (is_sorted order (blocks_by_name inside.«open».items)) kept.rise)
+
+module _ (inside : Inside) (kept : Kept inside) where
+  abbrev sessions : List Open
+  sessions = inside.«open».items
+
+  stands_at : (place : ℕ) (session : Open) (name : Name) → slice_get sessions place ≡ Some session → session.name ≡ name
+      → StandsAt (table_in inside) place name (entry_in_block inside session.block)
+  stands_at place session name here named =
+      let entry : Entry = entry_in_block inside session.block in
+      let at : slice_get (table_in inside) place ≡ Some (name, entry) =
+      slice_get-map (entry_at inside.layout inside.pool) sessions place
+      ∙ (ap (option_map (entry_at inside.layout inside.pool)) here ∙ ap (λ n. Some (n, entry)) named) in
+      record { at = at; found = find_at (table_in inside) place name entry (table_sorted inside kept) at; kept = put_same (table_in inside) place name entry (table_sorted inside kept) at }
+
+  table_gap : (place : ℕ) (name : Name) → IsGapFor sessions place name → IsGap (table_in inside) place name
+  table_gap place name gap = gap_map (λ session. entry_in_block inside session.block) sessions place name gap
+
+-- ---- a session is looked for
+
+module _ (inside : Inside) (shown : Opened) (shows : the_view inside ≡ shown) (kept : Kept inside)
+    (name : Name) (sessions : List Open) (same : sessions ≡ inside.«open».items) where
+  table_is : table_in inside ≡ shown.table
+  table_is = ap (λ (o : Opened). o.table) shows
+
+  pub found : (r : Result ℕ ℕ) → IfOk r (λ place. HasName sessions place name)
+      → IfSome (result_ok r) (λ place. (entry : Entry) × StandsAt shown.table place name entry)
+  found (Ok place) has =
+      let session = has.0 in
+      let here = subst (λ (xs : List Open). slice_get xs place ≡ Some session) same has.1 in (
+        entry_in_block inside session.block,
+        subst (λ (t : Table). StandsAt t place name (entry_in_block inside session.block)) table_is (stands_at inside kept place session name here has.2),
+      )
+  found (Err place) has = tt
+
+  -- and that place is one of the table's
+  pub found-within : (r : Result ℕ ℕ) → IfOk r (λ place. HasName sessions place name) → IfSome (result_ok r) (λ place. place < length shown.table)
+  found-within (Ok place) has = let there = found (Ok place) has in slice_get_within shown.table place (name, there.0) there.1.at
+  found-within (Err place) has = tt
+
+  pub absent : (r : Result ℕ ℕ) → IfErr r (λ place. IsGapFor sessions place name)
+      → IfNone (result_ok r) (entry_of name shown.table ≡ None)
+  absent (Ok place) gap = tt
+  absent (Err place) gap =
+      subst (λ (t : Table). entry_of name t ≡ None) table_is
+      (find_gap (table_in inside) place name (table_gap inside kept place name (subst (λ (xs : List Open). IsGapFor xs place name) same gap)))
+
+  -- a name that is not in the table is not found
+  pub closed : (r : Result ℕ ℕ) → IfOk r (λ place. HasName sessions place name) → entry_of name shown.table ≡ None → IsErr r
+  closed (Ok place) has none = let stands = (found (Ok place) has).1 in absurd (none-some _ (sym none ∙ stands.found))
+  closed (Err place) has none = refl
+
+-- ---- a session at a place
+
+module _ (inside : Inside) (shown : Opened) (shows : the_view inside ≡ shown) (kept : Kept inside)
+    (place : ℕ) (session : Open) (within : place < length shown.table) (read : session ≡ get_or inside.«open».items place session) where
+  abbrev items : List Open
+  items = inside.«open».items
+
+  here : slice_get items place ≡ Some session
+  here =
+      let long = length-map items (entry_at inside.layout inside.pool) in
+      let equal = ap (λ (o : Opened). length o.table) shows in
+      slice_get_read items (length items) place session refl (omega (arith, long, equal, within)) read
+
+  pub is_out : IsOut inside.pool session.block
+  is_out = out_at inside.layout inside.pool items place session kept.blocks here
+
+  pub is_laid_out : IsLaidOut inside.layout (block_words inside.pool session.block)
+  is_laid_out = laid_at inside.layout inside.pool items place session kept.blocks here
+
+  stood : (name : Name) (entry : Entry) → StandsAt shown.table place name entry → StandsAt (table_in inside) place name entry
+  stood name entry stands = subst (λ (o : Opened). StandsAt o.table place name entry) (sym shows) stands
+
+  name_and_entry : (name : Name) (entry : Entry) → StandsAt shown.table place name entry
+      → (session.name ≡ name) × (entry_in_block inside session.block ≡ entry)
+  name_and_entry name entry stands =
+      some_pair_parts session.name name (entry_in_block inside session.block) entry
+      (sym (slice_get-map (entry_at inside.layout inside.pool) items place ∙ ap (option_map (entry_at inside.layout inside.pool)) here)
+      ∙ (stood name entry stands).at)
+
+  pub entry_here : (name : Name) (entry : Entry) → StandsAt shown.table place name entry
+      → entry ≡ entry_in_block inside session.block
+  entry_here name entry stands = sym (name_and_entry name entry stands).1
+
+  -- its block is written
+  module _ (pool : Blocks) (change : Entry → Entry)
+      (keeps : KeepsEntry inside.layout inside.pool pool session.block (change (entry_in_block inside session.block))) where
+    pub written : AreKept inside.layout inside.limit pool inside.«open».items (vec_capacity inside.«open»)
+    written = subst (λ (p : Blocks). AreKept inside.layout inside.limit p items (vec_capacity inside.«open»)) (sym keeps.written) (record {
+      rise = kept.rise;
+      blocks = have_written inside.layout inside.pool keeps.sound items place session keeps.words kept.blocks here keeps.size keeps.laid;
+      free = kept.free;
+      size = kept.size;
+      vars = kept.vars;
+      room = kept.room;
+    })
+
+    written_set : (name : Name) (entry : Entry) → StandsAt shown.table place name entry
+        → table_in (record inside { pool = pool }) ≡ set (table_in inside) place (name, change entry)
+    written_set name entry stands =
+        let both = name_and_entry name entry stands in
+        ap (λ (p : Blocks). table_of inside.layout p items) keeps.written
+        ∙ (written_at inside.layout inside.pool keeps.sound items place session keeps.words kept.blocks here keeps.size
+        ∙ (ap (λ e. set (table_in inside) place (session.name, e)) keeps.holds
+        ∙ ap₂ (λ n e. set (table_in inside) place (n, change e)) both.0 both.1))
+
+    pub shows_written : (name : Name) (entry : Entry) → StandsAt shown.table place name entry
+        → the_view (record inside { pool = pool }) ≡ record shown { table = with_entry name (change entry) shown.table }
+    shows_written name entry stands =
+        ap (λ (t : Table). record (the_view inside) { table = t })
+        (written_set name entry stands
+        ∙ sym (put_at (table_in inside) place name entry (change entry) (table_sorted inside kept) (stood name entry stands).at))
+        ∙ ap (λ (o : Opened). record o { table = with_entry name (change entry) o.table }) shows
+
+    pub stands_written : (name : Name) (entry : Entry) → StandsAt shown.table place name entry
+        → StandsAt (table_in (record inside { pool = pool })) place name (change entry)
+    stands_written name entry stands =
+        let new : Inside = record inside { pool = pool } in
+        let at : slice_get (table_in new) place ≡ Some (name, change entry) =
+        ap (λ (t : Table). slice_get t place) (written_set name entry stands)
+        ∙ slice_get-set (table_in inside) place (name, entry) (name, change entry) (stood name entry stands).at in
+        record { at = at; found = find_at (table_in new) place name (change entry) (table_sorted new written) at; kept = put_same (table_in new) place name (change entry) (table_sorted new written) at }
+
+  -- it closes
+  rise_given : NamesRise (remove items place)
+  rise_given =
+      let pairs : List (Name × ℕ) = blocks_by_name items in
+      let sorted = so (is_sorted order pairs) kept.rise in
+      let at : slice_get pairs place ≡ Some (session.name, session.block) =
+      slice_get-map name_and_block items place ∙ ap (option_map name_and_block) here in
+      let left : where_key order (λ name. not (same_name name session.name)) pairs ≡ blocks_by_name (remove items place) =
+      without_at pairs place session.name session.block sorted at ∙ sym (map-remove name_and_block items place) in
+      as_true (is_sorted order (blocks_by_name (remove items place)))
+      (subst (λ (es : List (Name × ℕ)). T (is_sorted order es)) left (is_sorted-where_key order (λ name. not (same_name name session.name)) pairs sorted))
+
+  pub gave : AreKept inside.layout inside.limit (given inside.pool session.block) (remove inside.«open».items place) (vec_capacity inside.«open»)
+  gave = record {
+    rise = rise_given;
+    blocks = given_at inside.layout inside.pool items place session kept.blocks here;
+    free =
+        (let more = given-free inside.pool session.block is_out in
+        let less = length-remove items place (slice_get_within items place session here) in
+        let all = kept.free in
+        omega (arith, more, less, all));
+    size = kept.size;
+    vars = kept.vars;
+    room = kept.room;
+  }
+
+  pub shows_given : (name : Name) (entry : Entry) → StandsAt shown.table place name entry
+      → record (the_view inside) { table = table_of inside.layout (given inside.pool session.block) (remove inside.«open».items place) } ≡ record shown { table = without name shown.table }
+  shows_given name entry stands =
+      ap (λ (t : Table). record (the_view inside) { table = t })
+      (map-remove (entry_at inside.layout inside.pool) items place
+      ∙ sym (without_at (table_in inside) place name entry (table_sorted inside kept) (stood name entry stands).at))
+      ∙ ap (λ (o : Opened). record o { table = without name o.table }) shows
+
+-- ---- a session opens
+
+module _ (inside : Inside) (shown : Opened) (shows : the_view inside ≡ shown) (kept : Kept inside)
+    (place : ℕ) (name : Name) (block : ℕ) (gap : IsGapFor inside.«open».items place name) (sound : IsSound inside.pool)
+    (free : IsFree inside.pool block) (room : length shown.table < shown.limit) where
+  abbrev before : List Open
+  before = inside.«open».items
+
+  abbrev session : Open
+  session = record { name = name; block = block }
+
+  few : length before < inside.limit
+  few =
+      let long = length-map before (entry_at inside.layout inside.pool) in
+      let equal = ap (λ (o : Opened). length o.table) shows in
+      let limit = ap (λ (o : Opened). o.limit) shows in
+      omega (arith, long, equal, limit, room)
+
+  zeros : block_words (taken inside.pool block) block ≡ replicate (block_size inside.layout) 0
+  zeros = taken-zeroed inside.pool sound block free.0 ∙ ap (λ n. replicate n 0) (kept.size (omega (arith, few)))
+
+  rise_taken : NamesRise (insert before place session)
+  rise_taken =
+      let pairs : List (Name × ℕ) = blocks_by_name before in
+      let more : put order name block pairs ≡ blocks_by_name (insert before place session) =
+      put_gap pairs place name block (gap_map (λ s. s.block) before place name gap) ∙ sym (map-insert name_and_block before place session) in
+      as_true (is_sorted order (blocks_by_name (insert before place session)))
+      (subst (λ (es : List (Name × ℕ)). T (is_sorted order es)) more (is_sorted-put order nat_list_cmp_total name block pairs (so (is_sorted order pairs) kept.rise)))
+
+  pub took : (capacity : ℕ) → vec_capacity inside.«open» ≤ capacity
+      → AreKept inside.layout inside.limit (taken inside.pool block) (insert inside.«open».items place (record { name = name; block = block })) capacity
+  took capacity grown = record {
+    rise = rise_taken;
+    blocks = have_insert inside.layout (taken inside.pool block) before place session
+        (taken-out inside.pool block free.0)
+        (subst (IsLaidOut inside.layout) (sym zeros) (zeros-laid inside.layout kept.vars))
+        (none_taken inside.layout inside.pool sound block free before kept.blocks)
+        (have_taken inside.layout inside.pool sound block free before kept.blocks);
+    free =
+        (let less = taken-free inside.pool block free in
+        let long = length-insert before place session gap.within in
+        let all = kept.free in
+        omega (arith, less, long, all));
+    size = kept.size;
+    vars = kept.vars;
+    room = (let least = kept.room in omega (arith, least, grown));
+  }
+
+  pub shows_taken : record (the_view inside) { table = table_of inside.layout (taken inside.pool block) (insert inside.«open».items place (record { name = name; block = block })) }
+      ≡ record shown { table = with_entry name (fresh_entry shown) shown.table }
+  shows_taken =
+      let entry : Entry = record { known = empty_case inside.layout.wires inside.layout.parts; point = None } in
+      ap (λ (t : Table). record (the_view inside) { table = t })
+      (map-insert (entry_at inside.layout (taken inside.pool block)) before place session
+      ∙ (ap₂ (λ (t : Table) (e : Entry). insert t place (name, e))
+      (table_taken inside.layout inside.pool sound block free before kept.blocks)
+      (ap (entry_in inside.layout) zeros ∙ zeros-entry inside.layout kept.vars)
+      ∙ sym (put_gap (table_in inside) place name entry (table_gap inside kept place name gap))))
+      ∙ ap (λ (o : Opened). record o { table = with_entry name (fresh_entry o) o.table }) shows

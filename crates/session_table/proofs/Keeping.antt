@@ -1,0 +1,169 @@
+-- Sessions keep their blocks while one is written, handed out or given back.
+use Rattle.std.proofs.Common.{◌≡◌, ◌≢◌, ℕ, zero, suc, true, false, List, [], ◌∷◌, ◌++◌, length, get_or, set, refl, ap₂, sym, ◌∙◌, subst, Some}
+use Rattle.std.specs.Prelude.{slice_get}
+use Rattle.std.specs.List.{insert, remove}
+use Rattle.std.proofs.lemmas.List.{get_or_default}
+use Rattle.std.proofs.lemmas.Option.{same_Some, none-some}
+use Rattle.scratch_pool.specs.Pools.{Blocks, IsOut, IsFree, IsSound, block_words, with_block, taken, given}
+use Rattle.scratch_pool.proofs.Laws.{written-block, written-others, taken-others, taken-stays_out, given-stays_out}
+use Rattle.session_table.specs.inner.Blocks.{entry_in, IsLaidOut}
+use Rattle.session_table.specs.inner.Ordered.{table_of, HasNone, HaveBlocks}
+use Rattle.session_table.specs.declared.block.Layout.{Layout}
+use Rattle.session_table.specs.declared.in_order.Open.{Open}
+
+none_at : (block : ℕ) (sessions : List Open) (place : ℕ) (s : Open) → HasNone block sessions → slice_get sessions place ≡ Some s
+    → s.block ≢ block
+none_at block [] place s none at = absurd (none-some s at)
+none_at block (x ∷ xs) zero s none at = subst (λ (o : Open). o.block ≢ block) (same_Some x s at) none.0
+none_at block (x ∷ xs) (suc place) s none at = none_at block xs place s none.1 at
+
+none_remove : (block : ℕ) (sessions : List Open) (place : ℕ) → HasNone block sessions → HasNone block (remove sessions place)
+none_remove block [] zero none = tt
+none_remove block [] (suc place) none = tt
+none_remove block (x ∷ xs) zero none = none.1
+none_remove block (x ∷ xs) (suc place) none = (none.0, none_remove block xs place none.1)
+
+none_insert : (block : ℕ) (sessions : List Open) (place : ℕ) (s : Open) → HasNone block sessions → s.block ≢ block
+    → HasNone block (insert sessions place s)
+none_insert block [] zero s none ne = (ne, tt)
+none_insert block [] (suc place) s none ne = (ne, tt)
+none_insert block (x ∷ xs) zero s none ne = (ne, none)
+none_insert block (x ∷ xs) (suc place) s none ne = (none.0, none_insert block xs place s none.1 ne)
+
+none_last : (block : ℕ) (sessions : List Open) (s : Open) → HasNone block (sessions ++ s ∷ [])
+    → HasNone block sessions × (s.block ≢ block)
+none_last block [] s none = (tt, none.0)
+none_last block (x ∷ xs) s none = let rest = none_last block xs s none.1 in ((none.0, rest.0), rest.1)
+
+module _ (layout : Layout) (pool : Blocks) where
+  -- a session at a place has a block that is out and laid out
+  pub out_at : (sessions : List Open) (place : ℕ) (s : Open) → HaveBlocks layout pool sessions
+      → slice_get sessions place ≡ Some s → IsOut pool s.block
+  out_at [] place s have at = absurd (none-some s at)
+  out_at (x ∷ xs) zero s have at = subst (λ (o : Open). IsOut pool o.block) (same_Some x s at) have.0
+  out_at (x ∷ xs) (suc place) s have at = out_at xs place s have.3 at
+
+  pub laid_at : (sessions : List Open) (place : ℕ) (s : Open) → HaveBlocks layout pool sessions
+      → slice_get sessions place ≡ Some s → IsLaidOut layout (block_words pool s.block)
+  laid_at [] place s have at = absurd (none-some s at)
+  laid_at (x ∷ xs) zero s have at = subst (λ (o : Open). IsLaidOut layout (block_words pool o.block)) (same_Some x s at) have.1
+  laid_at (x ∷ xs) (suc place) s have at = laid_at xs place s have.3 at
+
+  pub have_insert : (sessions : List Open) (place : ℕ) (s : Open) → IsOut pool s.block
+      → IsLaidOut layout (block_words pool s.block) → HasNone s.block sessions → HaveBlocks layout pool sessions
+      → HaveBlocks layout pool (insert sessions place s)
+  have_insert [] zero s out laid none have = (out, laid, tt, tt)
+  have_insert [] (suc place) s out laid none have = (out, laid, tt, tt)
+  have_insert (x ∷ xs) zero s out laid none have = (out, laid, none, have)
+  have_insert (x ∷ xs) (suc place) s out laid none have =
+      (have.0, have.1, none_insert x.block xs place s have.2 (λ e. none.0 (sym e)), have_insert xs place s out laid none.1 have.3)
+
+  -- ---- a block is given back
+
+  have_given : (block : ℕ) (sessions : List Open) → HasNone block sessions → HaveBlocks layout pool sessions
+      → HaveBlocks layout (given pool block) sessions
+  have_given block [] none have = tt
+  have_given block (x ∷ xs) none have =
+      (given-stays_out pool block x.block none.0 have.0, have.1, have.2, have_given block xs none.1 have.3)
+
+  pub given_at : (sessions : List Open) (place : ℕ) (s : Open) → HaveBlocks layout pool sessions
+      → slice_get sessions place ≡ Some s → HaveBlocks layout (given pool s.block) (remove sessions place)
+  given_at [] place s have at = absurd (none-some s at)
+  given_at (x ∷ xs) zero s have at =
+      subst (λ (o : Open). HaveBlocks layout (given pool o.block) xs) (same_Some x s at) (have_given x.block xs have.2 have.3)
+  given_at (x ∷ xs) (suc place) s have at =
+      let other : x.block ≢ s.block = (λ e. none_at x.block xs place s have.2 at (sym e)) in
+      (given-stays_out pool s.block x.block other have.0, have.1, none_remove x.block xs place have.2, given_at xs place s have.3 at)
+
+  -- the last one's block is out, and is given back
+  pub out_last : (sessions : List Open) (s : Open) → HaveBlocks layout pool (sessions ++ s ∷ []) → IsOut pool s.block
+  out_last [] s have = have.0
+  out_last (x ∷ xs) s have = out_last xs s have.3
+
+  pub given_last : (sessions : List Open) (s : Open) → HaveBlocks layout pool (sessions ++ s ∷ [])
+      → HaveBlocks layout (given pool s.block) sessions
+  given_last [] s have = tt
+  given_last (x ∷ xs) s have =
+      let apart = none_last x.block xs s have.2 in
+      (given-stays_out pool s.block x.block (λ e. apart.1 (sym e)) have.0, have.1, apart.0, given_last xs s have.3)
+
+  module _ (sound : IsSound pool) where
+    -- ---- a block is written
+
+    module _ (block : ℕ) (new : List ℕ) (out : IsOut pool block) (long : length new ≡ pool.size) where
+      others_written : (sessions : List Open) → HasNone block sessions → HaveBlocks layout pool sessions
+          → table_of layout (with_block pool block new) sessions ≡ table_of layout pool sessions
+      others_written [] none have = refl
+      others_written (x ∷ xs) none have =
+          ap₂ (λ words rest. (x.name, entry_in layout words) ∷ rest)
+          (written-others pool sound block x.block out have.0 none.0 new long)
+          (others_written xs none.1 have.3)
+
+      others_have : (sessions : List Open) → HasNone block sessions → HaveBlocks layout pool sessions
+          → HaveBlocks layout (with_block pool block new) sessions
+      others_have [] none have = tt
+      others_have (x ∷ xs) none have =
+          let same = written-others pool sound block x.block out have.0 none.0 new long in
+          (have.0, subst (IsLaidOut layout) (sym same) have.1, have.2, others_have xs none.1 have.3)
+
+    -- the table has another entry at the session's place
+    pub written_at : (sessions : List Open) (place : ℕ) (s : Open) (new : List ℕ) → HaveBlocks layout pool sessions
+        → slice_get sessions place ≡ Some s → length new ≡ pool.size
+        → table_of layout (with_block pool s.block new) sessions ≡ set (table_of layout pool sessions) place (s.name, entry_in layout new)
+    written_at [] place s new have at long = absurd (none-some s at)
+    written_at (x ∷ xs) zero s new have at long =
+        subst (λ (o : Open). table_of layout (with_block pool o.block new) (x ∷ xs) ≡ (o.name, entry_in layout new) ∷ table_of layout pool xs) (same_Some x s at)
+        (ap₂ (λ words rest. (x.name, entry_in layout words) ∷ rest)
+        (written-block pool sound x.block have.0 new long)
+        (others_written x.block new have.0 long xs have.2 have.3))
+    written_at (x ∷ xs) (suc place) s new have at long =
+        let out = out_at xs place s have.3 at in
+        let other : x.block ≢ s.block = (λ e. none_at x.block xs place s have.2 at (sym e)) in
+        ap₂ (λ words rest. (x.name, entry_in layout words) ∷ rest)
+        (written-others pool sound s.block x.block out have.0 other new long)
+        (written_at xs place s new have.3 at long)
+
+    pub have_written : (sessions : List Open) (place : ℕ) (s : Open) (new : List ℕ) → HaveBlocks layout pool sessions
+        → slice_get sessions place ≡ Some s → length new ≡ pool.size → IsLaidOut layout new
+        → HaveBlocks layout (with_block pool s.block new) sessions
+    have_written [] place s new have at long laid = absurd (none-some s at)
+    have_written (x ∷ xs) zero s new have at long laid =
+        subst (λ (o : Open). HaveBlocks layout (with_block pool o.block new) (x ∷ xs)) (same_Some x s at)
+        (have.0, subst (IsLaidOut layout) (sym (written-block pool sound x.block have.0 new long)) laid, have.2, others_have x.block new have.0 long xs have.2 have.3)
+    have_written (x ∷ xs) (suc place) s new have at long laid =
+        let out = out_at xs place s have.3 at in
+        let other : x.block ≢ s.block = (λ e. none_at x.block xs place s have.2 at (sym e)) in
+        let same = written-others pool sound s.block x.block out have.0 other new long in
+        (have.0, subst (IsLaidOut layout) (sym same) have.1, have.2, have_written xs place s new have.3 at long laid)
+
+    -- ---- a block is handed out
+
+    module _ (block : ℕ) (free : IsFree pool block) where
+      -- it is none of those that are out
+      differs : (other : ℕ) → IsOut pool other → other ≢ block
+      differs other out e =
+          let same : get_or pool.out block false ≡ true = subst (λ n. get_or pool.out n false ≡ true) e out in
+          let default : get_or pool.out block true ≡ get_or pool.out block false = get_or_default pool.out block true false free.0 in
+          let never : true ≡ false = sym same ∙ (sym default ∙ free.1) in
+          absurd (let no : ⊥ = cc in no)
+
+      pub none_taken : (sessions : List Open) → HaveBlocks layout pool sessions → HasNone block sessions
+      none_taken [] have = tt
+      none_taken (x ∷ xs) have = (differs x.block have.0, none_taken xs have.3)
+
+      pub table_taken : (sessions : List Open) → HaveBlocks layout pool sessions
+          → table_of layout (taken pool block) sessions ≡ table_of layout pool sessions
+      table_taken [] have = refl
+      table_taken (x ∷ xs) have =
+          ap₂ (λ words rest. (x.name, entry_in layout words) ∷ rest)
+          (taken-others pool sound block x.block free have.0)
+          (table_taken xs have.3)
+
+      pub have_taken : (sessions : List Open) → HaveBlocks layout pool sessions → HaveBlocks layout (taken pool block) sessions
+      have_taken [] have = tt
+      have_taken (x ∷ xs) have = (
+        taken-stays_out pool block x.block free.0 have.0,
+        subst (IsLaidOut layout) (sym (taken-others pool sound block x.block free have.0)) have.1,
+        have.2,
+        have_taken xs have.3,
+      )

@@ -1,0 +1,6 @@
+mod Lookups
+mod Searching
+mod Mapping
+mod Noting
+mod Keeping
+mod Changes

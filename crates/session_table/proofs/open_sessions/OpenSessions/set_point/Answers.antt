@@ -1,0 +1,24 @@
+use Rattle.session_table.specs.inner.Blocks.{with_point}
+use Rattle.session_table.proofs.Changes.{is_out, is_laid_out, written, shows_written, stands_written}
+use Rattle.session_table.proofs.open_sessions.OpenSessions.set_point.Goals as goal
+
+pub set_point-requires-clause-out : goal.set_point-requires-clause-out
+set_point-requires-clause-out c = is_out c.self.inside c.args.self.now c.self.view_is c.self.invariant c.args.place c.index.result.now c.requires.place c.index.ensures
+
+pub set_point-requires-clause-block : goal.set_point-requires-clause-block
+set_point-requires-clause-block c = is_laid_out c.self.inside c.args.self.now c.self.view_is c.self.invariant c.args.place c.index.result.now c.requires.place c.index.ensures
+
+pub invariant_of-self : goal.invariant_of-self
+invariant_of-self c =
+    written c.self.inside c.args.self.now c.self.view_is c.self.invariant c.args.place c.index.result.now c.requires.place c.index.ensures
+    c.set_point.new.pool (λ entry. with_point entry c.args.state.now) c.set_point.ensures
+
+pub returns-clause-point : goal.returns-clause-point
+returns-clause-point c =
+    shows_written c.self.inside c.args.self.now c.self.view_is c.self.invariant c.args.place c.index.result.now c.requires.place c.index.ensures
+    c.set_point.new.pool (λ entry. with_point entry c.args.state.now) c.set_point.ensures
+
+pub returns-clause-stands : goal.returns-clause-stands
+returns-clause-stands c =
+    stands_written c.self.inside c.args.self.now c.self.view_is c.self.invariant c.args.place c.index.result.now c.requires.place c.index.ensures
+    c.set_point.new.pool (λ entry. with_point entry c.args.state.now) c.set_point.ensures

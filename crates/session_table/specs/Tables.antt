@@ -1,0 +1,23 @@
+-- What contracts see of the open sessions.
+use Rattle.std.specs.Prelude.{◌≡◌, ℕ, Some, None, slice_get}
+use Rattle.text_rules.specs.Names.{Name}
+use Rattle.ranking.specs.Cases.{empty_case}
+use Rattle.session_rules.specs.Sessions.{Entry, Table, entry_of, with_entry}
+
+-- over how many parts, wires and variables they are, how many may be open, and those that are
+pub record Opened : Type 0 where
+  pub parts : ℕ
+  pub wires : ℕ
+  pub vars : ℕ
+  pub limit : ℕ
+  pub table : Table
+
+-- a session as it is when it opens
+abbrev pub fresh_entry : Opened → Entry
+fresh_entry opened = record { known = empty_case opened.wires opened.parts; point = None }
+
+-- the session stands at this place of the table, with this entry, and nothing changes where that is put there again
+pub record StandsAt (table : Table) (place : ℕ) (session : Name) (entry : Entry) : Type 0 where
+  pub at : slice_get table place ≡ Some (session, entry)
+  pub found : entry_of session table ≡ Some entry
+  pub kept : with_entry session entry table ≡ table

@@ -1,0 +1,12 @@
+//! The open sessions: their names in order, and for each a block of words that was taken before the first one opened.
+#![tactic(auto)]
+
+mod block;
+mod in_order;
+mod in_pool;
+mod open_sessions;
+mod short_name;
+#[cfg(test)]
+mod tests;
+
+pub use open_sessions::OpenSessions;

@@ -1,0 +1,182 @@
+ghost use Rattle.std.specs.Prelude.{◌≡◌, ℕ, ◌+◌, ◌*◌, ◌<◌, ◌≤◌, [], Some, None, true, length, nat_le, All, IfOk, IfSome, IfNone};
+ghost use Rattle.std.specs.Option.{option_map};
+ghost use Rattle.text_rules.specs.Names.{Name, is_short_name};
+ghost use Rattle.diagnosis_lister.specs.Listing.{bits_of};
+ghost use Rattle.scratch_pool.specs.declared.pool.TheConstants.{POOL_LIMIT};
+ghost use Rattle.session_rules.specs.Sessions.{Entry, entry_of, with_entry, without, with_seen, with_held};
+ghost use Rattle.session_rules.specs.CaseWords.{case_of_words, AreWords};
+ghost use Rattle.session_table.specs.Tables.{StandsAt, fresh_entry};
+
+use crate::block::Layout;
+use crate::in_order::{Open, find_place};
+use crate::in_pool;
+use crate::short_name::ShortName;
+use scratch_pool::Pool;
+use std::alloc::{AllocError, Global};
+use std::marker::Model;
+
+/// The open sessions, in the order of their names. All memory is taken when it is made. It is not `Drop`: [`OpenSessions::finish`]
+/// spends it.
+pub struct OpenSessions {
+    layout: Layout,
+    limit: u32,
+    pool: Pool,
+    open: Vec<Open>,
+}
+
+impl Model for OpenSessions {
+    ghost use Rattle.std.specs.Prelude.{vec_capacity};
+    ghost use Rattle.session_table.specs.Tables.{Opened};
+    ghost use Rattle.session_table.specs.inner.Ordered.{table_of, AreKept};
+
+    ghost Value = { Opened };
+
+    ghost view = { λ s. record {
+      parts = s.layout.parts;
+      wires = s.layout.wires;
+      vars = s.layout.vars;
+      limit = s.limit;
+      table = table_of s.layout s.pool s.«open».items;
+    } };
+
+    ghost invariant = { λ s. AreKept s.layout s.limit s.pool s.«open».items (vec_capacity s.«open») };
+}
+
+impl OpenSessions {
+    /// No session is open, and at most so many may be, each over so many parts, wires and variables. `Err` means that memory
+    /// ran out.
+    pub fn new(
+        alloc: Global,
+        parts: u32,
+        wires: u32,
+        vars: u32,
+        sessions: u32,
+    ) -> Result<OpenSessions, AllocError>
+        requires vars { parts + wires ≤ vars }
+        requires words { sessions * (vars + 1 + parts) < POOL_LIMIT }
+        ensures { IfOk result (λ opened. opened
+            ≡ record { parts = parts; wires = wires; vars = vars; limit = sessions; table = [] }) }
+    {
+        // Where no session may be open there is no block, and the number of its words might not fit.
+        let size = if sessions == 0 { 0 } else { vars + 1 + parts };
+        Ok(OpenSessions {
+            layout: Layout { parts, wires, vars },
+            limit: sessions,
+            pool: Pool::new(alloc, sessions, size)?,
+            open: Vec::with_capacity(alloc, sessions as usize)?,
+        })
+    }
+
+    /// Whether as many sessions are open as may be.
+    pub fn is_full(&self) -> bool
+        ensures { result ≡ nat_le self.now.limit (length self.now.table) }
+    {
+        self.limit as usize <= self.open.len()
+    }
+
+    /// The place of an open session. There is none exactly where no session of this name is open.
+    pub fn find(&self, session: &[u8]) -> Option<usize>
+        ensures within { IfSome result (λ place. place < length self.now.table) }
+        ensures some { IfSome result (λ place. (entry : Entry) × StandsAt self.now.table place session.now entry) }
+        ensures none { IfNone result (entry_of session.now self.now.table ≡ None) }
+    {
+        find_place(&self.open, session).ok()
+    }
+
+    /// Opens a session, which knows nothing yet.
+    pub fn start(&mut self, session: &[u8])
+        requires name { is_short_name session.now ≡ true }
+        requires closed { entry_of session.now self.old.table ≡ None }
+        requires room { length self.old.table < self.old.limit }
+        ensures { self.new ≡ record self.old {
+          table = with_entry session.now (fresh_entry self.old) self.old.table;
+        } }
+    {
+        let place = find_place(&self.open, session).unwrap_err();
+        let block = self.pool.take().unwrap();
+        let name = ShortName::of(session);
+        self.open.insert(place, Open { name, block }).unwrap();
+    }
+
+    /// Closes the session at a place.
+    pub fn stop(&mut self, place: usize)
+        requires { place < length self.old.table }
+        ensures { (session : Name) (entry : Entry) → StandsAt self.old.table place session entry
+            → self.new ≡ record self.old { table = without session self.old.table } }
+    {
+        let Open { name: _, block } = self.open.remove(place);
+        self.pool.give(block);
+    }
+
+    /// In the session at a place a wire was seen as a bit, or is not seen any more. It has no point then.
+    pub fn see(&mut self, place: usize, wire: u32, bit: Option<bool>)
+        requires place { place < length self.old.table }
+        requires wire { wire < self.old.wires }
+        ensures { (session : Name) (entry : Entry) → StandsAt self.old.table place session entry
+            → self.new ≡ record self.old { table = with_entry session (with_seen entry wire bit) self.old.table } }
+    {
+        let block = &self.open[place].block;
+        in_pool::see(self.layout, &mut self.pool, block, wire, bit);
+    }
+
+    /// In the session at a place a part is held ok or faulty, or is not held any more. It has no point then.
+    pub fn hold(&mut self, place: usize, part: u32, ok: Option<bool>)
+        requires place { place < length self.old.table }
+        requires part { part < self.old.parts }
+        ensures { (session : Name) (entry : Entry) → StandsAt self.old.table place session entry
+            → self.new ≡ record self.old { table = with_entry session (with_held entry part ok) self.old.table } }
+    {
+        let block = &self.open[place].block;
+        in_pool::hold(self.layout, &mut self.pool, block, part, ok);
+    }
+
+    /// What the session at a place knows: a word for each variable.
+    pub fn words(&self, place: usize) -> &[u32]
+        requires { place < length self.now.table }
+        ensures words { AreWords self.now.parts self.now.wires self.now.vars result.now }
+        ensures known { (session : Name) (entry : Entry) → StandsAt self.now.table place session entry
+            → entry.known ≡ case_of_words self.now.parts self.now.wires result.now }
+    {
+        self.layout.known(self.pool.words(&self.open[place].block))
+    }
+
+    /// The state after which the session at a place goes on, if there is one: 0 where a part is ok, and 1 where it is faulty.
+    pub fn point(&self, place: usize) -> Option<&[u32]>
+        requires { place < length self.now.table }
+        ensures point { (session : Name) (entry : Entry) → StandsAt self.now.table place session entry
+            → entry.point ≡ option_map (λ state. bits_of state.now) result }
+        ensures state { IfSome result (λ state. (length state.now ≡ self.now.parts) × All (λ s. s < 2) state.now) }
+    {
+        self.layout.point(self.pool.words(&self.open[place].block))
+    }
+
+    /// From here on the session at a place goes on after a state.
+    pub fn set_point(&mut self, place: usize, state: &[u32])
+        requires place { place < length self.old.table }
+        requires long { length state.now ≡ self.old.parts }
+        requires small { All (λ s. s < 2) state.now }
+        ensures point { (session : Name) (entry : Entry) → StandsAt self.old.table place session entry
+            → self.new ≡ record self.old {
+              table = with_entry session (record entry { point = Some (bits_of state.now) }) self.old.table;
+            } }
+        ensures stands { (session : Name) (entry : Entry) → StandsAt self.old.table place session entry
+            → StandsAt self.new.table place session (record entry { point = Some (bits_of state.now) }) }
+    {
+        let block = &self.open[place].block;
+        in_pool::set_point(self.layout, &mut self.pool, block, state);
+    }
+
+    /// Closes all sessions.
+    pub fn finish(self) {
+        let OpenSessions {
+            layout: _,
+            limit: _,
+            mut pool,
+            mut open,
+        } = self;
+        while let Some(Open { name: _, block }) = open.pop() {
+            pool.give(block);
+        }
+        open.destroy_empty();
+    }
+}

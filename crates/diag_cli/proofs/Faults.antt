@@ -2,7 +2,6 @@
 use Rattle.std.proofs.Common.{◌≡◌, List, ℕ, [], ◌∷◌, ◌++◌, Option, Result, IsErr, sym, ◌∙◌, ap, subst, append_assoc, append-nil, codes}
 use Rattle.std.specs.Prelude.{decimal}
 use Rattle.std.specs.List.{flat_map}
-use Rattle.text_rules.specs.Tokens.{spaced}
 use Rattle.diag_edge.specs.Edge.{AppendsPrefix, Puts}
 use Rattle.diag_edge.proofs.Growing.{begins_first}
 use Rattle.diag_edge.proofs.Added.{put_part}

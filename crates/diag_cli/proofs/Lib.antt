@@ -4,6 +4,7 @@ pub mod Running
 pub mod ServedDevices
 pub mod Faults
 pub mod Failing
+pub mod Scripts
 pub mod Headline
 pub mod Adapting
 pub mod WholeGraphs

@@ -1,8 +1,10 @@
 -- A service over a device's graph answers as the device's system does.
 use Rattle.std.proofs.Common.{◌≡◌, ◌≤◌, ◌+◌, ◌*◌, ℕ, List, ◌∷◌, length, sym, ap, subst, arith}
 use Rattle.std.specs.Prelude.{Result, Ok, Err, Bool, true, false, nat_lt, if◌then◌else◌}
+use Rattle.std.proofs.lemmas.List.{length-map}
 use Rattle.graph_rules.specs.Graphs.{Graph, IsGraph}
-use Rattle.device_model.specs.Devices.{Device, IsDevice}
+use Rattle.device_model.specs.Devices.{Device, IsDevice, part_names}
+use Rattle.device_model.specs.declared.component.Component.{Component}
 use Rattle.device_model.specs.Diagnosis.{device_system}
 use Rattle.clause_encoder.specs.declared.limits.TheConstants.{CLAUSE_LIMIT}
 use Rattle.clause_encoder.specs.declared.encoding.EncodeError.TheVariants.{TooManyClauses}
@@ -20,7 +22,7 @@ use Rattle.diag_cli.specs.Output.{Output}
 use Rattle.diag_cli.specs.Courses.{ready_line, answers_of, if_within, served_or_refused}
 use Rattle.diag_cli.specs.Runs.{Reading, Writing}
 use Rattle.diag_cli.specs.inner.Courses.{IsServed, Follows}
-use Rattle.diag_cli.specs.inner.Serving.{IsServable, IsServiceOf}
+use Rattle.diag_cli.specs.inner.Serving.{IsServable, IsSound, IsServiceOf}
 
 -- ---- the graph of a device is such as a service takes
 
@@ -40,6 +42,18 @@ module _ (device : Device) (cnf : ClauseList) (is : encoded device ≡ Ok cnf) w
     few_vars = omega (arith, vars_are, vars, valid.few_parts, valid.few_wires);
     few_nodes = omega (arith, vars_are, valid.few_parts, valid.few_wires, few_made, few_nodes, small);
   }
+
+-- every reply of the service of a device has a text
+pub sound_of : (device : Device) (sessions : ℕ) (service : Shown) → IsServiceOf device sessions service → IsSound service.subject
+sound_of device sessions service of =
+    subst (λ (s : Shown). IsSound s.subject) (sym of.shown) (record {
+      valid = of.servable.valid;
+      room = room;
+      few = omega (arith, room, of.servable.few_vars, of.servable.few_nodes);
+    })
+  where
+    room : length (part_names device.parts) + length device.wires ≤ of.graph.vars
+    room = omega (arith, of.servable.meaning.room, length-map device.parts (λ (part : Component). part.name))
 
 -- ---- the same answers
 

@@ -14,7 +14,7 @@ use Rattle.clause_encoder.specs.Encoding.{encoded, Describes}
 use Rattle.branch_states.specs.Branches.{sum_of}
 use Rattle.dnnf_compiler.specs.Compiled.{SaysAll}
 use Rattle.dnnf_compiler.proofs.Laws.{graph_of_device}
-use Rattle.session_rules.specs.Items.{Item, Whole}
+use Rattle.session_rules.specs.Items.{Whole}
 use Rattle.session_rules.specs.Spelling.{IsWholeOf}
 use Rattle.session_rules.proofs.Spellings.{replies_one}
 use Rattle.diag_cli.specs.Output.{Output, Gives, GivesUnlessMemory}

@@ -128,6 +128,12 @@ abbrev pub served_or_refused : ℕ → Result Device Output → Course
 served_or_refused sessions (Ok device) = Serves (answers_of (device_system device) sessions)
 served_or_refused sessions (Err output) = Tells output
 
+-- the output of a course, where the script that it may need is told
+abbrev pub whole_output : Course → Option (List ℕ) → Option Output
+whole_output (Tells output) left = Some output
+whole_output (Serves answers) None = None
+whole_output (Serves answers) (Some script) = Some (wholly_served answers script)
+
 abbrev pub course_of : Option Form → List ℕ → Course
 course_of None file = Tells (says (codes "error: usage\n") 2)
 course_of (Some (Serve path budget sessions)) file = served_or_refused sessions (if_within budget (device_in path file))

@@ -4,10 +4,11 @@ use Rattle.std.specs.Option.{IsSome}
 use Rattle.std.specs.Io.KnownBytes.{Consumes, IsAtEnd}
 use Rattle.diag_edge.specs.Edge.{RoseExactly, Holding, absent}
 use Rattle.session_rules.specs.Items.{Item}
+use Rattle.session_rules.specs.Spelling.{Writes}
 use Rattle.diag_cli.specs.declared.serving.TheConstants.{SCRIPT_LIMIT}
 use Rattle.diag_cli.specs.Words.{Form, named_file, told_file}
-use Rattle.diag_cli.specs.Output.{Output, Gives, GivesUnlessMemory, no_memory, says}
-use Rattle.diag_cli.specs.Courses.{Failed, Tells, Serves, read_error, served, wholly_served, course_of}
+use Rattle.diag_cli.specs.Output.{Output, Gives, no_memory, says}
+use Rattle.diag_cli.specs.Courses.{Failed, Tells, Serves, read_error, served, whole_output, course_of}
 
 -- what a source of bytes shows at a time: the bytes still to come, where they are told, how many were taken, and its faults
 pub record Reading : Type 0 where
@@ -42,17 +43,22 @@ pub record IsRun (form : Option Form) (held : List ℕ → Holding) (shelf new_s
   -- A file that is absent cannot be read. Where the file is not read, the script is not begun, and one line is written.
   pub absent_file : IfSome (named_file form) (λ name. held name ≡ absent → status ≢ 5 → status ≡ 4)
   pub no_file : shelf.faults < new_shelf.faults → IsIdle input new_input × Gives (says read_error 4) status out.got new_out.got
-  -- Where no script is to be answered, none is read. Where the file was read, what is written is the output for the words
-  -- and the file, or memory ran out for words with a form.
-  pub told : IfSome (told_file held form) (λ file. (output : Output) → course_of form file ≡ Tells output →
-      IsIdle input new_input × (new_shelf.faults ≡ shelf.faults → GivesUnlessShort form output status out.got new_out.got))
-  -- Where a script is answered, what is written is the output for the answers and the script, unless memory ran out.
-  pub answer : IfSome (told_file held form) (λ file. (answers : List (List ℕ) → List Item) → course_of form file ≡ Serves answers →
-      IfSome input.left (λ script. status ≢ 5 → status ≢ 4 → GivesUnlessMemory (wholly_served answers script) status out.got new_out.got))
+  -- Where no script is to be answered, none is read.
+  pub no_script : IfSome (told_file held form) (λ file. (output : Output) → course_of form file ≡ Tells output → IsIdle input new_input)
+  -- Where no read failed, what is written is the output for the words, the file and the script, or memory ran out for words
+  -- with a form.
+  pub output : IfSome (told_file held form) (λ file. IfSome (whole_output (course_of form file) input.left) (λ output.
+      new_shelf.faults ≡ shelf.faults → new_input.faults ≡ input.faults → GivesUnlessShort form output status out.got new_out.got))
+  -- Where that output has status 0 and no write failed either, the status is 0 and all of it was written, or it is 6, with the
+  -- one line of want of memory.
+  pub complete : IfSome (told_file held form) (λ file. IfSome (whole_output (course_of form file) input.left) (λ output.
+      output.status ≡ 0 → new_shelf.faults ≡ shelf.faults → new_input.faults ≡ input.faults → new_out.faults ≡ out.faults →
+      ((status ≡ 0) × Writes out.got new_out.got output.items) ⊎ ((status ≡ 6) × Writes out.got new_out.got no_memory.items)))
   -- Where a read of the script failed, the lines that a line feed had ended were answered before.
   pub script_fault : IfSome (told_file held form) (λ file. (answers : List (List ℕ) → List Item) → course_of form file ≡ Serves answers →
-      input.faults < new_input.faults → status ≢ 5 →
+      input.faults < new_input.faults →
       (bytes : List ℕ) × Consumes input.left new_input.left bytes × Gives (served answers bytes Failed) status out.got new_out.got)
-  -- With status 0 a script that is answered was read to its end, and with status 7 exactly the limit was taken of it.
+  -- With status 0 a script that is answered was read to its end.
   pub all_read : IfSome (told_file held form) (λ file. (answers : List (List ℕ) → List Item) → course_of form file ≡ Serves answers → status ≡ 0 → IsAtEnd new_input.left)
-  pub cut : status ≡ 7 → new_input.taken ≡ input.taken + SCRIPT_LIMIT
+  -- With status 7 exactly the limit was taken of the script, and with no other one, unless a write failed.
+  pub cut : status ≢ 5 → (status ≡ 7) ↔ (new_input.taken ≡ input.taken + SCRIPT_LIMIT)

@@ -1,4 +1,4 @@
-ghost use Rattle.std.specs.Prelude.{◌≡◌, ◌≢◌, ◌⊎◌, ◌-◌, ◌^◌, ◌<◌, ◌≤◌, length};
+ghost use Rattle.std.specs.Prelude.{◌≡◌, ◌≢◌, ◌-◌, ◌^◌, ◌<◌, ◌≤◌, length};
 ghost use Rattle.diag_edge.specs.Edge.{RoseExactly};
 ghost use Rattle.diag_cli.specs.Describing.{device_in};
 ghost use Rattle.diag_cli.specs.Output.{GivesUnlessMemory};

@@ -44,8 +44,7 @@ fn run_form<H: Shelf, I: Source, O: Sink>(
 /// Does all that the program does: reads the file that the words name, does with it what they ask for, and gives the
 /// status.
 ///
-/// `words` are those behind the program's name. `IsRun` says, clause by clause, what holds of each run. What a write that
-/// fails leaves written of the answers to a script is said by no clause yet.
+/// `words` are those behind the program's name. `IsRun` says, clause by clause, what holds of each run.
 pub fn diag<H: Shelf, I: Source, O: Sink>(
     alloc: Global,
     words: &[String],

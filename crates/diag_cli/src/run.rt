@@ -35,6 +35,7 @@ pub(crate) fn run_file<I: Source, O: Sink>(
         (record { got = O.got out.old; faults = O.faults out.old })
         (record { got = O.got out.new; faults = O.faults out.new }) result }
     ensures cut { result ≡ 7 → I.taken input.new ≡ I.taken input.old + SCRIPT_LIMIT }
+    ensures short { result ≢ 5 → result ≢ 7 → I.taken input.new < I.taken input.old + SCRIPT_LIMIT }
 {
     match form {
         Form::Serve {

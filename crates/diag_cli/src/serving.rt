@@ -1,16 +1,15 @@
-ghost use Rattle.std.specs.Prelude.{◌≡◌, ◌≢◌, ◌+◌, ◌-◌, ◌^◌, ◌<◌, ◌≤◌, [], ◌∷◌, Ok, length, replicate, codes, decimal, IfOk, IfErr};
+ghost use Rattle.std.specs.Prelude.{◌≡◌, ◌≢◌, ◌+◌, ◌-◌, ◌^◌, ◌<◌, ◌≤◌, [], ◌∷◌, Ok, length, codes, decimal, IfOk, IfErr};
 ghost use Rattle.text_rules.specs.Tokens.{spaced};
 ghost use Rattle.text_rules.specs.Expected.{Fulfils};
 ghost use Rattle.diag_edge.specs.Edge.{HasCause, Puts, RoseExactly};
 ghost use Rattle.branch_states.specs.Branches.{sum_of};
 ghost use Rattle.clause_encoder.specs.Encoding.{encoded, Describes};
-ghost use Rattle.device_model.specs.Devices.{part_names};
 ghost use Rattle.session_rules.specs.GraphSystems.{system_of};
 ghost use Rattle.diag_cli.specs.Courses.{answers_of, if_within, served_or_refused};
 ghost use Rattle.diag_cli.specs.Describing.{device_in};
 ghost use Rattle.diag_cli.specs.Refusals.{told_by};
 ghost use Rattle.diag_cli.specs.inner.Courses.{Follows, IsServed};
-ghost use Rattle.diag_cli.specs.inner.Serving.{IsServable, IsServiceOf};
+ghost use Rattle.diag_cli.specs.inner.Serving.{IsServable, IsServiceOf, IsSound};
 
 use crate::describing::described;
 use crate::refusal::{Refusal, tell};
@@ -107,6 +106,7 @@ fn put_ready<O: Sink>(out: &mut O, parts: u64, wires: u64) -> Result<(), WriteFa
 // Answers the script by a service in which no session is open.
 fn answer<I: Source, O: Sink>(service: &mut Service, input: &mut I, out: &mut O) -> u8
     requires none_open { service.old.table ≡ [] }
+    requires sound { IsSound service.old.subject }
     requires taken { I.taken input.old < 2 ^ 62 }
     requires reads { I.faults input.old < 2 ^ 64 - 1 }
     requires writes { O.faults out.old < 2 ^ 64 - 1 }
@@ -119,6 +119,7 @@ fn answer<I: Source, O: Sink>(service: &mut Service, input: &mut I, out: &mut O)
         (record { got = O.got out.old; faults = O.faults out.old })
         (record { got = O.got out.new; faults = O.faults out.new }) result }
     ensures cut { result ≡ 7 → I.taken input.new ≡ I.taken input.old + SCRIPT_LIMIT }
+    ensures short { result ≢ 5 → result ≢ 7 → I.taken input.new < I.taken input.old + SCRIPT_LIMIT }
 {
     match put_ready(out, service.parts() as u64, service.wires() as u64) {
         Ok(()) => {}
@@ -155,6 +156,7 @@ fn serve_device<I: Source, O: Sink>(
         (record { got = O.got out.old; faults = O.faults out.old })
         (record { got = O.got out.new; faults = O.faults out.new }) result }
     ensures cut { result ≡ 7 → I.taken input.new ≡ I.taken input.old + SCRIPT_LIMIT }
+    ensures short { result ≢ 5 → result ≢ 7 → I.taken input.new < I.taken input.old + SCRIPT_LIMIT }
 {
     match service_within(alloc, device, budget, sessions) {
         Ok(mut service) => {
@@ -191,6 +193,7 @@ pub(crate) fn serve_file<I: Source, O: Sink>(
         (record { got = O.got out.old; faults = O.faults out.old })
         (record { got = O.got out.new; faults = O.faults out.new }) result }
     ensures cut { result ≡ 7 → I.taken input.new ≡ I.taken input.old + SCRIPT_LIMIT }
+    ensures short { result ≢ 5 → result ≢ 7 → I.taken input.new < I.taken input.old + SCRIPT_LIMIT }
 {
     match described(alloc, path, file) {
         Ok(device) => serve_device(alloc, device, budget, sessions, input, out),

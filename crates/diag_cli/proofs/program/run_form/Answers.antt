@@ -16,7 +16,7 @@ returns-in-Ok g c =
     run_loaded _ _ _ _ _ (meant c.args.form) _ _ _ c.deref.result.now (same_file c.deref.result.now c.in-Ok.file.items _ c.deref.ensures.value told)
     (λ gone. let is = read.absent (ap (g.H.Shelf.held c.args.shelf.now) c.path.ensures ∙ gone) in let never : ⊥ = cc in never)
     (read.failed.stayed (λ is. let never : ⊥ = cc in never))
-    done.write_fault done.read_fault done.not_usage done.follows done.cut
+    done.write_fault done.read_fault done.not_usage done.follows done.cut done.short
 
 pub returns-in-Err-Long : goal.returns-in-Err-Long
 returns-in-Err-Long g c =

@@ -1,38 +1,26 @@
 -- From what was done by a course to what holds of a run.
-use Rattle.std.proofs.Common.{◌≡◌, ◌≢◌, ◌⊎◌, ◌↔◌, ◌<◌, ◌≤◌, ◌+◌, ◌-◌, ◌^◌, ℕ, true, false, List, ◌++◌, length, take, Option, Some, None, IfSome, inl, inr, refl, ◌∙◌, ap, subst, sym, arith, codes, nat_le, nat_lt, append-nil, take_all, if◌then◌else◌}
+use Rattle.std.proofs.Common.{◌≡◌, ◌≢◌, ◌⊎◌, ◌<◌, ◌≤◌, ◌+◌, ◌-◌, ℕ, true, false, List, length, Option, Some, None, IfSome, inl, inr, refl, ◌∙◌, ap, subst, sym, arith, codes, nat_le}
 use Rattle.std.specs.Prelude.{Result, Ok, Err}
-use Rattle.std.proofs.lemmas.Grind.{common_steps}
 use Rattle.std.specs.Io.KnownBytes.{Consumes, IsAtEnd}
-use Rattle.std.proofs.lemmas.Bool.{lt-ltb, cases_eq}
-use Rattle.std.proofs.Math.Seq.{take-append_seam}
+use Rattle.std.proofs.lemmas.Bool.{cases_eq}
 use Rattle.text_rules.specs.declared.text_lines.TheConstants.{TEXT_LIMIT}
 use Rattle.text_rules.specs.Expected.{IsExpectedFault}
-use Rattle.diag_edge.specs.Edge.{RoseExactly, Rose, Holding, absent, told_bytes}
+use Rattle.diag_edge.specs.Edge.{RoseExactly, Holding, absent, told_bytes}
 use Rattle.diag_edge.specs.declared.loading.LoadError.{LoadError}
 use Rattle.diag_edge.specs.declared.loading.LoadError.TheVariants.{Failed as LoadFailed, Long}
-use Rattle.ranking.specs.Systems.{System}
+use Rattle.session_rules.specs.Items.{Item}
+use Rattle.session_rules.specs.Spelling.{Writes}
 use Rattle.device_model.specs.Devices.{Device}
-use Rattle.device_model.specs.Diagnosis.{device_system}
 use Rattle.diag_cli.specs.declared.serving.TheConstants.{SCRIPT_LIMIT}
 use Rattle.diag_cli.specs.Words.{Form, Serve, Plan, Check, Compile, path_of}
-use Rattle.diag_cli.specs.Describing.{long_file_line, device_in}
+use Rattle.diag_cli.specs.Describing.{long_file_line, described, device_in}
 use Rattle.diag_cli.specs.Output.{Output, Gives, GivesUnlessMemory, says, no_memory}
-use Rattle.diag_cli.specs.Courses.{End, Ended, Failed, Cut, Course, Tells, Serves, read_error, served, wholly_served, end_of, served_or_refused, course_of}
+use Rattle.diag_cli.specs.Courses.{End, Ended, Failed, Cut, Course, Tells, Serves, read_error, served, wholly_served, whole_output, if_within, served_or_refused, course_of}
 use Rattle.diag_cli.specs.Refusals.{or_memory}
-use Rattle.diag_cli.specs.Runs.{Reading, Writing, IsIdle, IsRun}
-use Rattle.diag_cli.specs.inner.Courses.{EndsAs, IsAnswered, IsServed, Follows}
-
--- ---- what was taken is what was there, up to the limit
-
-taken_all : (script : List ℕ) (after : Option (List ℕ)) (bytes : List ℕ) (end : End) (i j : ℕ) → j ≡ i → Consumes (Some script) after bytes → EndsAs end bytes (IsAtEnd after) (i < j) → (bytes ≡ take 16777216 script) × (end ≡ end_of script)
-taken_all script None bytes end i j same took is = absurd took
-taken_all script (Some left) bytes Ended i j same took is =
-    let all : script ≡ bytes = took ∙ ap (λ r. bytes ++ r) is.0 ∙ append-nil bytes in
-    (rw all (sym (take_all 16777216 bytes (omega (arith, is.1)))), rw (all, lt-ltb (length bytes) 16777216 is.1))
-taken_all script (Some left) bytes Failed i j same took is = absurd (let never : ⊥ = omega (arith, is, same) in never)
-taken_all script (Some left) bytes Cut i j same took is =
-    let long : nat_lt (length script) 16777216 ≡ false = grind (arith, common_steps, took, is) in
-    (rw (took, ← is) (sym (take-append_seam bytes left)), rw long)
+use Rattle.diag_cli.specs.Runs.{Reading, Writing, IsIdle, GivesUnlessShort, IsRun}
+use Rattle.diag_cli.specs.inner.Courses.{EndsAs, CameTo, IsServed, Follows}
+use Rattle.diag_cli.proofs.Failing.{gives_part}
+use Rattle.diag_cli.proofs.Scripts.{taken_all, broken_begins_all}
 
 -- the file that is told, under another name
 pub same_file : (file bytes : List ℕ) (told : Option (List ℕ)) → file ≡ bytes → IfSome told (λ all. bytes ≡ all) → IfSome told (λ all. file ≡ all)
@@ -42,100 +30,157 @@ same_file file bytes (Some all) same is = same ∙ is
 pub too_long_is_no_failure : {T : Type 0} (result : Result T LoadError) (error : LoadError) (limit : ℕ) → result ≡ Err error → error ≡ Long limit → result ≡ Err LoadFailed → ⊥
 too_long_is_no_failure result error limit is long failed = let never : ⊥ = cc in never
 
+-- what is said of a short text is said of its file
+pub refused_in : (fault : Option Output) (path file : List ℕ) (budget : ℕ) → length file ≤ TEXT_LIMIT → IsExpectedFault fault (described path file)
+    → IsExpectedFault fault (if_within budget (device_in path file))
+refused_in None path file budget short is = tt
+refused_in (Some output) path file budget short is = ap (if_within budget) (device_is ∙ is)
+  where
+    few : nat_le (length file) TEXT_LIMIT ≡ true
+    few = grind arith
+
+    device_is : device_in path file ≡ described path file
+    device_is = rw few
+
+-- words with a form may run out of memory
+with_form : (form : Form) {output : Output} {status : ℕ} {a b : Option (List ℕ)} → GivesUnlessMemory output status a b → GivesUnlessShort (Some form) output status a b
+with_form form (inl memory) = inl (refl, memory)
+with_form form (inr given) = inr given
+
+some_map : {A : Type 0} {P Q : A → Type 0} (o : Option A) → ((a : A) → P a → Q a) → IfSome o P → IfSome o Q
+some_map None f h = tt
+some_map (Some a) f h = f a h
+
+some_all : {A : Type 0} {P : A → Type 0} (o : Option A) → ((a : A) → P a) → IfSome o P
+some_all None f = tt
+some_all (Some a) f = f a
+
+-- ---- an output that was given is complete where nothing failed
+
+module _ (form : Option Form) (shelf new_shelf input new_input : Reading) (out new_out : Writing) (status : ℕ) where
+  abbrev IsGiven : Output → Type 0
+  IsGiven output = new_shelf.faults ≡ shelf.faults → new_input.faults ≡ input.faults → GivesUnlessShort form output status out.got new_out.got
+
+  abbrev IsComplete : Output → Type 0
+  IsComplete output = output.status ≡ 0 → new_shelf.faults ≡ shelf.faults → new_input.faults ≡ input.faults → new_out.faults ≡ out.faults
+      → ((status ≡ 0) × Writes out.got new_out.got output.items) ⊎ ((status ≡ 6) × Writes out.got new_out.got no_memory.items)
+
+  completes : RoseExactly out.faults new_out.faults (status ≡ 5) → (output : Output) → IsGiven output → IsComplete output
+  completes writes output given zero shelf_kept input_kept wrote = by (given shelf_kept input_kept)
+    where
+      whole : status ≢ 5
+      whole five = absurd (omega (arith, writes.rose five, wrote))
+
+      by : GivesUnlessShort form output status out.got new_out.got → ((status ≡ 0) × Writes out.got new_out.got output.items) ⊎ ((status ≡ 6) × Writes out.got new_out.got no_memory.items)
+      by (inl memory) = inr (memory.1.whole whole)
+      by (inr gives) = let done = gives.whole whole in inl (done.0 ∙ zero, done.1)
+
+  all_complete : RoseExactly out.faults new_out.faults (status ≡ 5) → (told : Option (List ℕ)) (of : List ℕ → Option Output)
+      → IfSome told (λ file. IfSome (of file) IsGiven) → IfSome told (λ file. IfSome (of file) IsComplete)
+  all_complete writes told of given = some_map told (λ file. some_map (of file) (completes writes)) given
+
 module _ (input new_input : Reading) (out new_out : Writing) (status : ℕ) where
   -- ---- a device is served, or its file refused
 
-  pub follows_device : (expected : Result Device Output) (device : Device) → expected ≡ Ok device → IsServed (device_system device) input new_input out new_out status
-      → Follows (served_or_refused expected) input new_input out new_out status
-  follows_device expected device is done = subst (λ e. Follows (served_or_refused e) input new_input out new_out status) (sym is) done
+  zero_is_not_six : Gives no_memory status out.got new_out.got → status ≡ 0 → IsAtEnd new_input.left
+  zero_is_not_six said zero = absurd (omega (arith, zero, (said.whole (λ five. omega (arith, zero, five))).0))
 
-  zero_is_not_six : (status ≢ 5 → Gives no_memory status out.got new_out.got) → status ≡ 0 → IsAtEnd new_input.left
-  zero_is_not_six said zero = absurd (omega (arith, zero, (said (λ five. omega (arith, zero, five))).same_status))
+  by_memory : (sessions : ℕ) (expected : Result Device Output) → IsIdle input new_input → Gives no_memory status out.got new_out.got
+      → Follows (served_or_refused sessions expected) input new_input out new_out status
+  by_memory sessions (Ok device) idle said = record { answer = inl (idle, said); all_read = zero_is_not_six said }
+  by_memory sessions (Err output) idle said = (idle, inl said)
 
-  by_memory : (expected : Result Device Output) → IsIdle input new_input → (status ≢ 5 → Gives no_memory status out.got new_out.got)
-      → Follows (served_or_refused expected) input new_input out new_out status
-  by_memory (Ok device) idle said = record { answer = λ whole. inl (said whole); all_read = zero_is_not_six said }
-  by_memory (Err output) idle said = (idle, λ whole. inl (said whole))
-
-  pub follows_refusal : (expected : Result Device Output) (fault : Option Output) → IsExpectedFault fault expected → IsIdle input new_input
-      → (status ≢ 5 → Gives (or_memory fault) status out.got new_out.got) → Follows (served_or_refused expected) input new_input out new_out status
-  follows_refusal expected None is idle said = by_memory expected idle said
-  follows_refusal expected (Some output) is idle said =
-      subst (λ e. Follows (served_or_refused e) input new_input out new_out status) (sym is) (idle, λ whole. inr (said whole))
+  pub follows_refusal : (sessions : ℕ) (expected : Result Device Output) (fault : Option Output) → IsExpectedFault fault expected → IsIdle input new_input
+      → Gives (or_memory fault) status out.got new_out.got → Follows (served_or_refused sessions expected) input new_input out new_out status
+  follows_refusal sessions expected None is idle said = by_memory sessions expected idle said
+  follows_refusal sessions expected (Some output) is idle said =
+      subst (λ e. Follows (served_or_refused sessions e) input new_input out new_out status) (sym is) (idle, inr said)
 
   -- ---- clauses of a run over the file
 
   told_of : (course : Course) (output : Output) → course ≡ Tells output → Follows course input new_input out new_out status
-      → IsIdle input new_input × (status ≢ 5 → GivesUnlessMemory output status out.got new_out.got)
+      → IsIdle input new_input × GivesUnlessMemory output status out.got new_out.got
   told_of course output is done = subst (λ c. Follows c input new_input out new_out status) is done
 
-  served_of : (course : Course) (system : System) → course ≡ Serves system → Follows course input new_input out new_out status → IsServed system input new_input out new_out status
-  served_of course system is done = subst (λ c. Follows c input new_input out new_out status) is done
+  served_of : (course : Course) (answers : List (List ℕ) → List Item) → course ≡ Serves answers → Follows course input new_input out new_out status → IsServed answers input new_input out new_out status
+  served_of course answers is done = subst (λ c. Follows c input new_input out new_out status) is done
 
   -- from the bytes that were taken to the whole script
-  whole_answer : (system : System) (script : List ℕ) → input.left ≡ Some script → new_input.faults ≡ input.faults
-      → Gives no_memory status out.got new_out.got ⊎ IsAnswered system input new_input out new_out status
-      → GivesUnlessMemory (wholly_served system script) status out.got new_out.got
-  whole_answer system script told same (inl memory) = inl memory
-  whole_answer system script told same (inr answered) =
-      let all = taken_all script new_input.left answered.bytes answered.end input.faults new_input.faults same
-      (subst (λ l. Consumes l new_input.left answered.bytes) told answered.took) answered.ends in
-      inr (subst (λ o. Gives o status out.got new_out.got) (λ k. served system (all.0 k) (all.1 k)) answered.gives)
+  whole_answer : (answers : List (List ℕ) → List Item) (script : List ℕ) → input.left ≡ Some script → new_input.faults ≡ input.faults → IsServed answers input new_input out new_out status
+      → GivesUnlessMemory (wholly_served answers script) status out.got new_out.got
+  whole_answer answers script told kept done = by done.answer
+    where
+      by : CameTo answers input new_input out new_out status → GivesUnlessMemory (wholly_served answers script) status out.got new_out.got
+      by (inl memory) = inl memory.1
+      by (inr (inl answered)) =
+          let all = taken_all script new_input.left answered.bytes answered.end input.faults new_input.faults kept
+          (subst (λ l. Consumes l new_input.left answered.bytes) told answered.took) answered.ends in
+          inr (subst (λ o. Gives o status out.got new_out.got) (λ k. served answers (all.0 k) (all.1 k)) answered.gives)
+      by (inr (inr (five, broken))) =
+          inr (gives_part (wholly_served answers script) status out.got new_out.got five
+          (broken_begins_all answers script broken.bytes new_input.left broken.lines out.got new_out.got
+          (subst (λ l. Consumes l new_input.left broken.bytes) told broken.took) broken.are broken.begun))
 
-  answer_of : (system : System) (left : Option (List ℕ)) → input.left ≡ left → (status ≢ 5 → RoseExactly input.faults new_input.faults (status ≡ 4)) → IsServed system input new_input out new_out status
-      → IfSome left (λ script. status ≢ 5 → status ≢ 4 → GivesUnlessMemory (wholly_served system script) status out.got new_out.got)
-  answer_of system None told rose done = tt
-  answer_of system (Some script) told rose done = λ whole read. whole_answer system script told ((rose whole).stayed read) (done.answer whole)
+  output_of : (course : Course) (left : Option (List ℕ)) → input.left ≡ left → Follows course input new_input out new_out status
+      → IfSome (whole_output course left) (λ output. new_input.faults ≡ input.faults → GivesUnlessMemory output status out.got new_out.got)
+  output_of (Tells output) left told done = λ kept. done.1
+  output_of (Serves answers) None told done = tt
+  output_of (Serves answers) (Some script) told done = λ kept. whole_answer answers script told kept done
 
-  -- a count that rose tells the one status that goes with it
-  moved : RoseExactly input.faults new_input.faults (status ≡ 4) → input.faults < new_input.faults → (status ≡ 4 → ⊥) → ⊥
-  moved rose rises other = omega (arith, rose.stayed other, rises)
+  -- a read failed
+  fault_of : (answers : List (List ℕ) → List Item) → input.faults < new_input.faults → IsServed answers input new_input out new_out status
+      → (bytes : List ℕ) × Consumes input.left new_input.left bytes × Gives (served answers bytes Failed) status out.got new_out.got
+  fault_of answers rises done = by done.answer
+    where
+      never : new_input.faults ≡ input.faults → ⊥
+      never kept = omega (arith, kept, rises)
 
-  failed_at : (system : System) (bytes : List ℕ) (end : End) → RoseExactly input.faults new_input.faults (status ≡ 4) → input.faults < new_input.faults
-      → Consumes input.left new_input.left bytes → Gives (served system bytes end) status out.got new_out.got
-      → (taken : List ℕ) × Consumes input.left new_input.left taken × Gives (served system taken Failed) status out.got new_out.got
-  failed_at system bytes Ended rose rises took gives = absurd (moved rose rises (λ four. omega (arith, four, gives.same_status)))
-  failed_at system bytes Failed rose rises took gives = (bytes, took, gives)
-  failed_at system bytes Cut rose rises took gives = absurd (moved rose rises (λ four. omega (arith, four, gives.same_status)))
+      at : (bytes : List ℕ) (end : End) → Consumes input.left new_input.left bytes → EndsAs end bytes (IsAtEnd new_input.left) (input.faults < new_input.faults) (new_input.faults ≡ input.faults)
+          → Gives (served answers bytes end) status out.got new_out.got
+          → (taken : List ℕ) × Consumes input.left new_input.left taken × Gives (served answers taken Failed) status out.got new_out.got
+      at bytes Ended took ends gives = absurd (never ends.2)
+      at bytes Failed took ends gives = (bytes, took, gives)
+      at bytes Cut took ends gives = absurd (never ends.1)
 
-  fault_of : (system : System) → RoseExactly input.faults new_input.faults (status ≡ 4) → input.faults < new_input.faults
-      → Gives no_memory status out.got new_out.got ⊎ IsAnswered system input new_input out new_out status
-      → (bytes : List ℕ) × Consumes input.left new_input.left bytes × Gives (served system bytes Failed) status out.got new_out.got
-  fault_of system rose rises (inl memory) = absurd (moved rose rises (λ four. omega (arith, four, memory.same_status)))
-  fault_of system rose rises (inr answered) = failed_at system answered.bytes answered.end rose rises answered.took answered.gives
+      by : CameTo answers input new_input out new_out status → (bytes : List ℕ) × Consumes input.left new_input.left bytes × Gives (served answers bytes Failed) status out.got new_out.got
+      by (inl memory) = absurd (never memory.0.faults)
+      by (inr (inl answered)) = at answered.bytes answered.end answered.took answered.ends answered.gives
+      by (inr (inr broken)) = absurd (never broken.1.reads)
 
   -- ---- runs
 
   module _ (form : Form) (held : List ℕ → Holding) (shelf new_shelf : Reading) where
-    on_told : {P Q : List ℕ → Type 0} (told : Option (List ℕ)) → ((file : List ℕ) → P file → Q file) → IfSome told P → IfSome told Q
-    on_told None f h = tt
-    on_told (Some file) f h = f file h
-
     -- The file was read.
     pub run_loaded : (file : List ℕ) → IfSome (told_bytes (held (path_of form))) (λ bytes. file ≡ bytes) → held (path_of form) ≢ absent → new_shelf.faults ≡ shelf.faults
         → RoseExactly out.faults new_out.faults (status ≡ 5) → (status ≢ 5 → RoseExactly input.faults new_input.faults (status ≡ 4)) → status ≢ 2
         → Follows (course_of (Some form) file) input new_input out new_out status → (status ≡ 7 → new_input.taken ≡ input.taken + SCRIPT_LIMIT)
+        → (status ≢ 5 → status ≢ 7 → new_input.taken < input.taken + SCRIPT_LIMIT)
         → IsRun (Some form) held shelf new_shelf input new_input out new_out status
-    run_loaded file is there kept writes reads other done cut = record {
+    run_loaded file is there kept writes reads other done cut short = record {
       write_fault = writes;
       read_fault = λ whole. ((λ four. inr ((reads whole).rose four)), λ rises. elim rises [ inl moves ↦ absurd (omega (arith, kept, moves)) | inr moves ↦ four_of whole moves ]);
       usage = λ whole. ((λ two. absurd (other two)), λ none. absurd (let never : ⊥ = cc in never));
       no_name = λ none. absurd (let never : ⊥ = cc in never);
       absent_file = λ gone. absurd (there gone);
       no_file = λ moves. absurd (omega (arith, kept, moves));
-      told = on_told (told_bytes (held (path_of form))) (λ bytes same output course.
-          let all = told_of (course_of (Some form) file) output (ap (course_of (Some form)) same ∙ course) done in (all.0, λ whole read. all.1 whole)) is;
-      answer = on_told (told_bytes (held (path_of form))) (λ bytes same system course.
-          answer_of system input.left refl reads (served_of (course_of (Some form) file) system (ap (course_of (Some form)) same ∙ course) done)) is;
-      script_fault = on_told (told_bytes (held (path_of form))) (λ bytes same system course rises whole.
-          fault_of system (reads whole) rises ((served_of (course_of (Some form) file) system (ap (course_of (Some form)) same ∙ course) done).answer whole)) is;
-      all_read = on_told (told_bytes (held (path_of form))) (λ bytes same system course zero.
-          (served_of (course_of (Some form) file) system (ap (course_of (Some form)) same ∙ course) done).all_read zero) is;
-      cut = cut;
+      no_script = some_map (told_bytes (held (path_of form))) (λ bytes same output course.
+          (told_of (course_of (Some form) file) output (ap (course_of (Some form)) same ∙ course) done).0) is;
+      output = given;
+      complete = all_complete (Some form) shelf new_shelf input new_input out new_out status writes (told_bytes (held (path_of form))) (λ bytes. whole_output (course_of (Some form) bytes) input.left) given;
+      script_fault = some_map (told_bytes (held (path_of form))) (λ bytes same answers course rises.
+          fault_of answers rises (served_of (course_of (Some form) file) answers (ap (course_of (Some form)) same ∙ course) done)) is;
+      all_read = some_map (told_bytes (held (path_of form))) (λ bytes same answers course zero.
+          (served_of (course_of (Some form) file) answers (ap (course_of (Some form)) same ∙ course) done).all_read zero) is;
+      cut = λ whole. (cut, λ taken. elim (cases_eq status 7) [ inl seven ↦ seven | inr other ↦ absurd (omega (arith, short whole other, taken)) ]);
     }
       where
         four_of : status ≢ 5 → input.faults < new_input.faults → status ≡ 4
         four_of whole moves = elim (cases_eq status 4) [ inl four ↦ four | inr not_four ↦ absurd (omega (arith, (reads whole).stayed not_four, moves)) ]
+
+        given : IfSome (told_bytes (held (path_of form))) (λ bytes. IfSome (whole_output (course_of (Some form) bytes) input.left) (IsGiven (Some form) shelf new_shelf input new_input out new_out status))
+        given = some_map (told_bytes (held (path_of form))) (λ bytes same.
+            subst (λ text. IfSome (whole_output (course_of (Some form) text) input.left) (IsGiven (Some form) shelf new_shelf input new_input out new_out status)) same
+            (some_map (whole_output (course_of (Some form) file) input.left) (λ output gives read taken. with_form form (gives taken)) (output_of (course_of (Some form) file) input.left refl done))) is
 
 -- ---- what may be told without a look at the script
 
@@ -151,7 +196,7 @@ long_course form file long = by form
     no_more = grind arith
 
     by : (form : Form) → course_of (Some form) file ≡ Tells (says long_file_line 1)
-    by (Serve path budget) = rw no_more
+    by (Serve path budget sessions) = rw no_more
     by (Plan path) = rw no_more
     by (Check path) = rw no_more
     by (Compile path budget) = rw no_more
@@ -170,85 +215,85 @@ module _ (held : List ℕ → Holding) (shelf new_shelf input : Reading) (out ne
   never_rises : {P : Type 0} → input.faults < input.faults → P
   never_rises moves = absurd (omega (arith, moves))
 
-  known : (output : Output) → (status ≢ 5 → Gives output status out.got new_out.got) → (s : ℕ) → status ≡ s → s ≢ 5 → output.status ≢ s → ⊥
-  known output said s is whole other = other (sym ((said (λ five. whole (sym is ∙ five))).same_status) ∙ is)
+  known : (output : Output) → Gives output status out.got new_out.got → (s : ℕ) → status ≡ s → s ≢ 5 → output.status ≢ s → ⊥
+  known output said s is whole other = other (sym ((said.whole (λ five. whole (sym is ∙ five))).0) ∙ is)
 
   module _ (form : Form) where
-    all_told : {P : List ℕ → Type 0} (told : Option (List ℕ)) → ((file : List ℕ) → P file) → IfSome told P
-    all_told None f = tt
-    all_told (Some file) f = f file
+    abbrev output_by : List ℕ → Option Output
+    output_by file = whole_output (course_of (Some form) file) input.left
+
+    abbrev OutputsGiven : Type 0
+    OutputsGiven = IfSome (told_bytes (held (path_of form))) (λ file. IfSome (output_by file) (IsGiven (Some form) shelf new_shelf input input out new_out status))
+
+    completed : RoseExactly out.faults new_out.faults (status ≡ 5) → OutputsGiven → IfSome (told_bytes (held (path_of form))) (λ file. IfSome (output_by file) (IsComplete (Some form) shelf new_shelf input input out new_out status))
+    completed writes given = all_complete (Some form) shelf new_shelf input input out new_out status writes (told_bytes (held (path_of form))) output_by given
+
+    -- the limit was not taken
+    not_cut : {P : Type 0} → input.taken ≡ input.taken + SCRIPT_LIMIT → P
+    not_cut taken = absurd (omega (arith, taken))
 
     -- The file could not be read.
     pub run_failed : shelf.faults < new_shelf.faults → RoseExactly out.faults new_out.faults (status ≡ 5)
-        → (status ≢ 5 → Gives (says read_error 4) status out.got new_out.got) → IsRun (Some form) held shelf new_shelf input input out new_out status
+        → Gives (says read_error 4) status out.got new_out.got → IsRun (Some form) held shelf new_shelf input input out new_out status
     run_failed moves writes said = record {
       write_fault = writes;
-      read_fault = λ whole. ((λ four. inl moves), λ rises. (said whole).same_status);
+      read_fault = λ whole. ((λ four. inl moves), λ rises. (said.whole whole).0);
       usage = λ whole. ((λ two. absurd (known (says read_error 4) said 2 two (λ e. absurd (omega (arith, e))) (λ e. absurd (omega (arith, e))))), λ none. absurd (let never : ⊥ = cc in never));
       no_name = λ none. absurd (let never : ⊥ = cc in never);
-      absent_file = λ gone whole. (said whole).same_status;
+      absent_file = λ gone whole. (said.whole whole).0;
       no_file = λ rises. (idle, said);
-      told = all_told (told_bytes (held (path_of form))) (λ file output course. (idle, λ whole read. absurd (read (said whole).same_status)));
-      answer = all_told (told_bytes (held (path_of form))) (λ file system course. all_told input.left (λ script whole read. absurd (read (said whole).same_status)));
-      script_fault = all_told (told_bytes (held (path_of form))) (λ file system course rises. never_rises rises);
-      all_read = all_told (told_bytes (held (path_of form))) (λ file system course zero. absurd (known (says read_error 4) said 0 zero (λ e. absurd (omega (arith, e))) (λ e. absurd (omega (arith, e)))));
-      cut = λ seven. absurd (known (says read_error 4) said 7 seven (λ e. absurd (omega (arith, e))) (λ e. absurd (omega (arith, e))));
+      no_script = some_all (told_bytes (held (path_of form))) (λ file output course. idle);
+      output = given;
+      complete = completed writes given;
+      script_fault = some_all (told_bytes (held (path_of form))) (λ file answers course rises. never_rises rises);
+      all_read = some_all (told_bytes (held (path_of form))) (λ file answers course zero. absurd (known (says read_error 4) said 0 zero (λ e. absurd (omega (arith, e))) (λ e. absurd (omega (arith, e)))));
+      cut = λ whole. ((λ seven. absurd (known (says read_error 4) said 7 seven (λ e. absurd (omega (arith, e))) (λ e. absurd (omega (arith, e))))), not_cut);
     }
+      where
+        given : OutputsGiven
+        given = some_all (told_bytes (held (path_of form))) (λ file. some_all (output_by file) (λ output kept same. absurd (omega (arith, kept, moves))))
 
     -- One output was given without a look at the script.
     pub run_told : (output : Output) → output.status ≢ 0 → output.status ≢ 2 → output.status ≢ 4 → output.status ≢ 7 → IfSome (told_bytes (held (path_of form))) (IsRight form output)
         → held (path_of form) ≢ absent → new_shelf.faults ≡ shelf.faults → RoseExactly out.faults new_out.faults (status ≡ 5)
-        → (status ≢ 5 → Gives output status out.got new_out.got) → IsRun (Some form) held shelf new_shelf input input out new_out status
+        → Gives output status out.got new_out.got → IsRun (Some form) held shelf new_shelf input input out new_out status
     run_told output no0 no2 no4 no7 right there kept writes said = record {
       write_fault = writes;
-      read_fault = λ whole. ((λ four. absurd (no4 (sym (said whole).same_status ∙ four))), λ rises. elim rises [ inl moves ↦ absurd (omega (arith, kept, moves)) | inr moves ↦ never_rises moves ]);
-      usage = λ whole. ((λ two. absurd (no2 (sym (said whole).same_status ∙ two))), λ none. absurd (let never : ⊥ = cc in never));
+      read_fault = λ whole. ((λ four. absurd (no4 (sym (said.whole whole).0 ∙ four))), λ rises. elim rises [ inl moves ↦ absurd (omega (arith, kept, moves)) | inr moves ↦ never_rises moves ]);
+      usage = λ whole. ((λ two. absurd (no2 (sym (said.whole whole).0 ∙ two))), λ none. absurd (let never : ⊥ = cc in never));
       no_name = λ none. absurd (let never : ⊥ = cc in never);
       absent_file = λ gone. absurd (there gone);
       no_file = λ moves. absurd (omega (arith, kept, moves));
-      told = on_right (told_bytes (held (path_of form))) (λ file is other course. (idle, λ whole read. told_by file other is course (said whole))) right;
-      answer = on_right (told_bytes (held (path_of form))) (λ file is system course. all_told input.left (λ script whole read. answer_by file system script is course (said whole))) right;
-      script_fault = all_told (told_bytes (held (path_of form))) (λ file system course rises. never_rises rises);
-      all_read = all_told (told_bytes (held (path_of form))) (λ file system course zero. absurd (known output said 0 zero (λ e. absurd (omega (arith, e))) no0));
-      cut = λ seven. absurd (known output said 7 seven (λ e. absurd (omega (arith, e))) no7);
+      no_script = some_all (told_bytes (held (path_of form))) (λ file other course. idle);
+      output = given;
+      complete = completed writes given;
+      script_fault = some_all (told_bytes (held (path_of form))) (λ file answers course rises. never_rises rises);
+      all_read = some_all (told_bytes (held (path_of form))) (λ file answers course zero. absurd (known output said 0 zero (λ e. absurd (omega (arith, e))) no0));
+      cut = λ whole. ((λ seven. absurd (known output said 7 seven (λ e. absurd (omega (arith, e))) no7)), not_cut);
     }
       where
-        on_right : {Q : List ℕ → Type 0} (told : Option (List ℕ)) → ((file : List ℕ) → IsRight form output file → Q file) → IfSome told (IsRight form output) → IfSome told Q
-        on_right None f h = tt
-        on_right (Some file) f h = f file h
+        given_by : (file : List ℕ) → IsRight form output file → IfSome (output_by file) (IsGiven (Some form) shelf new_shelf input input out new_out status)
+        given_by file (inl memory) = some_all (output_by file) (λ other read taken. inl (refl, subst (λ o. Gives o status out.got new_out.got) memory said))
+        given_by file (inr is) =
+            subst (λ course. IfSome (whole_output course input.left) (IsGiven (Some form) shelf new_shelf input input out new_out status)) (sym is) (λ read taken. inr said)
 
-        same_output : (a b : Output) → Tells a ≡ Tells b → a ≡ b
-        same_output a b e = cc
-
-        not_both : (a : Output) (system : System) → Tells a ≡ Serves system → ⊥
-        not_both a system e = cc
-
-        told_by : (file : List ℕ) (other : Output) → IsRight form output file → course_of (Some form) file ≡ Tells other → Gives output status out.got new_out.got
-            → GivesUnlessMemory other status out.got new_out.got
-        told_by file other (inl memory) course gives = inl (subst (λ o. Gives o status out.got new_out.got) memory gives)
-        told_by file other (inr is) course gives = inr (subst (λ o. Gives o status out.got new_out.got) (same_output output other (sym is ∙ course)) gives)
-
-        answer_by : (file : List ℕ) (system : System) (script : List ℕ) → IsRight form output file → course_of (Some form) file ≡ Serves system → Gives output status out.got new_out.got
-            → GivesUnlessMemory (wholly_served system script) status out.got new_out.got
-        answer_by file system script (inl memory) course gives = inl (subst (λ o. Gives o status out.got new_out.got) memory gives)
-        answer_by file system script (inr is) course gives = absurd (not_both output system (sym is ∙ course))
+        given : OutputsGiven
+        given = some_map (told_bytes (held (path_of form))) given_by right
 
   -- The words have no form.
-  pub run_usage : RoseExactly out.faults new_out.faults (status ≡ 5) → (status ≢ 5 → Gives (says (codes "error: usage\n") 2) status out.got new_out.got)
+  pub run_usage : RoseExactly out.faults new_out.faults (status ≡ 5) → Gives (says (codes "error: usage\n") 2) status out.got new_out.got
       → IsRun None held shelf shelf input input out new_out status
   run_usage writes said = record {
     write_fault = writes;
-    read_fault = λ whole. ((λ four. absurd (let two = (said whole).same_status in omega (arith, four, two))), λ rises. elim rises [ inl moves ↦ absurd (omega (arith, moves)) | inr moves ↦ never_rises moves ]);
-    usage = λ whole. ((λ two. refl), λ none. (said whole).same_status);
+    read_fault = λ whole. ((λ four. absurd (let two = (said.whole whole).0 in omega (arith, four, two))), λ rises. elim rises [ inl moves ↦ absurd (omega (arith, moves)) | inr moves ↦ never_rises moves ]);
+    usage = λ whole. ((λ two. refl), λ none. (said.whole whole).0);
     no_name = λ none. record { taken = refl; faults = refl };
     absent_file = tt;
     no_file = λ moves. absurd (omega (arith, moves));
-    told = λ output course. (idle, λ whole read. inr (subst (λ o. Gives o status out.got new_out.got) (same_output _ output course) (said whole)));
-    answer = λ system course. absurd (let never : ⊥ = cc in never);
-    script_fault = λ system course rises. never_rises rises;
-    all_read = λ system course zero. absurd (let never : ⊥ = cc in never);
-    cut = λ seven. absurd (known (says (codes "error: usage\n") 2) said 7 seven (λ e. absurd (omega (arith, e))) (λ e. absurd (omega (arith, e))));
+    no_script = λ output course. idle;
+    output = λ read taken. inr said;
+    complete = completes None shelf shelf input input out new_out status writes (says (codes "error: usage\n") 2) (λ read taken. inr said);
+    script_fault = λ answers course rises. never_rises rises;
+    all_read = λ answers course zero. absurd (let never : ⊥ = cc in never);
+    cut = λ whole. ((λ seven. absurd (known (says (codes "error: usage\n") 2) said 7 seven (λ e. absurd (omega (arith, e))) (λ e. absurd (omega (arith, e))))), λ taken. absurd (omega (arith, taken)));
   }
-    where
-      same_output : (a b : Output) → Tells a ≡ Tells b → a ≡ b
-      same_output a b e = cc

@@ -1,6 +1,10 @@
+mod Examples
+pub mod WordLemmas
 pub mod Running
 pub mod ServedDevices
 pub mod Faults
+pub mod Failing
+pub mod Scripts
 pub mod Headline
 pub mod Adapting
 pub mod WholeGraphs

@@ -1,58 +1,71 @@
 -- A service over a device's graph answers as the device's system does.
-use Rattle.std.proofs.Common.{◌≡◌, ◌⊎◌, ℕ, List, [], ◌∷◌, ◌++◌, inl, inr, sym, ap, subst}
-use Rattle.std.specs.Prelude.{Result, Ok}
-use Rattle.text_rules.specs.TextLines.{all_lines, whole_lines}
-use Rattle.graph_rules.specs.Graphs.{Graph}
-use Rattle.device_model.specs.Devices.{Device}
+use Rattle.std.proofs.Common.{◌≡◌, ◌≤◌, ◌+◌, ◌*◌, ℕ, List, ◌∷◌, length, sym, ap, subst, arith}
+use Rattle.std.specs.Prelude.{Result, Ok, Err, Bool, true, false, nat_lt, if◌then◌else◌}
+use Rattle.std.proofs.lemmas.List.{length-map}
+use Rattle.graph_rules.specs.Graphs.{Graph, IsGraph}
+use Rattle.device_model.specs.Devices.{Device, IsDevice, part_names}
+use Rattle.device_model.specs.declared.component.Component.{Component}
 use Rattle.device_model.specs.Diagnosis.{device_system}
-use Rattle.dnnf_compiler.specs.Compiled.{IsGraphOf}
-use Rattle.session_rules.specs.Items.{Item, Plain}
-use Rattle.session_rules.specs.GraphSystems.{compiled_system}
-use Rattle.session_core.specs.Services.{Shown, system_of}
-use Rattle.session_rules.proofs.GraphReplies.{first_graph_replies}
-use Rattle.diag_cli.specs.Output.{Output, Gives, no_memory}
-use Rattle.diag_cli.specs.Courses.{End, Ended, Failed, Cut, ready_line, ready_and_replies, served, read_error, script_too_long, if_within, served_or_refused}
+use Rattle.clause_encoder.specs.declared.limits.TheConstants.{CLAUSE_LIMIT}
+use Rattle.clause_encoder.specs.declared.encoding.EncodeError.TheVariants.{TooManyClauses}
+use Rattle.clause_encoder.specs.Clauses.{ClauseList}
+use Rattle.clause_encoder.specs.Encoding.{encoded, raw_count, clause_list, Describes}
+use Rattle.branch_states.specs.declared.measuring.TheConstants.{BUDGET_LIMIT}
+use Rattle.branch_states.specs.Branches.{sum_of}
+use Rattle.dnnf_compiler.specs.Compiled.{IsGraphOf, SaysAll}
+use Rattle.dnnf_compiler.proofs.Laws.{graph_of_device}
+use Rattle.session_rules.specs.Items.{Item}
+use Rattle.session_rules.specs.GraphSystems.{compiled_system, system_of}
+use Rattle.session_rules.proofs.GraphReplies.{graph_replies}
+use Rattle.session_core.specs.Services.{Shown}
+use Rattle.diag_cli.specs.Output.{Output}
+use Rattle.diag_cli.specs.Courses.{ready_line, answers_of, if_within, served_or_refused}
 use Rattle.diag_cli.specs.Runs.{Reading, Writing}
-use Rattle.diag_cli.specs.inner.Courses.{IsAnswered, IsServed, Follows}
-use Rattle.diag_cli.specs.inner.Serving.{IsServiceOf}
+use Rattle.diag_cli.specs.inner.Courses.{IsServed, Follows}
+use Rattle.diag_cli.specs.inner.Serving.{IsServable, IsSound, IsServiceOf}
 
--- ---- the same replies
+-- ---- the graph of a device is such as a service takes
 
-module _ (device : Device) (graph : Graph) (is : IsGraphOf device graph) where
-  same_replies : (lines : List (List ℕ)) → ready_and_replies (compiled_system device graph) lines ≡ ready_and_replies (device_system device) lines
-  same_replies lines = ap (λ (items : List Item). ready_line (device_system device) ∷ items) (first_graph_replies device graph is lines)
+module _ (device : Device) (cnf : ClauseList) (is : encoded device ≡ Ok cnf) where
+  listed : (too_many : Bool) → (if too_many then Err (TooManyClauses (raw_count device)) else Ok (clause_list device)) ≡ Ok cnf → cnf.vars ≡ length device.parts + length device.wires
+  listed true e = let f : Err (TooManyClauses (raw_count device)) ≡ Ok cnf = e in absurd (cc)
+  listed false e = let same : clause_list device ≡ cnf = cc in sym (ap (λ (l : ClauseList). l.vars) same)
 
-  same_served : (script : List ℕ) (end : End) → served (compiled_system device graph) script end ≡ served (device_system device) script end
-  same_served script Ended = ap (λ (items : List Item). record { items = items; status = 0 }) (same_replies (all_lines script))
-  same_served script Failed = ap (λ (items : List Item). record { items = items ++ Plain read_error ∷ []; status = 4 }) (same_replies (whole_lines script))
-  same_served script Cut = ap (λ (items : List Item). record { items = items ++ Plain script_too_long ∷ []; status = 7 }) (same_replies (whole_lines script))
+  vars_are : cnf.vars ≡ length device.parts + length device.wires
+  vars_are = listed (nat_lt CLAUSE_LIMIT (raw_count device)) is
 
-  module _ (input new_input : Reading) (out new_out : Writing) (status : ℕ) where
-    same_answer : Gives no_memory status out.got new_out.got ⊎ IsAnswered (compiled_system device graph) input new_input out new_out status
-        → Gives no_memory status out.got new_out.got ⊎ IsAnswered (device_system device) input new_input out new_out status
-    same_answer (inl memory) = inl memory
-    same_answer (inr answered) = inr (record {
-      bytes = answered.bytes;
-      end = answered.end;
-      took = answered.took;
-      ends = answered.ends;
-      gives = subst (λ (o : Output). Gives o status out.got new_out.got) (same_served answered.bytes answered.end) answered.gives;
+  pub servable : (graph : Graph) (made : ℕ) → IsDevice device → Describes cnf device → sum_of cnf.clauses ≤ BUDGET_LIMIT
+      → IsGraph graph → graph.vars ≡ cnf.vars → SaysAll cnf.clauses graph → made ≤ 3 * sum_of cnf.clauses + 2 → length graph.nodes ≤ made + 2 * cnf.vars → IsServable device graph
+  servable graph made valid describes small decomposable vars says few_made few_nodes = record {
+    valid = decomposable;
+    meaning = graph_of_device device cnf graph is describes vars says;
+    few_vars = omega (arith, vars_are, vars, valid.few_parts, valid.few_wires);
+    few_nodes = omega (arith, vars_are, valid.few_parts, valid.few_wires, few_made, few_nodes, small);
+  }
+
+-- every reply of the service of a device has a text
+pub sound_of : (device : Device) (sessions : ℕ) (service : Shown) → IsServiceOf device sessions service → IsSound service.subject
+sound_of device sessions service of =
+    subst (λ (s : Shown). IsSound s.subject) (sym of.shown) (record {
+      valid = of.servable.valid;
+      room = room;
+      few = omega (arith, room, of.servable.few_vars, of.servable.few_nodes);
     })
+  where
+    room : length (part_names device.parts) + length device.wires ≤ of.graph.vars
+    room = omega (arith, of.servable.meaning.room, length-map device.parts (λ (part : Component). part.name))
 
-    served_same : IsServed (compiled_system device graph) input new_input out new_out status → IsServed (device_system device) input new_input out new_out status
-    served_same done = record { answer = λ whole. same_answer (done.answer whole); all_read = done.all_read }
+-- ---- the same answers
 
--- What the service of a device serves is the device's system.
-served_device : (device : Device) (service : Shown) (input new_input : Reading) (out new_out : Writing) (status : ℕ) → IsServiceOf device service
-    → IsServed (system_of service.subject) input new_input out new_out status → IsServed (device_system device) input new_input out new_out status
-served_device device service input new_input out new_out status of done =
-    served_same device of.graph of.meaning input new_input out new_out status
-    (subst (λ (s : Shown). IsServed (system_of s.subject) input new_input out new_out status) of.shown done)
+same_answers : (device : Device) (graph : Graph) → IsGraphOf device graph → (sessions : ℕ) → answers_of (compiled_system device graph) sessions ≡ answers_of (device_system device) sessions
+same_answers device graph is sessions = λ k lines. ready_line (device_system device) ∷ graph_replies device graph is sessions lines k
 
--- and so follows the course of the device, where its sum is within the budget
-pub device_served : (budget : ℕ) (device : Device) (service : Shown) (input new_input : Reading) (out new_out : Writing) (status : ℕ) → IsServiceOf device service
-    → if_within budget (Ok device) ≡ Ok device → IsServed (system_of service.subject) input new_input out new_out status
-    → Follows (served_or_refused (if_within budget (Ok device))) input new_input out new_out status
-device_served budget device service input new_input out new_out status of within_it done =
-    subst (λ (expected : Result Device Output). Follows (served_or_refused expected) input new_input out new_out status) (sym within_it)
-    (served_device device service input new_input out new_out status of done)
+-- What the service of a device answers is what the device's system does. So it follows the course of the device, where its
+-- sum is within the budget.
+pub device_served : (budget sessions : ℕ) (device : Device) (service : Shown) (input new_input : Reading) (out new_out : Writing) (status : ℕ) → IsServiceOf device sessions service
+    → if_within budget (Ok device) ≡ Ok device → IsServed (answers_of (system_of service.subject) service.limit) input new_input out new_out status
+    → Follows (served_or_refused sessions (if_within budget (Ok device))) input new_input out new_out status
+device_served budget sessions device service input new_input out new_out status of within_it done =
+    subst (λ (expected : Result Device Output). Follows (served_or_refused sessions expected) input new_input out new_out status) (sym within_it)
+    (subst (λ (answers : List (List ℕ) → List Item). IsServed answers input new_input out new_out status) (same_answers device of.graph of.servable.meaning sessions)
+    (subst (λ (s : Shown). IsServed (answers_of (system_of s.subject) s.limit) input new_input out new_out status) of.shown done))

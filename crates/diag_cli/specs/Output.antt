@@ -1,7 +1,7 @@
 -- What a run writes, and the status that it ends with.
-use Rattle.std.specs.Prelude.{◌≡◌, ◌⊎◌, ℕ, List, [], ◌∷◌, Option, codes}
+use Rattle.std.specs.Prelude.{◌≡◌, ◌≢◌, ◌⊎◌, ℕ, List, [], ◌∷◌, Option, codes}
 use Rattle.session_rules.specs.Items.{Item, Plain}
-use Rattle.session_rules.specs.Spelling.{Writes}
+use Rattle.session_rules.specs.Spelling.{Writes, WritesPart}
 
 pub record Output : Type 0 where
   pub items : List Item
@@ -18,11 +18,12 @@ no_memory_line = codes "error: memory\n"
 abbrev pub no_memory : Output
 no_memory = says no_memory_line 6
 
--- the run gave the output: its status, and where the sink tells, a text that spells its items
+-- A run that is to give an output ends with its status, and what it writes, where the sink tells, spells the items of the
+-- output. Where a write failed, what it wrote begins such a text.
 pub record Gives (output : Output) (status : ℕ) (before after : Option (List ℕ)) : Type 0 where
-  pub same_status : status ≡ output.status
-  pub text : Writes before after output.items
+  pub whole : status ≢ 5 → (status ≡ output.status) × Writes before after output.items
+  pub broken : status ≡ 5 → WritesPart before after output.items
 
--- memory ran out, or the run gave the output
+-- memory ran out, or the output was given
 abbrev pub GivesUnlessMemory : Output → ℕ → Option (List ℕ) → Option (List ℕ) → Type 0
 GivesUnlessMemory output status before after = Gives no_memory status before after ⊎ Gives output status before after

@@ -1,24 +1,35 @@
 -- Why a file gives nothing of what the words ask for, and what is told of it.
-use Rattle.std.specs.Prelude.{Option, Some, None, Result}
+use Rattle.std.specs.Prelude.{ℕ, List, Option, Some, None, Result}
 use Rattle.text_rules.specs.Expected.{Fulfils}
 use Rattle.diag_cli.specs.declared.refusal.Refusal.{Refusal}
 use Rattle.diag_cli.specs.declared.refusal.Refusal.TheVariants.{Fault, Header, Counts, Bits, Shared, Above, Sum, Memory}
-use Rattle.diag_cli.specs.Output.{Output, says, no_memory}
+use Rattle.diag_cli.specs.Output.{Output, says, no_memory, no_memory_line}
 use Rattle.graph_rules.specs.GraphTexts as graphs
 use Rattle.diag_cli.specs.Describing.{fault_line, above_line}
 use Rattle.diag_cli.specs.Checking.{graph_fault_line}
-use Rattle.diag_cli.specs.Courses.{sum_above}
+use Rattle.diag_cli.specs.Courses.{sum_line}
+
+-- the line that tells a refusal
+abbrev pub refusal_line : Refusal → List ℕ
+refusal_line (Fault line number name) = fault_line line number name.now
+refusal_line Header = graph_fault_line graphs.NoHeader
+refusal_line (Counts said found) = graph_fault_line (graphs.Counts said found)
+refusal_line (Bits bits) = graph_fault_line (graphs.TooLarge bits)
+refusal_line (Shared node variable) = graph_fault_line (graphs.Shared node variable)
+refusal_line (Above what count limit) = above_line what.now count limit
+refusal_line (Sum budget) = sum_line budget
+refusal_line Memory = no_memory_line
+
+-- and the status that goes with it
+abbrev pub refusal_status : Refusal → ℕ
+refusal_status (Sum budget) = 3
+refusal_status Memory = 6
+refusal_status refusal = 1
 
 -- the output that tells a refusal; want of memory is no refusal of the file
 abbrev pub told_by : Refusal → Option Output
-told_by (Fault line number name) = Some (says (fault_line line number name.now) 1)
-told_by Header = Some (says (graph_fault_line graphs.NoHeader) 1)
-told_by (Counts said found) = Some (says (graph_fault_line (graphs.Counts said found)) 1)
-told_by (Bits bits) = Some (says (graph_fault_line (graphs.TooLarge bits)) 1)
-told_by (Shared node variable) = Some (says (graph_fault_line (graphs.Shared node variable)) 1)
-told_by (Above what count limit) = Some (says (above_line what.now count limit) 1)
-told_by (Sum budget) = Some (sum_above budget)
 told_by Memory = None
+told_by refusal = Some (says (refusal_line refusal) (refusal_status refusal))
 
 abbrev pub or_memory : Option Output → Output
 or_memory None = no_memory

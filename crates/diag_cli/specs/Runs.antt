@@ -1,12 +1,14 @@
 -- What holds of each run of the program.
 use Rattle.std.specs.Prelude.{◌≡◌, ◌≢◌, ◌⊎◌, ◌↔◌, ◌+◌, ◌<◌, ℕ, List, Option, None, IfSome}
+use Rattle.std.specs.Option.{IsSome}
 use Rattle.std.specs.Io.KnownBytes.{Consumes, IsAtEnd}
 use Rattle.diag_edge.specs.Edge.{RoseExactly, Holding, absent}
-use Rattle.ranking.specs.Systems.{System}
+use Rattle.session_rules.specs.Items.{Item}
+use Rattle.session_rules.specs.Spelling.{Writes}
 use Rattle.diag_cli.specs.declared.serving.TheConstants.{SCRIPT_LIMIT}
 use Rattle.diag_cli.specs.Words.{Form, named_file, told_file}
-use Rattle.diag_cli.specs.Output.{Output, Gives, GivesUnlessMemory, says}
-use Rattle.diag_cli.specs.Courses.{Failed, Tells, Serves, read_error, served, wholly_served, course_of}
+use Rattle.diag_cli.specs.Output.{Output, Gives, no_memory, says}
+use Rattle.diag_cli.specs.Courses.{Failed, Tells, Serves, read_error, served, whole_output, course_of}
 
 -- what a source of bytes shows at a time: the bytes still to come, where they are told, how many were taken, and its faults
 pub record Reading : Type 0 where
@@ -24,6 +26,10 @@ pub record IsIdle (before after : Reading) : Type 0 where
   pub taken : after.taken ≡ before.taken
   pub faults : after.faults ≡ before.faults
 
+-- the output was given, or memory ran out, which it cannot where the words have no form
+abbrev pub GivesUnlessShort : Option Form → Output → ℕ → Option (List ℕ) → Option (List ℕ) → Type 0
+GivesUnlessShort form output status before after = (IsSome form × Gives no_memory status before after) ⊎ Gives output status before after
+
 -- What a run does by its words, over a shelf that holds this, with its input and its output.
 pub record IsRun (form : Option Form) (held : List ℕ → Holding) (shelf new_shelf input new_input : Reading) (out new_out : Writing) (status : ℕ) : Type 0 where
   -- The status is 5 exactly where a write failed.
@@ -36,18 +42,23 @@ pub record IsRun (form : Option Form) (held : List ℕ → Holding) (shelf new_s
   pub no_name : form ≡ None → IsIdle shelf new_shelf
   -- A file that is absent cannot be read. Where the file is not read, the script is not begun, and one line is written.
   pub absent_file : IfSome (named_file form) (λ name. held name ≡ absent → status ≢ 5 → status ≡ 4)
-  pub no_file : shelf.faults < new_shelf.faults → IsIdle input new_input × (status ≢ 5 → Gives (says read_error 4) status out.got new_out.got)
-  -- Where no script is to be answered, none is read, and what is written is the output for the words and the file, unless
-  -- memory ran out.
-  pub told : IfSome (told_file held form) (λ file. (output : Output) → course_of form file ≡ Tells output →
-      IsIdle input new_input × (status ≢ 5 → status ≢ 4 → GivesUnlessMemory output status out.got new_out.got))
-  -- Where a script is answered, what is written is the output for the system and the script, unless memory ran out.
-  pub answer : IfSome (told_file held form) (λ file. (system : System) → course_of form file ≡ Serves system →
-      IfSome input.left (λ script. status ≢ 5 → status ≢ 4 → GivesUnlessMemory (wholly_served system script) status out.got new_out.got))
+  pub no_file : shelf.faults < new_shelf.faults → IsIdle input new_input × Gives (says read_error 4) status out.got new_out.got
+  -- Where no script is to be answered, none is read.
+  pub no_script : IfSome (told_file held form) (λ file. (output : Output) → course_of form file ≡ Tells output → IsIdle input new_input)
+  -- Where no read failed, what is written is the output for the words, the file and the script, or memory ran out for words
+  -- with a form.
+  pub output : IfSome (told_file held form) (λ file. IfSome (whole_output (course_of form file) input.left) (λ output.
+      new_shelf.faults ≡ shelf.faults → new_input.faults ≡ input.faults → GivesUnlessShort form output status out.got new_out.got))
+  -- Where that output has status 0 and no write failed either, the status is 0 and all of it was written, or it is 6, with the
+  -- one line of want of memory.
+  pub complete : IfSome (told_file held form) (λ file. IfSome (whole_output (course_of form file) input.left) (λ output.
+      output.status ≡ 0 → new_shelf.faults ≡ shelf.faults → new_input.faults ≡ input.faults → new_out.faults ≡ out.faults →
+      ((status ≡ 0) × Writes out.got new_out.got output.items) ⊎ ((status ≡ 6) × Writes out.got new_out.got no_memory.items)))
   -- Where a read of the script failed, the lines that a line feed had ended were answered before.
-  pub script_fault : IfSome (told_file held form) (λ file. (system : System) → course_of form file ≡ Serves system →
-      input.faults < new_input.faults → status ≢ 5 →
-      (bytes : List ℕ) × Consumes input.left new_input.left bytes × Gives (served system bytes Failed) status out.got new_out.got)
-  -- With status 0 a script that is answered was read to its end, and with status 7 exactly the limit was taken of it.
-  pub all_read : IfSome (told_file held form) (λ file. (system : System) → course_of form file ≡ Serves system → status ≡ 0 → IsAtEnd new_input.left)
-  pub cut : status ≡ 7 → new_input.taken ≡ input.taken + SCRIPT_LIMIT
+  pub script_fault : IfSome (told_file held form) (λ file. (answers : List (List ℕ) → List Item) → course_of form file ≡ Serves answers →
+      input.faults < new_input.faults →
+      (bytes : List ℕ) × Consumes input.left new_input.left bytes × Gives (served answers bytes Failed) status out.got new_out.got)
+  -- With status 0 a script that is answered was read to its end.
+  pub all_read : IfSome (told_file held form) (λ file. (answers : List (List ℕ) → List Item) → course_of form file ≡ Serves answers → status ≡ 0 → IsAtEnd new_input.left)
+  -- With status 7 exactly the limit was taken of the script, and with no other one, unless a write failed.
+  pub cut : status ≢ 5 → (status ≡ 7) ↔ (new_input.taken ≡ input.taken + SCRIPT_LIMIT)

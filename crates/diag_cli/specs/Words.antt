@@ -1,11 +1,39 @@
 -- What the words of the command line ask for.
-use Rattle.std.specs.Prelude.{ℕ, Bool, ◌&&◌, ◌||◌, nat_lt, ◌-◌, List, [], ◌∷◌, length, drop, Option, Some, None, if◌then◌else◌, codes}
-use Rattle.std.specs.Option.{option_map}
+use Rattle.std.specs.Prelude.{ℕ, Bool, ◌&&◌, ◌||◌, is_none, nat_lt, ◌-◌, List, [], ◌∷◌, length, drop, Option, Some, None, unwrap_or, option_and_then, if◌then◌else◌, codes}
+use Rattle.std.specs.Option.{option_map, option_map_or}
 use Rattle.text_rules.specs.Names.{same_name}
 use Rattle.text_rules.specs.Numbers.{plain_number_in}
 use Rattle.branch_states.specs.declared.measuring.TheConstants.{BUDGET_LIMIT}
-use Rattle.diag_cli.specs.declared.words.TheConstants.{DEFAULT_BUDGET}
 use Rattle.diag_edge.specs.Edge.{Holding, told_bytes}
+use Rattle.diag_cli.specs.declared.words.Options.{Options}
+use Rattle.session_core.specs.declared.limits.TheConstants.{SESSION_LIMIT}
+use Rattle.diag_cli.specs.declared.words.TheConstants.{DEFAULT_BUDGET, DEFAULT_SESSIONS}
+
+-- ---- forms
+
+-- the forms of the command line
+pub data Form : Type 0 where
+  Serve : (path : List ℕ) (budget sessions : ℕ) → Form
+  Plan : (path : List ℕ) → Form
+  Check : (path : List ℕ) → Form
+  Compile : (path : List ℕ) (budget : ℕ) → Form
+
+-- the file that a form names
+abbrev pub path_of : Form → List ℕ
+path_of (Serve path budget sessions) = path
+path_of (Plan path) = path
+path_of (Check path) = path
+path_of (Compile path budget) = path
+
+-- the file that the words name, if they have a form
+abbrev pub named_file : Option Form → Option (List ℕ)
+named_file form = option_map path_of form
+
+-- what is told of that file; where none is named it is as good as empty
+abbrev pub told_file : (List ℕ → Holding) → Option Form → Option (List ℕ)
+told_file held form = option_map_or (λ path. told_bytes (held path)) (named_file form) (Some [])
+
+-- ---- files by their endings
 
 -- something stands before the ending
 abbrev pub ends_in : List ℕ → List ℕ → Bool
@@ -23,73 +51,58 @@ is_device_path path = ends_in (codes ".bench") path || is_design_path path
 abbrev pub is_graph_path : List ℕ → Bool
 is_graph_path path = ends_in (codes ".nnf") path
 
--- the forms of the command line
-pub data Form : Type 0 where
-  Serve : (path : List ℕ) (budget : ℕ) → Form
-  Plan : (path : List ℕ) → Form
-  Check : (path : List ℕ) → Form
-  Compile : (path : List ℕ) (budget : ℕ) → Form
+-- ---- options
 
--- the file that a form names
-abbrev pub path_of : Form → List ℕ
-path_of (Serve path budget) = path
-path_of (Plan path) = path
-path_of (Check path) = path
-path_of (Compile path budget) = path
+abbrev pub no_options : Options
+no_options = record { budget = None; sessions = None }
 
--- a command over a netlist or a design
-abbrev pub device_form : List ℕ → List ℕ → Option Form
-device_form command path =
-    if same_name command (codes "serve") then Some (Serve path DEFAULT_BUDGET)
-    else if same_name command (codes "plan") then Some (Plan path)
-    else if same_name command (codes "compile") then Some (Compile path DEFAULT_BUDGET)
+abbrev pub are_none : Options → Bool
+are_none options = is_none options.budget && is_none options.sessions
+
+-- a number, where none was given before
+abbrev pub given_once : Option ℕ → Option ℕ → Option ℕ
+given_once None number = number
+given_once (Some earlier) number = None
+
+-- the options that were given, with a budget
+abbrev pub with_budget : Options → Option ℕ → Option Options
+with_budget given number = option_map (λ n. record given { budget = Some n }) (given_once given.budget number)
+
+-- the options that were given, with a number of sessions
+abbrev pub with_sessions : Options → Option ℕ → Option Options
+with_sessions given number = option_map (λ n. record given { sessions = Some n }) (given_once given.sessions number)
+
+-- the options that were given, and one more
+abbrev pub and_option : Options → List ℕ → List ℕ → Option Options
+and_option given option value =
+    if same_name option (codes "--budget") then with_budget given (plain_number_in 7 1 BUDGET_LIMIT value)
+    else if same_name option (codes "--sessions") then with_sessions given (plain_number_in 4 1 SESSION_LIMIT value)
     else None
 
--- a command over a graph
-abbrev pub graph_form : List ℕ → List ℕ → Option Form
-graph_form command path = if same_name command (codes "check") then Some (Check path) else None
+-- and those of further words: an option and its value, one after the other
+abbrev pub and_options : Options → List (List ℕ) → Option Options
+and_options given [] = Some given
+and_options given (option ∷ []) = None
+and_options given (option ∷ value ∷ words) = option_and_then (λ more. and_options more words) (and_option given option value)
 
-abbrev pub form_over : List ℕ → List ℕ → Option Form
-form_over command path =
-    if is_device_path path then device_form command path
-    else if is_graph_path path then graph_form command path
+-- ---- words
+
+-- a form, only where the path and the options are such as it takes
+abbrev pub only_if : Bool → Form → Option Form
+only_if are_taken form = if are_taken then Some form else None
+
+-- a command over a file, with options
+abbrev pub form_by : List ℕ → List ℕ → Options → Option Form
+form_by command path options =
+    let budget = unwrap_or options.budget DEFAULT_BUDGET in
+    let sessions = unwrap_or options.sessions DEFAULT_SESSIONS in
+    if same_name command (codes "serve") then only_if (is_device_path path) (Serve path budget sessions)
+    else if same_name command (codes "compile") then only_if (is_device_path path && is_none options.sessions) (Compile path budget)
+    else if same_name command (codes "plan") then only_if (is_device_path path && are_none options) (Plan path)
+    else if same_name command (codes "check") then only_if (is_graph_path path && are_none options) (Check path)
     else None
 
--- a command over a netlist or a design, with a budget
-abbrev pub limited_form : List ℕ → List ℕ → ℕ → Option Form
-limited_form command path budget =
-    if same_name command (codes "serve") then Some (Serve path budget)
-    else if same_name command (codes "compile") then Some (Compile path budget)
-    else None
-
--- where the path is one of either
-abbrev pub budget_form : List ℕ → List ℕ → ℕ → Option Form
-budget_form command path budget =
-    if is_device_path path then limited_form command path budget else None
-
--- an option that gives the budget, without a zero before another digit
-abbrev pub budget_in : List ℕ → List ℕ → Option ℕ
-budget_in option value = if same_name option (codes "--budget") then plain_number_in 7 1 BUDGET_LIMIT value else None
-
-abbrev pub form_within : List ℕ → List ℕ → Option ℕ → Option Form
-form_within command path None = None
-form_within command path (Some budget) = budget_form command path budget
-
--- the form of words with an option
-abbrev pub longer_form : List (List ℕ) → Option Form
-longer_form (command ∷ path ∷ option ∷ value ∷ []) = form_within command path (budget_in option value)
-longer_form words = None
-
--- `serve FILE` or `compile FILE`, which `--budget N` may follow, `plan FILE`, or `check FILE`
+-- a command, a file, and options
 abbrev pub form_of : List (List ℕ) → Option Form
-form_of (command ∷ path ∷ []) = form_over command path
-form_of words = longer_form words
-
--- the file that the words name, if they have a form
-abbrev pub named_file : Option Form → Option (List ℕ)
-named_file form = option_map path_of form
-
--- what is told of that file; where none is named it is as good as empty
-abbrev pub told_file : (List ℕ → Holding) → Option Form → Option (List ℕ)
-told_file held None = Some []
-told_file held (Some form) = told_bytes (held (path_of form))
+form_of (command ∷ path ∷ words) = option_and_then (form_by command path) (and_options no_options words)
+form_of words = None

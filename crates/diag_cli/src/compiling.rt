@@ -1,9 +1,8 @@
-ghost use Rattle.std.specs.Prelude.{◌≡◌, ◌≢◌, ◌⊎◌, ◌-◌, ◌^◌, ◌<◌, ◌≤◌, length};
+ghost use Rattle.std.specs.Prelude.{◌≡◌, ◌≢◌, ◌-◌, ◌^◌, ◌<◌, ◌≤◌, length};
 ghost use Rattle.diag_edge.specs.Edge.{RoseExactly};
 ghost use Rattle.diag_cli.specs.Describing.{device_in};
 ghost use Rattle.diag_cli.specs.Output.{GivesUnlessMemory};
 ghost use Rattle.diag_cli.specs.Courses.{compiled};
-ghost use Rattle.diag_cli.specs.inner.Compiling.{WritesGraph};
 
 use crate::describing::described;
 use crate::refusal::tell;
@@ -13,22 +12,8 @@ use branch_states::BUDGET_LIMIT;
 use diag_edge::Sink;
 use dnnf_compiler::compile;
 use nnf_text::write_nnf;
-use node_store::Graph;
 use std::alloc::Global;
 use text_rules::TEXT_LIMIT;
-
-// Writes a graph and answers 0, or 5 where a write failed.
-fn put_graph<O: Sink>(out: &mut O, graph: &Graph) -> u8
-    requires faults { O.faults out.old < 2 ^ 64 - 1 }
-    ensures write_fault { RoseExactly (O.faults out.old) (O.faults out.new) (result ≡ 5) }
-    ensures either { (result ≡ 0) ⊎ (result ≡ 5) }
-    ensures written { result ≢ 5 → WritesGraph graph.now (O.got out.old) (O.got out.new) }
-{
-    match write_nnf(graph, graph.vars(), out) {
-        Ok(()) => 0,
-        Err(_) => 5,
-    }
-}
 
 /// Writes the graph of the device of a file, or tells why there is none, and answers the status.
 pub(crate) fn compile_file<O: Sink>(
@@ -45,7 +30,7 @@ pub(crate) fn compile_file<O: Sink>(
     ensures not_usage { result ≢ 2 }
     ensures not_read { result ≢ 4 }
     ensures not_cut { result ≢ 7 }
-    ensures said { result ≢ 5 → GivesUnlessMemory (compiled budget (device_in path.now file.now)) result
+    ensures said { GivesUnlessMemory (compiled budget (device_in path.now file.now)) result
         (O.got out.old) (O.got out.new) }
 {
     let device = match described(alloc, path, file) {
@@ -56,8 +41,12 @@ pub(crate) fn compile_file<O: Sink>(
         Ok(found) => found,
         Err(refusal) => return tell(out, refusal),
     };
-    match compile(alloc, &cnf) {
-        Ok(compiled) => put_graph(out, &compiled.graph),
-        Err(_) => say(out, b"error: memory\n", 6),
+    let graph = match compile(alloc, &cnf) {
+        Ok(compiled) => compiled.graph,
+        Err(_) => return say(out, b"error: memory\n", 6),
+    };
+    match write_nnf(&graph, graph.vars(), out) {
+        Ok(()) => 0,
+        Err(_) => 5,
     }
 }

@@ -1,10 +1,10 @@
-ghost use Rattle.std.specs.Prelude.{◌≡◌, ◌≢◌, ◌⊎◌, ◌-◌, ◌^◌, ◌<◌, ◌≤◌, [], ◌∷◌, length, Ok, OnOk};
+ghost use Rattle.std.specs.Prelude.{◌≡◌, ◌≢◌, ◌⊎◌, ◌-◌, ◌^◌, ◌<◌, ◌≤◌, [], ◌∷◌, length, Ok};
 ghost use Rattle.diag_edge.specs.Edge.{HasCause, RoseExactly};
 ghost use Rattle.clause_encoder.specs.Encoding.{encoded};
 ghost use Rattle.diag_cli.specs.Describing.{device_in};
 ghost use Rattle.diag_cli.specs.Output.{Gives, GivesUnlessMemory};
 ghost use Rattle.diag_cli.specs.Courses.{count_line, size_lines, within, sizes_by, sizes_in, planned};
-ghost use Rattle.session_rules.specs.Spelling.{Writes};
+ghost use Rattle.session_rules.specs.Spelling.{Replies};
 ghost use Rattle.diag_cli.specs.Refusals.{Finds};
 
 use crate::describing::described;
@@ -47,8 +47,9 @@ fn sizes_in(alloc: Global, path: &str, file: &[u8]) -> Result<Sizes, Refusal>
 }
 
 // Puts a line of a word and a number.
+#[tactic(auto, using(crate::proofs::Failing::line_replies))]
 fn put_count<O: Sink>(out: &mut O, what: &[u8], count: u64) -> Result<(), WriteFailed>
-    ensures text { OnOk result (Writes (O.got out.old) (O.got out.new) (count_line what.now count ∷ [])) }
+    ensures text { Replies (O.got out.old) (O.got out.new) result (count_line what.now count ∷ []) }
     ensures cause { HasCause (O.faults out.old) (O.faults out.new) result }
 {
     put_line(out, &[what, Buffer::new().format(count).as_bytes()])
@@ -56,22 +57,22 @@ fn put_count<O: Sink>(out: &mut O, what: &[u8], count: u64) -> Result<(), WriteF
 
 // Puts a line for each size.
 fn put_sizes<O: Sink>(out: &mut O, sizes: Sizes) -> Result<(), WriteFailed>
-    ensures text { OnOk result (Writes (O.got out.old) (O.got out.new) (size_lines sizes)) }
+    ensures text { Replies (O.got out.old) (O.got out.new) result (size_lines sizes) }
     ensures cause { HasCause (O.faults out.old) (O.faults out.new) result }
 {
     put_count(out, b"parts", sizes.parts)?;
     put_count(out, b"wires", sizes.wires)?;
     put_count(out, b"clauses", sizes.clauses)?;
-    put_count(out, b"sum", sizes.sum)?;
-    Ok(())
+    put_count(out, b"sum", sizes.sum)
 }
 
 // Tells the sizes of a device and answers 0, or 5 where a write failed.
+#[tactic(auto, using(crate::proofs::Failing::gives_items))]
 fn tell_sizes<O: Sink>(out: &mut O, sizes: Sizes) -> u8
     requires faults { O.faults out.old < 2 ^ 64 - 1 }
     ensures write_fault { RoseExactly (O.faults out.old) (O.faults out.new) (result ≡ 5) }
     ensures either { (result ≡ 0) ⊎ (result ≡ 5) }
-    ensures said { result ≢ 5 → Gives (planned (Ok sizes)) result (O.got out.old) (O.got out.new) }
+    ensures said { Gives (planned (Ok sizes)) result (O.got out.old) (O.got out.new) }
 {
     match put_sizes(out, sizes) {
         Ok(()) => 0,
@@ -87,7 +88,7 @@ pub(crate) fn plan_file<O: Sink>(alloc: Global, path: &str, file: &[u8], out: &m
     ensures not_usage { result ≢ 2 }
     ensures not_read { result ≢ 4 }
     ensures not_cut { result ≢ 7 }
-    ensures said { result ≢ 5 → GivesUnlessMemory (planned (sizes_in (device_in path.now file.now))) result
+    ensures said { GivesUnlessMemory (planned (sizes_in (device_in path.now file.now))) result
         (O.got out.old) (O.got out.new) }
 {
     match sizes_in(alloc, path, file) {

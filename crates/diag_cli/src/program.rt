@@ -1,7 +1,7 @@
 ghost use Rattle.std.specs.Prelude.{◌-◌, ◌^◌, ◌<◌, map, string_bytes, Some, IfSome};
 ghost use Rattle.diag_cli.specs.Words.{form_of, path_of, named_file};
 ghost use Rattle.diag_cli.specs.Runs.{IsRun};
-ghost use Rattle.diag_cli.specs.inner.Forms.{meant, HasSmallBudget};
+ghost use Rattle.diag_cli.specs.inner.Forms.{meant, IsWithinLimits};
 
 use crate::run::run_file;
 use crate::saying::say;
@@ -19,7 +19,7 @@ fn run_form<H: Shelf, I: Source, O: Sink>(
     out: &mut O,
 ) -> u8
     requires may { H.may shelf.old (path_of (meant form)) }
-    requires budget { HasSmallBudget (meant form) }
+    requires limits { IsWithinLimits (meant form) }
     requires shelf_taken { H.taken shelf.old < 2 ^ 62 }
     requires input_taken { I.taken input.old < 2 ^ 62 }
     requires shelf_faults { H.faults shelf.old < 2 ^ 64 - 1 }
@@ -44,8 +44,7 @@ fn run_form<H: Shelf, I: Source, O: Sink>(
 /// Does all that the program does: reads the file that the words name, does with it what they ask for, and gives the
 /// status.
 ///
-/// `words` are those behind the program's name. `IsRun` says, clause by clause, what holds of each run. What a write that
-/// fails leaves written is said by no clause yet.
+/// `words` are those behind the program's name. `IsRun` says, clause by clause, what holds of each run.
 pub fn diag<H: Shelf, I: Source, O: Sink>(
     alloc: Global,
     words: &[String],

@@ -1,15 +1,12 @@
-ghost use Rattle.std.specs.Prelude.{◌≡◌, ◌≢◌, ◌⊎◌, ◌-◌, ◌^◌, ◌<◌, ◌∷◌, [], codes, decimal, OnOk};
-ghost use Rattle.std.specs.Io.KnownBytes.{Appends};
+ghost use Rattle.std.specs.Prelude.{◌≡◌, ◌≢◌, ◌⊎◌, ◌-◌, ◌^◌, ◌<◌};
 ghost use Rattle.diag_edge.specs.Edge.{HasCause, RoseExactly, Puts};
 ghost use Rattle.diag_cli.specs.Describing.{fault_line, above_line};
-ghost use Rattle.text_rules.specs.Tokens.{spaced};
-ghost use Rattle.graph_rules.specs.GraphTexts.{NoHeader, Counts, TooLarge, Shared};
+ghost use Rattle.graph_rules.specs.GraphTexts.{Counts, TooLarge, Shared};
 ghost use Rattle.diag_cli.specs.Checking.{graph_fault_line};
-ghost use Rattle.diag_cli.specs.Courses.{sum_above};
-ghost use Rattle.diag_cli.specs.Output.{Gives, says};
-ghost use Rattle.diag_cli.specs.Refusals.{told_by, or_memory};
+ghost use Rattle.diag_cli.specs.Courses.{sum_line};
+ghost use Rattle.diag_cli.specs.Output.{Gives};
+ghost use Rattle.diag_cli.specs.Refusals.{refusal_line, refusal_status, told_by, or_memory};
 
-use crate::saying::say;
 use diag_edge::{Chunk, Sink, WriteFailed, put_line};
 use graph_rules::BITS_LIMIT;
 use itoa::Buffer;
@@ -53,9 +50,23 @@ pub enum Refusal {
     Memory,
 }
 
+impl Refusal {
+    // The status that goes with it.
+    fn status(self) -> u8
+        ensures value { result ≡ refusal_status self }
+        ensures few { (result ≡ 1) ⊎ ((result ≡ 3) ⊎ (result ≡ 6)) }
+    {
+        match self {
+            Refusal::Sum { budget: _ } => 3,
+            Refusal::Memory => 6,
+            _ => 1,
+        }
+    }
+}
+
 // The line that tells a fault.
 fn put_fault<O: Sink>(out: &mut O, line: u32, number: u32, name: &[u8]) -> Result<(), WriteFailed>
-    ensures text { OnOk result (Appends (O.got out.old) (O.got out.new) (fault_line line number name.now)) }
+    ensures text { Puts (O.got out.old) (O.got out.new) result (fault_line line number name.now) }
     ensures cause { HasCause (O.faults out.old) (O.faults out.new) result }
 {
     let mut chunk = Chunk::new();
@@ -63,8 +74,64 @@ fn put_fault<O: Sink>(out: &mut O, line: u32, number: u32, name: &[u8]) -> Resul
     chunk.add_number(out, line)?;
     chunk.add(out, b": fault")?;
     chunk.end_line(out, &[Buffer::new().format(number).as_bytes(), name])?;
-    chunk.put(out)?;
-    Ok(())
+    chunk.put(out)
+}
+
+// The line that tells numbers that are not those said.
+fn put_counts<O: Sink>(out: &mut O, said: u64, found: u64) -> Result<(), WriteFailed>
+    ensures text { Puts (O.got out.old) (O.got out.new) result (graph_fault_line (Counts said found)) }
+    ensures cause { HasCause (O.faults out.old) (O.faults out.new) result }
+{
+    put_line(
+        out,
+        &[
+            b"error:",
+            b"fault",
+            b"5",
+            b"counts",
+            Buffer::new().format(said).as_bytes(),
+            Buffer::new().format(found).as_bytes(),
+        ],
+    )
+}
+
+// The line that tells a graph that is too large.
+fn put_bits<O: Sink>(out: &mut O, bits: u64) -> Result<(), WriteFailed>
+    ensures text { Puts (O.got out.old) (O.got out.new) result (graph_fault_line (TooLarge bits)) }
+    ensures cause { HasCause (O.faults out.old) (O.faults out.new) result }
+{
+    put_line(
+        out,
+        &[
+            b"error:",
+            b"fault",
+            b"6",
+            b"bits",
+            Buffer::new().format(bits).as_bytes(),
+            b"above",
+            Buffer::new().format(BITS_LIMIT).as_bytes(),
+        ],
+    )
+}
+
+// The line that tells a shared variable.
+fn put_shared<O: Sink>(out: &mut O, node: u32, variable: u32) -> Result<(), WriteFailed>
+    ensures text { Puts (O.got out.old) (O.got out.new) result (graph_fault_line (Shared node variable)) }
+    ensures cause { HasCause (O.faults out.old) (O.faults out.new) result }
+{
+    put_line(
+        out,
+        &[
+            b"error:",
+            b"fault",
+            b"7",
+            b"shared",
+            b"node",
+            Buffer::new().format(node).as_bytes(),
+            b"variable",
+            Buffer::new().format(variable).as_bytes(),
+        ],
+    )
 }
 
 // The line that tells a count above its limit.
@@ -85,9 +152,8 @@ fn put_above<O: Sink>(out: &mut O, what: &[u8], count: u64, limit: u64) -> Resul
 }
 
 // The line that tells a sum above the budget.
-fn put_sum_above<O: Sink>(out: &mut O, budget: u32) -> Result<(), WriteFailed>
-    ensures text { Puts (O.got out.old) (O.got out.new) result
-        (spaced (codes "error:" ∷ codes "sum" ∷ codes "above" ∷ decimal budget ∷ [])) }
+fn put_sum<O: Sink>(out: &mut O, budget: u32) -> Result<(), WriteFailed>
+    ensures text { Puts (O.got out.old) (O.got out.new) result (sum_line budget) }
     ensures cause { HasCause (O.faults out.old) (O.faults out.new) result }
 {
     put_line(
@@ -101,144 +167,35 @@ fn put_sum_above<O: Sink>(out: &mut O, budget: u32) -> Result<(), WriteFailed>
     )
 }
 
-// Tells a fault and answers the status, or 5 where the write failed.
-fn tell_fault<O: Sink>(out: &mut O, line: u32, number: u32, name: &str) -> u8
-    requires faults { O.faults out.old < 2 ^ 64 - 1 }
-    ensures write_fault { RoseExactly (O.faults out.old) (O.faults out.new) (result ≡ 5) }
-    ensures either { (result ≡ 1) ⊎ (result ≡ 5) }
-    ensures said { result ≢ 5 → Gives (says (fault_line line number name.now) 1) result (O.got out.old) (O.got out.new) }
+// The line that tells a refusal.
+fn put_refusal<O: Sink>(out: &mut O, refusal: Refusal) -> Result<(), WriteFailed>
+    ensures text { Puts (O.got out.old) (O.got out.new) result (refusal_line refusal) }
+    ensures cause { HasCause (O.faults out.old) (O.faults out.new) result }
 {
-    match put_fault(out, line, number, name.as_bytes()) {
-        Ok(()) => 1,
-        Err(_) => 5,
-    }
-}
-
-// Tells a count above its limit and answers the status, or 5 where the write failed.
-fn tell_above<O: Sink>(out: &mut O, what: &str, count: u64, limit: u64) -> u8
-    requires faults { O.faults out.old < 2 ^ 64 - 1 }
-    ensures write_fault { RoseExactly (O.faults out.old) (O.faults out.new) (result ≡ 5) }
-    ensures either { (result ≡ 1) ⊎ (result ≡ 5) }
-    ensures said { result ≢ 5 → Gives (says (above_line what.now count limit) 1) result (O.got out.old) (O.got out.new) }
-{
-    match put_above(out, what.as_bytes(), count, limit) {
-        Ok(()) => 1,
-        Err(_) => 5,
-    }
-}
-
-// Tells a sum above the budget and answers the status, or 5 where the write failed.
-fn tell_sum<O: Sink>(out: &mut O, budget: u32) -> u8
-    requires faults { O.faults out.old < 2 ^ 64 - 1 }
-    ensures write_fault { RoseExactly (O.faults out.old) (O.faults out.new) (result ≡ 5) }
-    ensures either { (result ≡ 3) ⊎ (result ≡ 5) }
-    ensures said { result ≢ 5 → Gives (sum_above budget) result (O.got out.old) (O.got out.new) }
-{
-    match put_sum_above(out, budget) {
-        Ok(()) => 3,
-        Err(_) => 5,
-    }
-}
-
-// Tells that there is no header and answers the status, or 5 where the write failed.
-fn tell_header<O: Sink>(out: &mut O) -> u8
-    requires faults { O.faults out.old < 2 ^ 64 - 1 }
-    ensures write_fault { RoseExactly (O.faults out.old) (O.faults out.new) (result ≡ 5) }
-    ensures either { (result ≡ 1) ⊎ (result ≡ 5) }
-    ensures said { result ≢ 5 → Gives (says (graph_fault_line NoHeader) 1) result (O.got out.old) (O.got out.new) }
-{
-    say(out, b"error: fault 1 header\n", 1)
-}
-
-// Tells numbers that are not those said and answers the status, or 5 where the write failed.
-fn tell_counts<O: Sink>(out: &mut O, said: u64, found: u64) -> u8
-    requires faults { O.faults out.old < 2 ^ 64 - 1 }
-    ensures write_fault { RoseExactly (O.faults out.old) (O.faults out.new) (result ≡ 5) }
-    ensures either { (result ≡ 1) ⊎ (result ≡ 5) }
-    ensures said { result ≢ 5 → Gives (says (graph_fault_line (Counts said found)) 1) result (O.got out.old) (O.got out.new) }
-{
-    match put_line(
-        out,
-        &[
-            b"error:",
-            b"fault",
-            b"5",
-            b"counts",
-            Buffer::new().format(said).as_bytes(),
-            Buffer::new().format(found).as_bytes(),
-        ],
-    ) {
-        Ok(()) => 1,
-        Err(_) => 5,
-    }
-}
-
-// Tells a graph that is too large and answers the status, or 5 where the write failed.
-fn tell_bits<O: Sink>(out: &mut O, bits: u64) -> u8
-    requires faults { O.faults out.old < 2 ^ 64 - 1 }
-    ensures write_fault { RoseExactly (O.faults out.old) (O.faults out.new) (result ≡ 5) }
-    ensures either { (result ≡ 1) ⊎ (result ≡ 5) }
-    ensures said { result ≢ 5 → Gives (says (graph_fault_line (TooLarge bits)) 1) result (O.got out.old) (O.got out.new) }
-{
-    match put_line(
-        out,
-        &[
-            b"error:",
-            b"fault",
-            b"6",
-            b"bits",
-            Buffer::new().format(bits).as_bytes(),
-            b"above",
-            Buffer::new().format(BITS_LIMIT).as_bytes(),
-        ],
-    ) {
-        Ok(()) => 1,
-        Err(_) => 5,
-    }
-}
-
-// Tells a shared variable and answers the status, or 5 where the write failed.
-fn tell_shared<O: Sink>(out: &mut O, node: u32, variable: u32) -> u8
-    requires faults { O.faults out.old < 2 ^ 64 - 1 }
-    ensures write_fault { RoseExactly (O.faults out.old) (O.faults out.new) (result ≡ 5) }
-    ensures either { (result ≡ 1) ⊎ (result ≡ 5) }
-    ensures said { result ≢ 5 → Gives (says (graph_fault_line (Shared node variable)) 1) result (O.got out.old) (O.got out.new) }
-{
-    match put_line(
-        out,
-        &[
-            b"error:",
-            b"fault",
-            b"7",
-            b"shared",
-            b"node",
-            Buffer::new().format(node).as_bytes(),
-            b"variable",
-            Buffer::new().format(variable).as_bytes(),
-        ],
-    ) {
-        Ok(()) => 1,
-        Err(_) => 5,
+    match refusal {
+        Refusal::Fault { line, number, name } => put_fault(out, line, number, name.as_bytes()),
+        Refusal::Header => out.put(b"error: fault 1 header\n"),
+        Refusal::Counts { said, found } => put_counts(out, said, found),
+        Refusal::Bits { bits } => put_bits(out, bits),
+        Refusal::Shared { node, variable } => put_shared(out, node, variable),
+        Refusal::Above { what, count, limit } => put_above(out, what.as_bytes(), count, limit),
+        Refusal::Sum { budget } => put_sum(out, budget),
+        Refusal::Memory => out.put(b"error: memory\n"),
     }
 }
 
 /// Tells a refusal and answers the status, or 5 where the write failed.
+#[tactic(auto, using(crate::proofs::Failing::gives_refusal))]
 pub(crate) fn tell<O: Sink>(out: &mut O, refusal: Refusal) -> u8
     requires faults { O.faults out.old < 2 ^ 64 - 1 }
     ensures write_fault { RoseExactly (O.faults out.old) (O.faults out.new) (result ≡ 5) }
     ensures not_usage { result ≢ 2 }
     ensures not_read { result ≢ 4 }
     ensures not_cut { result ≢ 7 }
-    ensures said { result ≢ 5 → Gives (or_memory (told_by refusal)) result (O.got out.old) (O.got out.new) }
+    ensures said { Gives (or_memory (told_by refusal)) result (O.got out.old) (O.got out.new) }
 {
-    match refusal {
-        Refusal::Fault { line, number, name } => tell_fault(out, line, number, name),
-        Refusal::Header => tell_header(out),
-        Refusal::Counts { said, found } => tell_counts(out, said, found),
-        Refusal::Bits { bits } => tell_bits(out, bits),
-        Refusal::Shared { node, variable } => tell_shared(out, node, variable),
-        Refusal::Above { what, count, limit } => tell_above(out, what, count, limit),
-        Refusal::Sum { budget } => tell_sum(out, budget),
-        Refusal::Memory => say(out, b"error: memory\n", 6),
+    match put_refusal(out, refusal) {
+        Ok(()) => refusal.status(),
+        Err(_) => 5,
     }
 }

@@ -2,7 +2,7 @@ ghost use Rattle.std.specs.Prelude.{◌≡◌, ◌≢◌, ◌+◌, ◌-◌, ◌^
 ghost use Rattle.diag_edge.specs.Edge.{RoseExactly};
 ghost use Rattle.diag_cli.specs.Courses.{course_of};
 ghost use Rattle.diag_cli.specs.inner.Courses.{Follows};
-ghost use Rattle.diag_cli.specs.inner.Forms.{meant, HasSmallBudget};
+ghost use Rattle.diag_cli.specs.inner.Forms.{meant, IsWithinLimits};
 
 use crate::checking::check_file;
 use crate::compiling::compile_file;
@@ -21,7 +21,7 @@ pub(crate) fn run_file<I: Source, O: Sink>(
     input: &mut I,
     out: &mut O,
 ) -> u8
-    requires budget { HasSmallBudget (meant form) }
+    requires limits { IsWithinLimits (meant form) }
     requires short { length file.now ≤ TEXT_LIMIT }
     requires taken { I.taken input.old < 2 ^ 62 }
     requires reads { I.faults input.old < 2 ^ 64 - 1 }
@@ -35,9 +35,14 @@ pub(crate) fn run_file<I: Source, O: Sink>(
         (record { got = O.got out.old; faults = O.faults out.old })
         (record { got = O.got out.new; faults = O.faults out.new }) result }
     ensures cut { result ≡ 7 → I.taken input.new ≡ I.taken input.old + SCRIPT_LIMIT }
+    ensures short { result ≢ 5 → result ≢ 7 → I.taken input.new < I.taken input.old + SCRIPT_LIMIT }
 {
     match form {
-        Form::Serve { path, budget } => serve_file(alloc, path, file, budget, input, out),
+        Form::Serve {
+            path,
+            budget,
+            sessions,
+        } => serve_file(alloc, path, file, budget, sessions, input, out),
         Form::Plan { path } => plan_file(alloc, path, file, out),
         Form::Check { path: _ } => check_file(alloc, file, out),
         Form::Compile { path, budget } => compile_file(alloc, path, file, budget, out),

@@ -1,17 +1,15 @@
-ghost use Rattle.std.specs.Prelude.{◌≡◌, ◌≢◌, ◌+◌, ◌-◌, ◌^◌, ◌<◌, ◌≤◌, [], ◌∷◌, Ok, length, replicate, codes, decimal, IfOk, IfErr};
+ghost use Rattle.std.specs.Prelude.{◌≡◌, ◌≢◌, ◌+◌, ◌-◌, ◌^◌, ◌<◌, ◌≤◌, [], ◌∷◌, Ok, length, codes, decimal, IfOk, IfErr};
 ghost use Rattle.text_rules.specs.Tokens.{spaced};
 ghost use Rattle.text_rules.specs.Expected.{Fulfils};
 ghost use Rattle.diag_edge.specs.Edge.{HasCause, Puts, RoseExactly};
 ghost use Rattle.branch_states.specs.Branches.{sum_of};
 ghost use Rattle.clause_encoder.specs.Encoding.{encoded, Describes};
-ghost use Rattle.device_model.specs.Devices.{part_names};
-ghost use Rattle.dnnf_compiler.specs.Compiled.{IsGraphOf};
-ghost use Rattle.session_core.specs.Services.{system_of};
-ghost use Rattle.diag_cli.specs.Courses.{if_within, served_or_refused};
+ghost use Rattle.session_rules.specs.GraphSystems.{system_of};
+ghost use Rattle.diag_cli.specs.Courses.{answers_of, if_within, served_or_refused};
 ghost use Rattle.diag_cli.specs.Describing.{device_in};
 ghost use Rattle.diag_cli.specs.Refusals.{told_by};
 ghost use Rattle.diag_cli.specs.inner.Courses.{Follows, IsServed};
-ghost use Rattle.diag_cli.specs.inner.Serving.{IsServiceOf};
+ghost use Rattle.diag_cli.specs.inner.Serving.{IsServable, IsServiceOf, IsSound};
 
 use crate::describing::described;
 use crate::refusal::{Refusal, tell};
@@ -24,28 +22,34 @@ use diag_edge::{Sink, Source, WriteFailed, put_line};
 use dnnf_compiler::compile;
 use itoa::Buffer;
 use node_store::Graph;
-use session_core::{ServeEnd, Service};
+use session_core::{SESSION_LIMIT, ServeEnd, Service};
 use std::alloc::{AllocError, Global};
 use text_rules::TEXT_LIMIT;
 
 /// A script of so many bytes is cut.
-pub const SCRIPT_LIMIT: u64 = 16_777_216;
+pub const SCRIPT_LIMIT: u64 = 1_099_511_627_776;
 
 // The graph of a device, by its clauses.
 fn graph_of(alloc: Global, device: &Device, cnf: &Cnf) -> Result<Graph, AllocError>
     requires sum { sum_of cnf.now.clauses ≤ BUDGET_LIMIT }
     requires encoded { encoded device.now ≡ Ok cnf.now }
     requires describes { Describes cnf.now device.now }
-    ensures { IfOk result (IsGraphOf device.now) }
+    ensures { IfOk result (IsServable device.now) }
 {
     let _parts = device.parts();
     Ok(compile(alloc, cnf)?.graph)
 }
 
-// A service over a device and its graph. All memory of its sessions is taken here.
-fn service_over(alloc: Global, device: Device, graph: Graph) -> Result<Service, Refusal>
-    requires { IsGraphOf device graph }
-    ensures service { IfOk result (IsServiceOf device) }
+// A service over a device and its graph, of at most so many sessions. All their memory is taken here.
+fn service_over(
+    alloc: Global,
+    device: Device,
+    graph: Graph,
+    sessions: u32,
+) -> Result<Service, Refusal>
+    requires graph { IsServable device graph }
+    requires few { sessions ≤ SESSION_LIMIT }
+    ensures service { IfOk result (IsServiceOf device sessions) }
     ensures memory { IfErr result (λ refusal. refusal ≡ Refusal.Memory) }
 {
     let _parts = device.parts();
@@ -58,21 +62,27 @@ fn service_over(alloc: Global, device: Device, graph: Graph) -> Result<Service, 
         Ok(costs) => costs,
         Err(_) => return Err(Refusal::Memory),
     };
-    match Service::over(alloc, parts, wires, costs, graph) {
+    match Service::over(alloc, parts, wires, costs, graph, sessions) {
         Ok(service) => Ok(service),
         Err(_) => Err(Refusal::Memory),
     }
 }
 
 // The service of a device whose sum is within a budget.
-fn service_within(alloc: Global, device: Device, budget: u32) -> Result<Service, Refusal>
-    requires { budget ≤ BUDGET_LIMIT }
-    ensures service { IfOk result (IsServiceOf device) }
+fn service_within(
+    alloc: Global,
+    device: Device,
+    budget: u32,
+    sessions: u32,
+) -> Result<Service, Refusal>
+    requires budget { budget ≤ BUDGET_LIMIT }
+    requires few { sessions ≤ SESSION_LIMIT }
+    ensures service { IfOk result (IsServiceOf device sessions) }
     ensures within { Fulfils (λ _. device) told_by (if_within budget (Ok device)) result }
 {
     let (cnf, _) = clauses_within(alloc, &device, budget)?;
     match graph_of(alloc, &device, &cnf) {
-        Ok(graph) => service_over(alloc, device, graph),
+        Ok(graph) => service_over(alloc, device, graph, sessions),
         Err(_) => Err(Refusal::Memory),
     }
 }
@@ -94,22 +104,23 @@ fn put_ready<O: Sink>(out: &mut O, parts: u64, wires: u64) -> Result<(), WriteFa
 }
 
 // Answers the script by a service in which no session is open.
-fn answer<I: Source, O: Sink>(service: Service, input: &mut I, out: &mut O) -> u8
-    requires none_open { service.table ≡ [] }
+fn answer<I: Source, O: Sink>(service: &mut Service, input: &mut I, out: &mut O) -> u8
+    requires none_open { service.old.table ≡ [] }
+    requires sound { IsSound service.old.subject }
     requires taken { I.taken input.old < 2 ^ 62 }
     requires reads { I.faults input.old < 2 ^ 64 - 1 }
     requires writes { O.faults out.old < 2 ^ 64 - 1 }
     ensures write_fault { RoseExactly (O.faults out.old) (O.faults out.new) (result ≡ 5) }
     ensures read_fault { result ≢ 5 → RoseExactly (I.faults input.old) (I.faults input.new) (result ≡ 4) }
     ensures not_usage { result ≢ 2 }
-    ensures served { IsServed (system_of service.subject)
+    ensures served { IsServed (answers_of (system_of service.old.subject) service.old.limit)
         (record { left = I.left input.old; taken = I.taken input.old; faults = I.faults input.old })
         (record { left = I.left input.new; taken = I.taken input.new; faults = I.faults input.new })
         (record { got = O.got out.old; faults = O.faults out.old })
         (record { got = O.got out.new; faults = O.faults out.new }) result }
     ensures cut { result ≡ 7 → I.taken input.new ≡ I.taken input.old + SCRIPT_LIMIT }
+    ensures short { result ≢ 5 → result ≢ 7 → I.taken input.new < I.taken input.old + SCRIPT_LIMIT }
 {
-    let mut service = service;
     match put_ready(out, service.parts() as u64, service.wires() as u64) {
         Ok(()) => {}
         Err(_) => return 5,
@@ -118,7 +129,7 @@ fn answer<I: Source, O: Sink>(service: Service, input: &mut I, out: &mut O) -> u
         ServeEnd::Done => 0,
         ServeEnd::WriteFault => 5,
         ServeEnd::ReadFault => say(out, b"error: read\n", 4),
-        ServeEnd::Limit => say(out, b"error: script above 16777216 bytes\n", 7),
+        ServeEnd::Limit => say(out, b"error: script above 1099511627776 bytes\n", 7),
     }
 }
 
@@ -127,25 +138,32 @@ fn serve_device<I: Source, O: Sink>(
     alloc: Global,
     device: Device,
     budget: u32,
+    sessions: u32,
     input: &mut I,
     out: &mut O,
 ) -> u8
     requires budget { budget ≤ BUDGET_LIMIT }
+    requires few { sessions ≤ SESSION_LIMIT }
     requires taken { I.taken input.old < 2 ^ 62 }
     requires reads { I.faults input.old < 2 ^ 64 - 1 }
     requires writes { O.faults out.old < 2 ^ 64 - 1 }
     ensures write_fault { RoseExactly (O.faults out.old) (O.faults out.new) (result ≡ 5) }
     ensures read_fault { result ≢ 5 → RoseExactly (I.faults input.old) (I.faults input.new) (result ≡ 4) }
     ensures not_usage { result ≢ 2 }
-    ensures follows { Follows (served_or_refused (if_within budget (Ok device)))
+    ensures follows { Follows (served_or_refused sessions (if_within budget (Ok device)))
         (record { left = I.left input.old; taken = I.taken input.old; faults = I.faults input.old })
         (record { left = I.left input.new; taken = I.taken input.new; faults = I.faults input.new })
         (record { got = O.got out.old; faults = O.faults out.old })
         (record { got = O.got out.new; faults = O.faults out.new }) result }
     ensures cut { result ≡ 7 → I.taken input.new ≡ I.taken input.old + SCRIPT_LIMIT }
+    ensures short { result ≢ 5 → result ≢ 7 → I.taken input.new < I.taken input.old + SCRIPT_LIMIT }
 {
-    match service_within(alloc, device, budget) {
-        Ok(service) => answer(service, input, out),
+    match service_within(alloc, device, budget, sessions) {
+        Ok(mut service) => {
+            let status = answer(&mut service, input, out);
+            service.finish();
+            status
+        }
         Err(refusal) => tell(out, refusal),
     }
 }
@@ -156,10 +174,12 @@ pub(crate) fn serve_file<I: Source, O: Sink>(
     path: &str,
     file: &[u8],
     budget: u32,
+    sessions: u32,
     input: &mut I,
     out: &mut O,
 ) -> u8
     requires budget { budget ≤ BUDGET_LIMIT }
+    requires few { sessions ≤ SESSION_LIMIT }
     requires short { length file.now ≤ TEXT_LIMIT }
     requires taken { I.taken input.old < 2 ^ 62 }
     requires reads { I.faults input.old < 2 ^ 64 - 1 }
@@ -167,15 +187,16 @@ pub(crate) fn serve_file<I: Source, O: Sink>(
     ensures write_fault { RoseExactly (O.faults out.old) (O.faults out.new) (result ≡ 5) }
     ensures read_fault { result ≢ 5 → RoseExactly (I.faults input.old) (I.faults input.new) (result ≡ 4) }
     ensures not_usage { result ≢ 2 }
-    ensures follows { Follows (served_or_refused (if_within budget (device_in path.now file.now)))
+    ensures follows { Follows (served_or_refused sessions (if_within budget (device_in path.now file.now)))
         (record { left = I.left input.old; taken = I.taken input.old; faults = I.faults input.old })
         (record { left = I.left input.new; taken = I.taken input.new; faults = I.faults input.new })
         (record { got = O.got out.old; faults = O.faults out.old })
         (record { got = O.got out.new; faults = O.faults out.new }) result }
     ensures cut { result ≡ 7 → I.taken input.new ≡ I.taken input.old + SCRIPT_LIMIT }
+    ensures short { result ≢ 5 → result ≢ 7 → I.taken input.new < I.taken input.old + SCRIPT_LIMIT }
 {
     match described(alloc, path, file) {
-        Ok(device) => serve_device(alloc, device, budget, input, out),
+        Ok(device) => serve_device(alloc, device, budget, sessions, input, out),
         Err(refusal) => tell(out, refusal),
     }
 }

@@ -1,25 +1,42 @@
-ghost use Rattle.std.specs.Prelude.{◌≡◌, ◌≤◌, map, string_bytes, IfSome};
+ghost use Rattle.std.specs.Prelude.{◌≡◌, map, string_bytes, IfSome};
 ghost use Rattle.std.specs.Option.{option_map};
-ghost use Rattle.diag_cli.specs.Words.{form_of, longer_form, form_over, form_within, device_form, graph_form, limited_form, budget_form, budget_in, path_of, ends_in, is_design_path, is_device_path, is_graph_path};
-ghost use Rattle.diag_cli.specs.inner.Forms.{meant, HasSmallBudget};
+ghost use Rattle.text_rules.specs.Numbers.{plain_number_in};
+ghost use Rattle.diag_cli.specs.Words.{form_of, form_by, are_none, given_once, and_option, and_options, path_of, ends_in, is_design_path, is_device_path, is_graph_path};
+ghost use Rattle.diag_cli.specs.inner.Forms.{meant, IsWithinLimits};
 
 use branch_states::BUDGET_LIMIT;
+use session_core::SESSION_LIMIT;
 use text_rules::plain_number;
 
 /// The budget where the words give none.
 pub const DEFAULT_BUDGET: u32 = 2_097_152;
 
+/// How many sessions may be open at a time where the words give no number.
+pub const DEFAULT_SESSIONS: u32 = 16;
+
 /// What the words of the command line ask for.
 #[derive(Clone, Copy, Debug)]
 pub enum Form<'a> {
-    /// `serve FILE`: answers the script on the input over the device of a file, whose sum is within a budget.
-    Serve { path: &'a str, budget: u32 },
+    /// `serve FILE`: answers the script on the input over the device of a file, whose sum is within a budget, with at
+    /// most so many sessions open at a time.
+    Serve {
+        path: &'a str,
+        budget: u32,
+        sessions: u32,
+    },
     /// `plan FILE`: tells how large a device is, and the sum that the budget limits.
-    Plan { path: &'a str },
+    Plan {
+        path: &'a str,
+    },
     /// `check FILE`: tells whether the text of a file is a decomposable graph.
-    Check { path: &'a str },
+    Check {
+        path: &'a str,
+    },
     /// `compile FILE`: writes the graph of a device whose sum is within a budget.
-    Compile { path: &'a str, budget: u32 },
+    Compile {
+        path: &'a str,
+        budget: u32,
+    },
 }
 
 impl<'a> Form<'a> {
@@ -29,8 +46,88 @@ impl<'a> Form<'a> {
     {
         match self {
             Form::Plan { path } | Form::Check { path } => path,
-            Form::Serve { path, budget: _ } | Form::Compile { path, budget: _ } => path,
+            Form::Compile { path, budget: _ } => path,
+            Form::Serve {
+                path,
+                budget: _,
+                sessions: _,
+            } => path,
         }
+    }
+}
+
+/// The options behind a path, each where it is given.
+#[derive(Clone, Copy, Debug, Default)]
+pub struct Options {
+    /// `--budget N`, from 1 to `BUDGET_LIMIT`.
+    pub budget: Option<u32>,
+    /// `--sessions N`, from 1 to `SESSION_LIMIT`.
+    pub sessions: Option<u32>,
+}
+
+impl Options {
+    // Whether no option is given.
+    fn are_none(self) -> bool
+        ensures { result ≡ are_none self }
+    {
+        self.budget.is_none() && self.sessions.is_none()
+    }
+
+    // These options and one more.
+    fn and(self, option: &str, value: &str) -> Option<Options>
+        ensures { result ≡ and_option self option.now value.now }
+    {
+        match option {
+            "--budget" => {
+                let budget = given_once(self.budget, number_to(7, BUDGET_LIMIT, value))?;
+                Some(Options {
+                    budget: Some(budget),
+                    ..self
+                })
+            }
+            "--sessions" => {
+                let sessions = given_once(self.sessions, number_to(4, SESSION_LIMIT, value))?;
+                Some(Options {
+                    sessions: Some(sessions),
+                    ..self
+                })
+            }
+            _ => None,
+        }
+    }
+}
+
+// The number that a word spells, from 1 to a limit of so many digits.
+fn number_to(digits: usize, limit: u32, word: &str) -> Option<u32>
+    ensures { result ≡ plain_number_in digits 1 limit word.now }
+{
+    match plain_number(digits, 1, u64::from(limit), word.as_bytes()) {
+        Some(number) => Some(number as u32),
+        None => None,
+    }
+}
+
+// A number, where none was given before.
+fn given_once(earlier: Option<u32>, number: Option<u32>) -> Option<u32>
+    ensures { result ≡ given_once earlier number }
+{
+    match earlier {
+        None => number,
+        Some(_) => None,
+    }
+}
+
+// The options that were given, and those of further words. No option is taken twice, so it calls itself at most once for each.
+fn and_options(given: Options, words: &[String]) -> Option<Options>
+    ensures { result ≡ and_options given (map string_bytes words.now) }
+{
+    match words {
+        [] => Some(given),
+        [option, value, rest @ ..] => {
+            let more = given.and(option.as_str(), value.as_str())?;
+            and_options(more, rest)
+        }
+        [_] => None,
     }
 }
 
@@ -62,124 +159,35 @@ fn is_graph_path(path: &str) -> bool
     ends_in(b".nnf", path)
 }
 
-// The form of a command over a netlist or a design.
-fn device_form<'a>(command: &str, path: &'a str) -> Option<Form<'a>>
-    ensures form { option_map meant result ≡ device_form command.now path.now }
-    ensures budget { IfSome result (λ form. HasSmallBudget (meant form)) }
+// The form of a command over a file, with options.
+fn form_by<'a>(command: &str, path: &'a str, options: Options) -> Option<Form<'a>>
+    ensures { option_map meant result ≡ form_by command.now path.now options }
 {
+    let budget = options.budget.unwrap_or(DEFAULT_BUDGET);
+    let sessions = options.sessions.unwrap_or(DEFAULT_SESSIONS);
     match command {
-        "serve" => Some(Form::Serve {
+        "serve" if is_device_path(path) => Some(Form::Serve {
             path,
-            budget: DEFAULT_BUDGET,
+            budget,
+            sessions,
         }),
-        "plan" => Some(Form::Plan { path }),
-        "compile" => Some(Form::Compile {
-            path,
-            budget: DEFAULT_BUDGET,
-        }),
+        "compile" if is_device_path(path) && options.sessions.is_none() => {
+            Some(Form::Compile { path, budget })
+        }
+        "plan" if is_device_path(path) && options.are_none() => Some(Form::Plan { path }),
+        "check" if is_graph_path(path) && options.are_none() => Some(Form::Check { path }),
         _ => None,
     }
-}
-
-// The form of a command over a graph.
-fn graph_form<'a>(command: &str, path: &'a str) -> Option<Form<'a>>
-    ensures form { option_map meant result ≡ graph_form command.now path.now }
-    ensures budget { IfSome result (λ form. HasSmallBudget (meant form)) }
-{
-    match command {
-        "check" => Some(Form::Check { path }),
-        _ => None,
-    }
-}
-
-// The form of a command over a file.
-fn form_over<'a>(command: &str, path: &'a str) -> Option<Form<'a>>
-    ensures form { option_map meant result ≡ form_over command.now path.now }
-    ensures budget { IfSome result (λ form. HasSmallBudget (meant form)) }
-{
-    if is_device_path(path) {
-        device_form(command, path)
-    } else if is_graph_path(path) {
-        graph_form(command, path)
-    } else {
-        None
-    }
-}
-
-// The budget that an option gives.
-fn budget_in(option: &str, value: &str) -> Option<u32>
-    ensures given { result ≡ budget_in option.now value.now }
-    ensures small { IfSome result (λ budget. budget ≤ BUDGET_LIMIT) }
-{
-    if option != "--budget" {
-        return None;
-    }
-    match plain_number(7, 1, u64::from(BUDGET_LIMIT), value.as_bytes()) {
-        Some(budget) => Some(budget as u32),
-        None => None,
-    }
-}
-
-// The form of a command over a netlist or a design, with a budget.
-fn limited_form<'a>(command: &str, path: &'a str, budget: u32) -> Option<Form<'a>>
-    requires { budget ≤ BUDGET_LIMIT }
-    ensures form { option_map meant result ≡ limited_form command.now path.now budget }
-    ensures budget { IfSome result (λ form. HasSmallBudget (meant form)) }
-{
-    match command {
-        "serve" => Some(Form::Serve { path, budget }),
-        "compile" => Some(Form::Compile { path, budget }),
-        _ => None,
-    }
-}
-
-// The same, where the path is one of either.
-fn budget_form<'a>(command: &str, path: &'a str, budget: u32) -> Option<Form<'a>>
-    requires { budget ≤ BUDGET_LIMIT }
-    ensures form { option_map meant result ≡ budget_form command.now path.now budget }
-    ensures budget { IfSome result (λ form. HasSmallBudget (meant form)) }
-{
-    if is_device_path(path) {
-        limited_form(command, path, budget)
-    } else {
-        None
-    }
-}
-
-// The form of a command over a file and an option.
-fn form_within<'a>(command: &str, path: &'a str, option: &str, value: &str) -> Option<Form<'a>>
-    ensures form { option_map meant result ≡ form_within command.now path.now (budget_in option.now value.now) }
-    ensures budget { IfSome result (λ form. HasSmallBudget (meant form)) }
-{
-    match budget_in(option, value) {
-        Some(budget) => budget_form(command, path, budget),
-        None => None,
-    }
-}
-
-// The form of words with an option.
-fn longer_form(words: &[String]) -> Option<Form<'_>>
-    ensures form { option_map meant result ≡ longer_form (map string_bytes words.now) }
-    ensures budget { IfSome result (λ form. HasSmallBudget (meant form)) }
-{
-    let [command, path, option, value] = words else {
-        return None;
-    };
-    form_within(
-        command.as_str(),
-        path.as_str(),
-        option.as_str(),
-        value.as_str(),
-    )
 }
 
 /// The form of the words, if they have one.
 pub fn form_of(words: &[String]) -> Option<Form<'_>>
     ensures form { option_map meant result ≡ form_of (map string_bytes words.now) }
-    ensures budget { IfSome result (λ form. HasSmallBudget (meant form)) }
+    ensures limits { IfSome result (λ form. IsWithinLimits (meant form)) }
 {
-    let [command, path] = words else {
-        return longer_form(words);
+    let [command, path, rest @ ..] = words else {
+        return None;
     };
-    form_over(command.as_str(), path.as_str())
+    let options = and_options(Options::default(), rest)?;
+    form_by(command.as_str(), path.as_str(), options)
 }

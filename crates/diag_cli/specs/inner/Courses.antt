@@ -1,33 +1,55 @@
 -- What a course did, with the input and the output.
-use Rattle.std.specs.Prelude.{◌≡◌, ◌≢◌, ◌⊎◌, ◌<◌, ℕ, List, length}
+use Rattle.std.specs.Prelude.{◌≡◌, ◌⊎◌, ◌<◌, ◌≤◌, ℕ, List, ◌++◌, length}
 use Rattle.std.specs.Io.KnownBytes.{Consumes, IsAtEnd}
-use Rattle.ranking.specs.Systems.{System}
+use Rattle.text_rules.specs.TextLines.{whole_lines, all_lines}
+use Rattle.session_rules.specs.Items.{Item}
+use Rattle.session_rules.specs.Spelling.{WritesPart}
 use Rattle.diag_cli.specs.declared.serving.TheConstants.{SCRIPT_LIMIT}
 use Rattle.diag_cli.specs.Output.{Gives, GivesUnlessMemory, no_memory}
 use Rattle.diag_cli.specs.Courses.{End, Ended, Failed, Cut, Course, Tells, Serves, served}
 use Rattle.diag_cli.specs.Runs.{Reading, Writing, IsIdle}
 
 -- what is known of the end of a script of which these bytes were taken
-abbrev pub EndsAs : End → List ℕ → Type 0 → Type 0 → Type 0
-EndsAs Ended bytes at_end a_read_failed = at_end × (length bytes < SCRIPT_LIMIT)
-EndsAs Failed bytes at_end a_read_failed = a_read_failed
-EndsAs Cut bytes at_end a_read_failed = length bytes ≡ SCRIPT_LIMIT
+abbrev pub EndsAs : End → List ℕ → (at_end a_read_failed no_read_failed : Type 0) → Type 0
+EndsAs Ended bytes at_end a_read_failed no_read_failed = at_end × (length bytes < SCRIPT_LIMIT) × no_read_failed
+EndsAs Failed bytes at_end a_read_failed no_read_failed = a_read_failed
+EndsAs Cut bytes at_end a_read_failed no_read_failed = (length bytes ≡ SCRIPT_LIMIT) × no_read_failed
 
--- bytes of a script were taken, and answered over the system
-pub record IsAnswered (system : System) (input new_input : Reading) (out new_out : Writing) (status : ℕ) : Type 0 where
+-- Bytes of a script were taken, and answered. If a write failed, it was with the last line, which tells why the script ended.
+pub record IsAnswered (answers : List (List ℕ) → List Item) (input new_input : Reading) (out new_out : Writing) (status : ℕ) : Type 0 where
   pub bytes : List ℕ
   pub end : End
   pub took : Consumes input.left new_input.left bytes
-  pub ends : EndsAs end bytes (IsAtEnd new_input.left) (input.faults < new_input.faults)
-  pub gives : Gives (served system bytes end) status out.got new_out.got
+  pub ends : EndsAs end bytes (IsAtEnd new_input.left) (input.faults < new_input.faults) (new_input.faults ≡ input.faults)
+  pub gives : Gives (served answers bytes end) status out.got new_out.got
 
--- a system was served
-pub record IsServed (system : System) (input new_input : Reading) (out new_out : Writing) (status : ℕ) : Type 0 where
-  pub answer : status ≢ 5 → Gives no_memory status out.got new_out.got ⊎ IsAnswered system input new_input out new_out status
+-- The whole lines of bytes, at most the limit; or all lines, where the end was met before it.
+abbrev pub AreTaken : List (List ℕ) → List ℕ → Type 0 → Type 0
+AreTaken lines bytes at_end =
+    ((length bytes ≤ SCRIPT_LIMIT) × (lines ≡ whole_lines bytes)) ⊎ (at_end × (length bytes < SCRIPT_LIMIT) × (lines ≡ all_lines bytes))
+
+-- A write failed before that. What was written begins the answers to lines that were taken, whatever lines come behind them.
+pub record IsBroken (answers : List (List ℕ) → List Item) (input new_input : Reading) (out new_out : Writing) : Type 0 where
+  pub bytes : List ℕ
+  pub took : Consumes input.left new_input.left bytes
+  pub reads : new_input.faults ≡ input.faults
+  pub lines : List (List ℕ)
+  pub are : AreTaken lines bytes (IsAtEnd new_input.left)
+  pub begun : (more : List (List ℕ)) → WritesPart out.got new_out.got (answers (lines ++ more))
+
+-- there was no memory to begin a script, or it was answered, or a write failed before that
+abbrev pub CameTo : (List (List ℕ) → List Item) → Reading → Reading → Writing → Writing → ℕ → Type 0
+CameTo answers input new_input out new_out status =
+    (IsIdle input new_input × Gives no_memory status out.got new_out.got)
+    ⊎ (IsAnswered answers input new_input out new_out status ⊎ ((status ≡ 5) × IsBroken answers input new_input out new_out))
+
+-- a script was served
+pub record IsServed (answers : List (List ℕ) → List Item) (input new_input : Reading) (out new_out : Writing) (status : ℕ) : Type 0 where
+  pub answer : CameTo answers input new_input out new_out status
   pub all_read : status ≡ 0 → IsAtEnd new_input.left
 
 -- what was done, by the course
 abbrev pub Follows : Course → Reading → Reading → Writing → Writing → ℕ → Type 0
 Follows (Tells output) input new_input out new_out status =
-    IsIdle input new_input × (status ≢ 5 → GivesUnlessMemory output status out.got new_out.got)
-Follows (Serves system) input new_input out new_out status = IsServed system input new_input out new_out status
+    IsIdle input new_input × GivesUnlessMemory output status out.got new_out.got
+Follows (Serves answers) input new_input out new_out status = IsServed answers input new_input out new_out status

@@ -1,9 +1,26 @@
-use Rattle.diag_cli.proofs.WholeGraphs.{graph_given}
+use Rattle.std.proofs.Common.{refl, Result, Ok, Err}
+use Rattle.diag_cli.specs.Refusals.{told_by}
+use Rattle.diag_cli.proofs.WholeGraphs.{graph_gives, not_compiled}
 use Rattle.diag_cli.proofs.compiling.compile_file.Goals as goal
 
-pub returns-in-Ok-compile-clause-said : goal.returns-in-Ok-compile-clause-said
-returns-in-Ok-compile-clause-said g c =
+pub returns-in-Ok-write_nnf-clause-said : goal.returns-in-Ok-write_nnf-clause-said
+returns-in-Ok-write_nnf-clause-said g c =
     let found = c.in-Ok-clauses_within.ensures in
     let made = c.in-Ok-compile.ensures in
-    graph_given c.args.path.now c.args.file.now c.args.budget _ _ _ _ _ _ _ c.requires.short c.in-Ok.ensures found.list found.encoded found.describes made.decomposable made.vars made.truth made.few_made made.few_nodes
-    c.put_graph.ensures.either c.put_graph.ensures.written
+    let wrote = c.write_nnf.ensures in
+    let put : Result (Unit {0}) (Unit {0}) = Ok tt in
+    graph_gives c.args.path.now c.args.file.now c.args.budget _ _ _ _ _ _ _ put _ c.vars.ensures.vars c.requires.short c.in-Ok.ensures found.list found.encoded found.describes
+    made.decomposable made.vars made.truth made.few_made made.few_nodes wrote.neat wrote.read c.in-Ok-write_nnf.ensures.bytes refl
+
+pub returns-clause-said : goal.returns-clause-said
+returns-clause-said g c =
+    let found = c.in-Ok-clauses_within.ensures in
+    let made = c.in-Ok-compile.ensures in
+    let wrote = c.write_nnf.ensures in
+    let put : Result (Unit {0}) (Unit {0}) = Err tt in
+    graph_gives c.args.path.now c.args.file.now c.args.budget _ _ _ _ _ _ _ put _ c.vars.ensures.vars c.requires.short c.in-Ok.ensures found.list found.encoded found.describes
+    made.decomposable made.vars made.truth made.few_made made.few_nodes wrote.neat wrote.read c.in-Err-write_nnf.ensures.bytes refl
+
+pub returns-in-Err-clauses_within-clause-said : goal.returns-in-Err-clauses_within-clause-said
+returns-in-Err-clauses_within-clause-said g c =
+    not_compiled (told_by c.in-Err-clauses_within.refusal) c.args.path.now c.args.file.now c.args.budget _ _ _ _ c.requires.short c.in-Ok.ensures c.in-Err-clauses_within.ensures.list c.tell-in-Err-clauses_within.ensures.said

@@ -1,13 +1,43 @@
-use Rattle.std.proofs.Common.{[], ◌∷◌, codes}
-use Rattle.session_rules.proofs.Spellings.{writes_more}
+use Rattle.std.proofs.Common.{◌∷◌, [], codes, refl}
+use Rattle.session_rules.specs.Items.{Item}
+use Rattle.diag_cli.specs.declared.planning.Sizes.{Sizes}
 use Rattle.diag_cli.specs.Courses.{count_line}
+use Rattle.diag_cli.proofs.Failing.{replies_then, replies_cut}
 use Rattle.diag_cli.proofs.planning.put_sizes.Goals as goal
+
+abbrev parts : Sizes → Item
+parts sizes = count_line (codes "parts") sizes.parts
+
+abbrev wires : Sizes → Item
+wires sizes = count_line (codes "wires") sizes.wires
+
+abbrev clauses : Sizes → Item
+clauses sizes = count_line (codes "clauses") sizes.clauses
+
+abbrev sum : Sizes → Item
+sum sizes = count_line (codes "sum") sizes.sum
+
+pub returns-in_err-put_count-clause-text : goal.returns-in_err-put_count-clause-text
+returns-in_err-put_count-clause-text g c =
+    let s = c.args.sizes in
+    replies_cut (parts s) (wires s ∷ clauses s ∷ sum s ∷ []) _ _ _ c.from_residual.ensures.0 (((_, refl), ((_, refl), ((_, refl), tt)))) c.in_err-put_count.ensures.text
+
+pub returns-in_err-put_count-2-clause-text : goal.returns-in_err-put_count-2-clause-text
+returns-in_err-put_count-2-clause-text g c =
+    let s = c.args.sizes in
+    replies_then (parts s) (wires s ∷ clauses s ∷ sum s ∷ []) _ _ _ _ c.in_ok-put_count.ensures.text
+    (replies_cut (wires s) (clauses s ∷ sum s ∷ []) _ _ _ c.from_residual-in_err-put_count-2.ensures.0 ((_, refl), ((_, refl), tt)) c.in_err-put_count-2.ensures.text)
+
+pub returns-in_err-put_count-3-clause-text : goal.returns-in_err-put_count-3-clause-text
+returns-in_err-put_count-3-clause-text g c =
+    let s = c.args.sizes in
+    replies_then (parts s) (wires s ∷ clauses s ∷ sum s ∷ []) _ _ _ _ c.in_ok-put_count.ensures.text
+    (replies_then (wires s) (clauses s ∷ sum s ∷ []) _ _ _ _ c.in_ok-put_count-2.ensures.text
+    (replies_cut (clauses s) (sum s ∷ []) _ _ _ c.from_residual-in_err-put_count-3.ensures.0 ((_, refl), tt) c.in_err-put_count-3.ensures.text))
 
 pub returns-clause-text : goal.returns-clause-text
 returns-clause-text g c =
-    let sizes = c.args.sizes in
-    let clauses = count_line (codes "clauses") sizes.clauses in
-    let sum = count_line (codes "sum") sizes.sum in
-    writes_more _ _ _ (count_line (codes "parts") sizes.parts ∷ []) (count_line (codes "wires") sizes.wires ∷ clauses ∷ sum ∷ []) c.in_ok-put_count.ensures.text
-    (writes_more _ _ _ (count_line (codes "wires") sizes.wires ∷ []) (clauses ∷ sum ∷ []) c.in_ok-put_count-2.ensures.text
-    (writes_more _ _ _ (clauses ∷ []) (sum ∷ []) c.in_ok-put_count-3.ensures.text c.in_ok-put_count-4.ensures.text))
+    let s = c.args.sizes in
+    replies_then (parts s) (wires s ∷ clauses s ∷ sum s ∷ []) _ _ _ _ c.in_ok-put_count.ensures.text
+    (replies_then (wires s) (clauses s ∷ sum s ∷ []) _ _ _ _ c.in_ok-put_count-2.ensures.text
+    (replies_then (clauses s) (sum s ∷ []) _ _ _ _ c.in_ok-put_count-3.ensures.text c.put_count-4.ensures.text))

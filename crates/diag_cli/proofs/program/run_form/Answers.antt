@@ -5,7 +5,7 @@ use Rattle.diag_edge.specs.declared.loading.LoadError.TheVariants.{Long}
 use Rattle.diag_cli.specs.Output.{says}
 use Rattle.diag_cli.specs.Describing.{long_file_line}
 use Rattle.diag_cli.specs.inner.Forms.{meant}
-use Rattle.diag_cli.proofs.Headline.{same_file, too_long_is_no_failure, run_loaded, run_told, long_is_right}
+use Rattle.diag_cli.proofs.Headline.{same_file, too_long_is_no_failure, run_loaded, run_failed, run_told, long_is_right}
 use Rattle.diag_cli.proofs.program.run_form.Goals as goal
 
 pub returns-in-Ok : goal.returns-in-Ok
@@ -16,7 +16,7 @@ returns-in-Ok g c =
     run_loaded _ _ _ _ _ (meant c.args.form) _ _ _ c.deref.result.now (same_file c.deref.result.now c.in-Ok.file.items _ c.deref.ensures.value told)
     (λ gone. let is = read.absent (ap (g.H.Shelf.held c.args.shelf.now) c.path.ensures ∙ gone) in let never : ⊥ = cc in never)
     (read.failed.stayed (λ is. let never : ⊥ = cc in never))
-    done.write_fault done.read_fault done.not_usage done.follows done.cut
+    done.write_fault done.read_fault done.not_usage done.follows done.cut done.short
 
 pub returns-in-Err-Long : goal.returns-in-Err-Long
 returns-in-Err-Long g c =
@@ -30,3 +30,8 @@ returns-in-Err-Long g c =
     (λ gone. other (read.absent (ap (g.H.Shelf.held c.args.shelf.now) c.path.ensures ∙ gone)))
     (read.failed.stayed other)
     c.say-in-Err-Long.ensures.write_fault c.say-in-Err-Long.ensures.said
+
+pub returns-in-Err-Failed : goal.returns-in-Err-Failed
+returns-in-Err-Failed g c =
+    let rises = c.in-Err-Failed.ensures.failed.rose (ap Err c.in-Err-Failed.field-0-is) in
+    run_failed _ _ _ _ _ _ _ (meant c.args.form) (omega (arith, c.requires.shelf_faults, rises)) c.say.ensures.write_fault c.say.ensures.said

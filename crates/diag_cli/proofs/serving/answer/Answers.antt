@@ -1,62 +1,106 @@
-use Rattle.std.proofs.Common.{inr, refl, arith}
+use Rattle.std.proofs.Common.{[], inl, inr, refl, arith}
 use Rattle.text_rules.specs.TextLines.{whole_lines, all_lines}
-use Rattle.session_rules.specs.Items.{Plain}
-use Rattle.session_core.specs.Services.{system_of}
-use Rattle.diag_cli.specs.Courses.{Ended, Failed, Cut, read_error, script_too_long}
-use Rattle.diag_cli.proofs.Running.{ready_then, then_last}
+use Rattle.diag_edge.proofs.Growing.{consumes_none}
+use Rattle.session_rules.specs.GraphSystems.{system_of}
+use Rattle.diag_cli.specs.Courses.{Ended, Failed, Cut, read_error, script_too_long, answers_of}
+use Rattle.diag_cli.proofs.Failing.{gives_all, gives_after}
+use Rattle.diag_cli.proofs.Running.{ready_then, ready_begun, lines_begun}
 use Rattle.diag_cli.proofs.serving.answer.Goals as goal
+
+pub returns-in-Err-clause-served : goal.returns-in-Err-clause-served
+returns-in-Err-clause-served g c =
+    let shown = c.args.service.now in
+    record {
+      answer = inr (inr (
+        refl,
+        record {
+          bytes = [];
+          took = consumes_none _;
+          reads = refl;
+          lines = [];
+          are = inl (omega arith, refl);
+          begun = ready_begun shown.subject c.requires.sound shown.limit _ _ _ _ c.parts.ensures c.wires.ensures c.in-Err.ensures.text;
+        },
+      ));
+      all_read = λ zero. absurd (omega (arith, zero));
+    }
+
+pub returns-in-WriteFault-clause-served : goal.returns-in-WriteFault-clause-served
+returns-in-WriteFault-clause-served g c =
+    let shown = c.args.service.now in
+    let done = c.in-WriteFault.ensures.served in
+    let kept = c.in-WriteFault.ensures.read_fault.stayed (λ e. let never : ⊥ = cc in never) in
+    record {
+      answer = inr (inr (
+        refl,
+        elim done.3.1 [
+          | inl broke ↦ record {
+            bytes = done.0;
+            took = done.2;
+            reads = kept;
+            lines = whole_lines done.0;
+            are = inl (done.3.0, refl);
+            begun = lines_begun shown.subject c.requires.sound shown.limit _ _ (whole_lines done.0) _ _ _ _ _ c.requires.none_open c.parts.ensures c.wires.ensures c.in-Ok.ensures.text broke;
+          }
+          | inr broke ↦ record {
+            bytes = done.0;
+            took = done.2;
+            reads = kept;
+            lines = all_lines done.0;
+            are = inr (broke.0, broke.1, refl);
+            begun = lines_begun shown.subject c.requires.sound shown.limit _ _ (all_lines done.0) _ _ _ _ _ c.requires.none_open c.parts.ensures c.wires.ensures c.in-Ok.ensures.text broke.2;
+          }
+        ],
+      ));
+      all_read = λ zero. absurd (omega (arith, zero));
+    }
 
 pub returns-in-Done-clause-served : goal.returns-in-Done-clause-served
 returns-in-Done-clause-served g c =
+    let shown = c.args.service.now in
     let done = c.in-Done.ensures.served in
     record {
-      answer = λ _. inr (record {
+      answer = inr (inl (record {
         bytes = done.0;
         end = Ended;
         took = done.2;
-        ends = (done.3.0, done.3.1);
-        gives = record {
-          same_status = refl;
-          text = ready_then (system_of c.args.service.subject) _ (all_lines done.0) _ _ _ _ _ c.requires.none_open c.parts.ensures c.wires.ensures c.in-Ok.ensures.text done.3.2.written;
-        };
-      });
+        ends = (done.3.0, done.3.1, c.in-Done.ensures.read_fault.stayed (λ e. let never : ⊥ = cc in never));
+        gives = gives_all _ _ _ _ (λ five. absurd (omega (arith, five))) refl
+            (ready_then (system_of shown.subject) shown.limit _ (all_lines done.0) _ _ _ _ _ c.requires.none_open c.parts.ensures c.wires.ensures c.in-Ok.ensures.text done.3.2.written);
+      }));
       all_read = λ _. done.3.0;
     }
 
 pub returns-in-ReadFault-clause-served : goal.returns-in-ReadFault-clause-served
 returns-in-ReadFault-clause-served g c =
+    let shown = c.args.service.now in
     let done = c.in-ReadFault.ensures.served in
     let said = c.say.ensures.said in
     record {
-      answer = λ whole. inr (record {
+      answer = inr (inl (record {
         bytes = done.0;
         end = Failed;
         took = done.2;
         ends = c.in-ReadFault.ensures.read_fault.rose refl;
-        gives = record {
-          same_status = (said whole).same_status;
-          text = then_last (system_of c.args.service.subject) (whole_lines done.0) (Plain read_error) _ _ _
-              (ready_then (system_of c.args.service.subject) _ (whole_lines done.0) _ _ _ _ _ c.requires.none_open c.parts.ensures c.wires.ensures c.in-Ok.ensures.text done.3.1.written) (said whole).text;
-        };
-      });
-      all_read = λ zero. absurd (let same = (said (λ five. omega (arith, zero, five))).same_status in omega (arith, zero, same));
+        gives = gives_after (answers_of (system_of shown.subject) shown.limit (whole_lines done.0)) read_error _ _ _ _ _
+            (ready_then (system_of shown.subject) shown.limit _ (whole_lines done.0) _ _ _ _ _ c.requires.none_open c.parts.ensures c.wires.ensures c.in-Ok.ensures.text done.3.1.written) said;
+      }));
+      all_read = λ zero. absurd (let same = (said.whole (λ five. omega (arith, zero, five))).0 in omega (arith, zero, same));
     }
 
-pub returns-clause-served : goal.returns-clause-served
-returns-clause-served g c =
+pub returns-in-Limit-clause-served : goal.returns-in-Limit-clause-served
+returns-in-Limit-clause-served g c =
+    let shown = c.args.service.now in
     let done = c.in-Limit.ensures.served in
     let said = c.say-in-Limit.ensures.said in
     record {
-      answer = λ whole. inr (record {
+      answer = inr (inl (record {
         bytes = done.0;
         end = Cut;
         took = done.2;
-        ends = done.3.0;
-        gives = record {
-          same_status = (said whole).same_status;
-          text = then_last (system_of c.args.service.subject) (whole_lines done.0) (Plain script_too_long) _ _ _
-              (ready_then (system_of c.args.service.subject) _ (whole_lines done.0) _ _ _ _ _ c.requires.none_open c.parts.ensures c.wires.ensures c.in-Ok.ensures.text done.3.1.written) (said whole).text;
-        };
-      });
-      all_read = λ zero. absurd (let same = (said (λ five. omega (arith, zero, five))).same_status in omega (arith, zero, same));
+        ends = (done.3.0, c.in-Limit.ensures.read_fault.stayed (λ e. let never : ⊥ = cc in never));
+        gives = gives_after (answers_of (system_of shown.subject) shown.limit (whole_lines done.0)) script_too_long _ _ _ _ _
+            (ready_then (system_of shown.subject) shown.limit _ (whole_lines done.0) _ _ _ _ _ c.requires.none_open c.parts.ensures c.wires.ensures c.in-Ok.ensures.text done.3.1.written) said;
+      }));
+      all_read = λ zero. absurd (let same = (said.whole (λ five. omega (arith, zero, five))).0 in omega (arith, zero, same));
     }

@@ -1,0 +1,85 @@
+-- Worked rows: what words ask for. Their check computes both sides.
+use Rattle.std.proofs.Common.{◌≡◌, [], ◌∷◌, Some, None, codes, refl}
+use Rattle.diag_cli.specs.Words.{Serve, Plan, Check, Compile, form_of}
+
+-- ---- words with a form
+
+serve_a_netlist : form_of (codes "serve" ∷ codes "c17.bench" ∷ []) ≡ Some (Serve (codes "c17.bench") 2097152 16)
+serve_a_netlist = refl
+
+serve_within_a_budget : form_of (codes "serve" ∷ codes "d/adder.dev" ∷ codes "--budget" ∷ codes "8388608" ∷ []) ≡ Some (Serve (codes "d/adder.dev") 8388608 16)
+serve_within_a_budget = refl
+
+serve_many_sessions : form_of (codes "serve" ∷ codes "c.bench" ∷ codes "--sessions" ∷ codes "1024" ∷ []) ≡ Some (Serve (codes "c.bench") 2097152 1024)
+serve_many_sessions = refl
+
+budget_before_sessions : form_of (codes "serve" ∷ codes "c.bench" ∷ codes "--budget" ∷ codes "7" ∷ codes "--sessions" ∷ codes "1" ∷ []) ≡ Some (Serve (codes "c.bench") 7 1)
+budget_before_sessions = refl
+
+sessions_before_budget : form_of (codes "serve" ∷ codes "c.bench" ∷ codes "--sessions" ∷ codes "1" ∷ codes "--budget" ∷ codes "7" ∷ []) ≡ Some (Serve (codes "c.bench") 7 1)
+sessions_before_budget = refl
+
+compile_a_design : form_of (codes "compile" ∷ codes "adder.dev" ∷ []) ≡ Some (Compile (codes "adder.dev") 2097152)
+compile_a_design = refl
+
+compile_within_a_budget : form_of (codes "compile" ∷ codes "c.bench" ∷ codes "--budget" ∷ codes "6" ∷ []) ≡ Some (Compile (codes "c.bench") 6)
+compile_within_a_budget = refl
+
+plan_a_netlist : form_of (codes "plan" ∷ codes "c.bench" ∷ []) ≡ Some (Plan (codes "c.bench"))
+plan_a_netlist = refl
+
+check_a_graph : form_of (codes "check" ∷ codes "g.nnf" ∷ []) ≡ Some (Check (codes "g.nnf"))
+check_a_graph = refl
+
+-- ---- words without one
+
+no_words : form_of [] ≡ None
+no_words = refl
+
+no_file : form_of (codes "serve" ∷ []) ≡ None
+no_file = refl
+
+another_command : form_of (codes "run" ∷ codes "c.bench" ∷ []) ≡ None
+another_command = refl
+
+another_ending : form_of (codes "serve" ∷ codes "c17.v" ∷ []) ≡ None
+another_ending = refl
+
+nothing_before_the_ending : form_of (codes "serve" ∷ codes ".bench" ∷ []) ≡ None
+nothing_before_the_ending = refl
+
+serve_a_graph : form_of (codes "serve" ∷ codes "g.nnf" ∷ []) ≡ None
+serve_a_graph = refl
+
+check_a_netlist : form_of (codes "check" ∷ codes "c.bench" ∷ []) ≡ None
+check_a_netlist = refl
+
+budget_of_0 : form_of (codes "serve" ∷ codes "c.bench" ∷ codes "--budget" ∷ codes "0" ∷ []) ≡ None
+budget_of_0 = refl
+
+budget_above_its_limit : form_of (codes "serve" ∷ codes "c.bench" ∷ codes "--budget" ∷ codes "8388609" ∷ []) ≡ None
+budget_above_its_limit = refl
+
+budget_twice : form_of (codes "serve" ∷ codes "c.bench" ∷ codes "--budget" ∷ codes "5" ∷ codes "--budget" ∷ codes "5" ∷ []) ≡ None
+budget_twice = refl
+
+sessions_behind_a_zero : form_of (codes "serve" ∷ codes "c.bench" ∷ codes "--sessions" ∷ codes "01" ∷ []) ≡ None
+sessions_behind_a_zero = refl
+
+sessions_above_their_limit : form_of (codes "serve" ∷ codes "c.bench" ∷ codes "--sessions" ∷ codes "1025" ∷ []) ≡ None
+sessions_above_their_limit = refl
+
+an_option_without_a_number : form_of (codes "serve" ∷ codes "c.bench" ∷ codes "--budget" ∷ []) ≡ None
+an_option_without_a_number = refl
+
+another_option : form_of (codes "serve" ∷ codes "c.bench" ∷ codes "--help" ∷ codes "1" ∷ []) ≡ None
+another_option = refl
+
+an_option_before_the_file : form_of (codes "serve" ∷ codes "--budget" ∷ codes "5" ∷ codes "c.bench" ∷ []) ≡ None
+an_option_before_the_file = refl
+
+compile_with_sessions : form_of (codes "compile" ∷ codes "c.bench" ∷ codes "--sessions" ∷ codes "1" ∷ []) ≡ None
+compile_with_sessions = refl
+
+plan_with_a_budget : form_of (codes "plan" ∷ codes "c.bench" ∷ codes "--budget" ∷ codes "5" ∷ []) ≡ None
+plan_with_a_budget = refl

@@ -1,0 +1,93 @@
+-- From the bytes of a script that were taken to the whole script.
+use Rattle.std.proofs.Common.{◌≡◌, ◌<◌, ◌≤◌, ◌-◌, ◌+◌, ℕ, false, List, [], ◌∷◌, ◌++◌, length, take, Option, Some, None, inl, inr, refl, ◌∙◌, ap, subst, sym, arith, nat_lt, append-nil, take_all, if◌then◌else◌}
+use Rattle.std.proofs.lemmas.Grind.{common_steps}
+use Rattle.std.specs.Io.KnownBytes.{Consumes, IsAtEnd}
+use Rattle.std.proofs.lemmas.Bool.{lt-ltb, cases_lt}
+use Rattle.std.proofs.Math.Seq.{take-append_seam, take-append-add}
+use Rattle.text_rules.specs.TextLines.{whole_lines, all_lines}
+use Rattle.session_rules.specs.Items.{Item, Plain}
+use Rattle.session_rules.specs.Spelling.{WritesPart}
+use Rattle.session_rules.proofs.Begun.{part_more}
+use Rattle.session_rules.proofs.LineFronts.{whole_lines-front, all_lines-front}
+use Rattle.diag_cli.specs.declared.serving.TheConstants.{SCRIPT_LIMIT}
+use Rattle.diag_cli.specs.Courses.{End, Ended, Failed, Cut, script_too_long, served, wholly_served, end_of}
+use Rattle.diag_cli.specs.inner.Courses.{EndsAs, AreTaken}
+
+-- ---- what was taken is what was there, up to the limit
+
+module _ (limit : ℕ) (script bytes left : List ℕ) (took : script ≡ bytes ++ left) where
+  abbrev end_at : End
+  end_at = if nat_lt (length script) limit then Ended else Cut
+
+  taken_to_end : left ≡ [] → length bytes < limit → (bytes ≡ take limit script) × (Ended ≡ end_at)
+  taken_to_end none short =
+      let all : script ≡ bytes = took ∙ ap (λ r. bytes ++ r) none ∙ append-nil bytes in
+      (rw all (sym (take_all limit bytes (omega (arith, short)))), rw (all, lt-ltb (length bytes) limit short))
+
+  taken_to_limit : length bytes ≡ limit → (bytes ≡ take limit script) × (Cut ≡ end_at)
+  taken_to_limit many =
+      let long : nat_lt (length script) limit ≡ false = grind (arith, common_steps, took, many) in
+      (rw (took, ← many) (sym (take-append_seam bytes left)), rw long)
+
+pub taken_all : (script : List ℕ) (after : Option (List ℕ)) (bytes : List ℕ) (end : End) (i j : ℕ) → j ≡ i → Consumes (Some script) after bytes → EndsAs end bytes (IsAtEnd after) (i < j) (j ≡ i)
+    → (bytes ≡ take SCRIPT_LIMIT script) × (end ≡ end_of script)
+taken_all script None bytes end i j same took is = absurd took
+taken_all script (Some left) bytes Ended i j same took is = taken_to_end SCRIPT_LIMIT script bytes left took is.0 is.1
+taken_all script (Some left) bytes Failed i j same took is = absurd (let never : ⊥ = omega (arith, is, same) in never)
+taken_all script (Some left) bytes Cut i j same took is = taken_to_limit SCRIPT_LIMIT script bytes left took is.0
+
+-- a script below the limit is answered with status 0
+pub served_whole : (answers : List (List ℕ) → List Item) (script : List ℕ) → length script < SCRIPT_LIMIT → (wholly_served answers script).status ≡ 0
+served_whole answers script short = ends_below SCRIPT_LIMIT (take SCRIPT_LIMIT script) short
+  where
+    ends_below : (limit : ℕ) (taken : List ℕ) → length script < limit → (served answers taken (if nat_lt (length script) limit then Ended else Cut)).status ≡ 0
+    ends_below limit taken is = rw (lt-ltb (length script) limit is)
+
+-- ---- what begins the answers to lines and to any that follow begins the output of the whole script
+
+module _ (limit : ℕ) (answers : List (List ℕ) → List Item) (script bytes rest : List ℕ) (lines : List (List ℕ)) (a b : Option (List ℕ))
+    (is : script ≡ bytes ++ rest) (begun : (more : List (List ℕ)) → WritesPart a b (answers (lines ++ more))) where
+  abbrev BeginsOutput : Type 0
+  BeginsOutput = WritesPart a b (served answers (take limit script) (if nat_lt (length script) limit then Ended else Cut)).items
+
+  -- by how the script ends
+  begins_output : (end : End) → (if nat_lt (length script) limit then Ended else Cut) ≡ end → WritesPart a b (served answers (take limit script) end).items → BeginsOutput
+  begins_output end ends part = subst (λ (e : End). WritesPart a b (served answers (take limit script) e).items) (sym ends) part
+
+  -- it is below the limit
+  below : length script < limit → (more : List (List ℕ)) → lines ++ more ≡ all_lines script → BeginsOutput
+  below short more all =
+      let whole : all_lines script ≡ all_lines (take limit script) = ap all_lines (sym (take_all limit script (omega (arith, short)))) in
+      begins_output Ended (rw (lt-ltb (length script) limit short)) (subst (λ ls. WritesPart a b (answers ls)) (all ∙ whole) (begun more))
+
+  -- or it is not, and so many of its bytes are answered
+  above : limit ≤ length script → (more : List (List ℕ)) → lines ++ more ≡ whole_lines (take limit script) → BeginsOutput
+  above long more all =
+      let over : nat_lt (length script) limit ≡ false = grind (arith, long) in
+      begins_output Cut (rw over)
+      (part_more a b (answers (whole_lines (take limit script))) (Plain script_too_long ∷ []) (subst (λ ls. WritesPart a b (answers ls)) all (begun more)) ((script_too_long, refl), tt))
+
+  with_whole_lines : length bytes ≤ limit → lines ≡ whole_lines bytes → BeginsOutput
+  with_whole_lines few are = elim (cases_lt (length script) limit) [
+    | inl short ↦
+        let more = all_lines-front bytes rest in
+        below short more.0 (ap (λ ls. ls ++ more.0) are ∙ sym more.1 ∙ ap all_lines (sym is))
+    | inr long ↦
+        let seen = take (limit - length bytes) rest in
+        let room : limit ≡ length bytes + (limit - length bytes) = omega (arith, few) in
+        let front : take limit script ≡ bytes ++ seen = ap (take limit) is ∙ ap (λ n. take n (bytes ++ rest)) room ∙ take-append-add bytes rest (limit - length bytes) in
+        let more = whole_lines-front bytes seen in
+        above long more.0 (ap (λ ls. ls ++ more.0) are ∙ sym more.1 ∙ ap whole_lines (sym front))
+  ]
+
+  with_all_lines : rest ≡ [] → length bytes < limit → lines ≡ all_lines bytes → BeginsOutput
+  with_all_lines none short are =
+      let all : script ≡ bytes = is ∙ ap (λ r. bytes ++ r) none ∙ append-nil bytes in
+      let small : length script < limit = omega (arith, ap length all, short) in
+      below small [] (append-nil lines ∙ are ∙ ap all_lines (sym all))
+
+pub broken_begins_all : (answers : List (List ℕ) → List Item) (script bytes : List ℕ) (left : Option (List ℕ)) (lines : List (List ℕ)) (a b : Option (List ℕ)) → Consumes (Some script) left bytes
+    → AreTaken lines bytes (IsAtEnd left) → ((more : List (List ℕ)) → WritesPart a b (answers (lines ++ more))) → WritesPart a b (wholly_served answers script).items
+broken_begins_all answers script bytes None lines a b took are begun = absurd took
+broken_begins_all answers script bytes (Some rest) lines a b took (inl whole) begun = with_whole_lines SCRIPT_LIMIT answers script bytes rest lines a b took begun whole.0 whole.1
+broken_begins_all answers script bytes (Some rest) lines a b took (inr all) begun = with_all_lines SCRIPT_LIMIT answers script bytes rest lines a b took begun all.0 all.1 all.2

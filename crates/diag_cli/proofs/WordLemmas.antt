@@ -1,0 +1,206 @@
+-- Laws of what the words ask for.
+use Rattle.std.proofs.Common.{◌≡◌, ℕ, ◌<◌, ◌≤◌, ◌-◌, Bool, true, false, ◌&&◌, nat_le, List, [], ◌∷◌, length, map, take, drop, get_or, take_all, Option, Some, None, IfSome, refl, sym, ◌∙◌, ap, subst, codes, unwrap_or, lit≤, arith, if◌then◌else◌}
+use Rattle.std.specs.Prelude.{option_and_then, is_none}
+use Rattle.std.specs.Option.{option_map}
+use Rattle.std.proofs.lemmas.Bool.{and_parts, leb-true}
+use Rattle.text_rules.specs.Names.{same_name}
+use Rattle.text_rules.specs.Numbers.{value_behind, are_digits, has_leading_zero, number_in, plain_number_in}
+use Rattle.branch_states.specs.declared.measuring.TheConstants.{BUDGET_LIMIT}
+use Rattle.session_core.specs.declared.limits.TheConstants.{SESSION_LIMIT}
+use Rattle.diag_cli.specs.declared.words.TheConstants.{DEFAULT_BUDGET, DEFAULT_SESSIONS}
+use Rattle.diag_cli.specs.declared.words.Options.{Options}
+use Rattle.diag_cli.specs.declared.words.Form.{Form as FormRead}
+use Rattle.diag_cli.specs.Words.{Form, Serve, Plan, Check, Compile, no_options, given_once, with_budget, with_sessions, and_option, and_options, form_by, form_of, is_device_path, is_graph_path, are_none, only_if}
+use Rattle.diag_cli.specs.inner.Forms.{meant, IsWithinLimits}
+
+-- ---- words of the code and words of the definition
+
+pub one_word : {S : Type 0} (given : Options) (f : S → List ℕ) (words : List S) → 1 ≤ length words → length words < 2 → None ≡ and_options given (map f words)
+one_word given f [] one short = absurd (omega (arith, one))
+one_word given f (option ∷ []) one short = refl
+one_word given f (option ∷ value ∷ words) one short = absurd (omega (arith, short))
+
+pub two_words : {S : Type 0} (given : Options) (f : S → List ℕ) (words : List S) (option value : S) (found : Option Options) → 2 ≤ length words
+    → option ≡ get_or words 0 option → value ≡ get_or words 1 value → and_option given (f option) (f value) ≡ found
+    → and_options given (map f words) ≡ option_and_then (λ more. and_options more (map f (take (length words - 2) (drop 2 words)))) found
+two_words given f [] option value found long o v is = absurd (omega (arith, long))
+two_words given f (x ∷ []) option value found long o v is = absurd (omega (arith, long))
+two_words given f (x ∷ y ∷ words) option value found long o v is =
+    let rest : take (length (x ∷ y ∷ words) - 2) words ≡ words = take_all (length (x ∷ y ∷ words) - 2) words (omega arith) in
+    sym (λ k. option_and_then (λ more. and_options more (map f (rest k))) (and_option given (f (o k)) (f (v k))))
+    ∙ ap (option_and_then (λ more. and_options more (map f (take (length (x ∷ y ∷ words) - 2) words)))) is
+
+pub form_behind : {S : Type 0} (f : S → List ℕ) (words : List S) (command path : S) (given : Options) (found : Option Options) → 2 ≤ length words
+    → command ≡ get_or words 0 command → path ≡ get_or words 1 path → (given.budget ≡ None) × (given.sessions ≡ None)
+    → and_options given (map f (take (length words - 2) (drop 2 words))) ≡ found
+    → form_of (map f words) ≡ option_and_then (form_by (f command) (f path)) found
+form_behind f [] command path given found long c p none is = absurd (omega (arith, long))
+form_behind f (x ∷ []) command path given found long c p none is = absurd (omega (arith, long))
+form_behind f (x ∷ y ∷ words) command path given found long c p none is =
+    let rest : take (length (x ∷ y ∷ words) - 2) words ≡ words = take_all (length (x ∷ y ∷ words) - 2) words (omega arith) in
+    let no_more : no_options ≡ given = λ k. record { budget = sym none.0 k; sessions = sym none.1 k } in
+    sym (λ k. option_and_then (form_by (f (c k)) (f (p k))) (and_options (sym no_more k) (map f (rest k))))
+    ∙ ap (option_and_then (form_by (f command) (f path))) is
+
+-- ---- the order of options does not matter
+
+-- `and_option`, over what an option is and what its value spells
+abbrev one_more : (is_budget is_sessions : Bool) (budget sessions : Option ℕ) → Options → Option Options
+one_more is_budget is_sessions budget sessions given =
+    if is_budget then with_budget given budget
+    else if is_sessions then with_sessions given sessions
+    else None
+
+abbrev as_options : Option ℕ → Option ℕ → Options
+as_options x y = record { budget = x; sessions = y }
+
+two_budgets : (s t : Bool) (m l x y n k : Option ℕ) → option_and_then (one_more true t k l) (one_more true s n m (as_options x y)) ≡ option_and_then (one_more true s n m) (one_more true t k l (as_options x y))
+two_budgets s t m l (Some x) y n k = refl
+two_budgets s t m l None y None None = refl
+two_budgets s t m l None y None (Some k) = refl
+two_budgets s t m l None y (Some n) None = refl
+two_budgets s t m l None y (Some n) (Some k) = refl
+
+two_sessions : (n k x y m l : Option ℕ) → option_and_then (one_more false true k l) (one_more false true n m (as_options x y)) ≡ option_and_then (one_more false true n m) (one_more false true k l (as_options x y))
+two_sessions n k x (Some y) m l = refl
+two_sessions n k x None None None = refl
+two_sessions n k x None None (Some l) = refl
+two_sessions n k x None (Some m) None = refl
+two_sessions n k x None (Some m) (Some l) = refl
+
+one_of_each : (s : Bool) (m k x y n l : Option ℕ) → option_and_then (one_more false true k l) (one_more true s n m (as_options x y)) ≡ option_and_then (one_more true s n m) (one_more false true k l (as_options x y))
+one_of_each s m k (Some x) (Some y) n l = refl
+one_of_each s m k (Some x) None n None = refl
+one_of_each s m k (Some x) None n (Some l) = refl
+one_of_each s m k None (Some y) None l = refl
+one_of_each s m k None (Some y) (Some n) l = refl
+one_of_each s m k None None None None = refl
+one_of_each s m k None None None (Some l) = refl
+one_of_each s m k None None (Some n) None = refl
+one_of_each s m k None None (Some n) (Some l) = refl
+
+neither : (k l : Option ℕ) (o : Option Options) → option_and_then (one_more false false k l) o ≡ None
+neither k l None = refl
+neither k l (Some given) = refl
+
+either_first : (b s c t : Bool) (n m k l x y : Option ℕ) → option_and_then (one_more c t k l) (one_more b s n m (as_options x y)) ≡ option_and_then (one_more b s n m) (one_more c t k l (as_options x y))
+either_first true s true t n m k l x y = two_budgets s t m l x y n k
+either_first true s false true n m k l x y = one_of_each s m k x y n l
+either_first true s false false n m k l x y = neither k l (one_more true s n m (as_options x y))
+either_first false true true t n m k l x y = sym (one_of_each t l n x y k m)
+either_first false true false true n m k l x y = two_sessions n k x y m l
+either_first false true false false n m k l x y = neither k l (one_more false true n m (as_options x y))
+either_first false false true t n m k l x y = sym (neither n m (one_more true t k l (as_options x y)))
+either_first false false false true n m k l x y = sym (neither n m (one_more false true k l (as_options x y)))
+either_first false false false false n m k l x y = refl
+
+then_then : {A B C : Type 0} (f : B → Option C) (g : A → Option B) (o : Option A) → option_and_then (λ x. option_and_then f (g x)) o ≡ option_and_then f (option_and_then g o)
+then_then f g None = refl
+then_then f g (Some x) = refl
+
+pub options_in_either_order : (given : Options) (a x b y : List ℕ) (words : List (List ℕ))
+    → and_options given (a ∷ x ∷ b ∷ y ∷ words) ≡ and_options given (b ∷ y ∷ a ∷ x ∷ words)
+options_in_either_order given a x b y words =
+    then_then (λ more. and_options more words) (λ more. and_option more b y) (and_option given a x)
+    ∙ ap (option_and_then (λ more. and_options more words)) (either_first _ _ _ _ _ _ _ _ given.budget given.sessions)
+    ∙ sym (then_then (λ more. and_options more words) (λ more. and_option more a x) (and_option given b y))
+
+-- words ask for the same in whatever order their options stand
+pub form_in_either_order : (command path a x b y : List ℕ) (words : List (List ℕ))
+    → form_of (command ∷ path ∷ a ∷ x ∷ b ∷ y ∷ words) ≡ form_of (command ∷ path ∷ b ∷ y ∷ a ∷ x ∷ words)
+form_in_either_order command path a x b y words = ap (option_and_then (form_by command path)) (options_in_either_order no_options a x b y words)
+
+-- ---- the numbers of a form lie within their limits
+
+abbrev IsWithin : (low high n : ℕ) → Type 0
+IsWithin low high n = (low ≤ n) × (n ≤ high)
+
+in_range : (low high n : ℕ) (b : Bool) → (nat_le low n && nat_le n high) ≡ b → IfSome (if b then Some n else None) (IsWithin low high)
+in_range low high n true test = let parts = and_parts (nat_le low n) (nat_le n high) test in (leb-true low n parts.0, leb-true n high parts.1)
+in_range low high n false test = tt
+
+abbrev ranged : (low high n : ℕ) → Option ℕ
+ranged low high n = if nat_le low n && nat_le n high then Some n else None
+
+number_in-range : (most low high : ℕ) (word : List ℕ) → IfSome (number_in most low high word) (IsWithin low high)
+number_in-range most low high word =
+    elim (are_digits most word) as (λ b. IfSome (elim b [ true ↦ ranged low high (value_behind 0 word) | false ↦ None ]) (IsWithin low high)) [
+      | true ↦ in_range low high (value_behind 0 word) _ refl
+      | false ↦ tt
+    ]
+
+plain_number_in-range : (most low high : ℕ) (word : List ℕ) → IfSome (plain_number_in most low high word) (IsWithin low high)
+plain_number_in-range most low high word =
+    elim (has_leading_zero word) as (λ b. IfSome (if b then None else number_in most low high word) (IsWithin low high)) [
+      | true ↦ tt
+      | false ↦ number_in-range most low high word
+    ]
+
+record AreWithin (options : Options) : Type 0 where
+  budget : IfSome options.budget (IsWithin 1 BUDGET_LIMIT)
+  sessions : IfSome options.sessions (IsWithin 1 SESSION_LIMIT)
+
+once_within : (P : ℕ → Type 0) (earlier number : Option ℕ) → IfSome number P → IfSome (given_once earlier number) P
+once_within P None number is = is
+once_within P (Some earlier) number is = tt
+
+budget_more : (given : Options) (number : Option ℕ) → AreWithin given → IfSome number (IsWithin 1 BUDGET_LIMIT)
+    → IfSome (option_map (λ n. record given { budget = Some n }) number) AreWithin
+budget_more given None are is = tt
+budget_more given (Some n) are is = record { budget = is; sessions = are.sessions }
+
+sessions_more : (given : Options) (number : Option ℕ) → AreWithin given → IfSome number (IsWithin 1 SESSION_LIMIT)
+    → IfSome (option_map (λ n. record given { sessions = Some n }) number) AreWithin
+sessions_more given None are is = tt
+sessions_more given (Some n) are is = record { budget = are.budget; sessions = is }
+
+one_more_within : (b s : Bool) (n m : Option ℕ) (given : Options) → AreWithin given → IfSome n (IsWithin 1 BUDGET_LIMIT) → IfSome m (IsWithin 1 SESSION_LIMIT)
+    → IfSome (one_more b s n m given) AreWithin
+one_more_within true s n m given are small few = budget_more given _ are (once_within _ given.budget n small)
+one_more_within false true n m given are small few = sessions_more given _ are (once_within _ given.sessions m few)
+one_more_within false false n m given are small few = tt
+
+and_then_holds : {A B : Type 0} (P : A → Type 0) (Q : B → Type 0) (f : A → Option B) (o : Option A) → IfSome o P → ((x : A) → P x → IfSome (f x) Q) → IfSome (option_and_then f o) Q
+and_then_holds P Q f None is each = tt
+and_then_holds P Q f (Some x) is each = each x is
+
+all_within : (given : Options) (words : List (List ℕ)) → AreWithin given → IfSome (and_options given words) AreWithin
+all_within given [] are = are
+all_within given (option ∷ []) are = tt
+all_within given (option ∷ value ∷ words) are =
+    and_then_holds AreWithin AreWithin (λ more. and_options more words) (and_option given option value)
+    (one_more_within _ _ _ _ given are (plain_number_in-range 7 1 BUDGET_LIMIT value) (plain_number_in-range 4 1 SESSION_LIMIT value))
+    (λ more. all_within more words)
+
+or_default : (P : ℕ → Type 0) (given : Option ℕ) (number : ℕ) → IfSome given P → P number → P (unwrap_or given number)
+or_default P None number is fits = fits
+or_default P (Some n) number is fits = is
+
+-- a form, if there is one, is within its limits
+record GivesWithin (form : Option Form) : Type 0 where
+  given : IfSome form IsWithinLimits
+
+one_form : (is_command taken : Bool) (form : Form) (other : Option Form) → IsWithinLimits form → GivesWithin other → GivesWithin (if is_command then only_if taken form else other)
+one_form true true form other is others = record { given = is }
+one_form true false form other is others = record { given = tt }
+one_form false taken form other is others = others
+
+form_by_within : (command path : List ℕ) (options : Options) → AreWithin options → GivesWithin (form_by command path options)
+form_by_within command path options are =
+    let budget = or_default (IsWithin 1 BUDGET_LIMIT) options.budget DEFAULT_BUDGET are.budget (lit≤ tt, lit≤ tt) in
+    let sessions = or_default (IsWithin 1 SESSION_LIMIT) options.sessions DEFAULT_SESSIONS are.sessions (lit≤ tt, lit≤ tt) in
+    one_form (same_name command (codes "serve")) (is_device_path path) (Serve path _ _) _ (budget.1, sessions.0, sessions.1)
+    (one_form (same_name command (codes "compile")) (is_device_path path && is_none options.sessions) (Compile path _) _ budget.1
+    (one_form (same_name command (codes "plan")) (is_device_path path && are_none options) (Plan path) _ tt
+    (one_form (same_name command (codes "check")) (is_graph_path path && are_none options) (Check path) None tt (record { given = tt }))))
+
+form_of_within : (words : List (List ℕ)) → IfSome (form_of words) IsWithinLimits
+form_of_within [] = tt
+form_of_within (command ∷ []) = tt
+form_of_within (command ∷ path ∷ words) =
+    and_then_holds AreWithin IsWithinLimits (form_by command path) (and_options no_options words)
+    (all_within no_options words (record { budget = tt; sessions = tt })) (λ options are. (form_by_within command path options are).given)
+
+pub meant_within : (form : Option FormRead) (words : List (List ℕ)) → option_map meant form ≡ form_of words → IfSome form (λ f. IsWithinLimits (meant f))
+meant_within None words is = tt
+meant_within (Some form) words is = subst (λ o. IfSome o IsWithinLimits) (sym is) (form_of_within words)

@@ -1,0 +1,9 @@
+use Rattle.diag_cli.specs.Runs.{Reading}
+use Rattle.diag_cli.proofs.Headline.{run_usage}
+use Rattle.diag_cli.proofs.program.diag.Goals as goal
+
+pub returns-in-None : goal.returns-in-None
+returns-in-None g c =
+    let old = c.args.shelf.now in
+    let shelf : Reading = record { left = g.H.Source.left old; taken = g.H.Source.taken old; faults = g.H.Source.faults old } in
+    rw (← c.in-None.ensures.form) (run_usage _ shelf shelf _ _ _ _ c.say.ensures.write_fault c.say.ensures.said)

@@ -1,6 +1,6 @@
 -- What a service shows of what it holds, and what its changes are.
-use Rattle.std.proofs.Common.{◌≡◌, ◌∙◌, ◌∷◌, ◌++◌, [], ◌<◌, ◌-◌, ℕ, Bool, List, Option, Some, None, IsNone, IsSome, Result, length, replicate, take, drop, refl, ap, sym, subst, codes, arith, rules, length-append}
-use Rattle.std.specs.Prelude.{Contains}
+use Rattle.std.proofs.Common.{◌≡◌, ◌∙◌, ◌∷◌, ◌++◌, [], ◌<◌, ◌-◌, ℕ, Bool, true, false, List, Option, Some, None, IsNone, IsSome, Result, length, replicate, take, drop, refl, ap, sym, subst, codes, arith, length-append}
+use Rattle.std.specs.Prelude.{Contains, if◌then◌else◌}
 use Rattle.std.proofs.Math.Seq.{take-append_seam}
 use Rattle.std.proofs.lemmas.List.{nil_from_length}
 use Rattle.std.proofs.lemmas.List.Quantifiers.{position-Some}
@@ -19,13 +19,13 @@ use Rattle.script_lang.specs.Script.{Request}
 use Rattle.session_rules.specs.declared.refusal.Refusal.TheVariants.{NoWire, NoPart}
 use Rattle.session_rules.specs.GraphSystems.{Subject, system_of}
 use Rattle.session_rules.specs.Items.{line}
-use Rattle.session_rules.specs.Sessions.{Table, Entry, Outcome, Declined, Done, Becomes, outcome_in, when_open, becomes, at_wire, at_part, at_place, with_entry, with_seen, with_held}
+use Rattle.session_rules.specs.Sessions.{Table, Entry, Declined, outcome_in, when_open, becomes, at_wire, at_part, at_place, with_entry, with_seen, with_held}
 use Rattle.session_rules.proofs.Spellings.{replies_one}
 use Rattle.session_table.specs.Tables.{Opened}
 use Rattle.session_core.specs.Services.{Shown}
 use Rattle.session_core.specs.inner.Holding.{HoldsTogether}
 use Rattle.session_core.specs.inner.Obeying.{Obeys, seen_request, held_request}
-use Rattle.session_core.proofs.Obeying.{with_table, IsOneMove, NeedsSession, obeys_outcome}
+use Rattle.session_core.proofs.Obeying.{IsOneMove, NeedsSession, obeys_outcome}
 
 -- what is shown over a subject, with these sessions
 abbrev pub shown_of : Subject → Opened → Shown
@@ -141,3 +141,9 @@ module _ (old new : Carved) (run : Span) (n : ℕ) (empty : old.runs ≡ []) (lo
 -- a list that was lent whole and written back
 pub written_back : {A : Type 0} (n : ℕ) (new old : List A) → n ≡ length new → take n (new ++ drop (length new) old) ≡ new
 written_back {A} n new old e = ap (λ (k : ℕ). take k (new ++ drop (length new) old)) e ∙ take-append_seam new (drop (length new) old)
+
+-- what is shown of sessions whose table is another, if it is
+pub becomes_so : (subject : Subject) (old new : Opened) (table : Table) (b : Bool) → new ≡ (if b then opened_with old table else old)
+    → shown_of subject new ≡ (if b then record (shown_of subject old) { table = table } else shown_of subject old)
+becomes_so subject old new table true e = ap (shown_of subject) e
+becomes_so subject old new table false e = ap (shown_of subject) e

@@ -9,3 +9,5 @@ pub mod Obeying
 pub mod Holding
 pub mod Stepping
 pub mod Naming
+pub mod Asked
+pub mod Moving

@@ -1,13 +1,12 @@
 -- The line of `min`.
-use Rattle.std.proofs.Common.{◌≡◌, ◌≢◌, ℕ, suc, ◌+◌, ◌<◌, ◌≤◌, min, Bool, true, false, cond, List, [], ◌∷◌, ◌++◌, length, drop, map, Option, Some, None, refl, sym, ◌∙◌, ap, append_assoc, get_or, add-one, codes, subst, Result, IsErr, arith, ⊎_elim}
-use Rattle.std.specs.Prelude.{decimal, slice_index_or, nat_le, if◌then◌else◌, ◌==◌}
+use Rattle.std.proofs.Common.{◌≡◌, ◌≢◌, ℕ, ◌<◌, ◌≤◌, min, Bool, true, false, cond, List, [], ◌∷◌, Option, Some, None, refl, sym, ◌∙◌, ap, codes, arith, ⊎_elim}
+use Rattle.std.specs.Prelude.{decimal, slice_index_or, nat_le}
 use Rattle.std.specs.List.{filter}
-use Rattle.std.proofs.lemmas.Bool.{leb-true, le-leb, cases_lt}
+use Rattle.std.proofs.lemmas.Bool.{le-leb, cases_lt}
 use Rattle.text_rules.specs.Names.{Name}
-use Rattle.text_rules.specs.Tokens.{spaced}
 use Rattle.ranking.specs.Ranking.{cost, least, least_with, is_at_most, diagnoses}
 use Rattle.ranking.specs.Systems.{System}
-use Rattle.session_rules.specs.Items.{Plain, line}
+use Rattle.session_rules.specs.Items.{line}
 use Rattle.session_rules.specs.Replies.{faulty_names, min_line, min_text}
 
 filter-none : {A : Type 0} (xs : List A) → filter (λ x. false) xs ≡ []

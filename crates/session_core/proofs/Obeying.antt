@@ -5,19 +5,19 @@ use Rattle.text_rules.specs.Names.{Name}
 use Rattle.text_rules.specs.Tokens.{spaced}
 use Rattle.diag_edge.specs.Edge.{Puts}
 use Rattle.ranking.specs.Systems.{System}
-use Rattle.script_lang.specs.Script.{Request, Ask}
+use Rattle.script_lang.specs.Script.{Request, Line, Ask, line_of}
 use Rattle.session_rules.specs.declared.refusal.Refusal.{Refusal}
 use Rattle.session_rules.specs.declared.refusal.Refusal.TheVariants.{NoSession}
 use Rattle.session_rules.specs.Refusals.{refusal_number, refusal_text}
 use Rattle.session_rules.specs.GraphSystems.{system_of}
 use Rattle.session_rules.specs.Items.{line}
-use Rattle.session_rules.specs.Sessions.{Table, Entry, Step, Outcome, Declined, Done, Change, outcome, when_open, outcome_in, entry_of, carried, changed}
+use Rattle.session_rules.specs.Sessions.{Table, Entry, Step, Outcome, Declined, outcome, when_open, outcome_in, entry_of, carried}
 use Rattle.session_rules.specs.Moves.{moves}
 use Rattle.session_rules.specs.Spelling.{Replies}
 use Rattle.session_rules.specs.Carrying.{CarriesOut}
 use Rattle.session_rules.proofs.Broken.{carries_step}
 use Rattle.session_rules.proofs.Spellings.{replies_one}
-use Rattle.session_core.specs.Services.{Shown, ChangesTable}
+use Rattle.session_core.specs.Services.{Shown, moves_of}
 use Rattle.session_core.specs.inner.Obeying.{Obeys}
 
 -- the table of a service is another
@@ -65,3 +65,9 @@ module _ {T E : Type 0} (old : Shown) (session : Name) (request : Request) (one 
       obeys_refusal NoSession
       (ap (λ (e : Option Entry). outcome (system_of old.subject) session (nat_le old.limit (length old.table)) e request) none ∙ needs (system_of old.subject) session (nat_le old.limit (length old.table)))
       put
+
+-- a line that asks this was carried out
+pub line_carried : {T E : Type 0} (old new : Shown) (session : Name) (request : Request) (bytes : List ℕ) (before after : Option (List ℕ)) (result : Result T E) → Ask session request ≡ line_of bytes
+    → Obeys old new session request before after result → CarriesOut old.table new.table (moves_of old old.table bytes) before after result
+line_carried old new session request bytes before after result is obeys =
+    subst (λ (l : Line). CarriesOut old.table new.table (moves (system_of old.subject) old.limit old.table l) before after result) is obeys.carried

@@ -4,7 +4,6 @@ use Rattle.std.specs.Prelude.{is_some, slice_get, if◌then◌else◌}
 use Rattle.std.specs.List.{list_all, list_any}
 use Rattle.std.proofs.lemmas.List.{get_or-map}
 use Rattle.text_rules.specs.Names.{Name}
-use Rattle.text_rules.specs.Tokens.{spaced}
 use Rattle.ranking.specs.Bits.{bit_in}
 use Rattle.ranking.specs.Cases.{Case}
 use Rattle.ranking.specs.Ranking.{cost, least, least_with, least_of, diagnoses}
@@ -14,7 +13,7 @@ use Rattle.conditioner.specs.Words.{known_of}
 use Rattle.probe_report.specs.declared.verdicts.Blame.{Blame}
 use Rattle.probe_report.specs.Verdicts.{verdict as verdict_on}
 use Rattle.session_rules.specs.Items.{Item, line}
-use Rattle.session_rules.specs.Replies.{inconsistent, seen_at, least_at, count_text, probe_line, probe_lines, verdict, blame_lines, if_any}
+use Rattle.session_rules.specs.Replies.{inconsistent, seen_at, probe_line, probe_lines, verdict, blame_lines, if_any}
 use Rattle.session_rules.specs.GraphSystems.{Subject, system_of}
 use Rattle.session_rules.proofs.Begun.{HaveSpellings}
 use Rattle.session_rules.proofs.ProbeWords.{word_there}

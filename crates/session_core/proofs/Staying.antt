@@ -1,6 +1,5 @@
 -- What stays the same while the table changes.
-use Rattle.std.proofs.Common.{◌≡◌, ◌∙◌, ℕ, List, refl, ap, sym}
-use Rattle.session_rules.specs.Sessions.{Table, Step}
+use Rattle.std.proofs.Common.{◌≡◌, ◌∙◌, ap}
 use Rattle.session_core.specs.Services.{Shown, moves_of, ChangesTable}
 
 pub stays_more : (a b c : Shown) → ChangesTable a b → ChangesTable b c → ChangesTable a c

@@ -120,8 +120,10 @@ impl Sessions {
         requires shares { blank.parts ≡ L.parts }
         requires some { 0 < blank.parts }
         requires place { place < length self.old.table }
-        ensures { (session : Name) (entry : Entry) → StandsAt self.old.table place session entry
-            → PointMoves self.old.subject self.old.table self.new.table place session entry result × ChangesTable self.old self.new }
+        ensures moves { (session : Name) (entry : Entry) → StandsAt self.old.table place session entry
+            → PointMoves self.old.subject self.old.table self.new.table place session entry result }
+        ensures stays { ChangesTable self.old self.new }
+        ensures still { place < length self.new.table }
     {
         let run = self.scratch.carve(self.basis.room()).unwrap();
         let step = move_point(
@@ -164,6 +166,7 @@ impl Sessions {
               table = with_entry session
                   (record entry { point = Some (state_of (words names.now) self.old.subject.parts) }) self.old.table;
             } else self.old) }
+        ensures stays { ChangesTable self.old self.new }
     {
         let run = self.scratch.carve(self.basis.room()).unwrap();
         let are_parts = name_point(
@@ -192,12 +195,20 @@ fn move_point<L: Ledger>(
     requires vars { open.old.vars ≡ basis.now.graph.vars }
     requires place { place < length open.old.table }
     requires scratch { length scratch.old ≡ basis.now.graph.vars + (length basis.now.graph.nodes + length basis.now.parts) }
-    ensures { (session : Name) (entry : Entry) → StandsAt open.old.table place session entry
-        → PointMoves basis.now open.old.table open.new.table place session entry result
-        × (open.new ≡ record open.old { table = open.new.table }) }
+    ensures moves { (session : Name) (entry : Entry) → StandsAt open.old.table place session entry
+        → PointMoves basis.now open.old.table open.new.table place session entry result }
+    ensures stays { open.new ≡ record open.old { table = open.new.table } }
+    ensures still { place < length open.new.table }
 {
     let (state, work) = scratch.split_at_mut(basis.parts().len());
-    match advance(basis, open.words(place), open.point(place), state, work, steps) {
+    match advance(
+        basis,
+        open.words(place),
+        open.point(place),
+        state,
+        work,
+        steps,
+    ) {
         Step::Found => {
             open.set_point(place, state);
             Step::Found
@@ -223,6 +234,7 @@ fn name_point(
           table = with_entry session
               (record entry { point = Some (state_of (words names.now) basis.now.parts) }) open.old.table;
         } else open.old) }
+    ensures stays { open.new ≡ record open.old { table = open.new.table } }
 {
     let (state, _) = scratch.split_at_mut(basis.parts().len());
     if !mark_named(basis, names, state) {

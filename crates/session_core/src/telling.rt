@@ -256,7 +256,15 @@ fn tell_blame<O: Sink, L: Ledger>(
     if !is_consistent(basis, words, values, steps) {
         return put_line(out, &[session, b"inconsistent"]);
     }
-    blame_all(basis.graph(), words, basis.costs(), values, state, verdicts, steps);
+    blame_all(
+        basis.graph(),
+        words,
+        basis.costs(),
+        values,
+        state,
+        verdicts,
+        steps,
+    );
     put_blames(basis, verdicts, session, out)?;
     put_line(out, &[session, b"end"])
 }

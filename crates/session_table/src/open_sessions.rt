@@ -161,6 +161,8 @@ impl OpenSessions {
             } }
         ensures stands { (session : Name) (entry : Entry) → StandsAt self.old.table place session entry
             → StandsAt self.new.table place session (record entry { point = Some (bits_of state.now) }) }
+        ensures stays { self.new ≡ record self.old { table = self.new.table } }
+        ensures still { place < length self.new.table }
     {
         let block = &self.open[place].block;
         in_pool::set_point(self.layout, &mut self.pool, block, state);

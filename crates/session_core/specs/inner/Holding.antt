@@ -1,5 +1,5 @@
 -- What the parts of a service have in common.
-use Rattle.std.specs.Prelude.{◌≡◌, ℕ, ◌+◌, List, [], length}
+use Rattle.std.specs.Prelude.{◌≡◌, ◌+◌, List, [], length}
 use Rattle.probe_report.specs.declared.verdicts.Blame.{Blame}
 use Rattle.scratch_pool.specs.Regions.{Carved}
 use Rattle.session_rules.specs.GraphSystems.{Subject}

@@ -5,7 +5,6 @@ use Rattle.conditioner.specs.Models.{models, diagnoses_under}
 use Rattle.ranking.specs.Ranking.{rest}
 use Rattle.ranking.specs.Systems.{all_diagnoses}
 use Rattle.diagnosis_lister.specs.declared.listing.Step.{Step}
-use Rattle.diagnosis_lister.specs.declared.listing.Step.TheVariants.{Found}
 use Rattle.diagnosis_lister.specs.Listing.{bits_of, step_of}
 use Rattle.session_rules.specs.GraphSystems.{Subject, system_of}
 use Rattle.session_rules.proofs.CaseWords.{models-by_words, diagnoses-by_words}

@@ -1,4 +1,4 @@
-use Rattle.std.proofs.Common.{◌≡◌, ◌∙◌, ℕ, List, Bool, Option, Some, [], get_or, refl, sym, ap}
+use Rattle.std.proofs.Common.{◌≡◌, ◌∙◌, List, Bool, Some, [], get_or, refl, sym, ap}
 use Rattle.conditioner.specs.Models.{least_under, diagnoses_under}
 use Rattle.diagnosis_lister.specs.Listing.{bits_of}
 use Rattle.ranking.specs.Systems.{all_diagnoses, least_cost}

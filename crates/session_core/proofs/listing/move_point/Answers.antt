@@ -1,6 +1,5 @@
-use Rattle.std.proofs.Common.{◌≡◌, ◌∙◌, ℕ, List, Bool, Option, Some, [], get_or, length, refl, sym, ap, subst}
+use Rattle.std.proofs.Common.{◌≡◌, ◌∙◌, ℕ, List, Bool, Option, Some, [], get_or, length, sym, ap, subst}
 use Rattle.text_rules.specs.Names.{Name}
-use Rattle.ranking.specs.Cases.{Case}
 use Rattle.ranking.specs.Ranking.{rest}
 use Rattle.ranking.specs.Systems.{all_diagnoses}
 use Rattle.diagnosis_lister.specs.declared.listing.Step.{Step}
@@ -11,7 +10,7 @@ use Rattle.session_rules.specs.GraphSystems.{Subject, system_of}
 use Rattle.session_rules.specs.Replies.{diagnosis_line}
 use Rattle.session_rules.specs.Sessions.{Entry, Table, with_entry}
 use Rattle.session_table.specs.Tables.{Opened, StandsAt}
-use Rattle.session_core.specs.inner.Obeying.{the_next, next_entry, PointMoves}
+use Rattle.session_core.specs.inner.Obeying.{the_next, PointMoves}
 use Rattle.session_core.proofs.Stepping.{point_kept, found_more}
 use Rattle.session_core.proofs.listing.move_point.Goals as goal
 
@@ -44,24 +43,23 @@ module _ (subject : Subject) (session : Name) (entry : Entry) where
         stands = subst (λ (p : Option (List Bool)). StandsAt new place session (record entry { point = p })) point stands;
       }
 
-pub returns-in_default : goal.returns-in_default
-returns-in_default g c = λ session entry stands.
+pub returns-in_default-clause-moves : goal.returns-in_default-clause-moves
+returns-in_default-clause-moves g c = λ session entry stands.
     let subject = c.args.basis.now in
     let known : case_of_words (length subject.parts) (length subject.wires) c.words.result.now ≡ entry.known =
     (λ i. case_of_words (sym c.requires.parts i) (sym c.requires.wires i) c.words.result.now) ∙ sym (c.words.ensures.known session entry stands) in
     let point = sym (c.point.ensures.point session entry stands) in
-    (stays subject session entry c.args.open.now.table c.args.place c.advance.result stands
+    stays subject session entry c.args.open.now.table c.args.place c.advance.result stands
     (c.advance.ensures.step ∙ (λ i. step_of ((system_of subject).consistent (known i)) (rest (all_diagnoses (system_of subject) (known i)) (point i))))
-    c.in_default.not-Found, refl)
+    c.in_default.not-Found
 
-pub returns-in-Found : goal.returns-in-Found
-returns-in-Found g c = λ session entry stands.
+pub returns-in-Found-clause-moves : goal.returns-in-Found-clause-moves
+returns-in-Found-clause-moves g c = λ session entry stands.
     let subject = c.args.basis.now in
     let known : case_of_words (length subject.parts) (length subject.wires) c.words.result.now ≡ entry.known =
     (λ i. case_of_words (sym c.requires.parts i) (sym c.requires.wires i) c.words.result.now) ∙ sym (c.words.ensures.known session entry stands) in
     let point = sym (c.point.ensures.point session entry stands) in
     let is = sym c.in-Found.is ∙ (c.advance.ensures.step ∙ (λ i. step_of ((system_of subject).consistent (known i)) (rest (all_diagnoses (system_of subject) (known i)) (point i)))) in
     let first = c.advance.ensures.state c.in-Found.is ∙ (λ i. get_or (rest (all_diagnoses (system_of subject) (known i)) (point i)) 0 []) in
-    let e = c.set_point.ensures.point session entry stands in
-    (goes_on subject session entry c.args.open.now.table c.set_point.new.self.table c.args.place (bits_of c.advance.new.state) is first (ap (λ (o : Opened). o.table) e) (c.set_point.ensures.stands session entry stands),
-    e ∙ sym (ap (λ (o : Opened). record c.args.open.now { table = o.table }) e))
+    goes_on subject session entry c.args.open.now.table c.set_point.new.self.table c.args.place (bits_of c.advance.new.state) is first
+    (ap (λ (o : Opened). o.table) (c.set_point.ensures.point session entry stands)) (c.set_point.ensures.stands session entry stands)

@@ -39,9 +39,9 @@ returns-in-Ok-finish-clause-served g c =
       (
         c.in-Ok.ensures.bytes.1 c.if-count-eq0.true (grind (arith, common_steps)),
         omega (arith, loop.so_far.1, c.loop-taken-test.true),
-        makes_all (g.O.Sink.got c.finish.new.out) (moves_are_cut c.args.sessions.now) loop.so_far.3 
-        (subst (λ (one : Table → List ℕ → List Step). Makes c.loop-taken.sessions.table c.finish.new.sessions.table (script_moves one c.loop-taken.sessions.table (last_line c.loop-taken.gathered)) (g.O.Sink.got c.loop-taken.out) (g.O.Sink.got c.finish.new.out))
-        (moves_stay c.args.sessions.now c.loop-taken.sessions loop.stays) c.in-Ok-finish.ensures.carried),
+        makes_all (g.O.Sink.got c.finish.new.out) (moves_are_cut c.args.sessions.now) loop.so_far.3
+            (subst (λ (one : Table → List ℕ → List Step). Makes c.loop-taken.sessions.table c.finish.new.sessions.table (script_moves one c.loop-taken.sessions.table (last_line c.loop-taken.gathered)) (g.O.Sink.got c.loop-taken.out) (g.O.Sink.got c.finish.new.out))
+            (moves_stay c.args.sessions.now c.loop-taken.sessions loop.stays) c.in-Ok-finish.ensures.carried),
       ),
     )
 
@@ -56,9 +56,9 @@ returns-in-Err-finish-clause-served g c =
         inr (
           c.in-Ok.ensures.bytes.1 c.if-count-eq0.true (grind (arith, common_steps)),
           omega (arith, loop.so_far.1, c.loop-taken-test.true),
-          breaks_all {u = c.finish.new.sessions.table} {c = g.O.Sink.got c.finish.new.out} (moves_are_cut c.args.sessions.now) loop.so_far.3 
-          (subst (λ (one : Table → List ℕ → List Step). BreaksOff c.finish.new.sessions.table (script_moves one c.loop-taken.sessions.table (last_line c.loop-taken.gathered)) (g.O.Sink.got c.loop-taken.out) (g.O.Sink.got c.finish.new.out))
-          (moves_stay c.args.sessions.now c.loop-taken.sessions loop.stays) c.in-Err-finish.ensures.carried),
+          breaks_all {u = c.finish.new.sessions.table} {c = g.O.Sink.got c.finish.new.out} (moves_are_cut c.args.sessions.now) loop.so_far.3
+              (subst (λ (one : Table → List ℕ → List Step). BreaksOff c.finish.new.sessions.table (script_moves one c.loop-taken.sessions.table (last_line c.loop-taken.gathered)) (g.O.Sink.got c.loop-taken.out) (g.O.Sink.got c.finish.new.out))
+              (moves_stay c.args.sessions.now c.loop-taken.sessions loop.stays) c.in-Err-finish.ensures.carried),
         ),
       ),
     )
@@ -71,7 +71,7 @@ returns-in-Err-feed-clause-served g c =
     let same : take c.in-Ok.count (c.read.new.into ++ drop c.min-room.result c.loop-taken.piece) ≡ bytes = grind (arith, common_steps) in
     let got = g.O.Sink.got in
     let broken : BreaksOff c.feed.new.sessions.table (script_moves (moves_of c.args.sessions.now) c.loop-taken.sessions.table (ended_from c.loop-taken.gathered bytes)) (got c.loop-taken.out) (got c.feed.new.out) =
-    subst (λ xs. BreaksOff c.feed.new.sessions.table (script_moves (moves_of c.args.sessions.now) c.loop-taken.sessions.table (ended_from c.loop-taken.gathered xs)) (got c.loop-taken.out) (got c.feed.new.out)) same 
+    subst (λ xs. BreaksOff c.feed.new.sessions.table (script_moves (moves_of c.args.sessions.now) c.loop-taken.sessions.table (ended_from c.loop-taken.gathered xs)) (got c.loop-taken.out) (got c.feed.new.out)) same
     (subst (λ (one : Table → List ℕ → List Step). BreaksOff c.feed.new.sessions.table (script_moves one c.loop-taken.sessions.table (ended_from c.loop-taken.gathered (take c.in-Ok.count (c.read.new.into ++ drop c.min-room.result c.loop-taken.piece)))) (got c.loop-taken.out) (got c.feed.new.out)) same_moves c.in-Err-feed.ensures.err) in (
       loop.so_far.0 ++ bytes,
       grind (arith, common_steps, length-append, length-take),
@@ -89,7 +89,7 @@ loop-taken-preserved g c =
     let bytes = take c.in-Ok.count c.read.new.into in
     let same : take c.in-Ok.count (c.read.new.into ++ drop c.min-room.result c.loop-taken.piece) ≡ bytes = grind (arith, common_steps) in
     let fed : Fed (moves_of c.args.sessions.now) c.loop-taken.sessions.table c.feed.new.sessions.table c.loop-taken.gathered c.feed.new.gathered bytes (g.O.Sink.got c.loop-taken.out) (g.O.Sink.got c.feed.new.out) =
-    subst (λ xs. Fed (moves_of c.args.sessions.now) c.loop-taken.sessions.table c.feed.new.sessions.table c.loop-taken.gathered c.feed.new.gathered xs (g.O.Sink.got c.loop-taken.out) (g.O.Sink.got c.feed.new.out)) same 
+    subst (λ xs. Fed (moves_of c.args.sessions.now) c.loop-taken.sessions.table c.feed.new.sessions.table c.loop-taken.gathered c.feed.new.gathered xs (g.O.Sink.got c.loop-taken.out) (g.O.Sink.got c.feed.new.out)) same
     (subst (λ (one : Table → List ℕ → List Step). Fed one c.loop-taken.sessions.table c.feed.new.sessions.table c.loop-taken.gathered c.feed.new.gathered (take c.in-Ok.count (c.read.new.into ++ drop c.min-room.result c.loop-taken.piece)) (g.O.Sink.got c.loop-taken.out) (g.O.Sink.got c.feed.new.out)) same_moves c.in-Ok-feed.ensures.ok) in
     record {
       so_far = (loop.so_far.0 ++ bytes, grind (arith, common_steps), consumes_more _ _ _ _ _ loop.so_far.2 c.in-Ok.ensures.bytes.0, fed_more (moves_are_cut c.args.sessions.now) loop.so_far.3 fed);

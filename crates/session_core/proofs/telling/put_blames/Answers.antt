@@ -1,4 +1,4 @@
-use Rattle.std.proofs.Common.{◌≡◌, ◌∙◌, ◌+◌, ◌<◌, ◌≤◌, ◌∷◌, [], ℕ, List, ap, sym, subst, length, get_or, drop, codes, arith}
+use Rattle.std.proofs.Common.{◌≡◌, ◌∙◌, ◌+◌, ◌<◌, ◌∷◌, [], ℕ, List, ap, subst, length, get_or, drop, codes, arith}
 use Rattle.std.proofs.lemmas.List.{get_or_read}
 use Rattle.text_rules.specs.Tokens.{spaced}
 use Rattle.probe_report.specs.declared.verdicts.Blame.TheVariants.{Always}

@@ -1,4 +1,4 @@
-use Rattle.std.proofs.Common.{◌≡◌, ◌∙◌, ◌+◌, ◌∷◌, [], ℕ, List, Option, ap, ap₂, sym, length, codes, true, false, refl}
+use Rattle.std.proofs.Common.{◌∙◌, ◌+◌, ◌∷◌, [], ℕ, Option, ap₂, length, codes, true, false, refl}
 use Rattle.text_rules.specs.Tokens.{spaced}
 use Rattle.conditioner.specs.Models.{least_with}
 use Rattle.session_rules.specs.Replies.{count_text, probe_line}

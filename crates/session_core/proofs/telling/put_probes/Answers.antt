@@ -1,11 +1,11 @@
-use Rattle.std.proofs.Common.{◌≡◌, ◌∙◌, ◌+◌, ◌<◌, ◌≤◌, [], ℕ, List, ap, sym, subst, length, get_or, drop, arith}
+use Rattle.std.proofs.Common.{◌≡◌, ◌∙◌, ◌+◌, [], List, subst, get_or, drop}
 use Rattle.std.proofs.lemmas.List.{get_or_read}
 use Rattle.session_rules.specs.GraphSystems.{system_of}
 use Rattle.session_rules.specs.Items.{Item}
 use Rattle.session_rules.specs.Replies.{probe_lines}
 use Rattle.session_rules.specs.Spelling.{Writes, WritesPart}
 use Rattle.session_core.specs.inner.Bases.{case_in}
-use Rattle.session_core.specs.inner.Telling.{Said, unseen_line}
+use Rattle.session_core.specs.inner.Telling.{unseen_line}
 use Rattle.session_core.proofs.Told.{said_more, said_part}
 use Rattle.session_core.proofs.Questions.{lines-next, lines-have}
 use Rattle.session_core.proofs.telling.put_probes.Goals as goal

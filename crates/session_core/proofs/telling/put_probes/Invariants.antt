@@ -1,4 +1,4 @@
-use Rattle.std.proofs.Common.{◌≡◌, length, drop}
+use Rattle.std.proofs.Common.{◌≡◌, drop}
 use Rattle.session_rules.specs.GraphSystems.{system_of}
 use Rattle.session_rules.specs.Replies.{probe_lines}
 use Rattle.session_core.specs.inner.Bases.{case_in}

@@ -1,4 +1,4 @@
-use Rattle.std.proofs.Common.{◌+◌, ap, sym, subst, length, arith, List}
+use Rattle.std.proofs.Common.{◌+◌, ap, sym, subst, length, List}
 use Rattle.session_rules.specs.Items.{Item}
 use Rattle.session_rules.specs.Spelling.{Writes, Replies}
 use Rattle.session_rules.proofs.Spellings.{writes_none}

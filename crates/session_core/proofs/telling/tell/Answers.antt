@@ -1,8 +1,5 @@
-use Rattle.std.proofs.Common.{◌∷◌, ◌++◌, [], ℕ, List, length, codes, sym, subst}
-use Rattle.ranking.specs.Systems.{least_cost, all_diagnoses}
+use Rattle.std.proofs.Common.{ℕ, List, sym, subst}
 use Rattle.session_rules.specs.GraphSystems.{system_of}
-use Rattle.session_rules.specs.Items.{Projected, line}
-use Rattle.session_rules.specs.Replies.{min_line, probe_line, probe_lines, blame_lines, end_line, if_any}
 use Rattle.session_rules.specs.Spelling.{Replies}
 use Rattle.session_core.specs.declared.telling.Question.{Question}
 use Rattle.session_core.specs.declared.telling.Question.TheVariants as question

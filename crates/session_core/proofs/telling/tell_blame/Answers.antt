@@ -1,4 +1,4 @@
-use Rattle.std.proofs.Common.{◌≡◌, ◌∙◌, ◌∷◌, ◌++◌, ◌+◌, ◌<◌, [], ℕ, List, Bool, true, not, Option, Some, map, length, refl, sym, ap, subst, arith}
+use Rattle.std.proofs.Common.{◌≡◌, ◌∙◌, ◌∷◌, ◌++◌, ◌+◌, ◌<◌, [], ℕ, List, Bool, true, not, Some, map, length, refl, sym, ap, subst, arith}
 use Rattle.std.specs.Prelude.{slice_get, is_some}
 use Rattle.text_rules.specs.Names.{Name}
 use Rattle.ranking.specs.Bits.{bit_in}

@@ -1,6 +1,4 @@
-use Rattle.std.proofs.Common.{◌≡◌, ◌∙◌, ◌∷◌, ◌+◌, ◌<◌, ◌≤◌, ◌^◌, [], ℕ, List, Bool, length, codes, refl, ap, sym, subst, arith}
-use Rattle.text_rules.specs.Tokens.{is_neat}
-use Rattle.graph_rules.specs.Graphs.{Graph}
+use Rattle.std.proofs.Common.{◌≡◌, ◌∷◌, ◌+◌, ◌<◌, ◌≤◌, ◌^◌, [], ℕ, List, Bool, length, codes, refl, sym, subst, arith}
 use Rattle.graph_rules.specs.GraphTexts.{parsed}
 use Rattle.projector.specs.Projecting.{projected_text, IsGraphOf}
 use Rattle.projector.proofs.Projected.{projected_text-is_neat, projected_text-means}

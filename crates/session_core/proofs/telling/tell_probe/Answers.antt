@@ -1,6 +1,6 @@
-use Rattle.std.proofs.Common.{◌∷◌, [], List, refl, sym, subst, codes}
+use Rattle.std.proofs.Common.{◌∷◌, [], List, refl, sym, subst}
 use Rattle.session_rules.specs.GraphSystems.{system_of}
-use Rattle.session_rules.specs.Items.{Item, line}
+use Rattle.session_rules.specs.Items.{Item}
 use Rattle.session_rules.specs.Replies.{probe_line, inconsistent}
 use Rattle.session_rules.specs.Spelling.{Replies}
 use Rattle.session_rules.proofs.Spellings.{replies_one}

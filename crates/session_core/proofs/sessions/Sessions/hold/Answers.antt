@@ -1,7 +1,7 @@
-use Rattle.std.proofs.Common.{◌∙◌, ◌∷◌, [], ap, subst, refl, codes, arith}
+use Rattle.std.proofs.Common.{◌∙◌, subst, codes, arith}
 use Rattle.session_rules.specs.declared.refusal.Refusal.TheVariants.{NoPart}
 use Rattle.session_rules.specs.GraphSystems.{system_of}
-use Rattle.session_rules.specs.Sessions.{with_held, with_entry}
+use Rattle.session_rules.specs.Sessions.{with_held}
 use Rattle.session_core.specs.Services.{Shown}
 use Rattle.session_core.specs.inner.Obeying.{Obeys, held_request}
 use Rattle.session_core.proofs.Obeying.{obeys_closed, obeys_refusal, asked_open}

@@ -1,6 +1,5 @@
 use Rattle.std.proofs.Common.{◌∷◌, [], ap, subst, refl, codes}
 use Rattle.script_lang.specs.Script.{Stop}
-use Rattle.session_rules.specs.GraphSystems.{system_of}
 use Rattle.session_rules.specs.Items.{line}
 use Rattle.session_rules.specs.Sessions.{Done, Ends, without}
 use Rattle.session_rules.proofs.Spellings.{replies_one}

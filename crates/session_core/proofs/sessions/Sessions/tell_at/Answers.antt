@@ -1,4 +1,4 @@
-use Rattle.std.proofs.Common.{◌≡◌, ◌∙◌, ◌+◌, ◌<◌, ℕ, List, Bool, [], length, refl, ap, sym, subst, arith}
+use Rattle.std.proofs.Common.{◌≡◌, ◌∙◌, ℕ, length, ap, sym, subst}
 use Rattle.std.specs.Prelude.{IfSome, Option, Some}
 use Rattle.ranking.specs.Cases.{Case}
 use Rattle.scratch_pool.specs.declared.region.Span.{Span}
@@ -12,7 +12,7 @@ use Rattle.session_table.specs.Tables.{StandsAt}
 use Rattle.session_core.specs.Services.{Shown}
 use Rattle.session_core.specs.inner.Bases.{case_in}
 use Rattle.session_core.specs.inner.Telling.{told_of}
-use Rattle.session_core.proofs.Holding.{carve_some, is_last, is_held, carved_long, released_runs, released_words, written_back}
+use Rattle.session_core.proofs.Holding.{carve_some, is_last, is_held, released_runs, released_words, written_back}
 use Rattle.session_core.proofs.sessions.Sessions.tell_at.Goals as goal
 
 pub unwrap-run-requires : goal.unwrap-run-requires

@@ -1,0 +1,34 @@
+use Rattle.std.proofs.Common.{◌∷◌, [], subst, refl}
+use Rattle.script_lang.specs.Script.{Next}
+use Rattle.session_table.specs.Tables.{StandsAt}
+use Rattle.session_core.specs.Services.{Shown}
+use Rattle.session_core.specs.inner.Obeying.{Obeys, the_next}
+use Rattle.session_core.proofs.Holding.{shown_of}
+use Rattle.session_core.proofs.Moving.{obeys_next, replies_part}
+use Rattle.session_core.proofs.Obeying.{obeys_closed}
+use Rattle.session_core.proofs.sessions.Sessions.next.Goals as goal
+
+pub returns-in-None-clause-obeys : goal.returns-in-None-clause-obeys
+returns-in-None-clause-obeys g c =
+    let shown = shown_of c.self.inside.basis c.self.inside.open in
+    subst (λ (v : Shown). Obeys v v c.args.session.now Next (g.O.Sink.got c.args.out.now) (g.O.Sink.got c.put_refusal.new.out) c.put_refusal.result) c.self.view_is
+    (obeys_closed shown c.args.session.now Next (λ system limit table session. refl) _ _ _ (λ system session full. refl) c.in-None.ensures.none c.put_refusal.ensures.text)
+
+pub returns-in_err-move_on-in-Some-clause-obeys : goal.returns-in_err-move_on-in-Some-clause-obeys
+returns-in_err-move_on-in-Some-clause-obeys g c =
+    let old = c.args.self.now in
+    let s = c.args.session.now in
+    let there = c.in-Some.ensures.some in
+    let here = subst (λ (v : Shown). StandsAt v.table c.in-Some.place s there.0) c.self.view_is there.1 in
+    let m = c.in_err-move_on-in-Some.ensures.moves there.0 here in
+    obeys_next old c.move_on.new.self s there.0 _ _ c.from_residual.result here.found
+    (replies_part _ _ _ ((the_next old.subject s there.0).item ∷ []) c.from_residual.ensures.0 m.reply) m.moved
+
+pub returns-in_ok-move_on-in-Some-clause-obeys : goal.returns-in_ok-move_on-in-Some-clause-obeys
+returns-in_ok-move_on-in-Some-clause-obeys g c =
+    let old = c.args.self.now in
+    let s = c.args.session.now in
+    let there = c.in-Some.ensures.some in
+    let here = subst (λ (v : Shown). StandsAt v.table c.in-Some.place s there.0) c.self.view_is there.1 in
+    let m = c.in_ok-move_on-in-Some.ensures.moves there.0 here in
+    obeys_next old c.move_on.new.self s there.0 _ _ _ here.found m.reply m.moved

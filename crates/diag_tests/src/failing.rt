@@ -3,9 +3,10 @@ use std::test::Fail;
 
 const WORDS: [&str; 2] = ["serve", "chain.bench"];
 
-const SCRIPT: &str = "open S\nmin S\nnext S\n";
+const SCRIPT: &[u8] = b"open S\nmin S\nlist S 3\nclose T\nprobes S\nblame S\n";
 
-const OUT: &str = "ready 2 3\nS open\nS min 0\nnot yet\n";
+const OUT: &str =
+    "ready 2 3\nS open\nS min 0\nS diag\nS end\nT error 6 no session\nS probe a 0 0\nS probe b 0 0\nS probe c 0 0\nS end\nS blame b never\nS blame c never\nS end\n";
 
 // The second piece ends within the third line, which is not answered.
 #[test]
@@ -59,7 +60,7 @@ fn the_first_write_fails(rt: HostRuntime) -> Result<(), Fail> {
 #[test]
 fn a_write_fails(rt: HostRuntime) -> Result<(), Fail> {
     let mut whole = 0;
-    for failing_write in 1..=40 {
+    for failing_write in 1..=100 {
         let meeting = Meeting {
             failing_write,
             keep: 1,
@@ -76,6 +77,6 @@ fn a_write_fails(rt: HostRuntime) -> Result<(), Fail> {
             assert_eq!(rt; whole, 0, "call {failing_write} after a whole run");
         }
     }
-    assert_eq!(rt; whole, 40);
+    assert_eq!(rt; whole, 100);
     Ok(())
 }

@@ -13,3 +13,7 @@ mod parts;
 mod rows;
 #[cfg(test)]
 mod running;
+#[cfg(test)]
+mod sessions;
+#[cfg(test)]
+mod texts;

@@ -36,7 +36,7 @@ const ROWS: [Row; 20] = [
         file: CHAIN,
         words: &["serve", "chain.bench"],
         script: "open S\nsee S a=0\nsee S c=1\nmin S\nopen T\nmin T\n",
-        out: "ready 2 3\nS open\nS ok\nS ok\nS min 1 b\nnot yet\nnot yet\n",
+        out: "ready 2 3\nS open\nS ok\nS ok\nS min 1 b\nT open\nT min 0\n",
         status: 0,
     },
     // No line feed ends the last line.
@@ -177,7 +177,7 @@ const ROWS: [Row; 20] = [
             name: "not.bench",
             text: "INPUT(a)\ny = NOT(a)\n",
         },
-        words: &["serve", "not.bench", "--budget", "7"],
+        words: &["serve", "not.bench", "--sessions", "1024", "--budget", "7"],
         script: "open S\nsee S a=1\nsee S y=1\nmin S\n",
         out: "ready 1 2\nS open\nS ok\nS ok\nS min 1 y\n",
         status: 0,
@@ -216,7 +216,7 @@ const ROWS: [Row; 20] = [
 ];
 
 // Words that ask for nothing that the program does.
-const WRONG: [&[&str]; 15] = [
+const WRONG: [&[&str]; 20] = [
     &[],
     &["serve"],
     &["--help"],
@@ -226,10 +226,15 @@ const WRONG: [&[&str]; 15] = [
     &["serve", "c17.bench", "x"],
     &["serve", "c17.bench", "--budget", "08"],
     &["serve", "c17.bench", "--budget", "8388609"],
+    &["serve", "c17.bench", "--sessions"],
+    &["serve", "c17.bench", "--sessions", "0"],
+    &["serve", "c17.bench", "--sessions", "1025"],
+    &["serve", "c17.bench", "--sessions", "2", "--sessions", "2"],
     &["answer", "c17.bench"],
     &["check", "c17.bench"],
     &["plan", "c17.nnf"],
     &["plan", "c17.bench", "--budget", "7"],
+    &["compile", "c17.bench", "--sessions", "2"],
     &["compile", "c17.bench", "--budget", "0"],
     &["compile", "c17.bench", "--budget", "8388609"],
 ];
@@ -243,7 +248,13 @@ fn answers_rows(rt: HostRuntime) -> Result<(), Fail> {
                 ..NOTHING_FAILS
             };
             assert!(rt; 0 < meeting.piece);
-            let ran = run(rt.alloc(), row.file, row.words, row.script, &meeting)?;
+            let ran = run(
+                rt.alloc(),
+                row.file,
+                row.words,
+                row.script.as_bytes(),
+                &meeting,
+            )?;
             let words = row.words;
             assert_eq!(rt; ran.out.as_slice(), row.out.as_bytes(), "{words:?}");
             assert_eq!(rt; ran.status, row.status, "{words:?}");
@@ -255,7 +266,7 @@ fn answers_rows(rt: HostRuntime) -> Result<(), Fail> {
 #[test]
 fn refuses_words(rt: HostRuntime) -> Result<(), Fail> {
     for words in WRONG {
-        let ran = run(rt.alloc(), CHAIN, words, "open S\n", &NOTHING_FAILS)?;
+        let ran = run(rt.alloc(), CHAIN, words, b"open S\n", &NOTHING_FAILS)?;
         assert_eq!(rt;
             ran.out.as_slice(),
             "error: usage\n".as_bytes(),
@@ -274,7 +285,7 @@ fn compiles(rt: HostRuntime) -> Result<(), Fail> {
         &["compile", "chain.bench", "--budget", "12"],
     ];
     for words in COMPILED {
-        let ran = run(rt.alloc(), CHAIN, words, "open S\n", &NOTHING_FAILS)?;
+        let ran = run(rt.alloc(), CHAIN, words, b"open S\n", &NOTHING_FAILS)?;
         assert!(rt; ran.out.as_slice().starts_with(b"nnf "), "{words:?}");
         assert_eq!(rt; ran.status, 0, "{words:?}");
     }

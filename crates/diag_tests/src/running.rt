@@ -82,14 +82,14 @@ pub fn run(
     alloc: Global,
     file: File,
     words: &[&str],
-    script: &str,
+    script: &[u8],
     meeting: &Meeting,
 ) -> Result<Ran, Fail>
     requires { 0 < meeting.now.piece }
 {
     let words = owned(alloc, words)?;
     let mut shelf = shelf_of(alloc, file, meeting.failing_pick_or_load)?;
-    let script = Vec::from_slice(alloc, script.as_bytes())?;
+    let script = Vec::from_slice(alloc, script)?;
     let mut input = MemSource::new(script, meeting.piece, numbers(alloc, meeting.failing_read)?);
     let mut out = MemSink::new(
         alloc,

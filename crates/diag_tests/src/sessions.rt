@@ -193,7 +193,7 @@ fn replies(
     rt: &impl Abort,
     alloc: Global,
     file: File,
-    sessions: &str,
+    sessions: &'static str,
     ready: &str,
     exchanges: &[Exchange],
 ) -> Result<(), Fail> {

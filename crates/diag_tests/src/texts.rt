@@ -1,5 +1,3 @@
-ghost use Rattle.std.specs.Prelude.{◌≤◌, length};
-
 use crate::running::{CHAIN, File, Meeting, NOTHING_FAILS, run};
 use graph_rules::NodeKind;
 use nnf_text::read_nnf;

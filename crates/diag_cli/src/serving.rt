@@ -36,6 +36,7 @@ fn graph_of(alloc: Global, device: &Device, cnf: &Cnf) -> Result<Graph, AllocErr
     requires describes { Describes cnf.now device.now }
     ensures { IfOk result (IsServable device.now) }
 {
+    // parts and wires of a device are few
     let _parts = device.parts();
     Ok(compile(alloc, cnf)?.graph)
 }
@@ -52,6 +53,7 @@ fn service_over(
     ensures service { IfOk result (IsServiceOf device sessions) }
     ensures memory { IfErr result (λ refusal. refusal ≡ Refusal.Memory) }
 {
+    // the names of a device rise, and are few
     let _parts = device.parts();
     let (parts, wires) = match device.take_names(alloc) {
         Ok(names) => names,

@@ -1,4 +1,5 @@
-use crate::running::{C17, CHAIN, File, Meeting, NOTHING_FAILS, run};
+use crate::running::{CHAIN, File, Meeting, NOTHING_FAILS, run};
+use graph_tests::C17;
 use std::test::Fail;
 
 struct Row {

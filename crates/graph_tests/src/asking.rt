@@ -1,6 +1,6 @@
 ghost use Rattle.std.specs.Prelude.{◌≡◌, ◌<◌};
 
-use crate::running::C17;
+use crate::C17;
 use bench_reader::read_bench;
 use branch_states::{BUDGET_LIMIT, measure};
 use clause_encoder::encode;

@@ -1,4 +1,4 @@
-use crate::running::C17;
+use crate::C17;
 use bench_reader::{BenchError, BenchFault, read_bench};
 use device_model::Kind;
 use std::test::Fail;

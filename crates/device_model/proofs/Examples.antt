@@ -5,7 +5,7 @@ use Rattle.text_rules.specs.Names.{names_rise}
 use Rattle.ranking.specs.Cases.{Case}
 use Rattle.device_model.specs.declared.component.Component.{Component}
 use Rattle.device_model.specs.declared.component.Kind.{Kind}
-use Rattle.device_model.specs.declared.component.Kind.TheVariants.{Nand, Xor, Xnor, Buff, Table}
+use Rattle.device_model.specs.declared.component.Kind.TheVariants.{And, Or, Nand, Nor, Xor, Xnor, Not, Buff, Table}
 use Rattle.device_model.specs.declared.building.BuildError.TheVariants.{TooMany, TwoParts, TwoWires, Arity, NoWire}
 use Rattle.device_model.specs.TruthTable.{TruthTable}
 use Rattle.device_model.specs.Devices.{Device, gate_value, allows, takes}
@@ -79,11 +79,17 @@ xor_of_three_ones = refl
 xnor_of_three_ones : gate_value Xnor (true ∷ true ∷ true ∷ []) ≡ false
 xnor_of_three_ones = refl
 
-xor_takes_eight : takes Xor 8 ≡ true
-xor_takes_eight = refl
+a_gate_takes_64 : map (λ kind. takes kind 64) (And ∷ Or ∷ Nand ∷ Nor ∷ Xor ∷ Xnor ∷ []) ≡ replicate 6 true
+a_gate_takes_64 = refl
 
-xor_takes_no_nine : takes Xor 9 ≡ false
-xor_takes_no_nine = refl
+a_gate_takes_no_65 : map (λ kind. takes kind 65) (And ∷ Or ∷ Nand ∷ Nor ∷ Xor ∷ Xnor ∷ []) ≡ replicate 6 false
+a_gate_takes_no_65 = refl
+
+an_inverter_takes_one : map (takes Not) (0 ∷ 1 ∷ 2 ∷ []) ≡ false ∷ true ∷ false ∷ []
+an_inverter_takes_one = refl
+
+a_buffer_takes_one : map (takes Buff) (0 ∷ 1 ∷ 2 ∷ []) ≡ false ∷ true ∷ false ∷ []
+a_buffer_takes_one = refl
 
 -- ok allows 00 and 11, bad allows 00 and 10
 abbrev tables : List TruthTable

@@ -8,7 +8,7 @@ use Rattle.ranking.specs.Ranking.{plain_costs}
 use Rattle.device_model.specs.declared.component.Kind.{Kind}
 use Rattle.device_model.specs.declared.component.Kind.TheVariants.{And, Or, Nand, Nor, Xor, Xnor, Not, Buff, Table}
 use Rattle.device_model.specs.declared.component.Component.{Component}
-use Rattle.device_model.specs.declared.limits.TheConstants.{PART_LIMIT, WIRE_LIMIT}
+use Rattle.device_model.specs.declared.limits.TheConstants.{INPUT_LIMIT, PART_LIMIT, WIRE_LIMIT}
 use Rattle.device_model.specs.TruthTable.{TruthTable}
 
 -- Parts and wires are each in the order of their names. A port of a part is the place of a wire.
@@ -28,10 +28,8 @@ place_of name names = position (same_name name) names
 abbrev pub most_inputs : Kind → ℕ
 most_inputs Not = 1
 most_inputs Buff = 1
-most_inputs Xor = 8
-most_inputs Xnor = 8
 most_inputs (Table t) = 0
-most_inputs gate = 16
+most_inputs gate = INPUT_LIMIT
 
 -- whether a gate takes so many inputs
 abbrev pub takes : Kind → ℕ → Bool

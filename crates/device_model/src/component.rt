@@ -2,6 +2,7 @@ ghost use Rattle.std.specs.Prelude.{◌≡◌, ◌<◌, length, map, slice_index
 ghost use Rattle.device_model.specs.TruthTable.{set_of_all, is_table};
 ghost use Rattle.device_model.specs.Devices.{most_inputs, takes};
 
+use crate::limits::INPUT_LIMIT;
 use crate::names::Name;
 use std::alloc::{AllocError, Global};
 use std::marker::Model;
@@ -61,7 +62,7 @@ pub enum Kind {
 }
 
 impl Kind {
-    /// Whether a gate takes so many inputs: 1 to 16, but 1 to 8 of an exclusive or and just 1 of an inverter or a buffer.
+    /// Whether a gate takes so many inputs: 1 to 64, but just 1 of an inverter or a buffer.
     ///
     /// A table has ports and no inputs.
     pub fn takes(self, inputs: usize) -> bool
@@ -75,8 +76,7 @@ impl Kind {
     {
         match self {
             Kind::Not | Kind::Buff => 1,
-            Kind::Xor | Kind::Xnor => 8,
-            Kind::And | Kind::Or | Kind::Nand | Kind::Nor => 16,
+            Kind::And | Kind::Or | Kind::Nand | Kind::Nor | Kind::Xor | Kind::Xnor => INPUT_LIMIT,
             Kind::Table(_) => 0,
         }
     }

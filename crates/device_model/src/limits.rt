@@ -11,3 +11,6 @@ pub const NAME_LIMIT: usize = 255;
 
 /// The most ports of a part of a type.
 pub const TYPE_PORT_LIMIT: u8 = 6;
+
+/// The most that a failure of a part costs.
+pub const COST_LIMIT: u32 = 1000;

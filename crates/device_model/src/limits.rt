@@ -14,3 +14,6 @@ pub const INPUT_LIMIT: usize = 64;
 
 /// The most ports of a part of a type.
 pub const TYPE_PORT_LIMIT: u8 = 6;
+
+/// The most that a failure of a part costs.
+pub const COST_LIMIT: u32 = 1000;

@@ -21,5 +21,5 @@ one_text first second session other entry another a b c d result again same ther
   case_text first.subject entry.known,
   tells entry there,
   subst (λ (s : Subject). TellsText other (case_text s entry.known) c d again) same
-  (subst (λ (k : Case). TellsText other (case_text second.subject k) c d again) known (told another here)),
+      (subst (λ (k : Case). TellsText other (case_text second.subject k) c d again) known (told another here)),
 )

@@ -14,14 +14,14 @@ ghost use Rattle.session_rules.specs.Sessions.{Table, replies};
 /// Each session is answered as if it were alone: wherever it opens among some lines, its own lines from there to its end have
 /// the answers that they have with no other line before, between or behind them.
 pub fn answered_alone()
-    ensures law { (system : System) (limit : ℕ) (table : Table) (lines : List (List ℕ))
+    ensures { (system : System) (limit : ℕ) (table : Table) (lines : List (List ℕ))
         → AreAnsweredAlone system limit table lines }
 {}
 
 /// What a line is answered, and what becomes of the session that it names, hangs on that session's entry, and where the line
 /// opens it on whether there is room. It changes no other session.
 pub fn is_its_own()
-    ensures law { (system : System) (limit : ℕ) (line : Line) → IsItsOwn system limit line }
+    ensures { (system : System) (limit : ℕ) (line : Line) → IsItsOwn system limit line }
 {}
 
 /// Over a graph that is true exactly where a device fits every script has the replies that it has over the device, move by

@@ -7,11 +7,7 @@ use Rattle.ranking.specs.Cases.{Case}
 use Rattle.script_lang.specs.Script.{Ask, Dnnf}
 use Rattle.session_rules.specs.GraphSystems.{Subject}
 use Rattle.session_rules.specs.Sessions.{Entry, entry_of}
-use Rattle.session_core.specs.Services.{Shown, TellsGraph, case_text}
-
--- behind the line that names the session
-abbrev pub TellsText : {T E : Type 0} → Name → List ℕ → Option (List ℕ) → Option (List ℕ) → Result T E → Type 0
-TellsText session text before after result = Puts before after result (spaced (session ∷ codes "dnnf" ∷ []) ++ text)
+use Rattle.session_core.specs.Services.{Shown, TellsGraph, TellsText, case_text}
 
 pub one_text : {T E : Type 0} (first second : Shown) (session other : Name) (entry another : Entry) (a b c d : Option (List ℕ)) (result again : Result T E)
     → second.subject ≡ first.subject → entry_of session first.table ≡ Some entry → entry_of other second.table ≡ Some another → another.known ≡ entry.known
@@ -21,5 +17,5 @@ one_text first second session other entry another a b c d result again same ther
   case_text first.subject entry.known,
   tells entry there,
   subst (λ (s : Subject). TellsText other (case_text s entry.known) c d again) same
-  (subst (λ (k : Case). TellsText other (case_text second.subject k) c d again) known (told another here)),
+      (subst (λ (k : Case). TellsText other (case_text second.subject k) c d again) known (told another here)),
 )

@@ -28,9 +28,13 @@ ChangesTable old new = new ≡ record old { table = new.table }
 abbrev pub case_text : Subject → Case → List ℕ
 case_text subject known = projected_text subject.graph (case_words subject.graph.vars known) (length subject.parts)
 
+-- a line that names the session, and then a text
+abbrev pub TellsText : {T E : Type 0} → Name → List ℕ → Option (List ℕ) → Option (List ℕ) → Result T E → Type 0
+TellsText session text before after result = Puts before after result (spaced (session ∷ codes "dnnf" ∷ []) ++ text)
+
 -- An open session that asks for its graph is answered by that text.
 abbrev pub TellsGraph : {T E : Type 0} → Shown → Line → Option (List ℕ) → Option (List ℕ) → Result T E → Type 0
 TellsGraph shown (Ask session Dnnf) before after result =
     (entry : Entry) → entry_of session shown.table ≡ Some entry
-    → Puts before after result (spaced (session ∷ codes "dnnf" ∷ []) ++ case_text shown.subject entry.known)
+    → TellsText session (case_text shown.subject entry.known) before after result
 TellsGraph shown line before after result = Unit {0}

@@ -17,7 +17,7 @@ use crate::basis::Basis;
 use crate::replies::put_refusal;
 use crate::sessions::Sessions;
 use crate::telling::{Question, tell};
-use diag_edge::{Sink, WriteFailed};
+use diag_edge::{Sink, WriteFailed, put_line};
 use minimiser::Steps;
 use projector::write_projected;
 use session_rules::Refusal;

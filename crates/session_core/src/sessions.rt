@@ -46,11 +46,7 @@ impl Model for Sessions {
 
 impl Sessions {
     /// No session is open, and at most so many may be. `Err` means that memory ran out.
-    pub(crate) fn new(
-        alloc: Global,
-        basis: Basis,
-        sessions: u32,
-    ) -> Result<Self, AllocError>
+    pub(crate) fn new(alloc: Global, basis: Basis, sessions: u32) -> Result<Self, AllocError>
         requires { sessions ≤ SESSION_LIMIT }
         ensures { IfOk result (λ made. made ≡ record { subject = basis; limit = sessions; table = [] }) }
     {

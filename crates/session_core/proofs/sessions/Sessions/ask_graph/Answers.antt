@@ -1,6 +1,6 @@
-use Rattle.std.proofs.Common.{◌≡◌, ◌∙◌, ◌∷◌, ◌++◌, [], ℕ, List, Some, codes, refl, sym, subst}
+use Rattle.std.proofs.Common.{◌≡◌, ◌∙◌, ◌∷◌, ◌++◌, [], ℕ, List, Some, codes, length, refl, sym, ap, subst}
 use Rattle.std.proofs.lemmas.Option.{none-some}
-use Rattle.std.proofs.Math.Option.{some-injective}
+use Rattle.std.specs.Prelude.{Option, unwrap_or}
 use Rattle.text_rules.specs.Tokens.{spaced}
 use Rattle.diag_edge.specs.Edge.{Puts}
 use Rattle.ranking.specs.Cases.{Case}
@@ -66,6 +66,6 @@ returns-in-Some-clause-text g c =
     (λ i. case_of_words (sym c.self.invariant.parts i) (sym c.self.invariant.wires i) c.words.result.now) ∙ sym (c.words.ensures.known s there.0 there.1) in
     subst (λ (v : Shown). TellsGraph v (Ask s Dnnf) (g.O.Sink.got c.args.out.now) (g.O.Sink.got c.tell_graph.new.out) c.tell_graph.result) c.self.view_is
     (λ entry found.
-    let same : there.0 ≡ entry = some-injective there.0 entry (sym there.1.found ∙ found) in
+    let same : there.0 ≡ entry = ap (λ (o : Option Entry). unwrap_or o there.0) (sym there.1.found ∙ found) in
     subst (λ (e : Entry). Puts (g.O.Sink.got c.args.out.now) (g.O.Sink.got c.tell_graph.new.out) c.tell_graph.result (spaced (s ∷ codes "dnnf" ∷ []) ++ case_text basis e.known)) same
     (subst (λ (k : Case). Puts (g.O.Sink.got c.args.out.now) (g.O.Sink.got c.tell_graph.new.out) c.tell_graph.result (spaced (s ∷ codes "dnnf" ∷ []) ++ case_text basis k)) known c.tell_graph.ensures.text))

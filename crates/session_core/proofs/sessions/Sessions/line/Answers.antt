@@ -81,4 +81,4 @@ pub returns-in-Dnnf-clause-carried : goal.returns-in-Dnnf-clause-carried
 returns-in-Dnnf-clause-carried g c = line_carried c.args.self.now c.args.self.now _ _ c.args.line.now _ _ _ c.in-Dnnf.ensures c.ask_graph.ensures.obeys
 
 pub returns-in-Dnnf-clause-graph : goal.returns-in-Dnnf-clause-graph
-returns-in-Dnnf-clause-graph g c = subst (λ (l : Line). TellsGraph c.args.self.now l _ _ c.ask_graph.result) c.in-Dnnf.ensures c.ask_graph.ensures.text
+returns-in-Dnnf-clause-graph g c = subst (λ (l : Line). TellsGraph c.args.self.now l (g.O.Sink.got c.args.out.now) (g.O.Sink.got c.ask_graph.new.out) c.ask_graph.result) c.in-Dnnf.ensures c.ask_graph.ensures.text

@@ -1,3 +1,6 @@
 pub mod Drops
 mod Examples
 pub mod Values
+pub mod Bits
+pub mod Cases
+pub mod Members

@@ -1,10 +1,11 @@
 -- Bits and lists of bits.
-use Rattle.std.proofs.Common.{◌≡◌, ℕ, suc, Bool, true, false, ◌&&◌, ◌||◌, List, [], ◌∷◌, map, refl, sym, ap, ◌∙◌}
+use Rattle.std.proofs.Common.{◌≡◌, ℕ, suc, Bool, true, false, ◌&&◌, ◌||◌, List, [], ◌∷◌, map, refl, sym, ◌∙◌}
 use Rattle.std.specs.List.{list_any}
 use Rattle.std.specs.Cmp.Lexicographic.{pointwise}
 use Rattle.std.proofs.lemmas.Bool.{false≢true, and_parts, and_from}
 use Rattle.std.proofs.lemmas.List.Folds.{list_any-append}
 use Rattle.ranking.specs.Bits.{same_bit, lists_of_bits}
+use Rattle.ranking.proofs.Lists.{list_any-map}
 
 -- ---- one bit
 
@@ -44,10 +45,6 @@ pointwise-equal (b ∷ bits) (c ∷ others) e =
     λ i. same_bit-equal b c parts.0 i ∷ pointwise-equal bits others parts.1 i
 
 -- ---- all lists of so many bits
-
-pub list_any-map : {A B : Type 0} (p : B → Bool) (f : A → B) (xs : List A) → list_any p (map f xs) ≡ list_any (λ x. p (f x)) xs
-list_any-map p f [] = refl
-list_any-map p f (x ∷ xs) = ap (λ b. p (f x) || b) (list_any-map p f xs)
 
 -- a test of lists of one bit more, by their first bit
 pub any-suc : (p : List Bool → Bool) (n : ℕ) → list_any p (lists_of_bits (suc n)) ≡ (list_any (λ bits. p (false ∷ bits)) (lists_of_bits n) || list_any (λ bits. p (true ∷ bits)) (lists_of_bits n))

@@ -1,12 +1,16 @@
 -- Bits that agree with words, place by place.
-use Rattle.std.proofs.Common.{◌≡◌, ℕ, zero, suc, ◌<◌, Bool, true, List, [], ◌∷◌, ◌++◌, length, take, get_or, None, refl, sym, ◌∙◌, subst}
+use Rattle.std.proofs.Common.{◌≡◌, ℕ, zero, suc, ◌<◌, Bool, true, false, List, [], ◌∷◌, ◌++◌, length, take, get_or, Some, None, refl, sym, ◌∙◌, subst}
 use Rattle.std.proofs.lemmas.Bool.{and_parts, and_from}
 use Rattle.std.proofs.lemmas.List.{length-map}
 use Rattle.ranking.specs.Bits.{bit_in}
 use Rattle.ranking.specs.Cases.{agrees_at, agrees}
 use Rattle.ranking.proofs.Cases.{agrees-at, agrees-from}
-use Rattle.conditioner.specs.Words.{known_of, known}
+use Rattle.conditioner.specs.Words.{known_of, word_of, known}
 use Rattle.conditioner.specs.Models.{fits_words}
+
+pub known_of-word_of : (b : Bool) → known_of (word_of b) ≡ Some b
+known_of-word_of true = refl
+known_of-word_of false = refl
 
 pub known-at : (words : List ℕ) (i : ℕ) → get_or (known words) i None ≡ known_of (get_or words i 0)
 known-at [] i = refl

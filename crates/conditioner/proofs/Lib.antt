@@ -1,1 +1,2 @@
 pub mod FittingWords
+pub mod ModelsWith

@@ -8,7 +8,7 @@ use Rattle.std.proofs.lemmas.Option.{get_or_from_slice_get, slice_get_within, sa
 use Rattle.ranking.specs.Bits.{same_bit}
 use Rattle.ranking.specs.Assignments.{Assignment}
 use Rattle.ranking.specs.Values.{values}
-use Rattle.ranking.proofs.Bits.{list_any-map}
+use Rattle.ranking.proofs.Lists.{list_any-map}
 use Rattle.ranking.proofs.Members.{In, Passing, any_from, any_in, AtMost}
 use Rattle.ranking.proofs.Values.{length-values_after, values-at, values-before}
 use Rattle.graph_rules.specs.declared.NodeKind.{NodeKind}

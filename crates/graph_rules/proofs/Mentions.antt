@@ -1,15 +1,14 @@
 -- A variable that no literal has is mentioned nowhere, and shared by no kids.
-use Rattle.std.proofs.Common.{◌≡◌, ℕ, zero, suc, ◌<◌, ◌≤◌, Bool, true, false, not, ◌&&◌, ◌||◌, ◌==◌, List, [], ◌∷◌, ◌++◌, map, length, refl, sym, ap, ◌∙◌, arith, inl, inr}
-use Rattle.std.specs.Prelude.{nat_le}
+use Rattle.std.proofs.Common.{◌≡◌, ℕ, zero, suc, ◌<◌, ◌≤◌, Bool, true, false, not, ◌==◌, List, [], ◌∷◌, ◌++◌, map, length, refl, sym, ap, ◌∙◌, arith, inl, inr}
 use Rattle.std.specs.List.{list_any}
-use Rattle.std.proofs.lemmas.Bool.{and_parts, cases_Bool, eqb-true, leb-true, or_cases}
+use Rattle.std.proofs.lemmas.Bool.{false≢true, cases_Bool, eqb-true, or_cases, or_parts}
 use Rattle.ranking.specs.Bits.{bit_in}
 use Rattle.ranking.specs.Values.{values_after}
 use Rattle.graph_rules.specs.declared.NodeKind.{NodeKind}
 use Rattle.graph_rules.specs.declared.NodeKind.TheVariants.{Literal, And, Or}
 use Rattle.graph_rules.specs.Graphs.{Node, node_at, at_most_one, mention, mention_by, mentions, apart_at, kind_fits, nodes_fit}
 use Rattle.graph_rules.specs.GraphTexts.{shares}
-use Rattle.graph_rules.proofs.NodesFit.{fits-at}
+use Rattle.graph_rules.proofs.NodesFit.{fits-at, literal}
 
 abbrev has_variable : ℕ → NodeKind → Bool
 has_variable v (Literal var positive) = var == v
@@ -39,19 +38,11 @@ not_mentioned v (Literal var positive) kids earlier other h = other
 not_mentioned v And kids earlier other h = none_of (bit_in earlier) kids h
 not_mentioned v Or kids earlier other h = none_of (bit_in earlier) kids h
 
-record Neither (a b : Bool) : Type 0 where
-  first : a ≡ false
-  second : b ≡ false
-
-neither : (a b : Bool) → (a || b) ≡ false → Neither a b
-neither true b e = absurd (let no : true ≡ false = e in cc)
-neither false b e = record { first = refl; second = e }
-
 all-false : (v : ℕ) (nodes : List Node) (earlier : List Bool) → is_used nodes v ≡ false → AllFalse earlier → AllFalse (values_after (mention v) earlier nodes)
 all-false v [] earlier unused h = h
 all-false v (node ∷ nodes) earlier unused h =
-    let both = neither (has_variable v node.what) (is_used nodes v) unused in
-    all-false v nodes (earlier ++ mention v node earlier ∷ []) both.second (AllFalse-push earlier _ h (not_mentioned v node.what node.kids earlier both.first h))
+    let both = or_parts (has_variable v node.what) (is_used nodes v) unused in
+    all-false v nodes (earlier ++ mention v node earlier ∷ []) both.1 (AllFalse-push earlier _ h (not_mentioned v node.what node.kids earlier both.0 h))
 
 none_at_most : (f : ℕ → Bool) (kids : List ℕ) → ((k : ℕ) → f k ≡ false) → at_most_one (map f kids) ≡ true
 none_at_most f [] none = refl
@@ -65,7 +56,7 @@ none_apart f Or kids none = refl
 unshared : (nodes : List Node) (node : Node) (v : ℕ) → is_used nodes v ≡ false → shares nodes node v ≡ false
 unshared nodes node v unused = ap not (none_apart (mentions nodes v) node.what node.kids (all-false v nodes [] unused (λ k. refl)))
 
--- ---- so a variable that is shared is that of a literal
+-- ---- so a variable that is mentioned or shared is that of a literal
 
 pub record IsUsed (nodes : List Node) (v : ℕ) : Type 0 where
   pub at : ℕ
@@ -85,6 +76,12 @@ IsUsed-from (node ∷ nodes) v e = elim (or_cases (has_variable v node.what) (is
   | inr later ↦ (let is = IsUsed-from nodes v later in record { at = suc is.at; inside = omega (arith, is.inside); positive = is.positive; literal = is.literal })
 ]
 
+pub IsUsed-mentioned : (nodes : List Node) (v i : ℕ) → mentions nodes v i ≡ true → IsUsed nodes v
+IsUsed-mentioned nodes v i mentioned = elim (cases_Bool (is_used nodes v)) [
+  | inl used ↦ IsUsed-from nodes v used
+  | inr unused ↦ absurd (false≢true (sym (all-false v nodes [] unused (λ k. refl) i) ∙ mentioned))
+]
+
 pub IsUsed-shared : (nodes : List Node) (node : Node) (v : ℕ) → shares nodes node v ≡ true → IsUsed nodes v
 IsUsed-shared nodes node v shared = elim (cases_Bool (is_used nodes v)) [
   | inl used ↦ IsUsed-from nodes v used
@@ -96,14 +93,14 @@ pub record InRange (vars v : ℕ) : Type 0 where
   pub low : 1 ≤ v
   pub high : v ≤ vars
 
-literal_range : (vars v : ℕ) (positive : Bool) (kind : NodeKind) (kids : List ℕ) → kind ≡ Literal v positive → kind_fits vars kind kids ≡ true → InRange vars v
-literal_range vars v positive kind kids is fits =
-    let parts = and_parts (length kids == 0) (nat_le 1 v && nat_le v vars) (ap (λ k. kind_fits vars k kids) (sym is) ∙ fits) in
-    let range = and_parts (nat_le 1 v) (nat_le v vars) parts.1 in
-    record { low = leb-true 1 v range.0; high = leb-true v vars range.1 }
-
 pub IsUsed-range : (vars : ℕ) (nodes : List Node) (v : ℕ) → nodes_fit vars 0 nodes ≡ true → IsUsed nodes v → InRange vars v
-IsUsed-range vars nodes v fit used = literal_range vars v used.positive (node_at nodes used.at).what (node_at nodes used.at).kids used.literal (fits-at vars nodes used.at fit used.inside).kind
+IsUsed-range vars nodes v fit used =
+    let kids : List ℕ = (node_at nodes used.at).kids in
+    let is = literal vars v used.positive kids (ap (λ k. kind_fits vars k kids) (sym used.literal) ∙ (fits-at vars nodes used.at fit used.inside).kind) in
+    record { low = is.low; high = is.high }
+
+pub mentioned-range : (vars : ℕ) (nodes : List Node) (v i : ℕ) → nodes_fit vars 0 nodes ≡ true → mentions nodes v i ≡ true → InRange vars v
+mentioned-range vars nodes v i fit mentioned = IsUsed-range vars nodes v fit (IsUsed-mentioned nodes v i mentioned)
 
 -- no kids share variable 0
 pub unshared-0 : (vars : ℕ) (nodes : List Node) (node : Node) → nodes_fit vars 0 nodes ≡ true → shares nodes node 0 ≡ false

@@ -2,7 +2,7 @@
 use Rattle.std.proofs.Common.{◌≡◌, ℕ, zero, suc, ◌+◌, ◌-◌, ◌%◌, ◌<◌, ◌≤◌, Bool, true, false, not, ◌&&◌, ◌||◌, cond, count_by, List, [], ◌∷◌, ◌++◌, map, length, take, drop, get_or, refl, ap, sym, ◌∙◌, arith}
 use Rattle.std.specs.Prelude.{◌==◌, Option, Some, None, slice_get, if◌then◌else◌}
 use Rattle.std.specs.List.{list_all, list_any}
-use Rattle.std.proofs.lemmas.Bool.{ltb-true, eqb-true, false≢true}
+use Rattle.std.proofs.lemmas.Bool.{ltb-true, false≢true}
 use Rattle.std.proofs.lemmas.List.{length-map, map-append, take-map, drop-map, get_or-map, take_all, take_more, length-take-le, length-drop}
 use Rattle.std.proofs.lemmas.List.Folds.{list_all-append}
 use Rattle.ranking.specs.Bits.{same_bit, bit_in, has_odd_ones}

@@ -2,7 +2,7 @@
 use Rattle.std.proofs.Common.{◌≡◌, ℕ, zero, suc, ◌-◌, ◌^◌, ◌<◌, ◌≤◌, Bool, true, false, not, ◌&&◌, ◌||◌, List, [], ◌∷◌, ◌++◌, map, length, take, get_or, pos, neg_ℤ, Some, refl, ap, sym, ◌∙◌, arith}
 use Rattle.std.specs.Prelude.{◌==◌, nat_le}
 use Rattle.std.specs.List.{list_any, list_all}
-use Rattle.std.proofs.lemmas.Bool.{eqb-true, leb-true, and_parts, false≢true}
+use Rattle.std.proofs.lemmas.Bool.{leb-true, and_parts, false≢true}
 use Rattle.std.proofs.lemmas.List.{length-map}
 use Rattle.std.proofs.lemmas.List.Folds.{list_all-append, list_any-append, list_all-map}
 use Rattle.ranking.specs.Bits.{same_bit, bit_in, row_number, has_odd_ones}

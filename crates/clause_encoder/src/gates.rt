@@ -157,16 +157,16 @@ fn push_xor_step(writer: &mut Writer, inner: u32, before: u32, input: u32) -> Re
     requires input { input < VARIABLE_LIMIT }
     ensures { OnOk result (writer.new ≡ writer.old ++ tidy (xor_step inner before input)) }
 {
-    let is_set = literal(true, inner);
-    let is_clear = literal(false, inner);
+    let inner_set = literal(true, inner);
+    let inner_clear = literal(false, inner);
     let before_set = literal(true, before);
     let before_clear = literal(false, before);
     let input_set = literal(true, input);
     let input_clear = literal(false, input);
-    writer.push(&[is_clear, before_set, input_set])?;
-    writer.push(&[is_clear, before_clear, input_clear])?;
-    writer.push(&[is_set, before_set, input_clear])?;
-    writer.push(&[is_set, before_clear, input_set])
+    writer.push(&[inner_clear, before_set, input_set])?;
+    writer.push(&[inner_clear, before_clear, input_clear])?;
+    writer.push(&[inner_set, before_set, input_clear])?;
+    writer.push(&[inner_set, before_clear, input_set])
 }
 
 // The clauses of a gate without a chain.

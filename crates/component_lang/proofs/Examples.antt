@@ -1,8 +1,8 @@
 -- Worked rows: what the definitions make of small texts.
-use Rattle.std.proofs.Common.{◌≡◌, ℕ, List, [], ◌∷◌, ◌++◌, Result, Ok, Err, refl}
-use Rattle.std.specs.Prelude.{codes}
+use Rattle.std.proofs.Common.{◌≡◌, ℕ, zero, suc, List, [], ◌∷◌, ◌++◌, Result, Ok, Err, refl}
+use Rattle.std.specs.Prelude.{codes, replicate}
 use Rattle.text_rules.specs.Names.{Name}
-use Rattle.device_model.specs.declared.component.Kind.TheVariants.{Not}
+use Rattle.device_model.specs.declared.component.Kind.TheVariants.{Xnor, Not}
 use Rattle.component_lang.specs.declared.design.UsedKind.TheVariants.{Gate, Shape as OfShape, Block as OfBlock}
 use Rattle.component_lang.specs.declared.design.Shape.{Shape}
 use Rattle.component_lang.specs.declared.design.Block.{Block}
@@ -22,6 +22,14 @@ bad line what = Err (record { line = line; what = what })
 abbrev made : List Shape → List Block → ℕ → Result Design Fault
 made types blocks top = Ok (record { types = types; blocks = blocks; top = top })
 
+abbrev arguments_a : ℕ → List ℕ
+arguments_a zero = []
+arguments_a (suc n) = codes " a" ++ arguments_a n
+
+-- a part u of a kind, of which all of so many ports are at the wire a
+abbrev part_of_a : List ℕ → ℕ → List ℕ
+part_of_a kind ports = codes "part u " ++ kind ++ arguments_a ports
+
 -- ---- refused, each for the first fault of its first line with one
 
 row_too_long : design (text_of (codes "type U p" ∷ codes "ok 00" ∷ codes "end" ∷ [])) ≡ bad 2 Row
@@ -32,6 +40,10 @@ row_of_a_letter = refl
 
 gate_of_one_argument : design (text_of (codes "block M a" ∷ codes "part u NOT a" ∷ codes "end" ∷ codes "top M" ∷ [])) ≡ bad 2 Ports
 gate_of_one_argument = refl
+
+-- 65 inputs and an output
+one_input_too_many : design (text_of (codes "block M a" ∷ part_of_a (codes "AND") 66 ∷ codes "end" ∷ codes "top M" ∷ [])) ≡ bad 2 Ports
+one_input_too_many = refl
 
 unknown_kind : design (text_of (codes "block M a" ∷ codes "part u V a" ∷ codes "end" ∷ codes "top M" ∷ [])) ≡ bad 2 Unknown
 unknown_kind = refl
@@ -115,3 +127,8 @@ free_where_faulty : design (text_of (codes "type U p q" ∷ codes "ok 10" ∷ co
     ≡ made (record { name = codes "U"; table = record { ports = 2; ok = 2; bad = 15 } } ∷ [])
     (record { name = codes "M"; ports = 1; wires = codes "a" ∷ []; parts = record { name = codes "u"; kind = OfShape 0; args = 0 ∷ 0 ∷ [] } ∷ [] } ∷ []) 0
 free_where_faulty = refl
+
+-- 64 inputs and an output
+most_inputs : design (text_of (codes "block M a" ∷ part_of_a (codes "XNOR") 65 ∷ codes "end" ∷ codes "top M" ∷ []))
+    ≡ made [] (record { name = codes "M"; ports = 1; wires = codes "a" ∷ []; parts = record { name = codes "u"; kind = Gate Xnor; args = replicate 65 0 } ∷ [] } ∷ []) 0
+most_inputs = refl

@@ -7,7 +7,7 @@ use std::test::Fail;
 // What is wrong with a text: the line and the fault.
 fn fault_of(rt: &impl Abort, alloc: Global, text: &str) -> Result<(u32, LangFault), Fail> {
     let bytes = text.as_bytes();
-    assert!(rt; bytes.len() < 100);
+    assert!(rt; bytes.len() < 200);
     match read_lang(alloc, bytes) {
         Err(LangError::Bad { line, what }) => Ok((line, what)),
         Err(LangError::Memory) => Err("no memory".into()),
@@ -64,6 +64,12 @@ fn refuses(rt: HostRuntime) -> Result<(), Fail> {
     let rows = [
         ("type U p\nok 00\nend\n", 2, LangFault::Row),
         ("block M a\npart u NOT a\nend\ntop M\n", 2, LangFault::Ports),
+        // 65 inputs and an output
+        (
+            "block M a\npart u AND a a a a a a a a a a a a a a a a a a a a a a a a a a a a a a a a a a a a a a a a a a a a a a a a a a a a a a a a a a a a a a a a a a\n",
+            2,
+            LangFault::Ports,
+        ),
         ("block M a\npart u V a\nend\ntop M\n", 2, LangFault::Unknown),
         ("block M a\npart u a.b x\n", 2, LangFault::Name),
         (

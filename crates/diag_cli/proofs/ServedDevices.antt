@@ -6,10 +6,9 @@ use Rattle.graph_rules.specs.Graphs.{Graph, IsGraph}
 use Rattle.device_model.specs.Devices.{Device, IsDevice, part_names}
 use Rattle.device_model.specs.declared.component.Component.{Component}
 use Rattle.device_model.specs.Diagnosis.{device_system}
-use Rattle.clause_encoder.specs.declared.limits.TheConstants.{CLAUSE_LIMIT}
 use Rattle.clause_encoder.specs.Clauses.{ClauseList}
-use Rattle.clause_encoder.specs.Encoding.{encoded, inner_vars, Describes}
-use Rattle.clause_encoder.proofs.Sizes.{IsEncoded, encoded-is, few_inner}
+use Rattle.clause_encoder.specs.Encoding.{encoded, Describes}
+use Rattle.clause_encoder.proofs.Sizes.{encoded-few_vars}
 use Rattle.branch_states.specs.declared.measuring.TheConstants.{BUDGET_LIMIT}
 use Rattle.branch_states.specs.Branches.{sum_of}
 use Rattle.dnnf_compiler.specs.Compiled.{IsGraphOf, SaysAll}
@@ -32,15 +31,12 @@ module _ (device : Device) (cnf : ClauseList) (is : encoded device ≡ Ok cnf) w
   servable graph made valid describes small decomposable vars says few_made few_nodes = record {
     valid = decomposable;
     meaning = graph_of_device device cnf graph is describes vars says;
-    few_vars = omega (arith, listed.vars, inner, vars, valid.few_parts, valid.few_wires);
-    few_nodes = omega (arith, listed.vars, inner, valid.few_parts, valid.few_wires, few_made, few_nodes, small);
+    few_vars = omega (arith, listed, vars);
+    few_nodes = omega (arith, listed, few_made, few_nodes, small);
   }
     where
-      listed : IsEncoded device cnf
-      listed = encoded-is device cnf is
-
-      inner : 3 * inner_vars device.parts ≤ CLAUSE_LIMIT
-      inner = few_inner device cnf valid is
+      listed : cnf.vars ≤ 107861
+      listed = encoded-few_vars device cnf valid is
 
 -- every reply of the service of a device has a text
 pub sound_of : (device : Device) (sessions : ℕ) (service : Shown) → IsServiceOf device sessions service → IsSound service.subject

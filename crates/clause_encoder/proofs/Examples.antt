@@ -55,7 +55,7 @@ or = refl
 
 -- ok allows 00 and 11, and faulty 10
 abbrev tabled : Device
-tabled = one_part (Table 0) (0 ∷ 1 ∷ []) (codes "a" ∷ codes "b" ∷ []) (record { ports = 2; ok = 9; bad = 2 } ∷ [])
+tabled = one_part (Table 0) (0 ∷ 1 ∷ []) (codes "a" ∷ codes "b" ∷ []) (record { ports = 2; ok = 9; bad = 2; cost = 1 } ∷ [])
 
 table : (clause_list tabled).clauses
     ≡ (n 1 ∷ n 2 ∷ p 3 ∷ []) ∷ (n 1 ∷ p 2 ∷ n 3 ∷ []) ∷ (p 1 ∷ p 2 ∷ p 3 ∷ []) ∷ (p 1 ∷ p 2 ∷ n 3 ∷ []) ∷ (p 1 ∷ n 2 ∷ n 3 ∷ []) ∷ []

@@ -8,7 +8,7 @@ use Rattle.std.proofs.lemmas.Bool.{eqb-true, leb-true, ltb-true, and_parts, fals
 use Rattle.std.proofs.lemmas.Bool.Decides.{nat_tests}
 use Rattle.std.proofs.lemmas.Int.{to_z-of_z, fits_signed_from_abs}
 use Rattle.ranking.specs.Bits.{same_bit, has_odd_ones}
-use Rattle.device_model.specs.TruthTable.{TruthTable, has_few_ports, is_table}
+use Rattle.device_model.specs.TruthTable.{TruthTable, has_few_ports, is_cost, is_table}
 use Rattle.device_model.specs.declared.component.Kind.{Kind}
 use Rattle.device_model.specs.declared.component.Component.{Component}
 use Rattle.device_model.specs.Devices.{Device, IsDevice, has_arity, has_wires, is_set, rows_take, takes_ports}
@@ -150,13 +150,13 @@ pub record IsTable (rows : TruthTable) : Type 0 where
 
 pub IsTable-from : (rows : TruthTable) → is_table rows ≡ true → IsTable rows
 IsTable-from rows e =
-    let both = and_parts (has_few_ports rows.ports) (nat_lt rows.ok (2 ^ (2 ^ rows.ports)) && nat_lt rows.bad (2 ^ (2 ^ rows.ports))) e in
+    let both = and_parts (has_few_ports rows.ports) (nat_lt rows.ok (2 ^ (2 ^ rows.ports)) && (nat_lt rows.bad (2 ^ (2 ^ rows.ports)) && is_cost rows.cost)) e in
     let ports = and_parts (nat_le 1 rows.ports) (nat_le rows.ports 6) both.0 in
-    let sets = and_parts (nat_lt rows.ok (2 ^ (2 ^ rows.ports))) (nat_lt rows.bad (2 ^ (2 ^ rows.ports))) both.1 in
+    let sets = and_parts (nat_lt rows.ok (2 ^ (2 ^ rows.ports))) (nat_lt rows.bad (2 ^ (2 ^ rows.ports)) && is_cost rows.cost) both.1 in
     record {
       few = leb-true rows.ports 6 ports.1;
       ok = ltb-true rows.ok (2 ^ (2 ^ rows.ports)) sets.0;
-      bad = ltb-true rows.bad (2 ^ (2 ^ rows.ports)) sets.1;
+      bad = ltb-true rows.bad (2 ^ (2 ^ rows.ports)) (and_parts (nat_lt rows.bad (2 ^ (2 ^ rows.ports))) (is_cost rows.cost) sets.1).0;
     }
 
 -- the table of a part that has one

@@ -16,7 +16,7 @@ fn fault_of(rt: &impl Abort, alloc: Global, text: &str) -> Result<(u32, LangFaul
 }
 
 const PAIR: &str = "type T p q # two ports\nok 00\nok 11\nbad 01\nend\n
-type U p\nok 1\nend\nblock M a b\nwire c\npart u NOT a c\npart v T c b\nend
+type U p\nok 1\ncost 30\nend\nblock M a b\nwire c\npart u NOT a c\npart v T c b\nend
 block N x\npart m M x x\npart w U x\nend\ntop N\n# after\n";
 
 #[test]
@@ -37,6 +37,7 @@ fn reads_types_and_blocks(rt: HostRuntime) -> Result<(), Fail> {
         (single.table.ports(), single.table.ok(), single.table.bad()),
         (1, 2, 3)
     );
+    assert_eq!(rt; (pair.table.cost(), single.table.cost()), (1, 30));
     let [inner, outer] = design.blocks() else {
         return Err("blocks".into());
     };
@@ -82,6 +83,8 @@ fn refuses(rt: HostRuntime) -> Result<(), Fail> {
         ("block M a\nend\n", 0, LangFault::NoTop),
         ("block M a\nend\ntop M\nend\n", 4, LangFault::AfterTop),
         ("part u NOT a b\n", 1, LangFault::Line),
+        ("type C a\ncost 0\nend\n", 2, LangFault::Cost),
+        ("type C a\ncost 2\ncost 2\n", 3, LangFault::Twice),
     ];
     for (text, line, what) in rows {
         assert_eq!(rt; fault_of(&rt, rt.alloc(), text)?, (line, what));

@@ -1,12 +1,10 @@
 -- One more bit is asked of the states.
-use Rattle.std.proofs.Common.{◌≡◌, ℕ, zero, suc, ◌-◌, ◌<◌, ◌≤◌, Bool, true, false, not, cond, ◌&&◌, ◌||◌, List, [], ◌∷◌, ◌++◌, length, get_or, set, Option, Some, None, refl, ap, sym, ◌∙◌, subst, arith, inl, inr, ⊎_elim, length-append}
-use Rattle.std.specs.List.{list_any, filter}
+use Rattle.std.proofs.Common.{◌≡◌, ℕ, zero, suc, ◌-◌, ◌<◌, ◌≤◌, Bool, true, false, not, ◌&&◌, List, [], ◌++◌, length, get_or, set, Option, Some, None, refl, ap, sym, ◌∙◌, subst, arith, ⊎_elim}
 use Rattle.std.proofs.Math.ListN.{length-set}
 use Rattle.std.proofs.lemmas.Bool.{and_from}
 use Rattle.std.proofs.lemmas.Grind.{same_number_lists}
 use Rattle.std.proofs.lemmas.List.{get_or-set_same, get_or-set_other}
 use Rattle.ranking.specs.Bits.{bit_in, same_bit, lists_of_bits}
-use Rattle.ranking.specs.Cases.{agrees_at}
 use Rattle.ranking.specs.Ranking.{Test, cost, least, states, passing}
 use Rattle.ranking.proofs.Bits.{same_bit-refl, same_bit-equal}
 use Rattle.ranking.proofs.Members.{In, bits_in, bits_length, any_from, any_in, least-below, least-from, AtMost-le}

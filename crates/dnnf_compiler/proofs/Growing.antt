@@ -1,10 +1,9 @@
 -- What stays while nodes come.
-use Rattle.std.proofs.Common.{◌≡◌, ℕ, zero, suc, ◌+◌, ◌<◌, Bool, true, false, ◌&&◌, ◌||◌, List, [], ◌∷◌, length, All, Some, refl, ap, sym, ◌∙◌, arith, inl, inr, length-append}
-use Rattle.std.specs.Prelude.{slice_get}
+use Rattle.std.proofs.Common.{◌≡◌, ℕ, zero, suc, ◌<◌, Bool, true, false, ◌&&◌, ◌||◌, List, [], ◌∷◌, length, All, refl, ap, ◌∙◌, arith, inl, inr, length-append}
 use Rattle.std.proofs.lemmas.Option.{slice_get_within}
 use Rattle.graph_rules.specs.declared.NodeKind.TheVariants.{And}
 use Rattle.graph_rules.specs.declared.NodeKind.{NodeKind}
-use Rattle.graph_rules.specs.Graphs.{Node, is_true, mentions}
+use Rattle.graph_rules.specs.Graphs.{Node, is_true}
 use Rattle.clause_encoder.specs.Clauses.{Clause}
 use Rattle.node_store.specs.Stores.{Stored, Makes, Means, AddsAtMost}
 use Rattle.dnnf_compiler.specs.inner.Joining.{Grows, IsConstant, IsBoth}

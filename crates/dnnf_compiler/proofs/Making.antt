@@ -1,7 +1,7 @@
 -- What a maker makes.
-use Rattle.std.proofs.Common.{◌≡◌, ℕ, zero, suc, ◌+◌, ◌*◌, ◌<◌, ◌≤◌, Bool, true, false, not, ◌&&◌, ◌||◌, List, [], ◌∷◌, ◌++◌, map, length, get_or, Some, None, Option, refl, ap, sym, ◌∙◌, subst, arith, inl, inr, length-append}
+use Rattle.std.proofs.Common.{◌≡◌, ℕ, zero, suc, ◌+◌, ◌<◌, ◌≤◌, Bool, true, false, ◌&&◌, ◌||◌, List, [], ◌∷◌, ◌++◌, length, Some, None, Option, refl, ap, sym, ◌∙◌, subst, arith, inl, inr}
 use Rattle.std.specs.Prelude.{slice_get, slice_index, IfSome, ◌==◌, ◌⊎◌}
-use Rattle.std.proofs.lemmas.Option.{slice_get_within, slice_get_read}
+use Rattle.std.proofs.lemmas.Option.{slice_get_within}
 use Rattle.std.proofs.lemmas.Bool.{eqb-true}
 use Rattle.ranking.specs.Bits.{same_bit}
 use Rattle.ranking.specs.Assignments.{Assignment}
@@ -11,8 +11,8 @@ use Rattle.node_store.specs.Stores.{Stored, IsStore, Makes, Means}
 use Rattle.dnnf_compiler.specs.declared.forks.Fork.{Fork}
 use Rattle.dnnf_compiler.specs.declared.maker.Maker.{Maker}
 use Rattle.dnnf_compiler.specs.inner.Forks.{way}
-use Rattle.dnnf_compiler.specs.inner.Joining.{Grows, IsConstant, AddsBoth}
-use Rattle.dnnf_compiler.specs.inner.Making.{IsMaker, IsVariable, AreFree, Adds, may_be_true, may_mention, node_at, IsApart, IsBranch, IsJoin, IsDecision, IsMade}
+use Rattle.dnnf_compiler.specs.inner.Joining.{Grows, AddsBoth}
+use Rattle.dnnf_compiler.specs.inner.Making.{IsMaker, AreFree, Adds, may_be_true, may_mention, node_at, IsApart, IsBranch, IsJoin, IsDecision, IsMade}
 use Rattle.dnnf_compiler.proofs.Growing.{grows_not, grows_then, constant_grows, grows_by}
 
 pub new_maker : (s s' : Stored) (s0 : Stored) (top bottom : ℕ) → Makes s0 s And [] top → Means s0.nodes s.nodes And [] top → Makes s s' Or [] bottom → Means s.nodes s'.nodes Or [] bottom → IsStore s'

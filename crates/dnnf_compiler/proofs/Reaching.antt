@@ -1,5 +1,5 @@
 -- The states of a level that were reached.
-use Rattle.std.proofs.Common.{◌≡◌, ℕ, zero, suc, ◌+◌, ◌-◌, ◌*◌, ◌<◌, ◌≤◌, Bool, true, false, not, ◌&&◌, ◌||◌, cond, List, [], ◌∷◌, ◌++◌, map, length, get_or, Some, None, Option, refl, ap, sym, ◌∙◌, subst, arith, inl, inr, length-append}
+use Rattle.std.proofs.Common.{◌≡◌, ℕ, zero, suc, ◌+◌, ◌-◌, ◌*◌, ◌<◌, ◌≤◌, Bool, true, false, not, ◌||◌, cond, List, [], ◌∷◌, ◌++◌, map, length, get_or, Some, refl, ap, sym, ◌∙◌, subst, arith, inl, inr}
 use Rattle.std.specs.Prelude.{slice_get, nat_eq, ◌⊎◌, if◌then◌else◌}
 use Rattle.std.specs.Bool.{OnTrue}
 use Rattle.std.specs.List.{filter, list_any, position_or_len, IsDistinct}
@@ -7,7 +7,6 @@ use Rattle.std.specs.Cmp.Lexicographic.{pointwise, same_text}
 use Rattle.std.proofs.lemmas.Cmp.{nat_list_eq_equiv}
 use Rattle.std.proofs.lemmas.Map.Keys.{IsDistinct-push}
 use Rattle.std.proofs.lemmas.Map.Made.{length-le_from_is_member}
-use Rattle.std.proofs.lemmas.Option.{slice_get_within}
 use Rattle.std.proofs.Math.ListN.{length-map}
 use Rattle.ranking.specs.Bits.{lists_of_bits}
 use Rattle.indexmap.specs.IndexSet.{insert_key}
@@ -16,7 +15,7 @@ use Rattle.branch_states.specs.Branches.{order, left, is_dead, branch, same_list
 use Rattle.branch_states.proofs.Counting.{sum_to, sum-more, sum-fewer, next-living, length-words, first-living, first-states, living-at}
 use Rattle.branch_states.proofs.Ordering.{one_more}
 use Rattle.dnnf_compiler.specs.inner.Meaning.{HasState}
-use Rattle.dnnf_compiler.specs.inner.Forks.{AreReached, Extends, LeadsBy, DiesBy, IsWay}
+use Rattle.dnnf_compiler.specs.inner.Forks.{AreReached, Extends, LeadsBy, DiesBy}
 
 -- ---- what stands in a list
 

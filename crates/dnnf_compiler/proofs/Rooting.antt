@@ -4,19 +4,19 @@ use Rattle.std.specs.Prelude.{slice_get, slice_index, replicate, IfSome, â—Œ==â—
 use Rattle.std.specs.declared.alloc.Global.{Global}
 use Rattle.std.proofs.lemmas.Bool.{eqb-true}
 use Rattle.std.proofs.lemmas.Option.{slice_get_within, slice_get-get_or}
-use Rattle.graph_rules.specs.Graphs.{Node, is_true, mentions}
+use Rattle.graph_rules.specs.Graphs.{Node}
 use Rattle.ranking.specs.Assignments.{Assignment}
 use Rattle.clause_encoder.specs.Clauses.{Clause, ClauseList, is_clause_list}
-use Rattle.branch_states.specs.Branches.{order, place, branch, left, weight, sum_of}
+use Rattle.branch_states.specs.Branches.{order, place, branch, left, sum_of}
 use Rattle.branch_states.proofs.Counting.{sum_to, sum-more, sum-fewer}
 use Rattle.dnnf_compiler.specs.declared.forks.Fork.{Fork}
 use Rattle.dnnf_compiler.specs.declared.maker.Maker.{Maker}
-use Rattle.dnnf_compiler.specs.inner.Forks.{AreReached, IsWay, way, AreForks, forks_at, IsStep, LeadTo}
-use Rattle.dnnf_compiler.specs.inner.Joining.{Grows, IsConstant}
-use Rattle.dnnf_compiler.specs.inner.Making.{IsMaker, AreFree, AreWithin, may_be_true, node_at, IsApart, IsDecision, AreMade}
+use Rattle.dnnf_compiler.specs.inner.Forks.{IsWay, way, forks_at, IsStep, LeadTo}
+use Rattle.dnnf_compiler.specs.inner.Joining.{IsConstant}
+use Rattle.dnnf_compiler.specs.inner.Making.{IsMaker, AreFree, AreWithin, may_be_true, node_at, IsDecision, AreMade}
 use Rattle.dnnf_compiler.specs.inner.Meaning.{left_holds, HasState, IsNodeOf}
 use Rattle.dnnf_compiler.specs.inner.Rooting.{AreNodesOf, IsRoot}
-use Rattle.dnnf_compiler.proofs.Orders.{place_in_order, at_place}
+use Rattle.dnnf_compiler.proofs.Orders.{place_in_order}
 use Rattle.dnnf_compiler.proofs.Expanding.{expand, dead_fails, last_holds, all_left}
 use Rattle.dnnf_compiler.proofs.Reaching.{first_has, reached_few}
 

@@ -26,9 +26,10 @@ impl BuildHasher for Nearby {
 ///
 /// Of a node these words are the numbers of its children; what is not four bytes long is passed over, since nodes of the same
 /// children seldom differ by it. A table takes the group of a hash from its low bits, and tells the hashes in a group apart by its
-/// high ones. So the low bits are a quarter of the last child, moved by an offset that all have in common whose other children are
-/// the same but for 64 numbers: nodes that are made one after the other fall into few groups, which stay in the processor's cache.
-/// Nodes that share their last child are as many as these offsets, and are spread by them. The high bits mix all children.
+/// high ones. So nodes have one group whose last children are the same but for 4 numbers, and whose other children are the same but
+/// for 64: those that are made one after the other, and few more. The groups themselves lie anywhere. Were they in the order of the
+/// children, full ones would lie side by side, and a search would walk through all of them. Nodes that share their last child are
+/// spread over as many groups as there are 64 numbers among the others. The high bits mix all children.
 #[derive(Clone, Copy, Debug)]
 pub struct NearHasher {
     others: u32,
@@ -45,7 +46,7 @@ impl Hasher for NearHasher {
 
     #[inline(always)]
     fn finish(&self) -> u64 {
-        let place = mix(self.others, self.before >> 6).wrapping_add(self.last >> 2);
+        let place = mix(mix(self.others, self.last >> 2), self.before >> 6);
         let tag = mix(mix(self.others, self.before), self.last);
         u64::from(place & 0x00FF_FFFF | tag & 0xFF00_0000)
     }

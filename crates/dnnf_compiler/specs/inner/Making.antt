@@ -1,5 +1,5 @@
 -- Nodes that are made of a variable's bits and nodes below.
-use Rattle.std.specs.Prelude.{◌≡◌, ℕ, ◌+◌, ◌*◌, ◌<◌, ◌≤◌, Bool, true, false, ◌&&◌, ◌||◌, List, All, length, Option, Some, None, IfSome, slice_get, slice_index, ◌==◌}
+use Rattle.std.specs.Prelude.{◌≡◌, ℕ, ◌+◌, ◌*◌, ◌<◌, ◌≤◌, Bool, true, false, ◌&&◌, ◌||◌, List, length, Option, Some, None, IfSome, slice_get, slice_index, ◌==◌}
 use Rattle.ranking.specs.Bits.{same_bit}
 use Rattle.ranking.specs.Assignments.{Assignment}
 use Rattle.graph_rules.specs.Graphs.{Node, is_true, mentions}

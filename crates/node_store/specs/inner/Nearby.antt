@@ -11,4 +11,4 @@ after h (a ∷ b ∷ c ∷ d ∷ []) = record { others = mixed h.others h.before
 after h bytes = h
 
 abbrev pub finished : NearHasher → ℕ
-finished h = bit_or (bit_and ((mixed h.others (h.before / 64) + h.last / 4) % 2 ^ 32) 0x00FFFFFF) (bit_and (mixed (mixed h.others h.before) h.last) 0xFF000000)
+finished h = bit_or (bit_and (mixed (mixed h.others (h.last / 4)) (h.before / 64)) 0x00FFFFFF) (bit_and (mixed (mixed h.others h.before) h.last) 0xFF000000)

@@ -1,7 +1,5 @@
-use Rattle.std.proofs.Common.{◌≡◌, ◌+◌, ◌<◌, ◌≤◌, ◌++◌, List, ℕ, [], ◌∷◌, Some, length, refl, ap, sym, ◌∙◌, subst, arith, length-append}
-use Rattle.clause_encoder.specs.Clauses.{ClauseList}
-use Rattle.branch_states.specs.Branches.{order, sum_of, Standing}
-use Rattle.branch_states.specs.declared.measuring.TheConstants.{BUDGET_LIMIT}
+use Rattle.std.proofs.Common.{◌≡◌, ◌+◌, ℕ, [], ◌∷◌, length, refl, ap, sym, ◌∙◌, subst, arith, length-append}
+use Rattle.branch_states.specs.Branches.{Standing}
 use Rattle.dnnf_compiler.specs.inner.Forks.{AreReached, AreForks, IsStep, LeadTo}
 use Rattle.dnnf_compiler.specs.inner.States.{states_of}
 use Rattle.dnnf_compiler.proofs.Reaching.{first_reached}

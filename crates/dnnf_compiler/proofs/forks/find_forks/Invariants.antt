@@ -1,5 +1,4 @@
-use Rattle.std.proofs.Common.{◌≡◌, ◌≤◌, length}
-use Rattle.branch_states.specs.Branches.{order}
+use Rattle.std.proofs.Common.{◌≡◌, length}
 use Rattle.dnnf_compiler.specs.inner.Forks.{AreReached, LeadTo}
 use Rattle.dnnf_compiler.specs.inner.States.{states_of}
 use Rattle.dnnf_compiler.proofs.forks.find_forks.Given as goal

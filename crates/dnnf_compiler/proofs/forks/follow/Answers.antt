@@ -1,13 +1,10 @@
-use Rattle.std.proofs.Common.{◌≡◌, ◌+◌, ◌<◌, ◌≤◌, ◌*◌, List, ℕ, Bool, Some, length, ap, sym, ◌∙◌, subst, arith}
-use Rattle.std.specs.Prelude.{slice_get, nat_eq}
-use Rattle.std.specs.List.{position_or_len}
-use Rattle.std.specs.Cmp.Lexicographic.{pointwise}
+use Rattle.std.proofs.Common.{◌≡◌, ◌+◌, Some, sym, ◌∙◌, subst, arith}
+use Rattle.std.specs.Prelude.{slice_get}
 use Rattle.std.proofs.lemmas.Option.{slice_get_within}
-use Rattle.dnnf_compiler.specs.inner.Meaning.{HasState}
 use Rattle.dnnf_compiler.specs.inner.Forks.{AreReached, Extends, LeadsBy}
 use Rattle.dnnf_compiler.specs.inner.States.{states_of}
 use Rattle.branch_states.specs.Branches.{branch}
-use Rattle.dnnf_compiler.proofs.Reaching.{with_state, state_there, others_there, reached_more, reached_few, weight_few, leads_by, dies_by, state_long}
+use Rattle.dnnf_compiler.proofs.Reaching.{state_there, others_there, reached_more, reached_few, weight_few, leads_by, state_long}
 use Rattle.dnnf_compiler.proofs.forks.follow.Goals as goal
 use Rattle.dnnf_compiler.proofs.forks.follow.Goals.{In_ok-place}
 

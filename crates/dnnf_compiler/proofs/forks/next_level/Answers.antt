@@ -1,6 +1,5 @@
-use Rattle.std.proofs.Common.{◌≡◌, ◌+◌, ◌++◌, List, ℕ, [], ◌∷◌, Some, length, take, drop, ap, sym, ◌∙◌, subst, arith, length-append}
+use Rattle.std.proofs.Common.{◌≡◌, ◌+◌, ◌++◌, [], ◌∷◌, length, take, drop, ap, sym, ◌∙◌, subst, arith, length-append}
 use Rattle.std.specs.Prelude.{slice_get}
-use Rattle.branch_states.specs.Branches.{size}
 use Rattle.dnnf_compiler.specs.declared.forks.Fork.{Fork}
 use Rattle.dnnf_compiler.specs.inner.Forks.{AreForks}
 use Rattle.dnnf_compiler.specs.inner.States.{states_of}

@@ -5,7 +5,6 @@ mod asking;
 mod basis;
 mod limits;
 mod line_buffer;
-mod laws;
 mod listing;
 mod name_table;
 mod replies;
@@ -14,7 +13,6 @@ mod serving;
 mod sessions;
 mod telling;
 
-pub use laws::one_text;
 pub use limits::{SERVED_NODES, SERVED_VARIABLES, SESSION_LIMIT};
 pub use service::Service;
 pub use serving::ServeEnd;

@@ -5,7 +5,7 @@ use Rattle.text_rules.specs.Names.{Name}
 
 -- a place below 10,000 in four digits
 abbrev pub four_digits : ℕ → List ℕ
-four_digits place = 48 + place / 1000 ∷ 48 + place / 100 % 10 ∷ 48 + place / 10 % 10 ∷ 48 + place % 10 ∷ []
+four_digits place = (48 + place / 1000) ∷ (48 + place / 100 % 10) ∷ (48 + place / 10 % 10) ∷ (48 + place % 10) ∷ []
 
 -- the signal of a letter at a place
 abbrev pub signal : ℕ → List ℕ → Name

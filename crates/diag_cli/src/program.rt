@@ -27,7 +27,7 @@ fn run_over<H: Shelf, I: Source, O: Sink>(
     requires shelf_faults { H.faults shelf.old < 2 ^ 64 - 1 }
     requires input_faults { I.faults input.old < 2 ^ 64 - 1 }
     requires out_faults { O.faults out.old < 2 ^ 64 - 1 }
-    ensures { IsRun (Some (Over path.now (command_meant command.entry))) (H.held shelf.old)
+    ensures { IsRun (Some (Over path.now (command_meant command))) (H.held shelf.old)
         (record { left = H.left shelf.old; taken = H.taken shelf.old; faults = H.faults shelf.old })
         (record { left = H.left shelf.new; taken = H.taken shelf.new; faults = H.faults shelf.new })
         (record { left = I.left input.old; taken = I.taken input.old; faults = I.faults input.old })

@@ -1,7 +1,7 @@
 use Rattle.diag_cli.specs.Loads.{loaded}
 use Rattle.diag_cli.specs.Refusals.{told_by}
 use Rattle.diag_cli.specs.inner.Loading.{summary_output}
-use Rattle.diag_cli.proofs.Loading.{gives_told, gives_summary}
+use Rattle.diag_cli.proofs.LoadedAdders.{gives_told, gives_summary}
 use Rattle.diag_cli.proofs.loading.load_adder.Goals as goal
 
 pub returns-in-Ok-clause-said : goal.returns-in-Ok-clause-said

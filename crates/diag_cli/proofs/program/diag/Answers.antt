@@ -1,5 +1,5 @@
 use Rattle.diag_cli.specs.Runs.{Reading}
-use Rattle.diag_cli.proofs.Headline.{run_usage}
+use Rattle.diag_cli.proofs.Headline.{run_usage, run_load}
 use Rattle.diag_cli.proofs.program.diag.Goals as goal
 
 pub returns-in-None : goal.returns-in-None
@@ -7,3 +7,10 @@ returns-in-None g c =
     let old = c.args.shelf.now in
     let shelf : Reading = record { left = g.H.Source.left old; taken = g.H.Source.taken old; faults = g.H.Source.faults old } in
     rw (← c.in-None.ensures.form) (run_usage _ shelf shelf _ _ _ _ c.say.ensures.write_fault c.say.ensures.said)
+
+pub returns-in-Some-Load : goal.returns-in-Some-Load
+returns-in-Some-Load g c =
+    let old = c.args.shelf.now in
+    let shelf : Reading = record { left = g.H.Source.left old; taken = g.H.Source.taken old; faults = g.H.Source.faults old } in
+    let done = c.load_adder.ensures in
+    ?

@@ -1,7 +1,7 @@
 -- What is found of an adder's graph is what is told of its device.
-use Rattle.std.proofs.Common.{◌≡◌, ℕ, ◌+◌, ◌-◌, ◌<◌, ◌≤◌, Bool, List, [], ◌∷◌, length, get_or, take, Option, Some, None, IfSome, Result, Ok, Err, refl, ap, ap₂, sym, ◌∙◌, subst, arith, inl, inr, codes}
+use Rattle.std.proofs.Common.{◌≡◌, ℕ, ◌+◌, ◌-◌, ◌<◌, ◌≤◌, Bool, List, [], ◌∷◌, ◌++◌, length, get_or, take, Option, Some, None, IfSome, Result, Ok, Err, refl, ap, ap₂, sym, ◌∙◌, subst, arith, inl, inr, codes}
 use Rattle.std.specs.Option.{option_map}
-use Rattle.std.proofs.Math.Seq.{get_or-take}
+use Rattle.std.proofs.Math.Seq.{get_or-take, take-append_seam}
 use Rattle.std.proofs.lemmas.List.{length-map, length-take}
 use Rattle.text_rules.specs.Names.{Name}
 use Rattle.text_rules.specs.Expected.{IsExpectedFault}
@@ -31,6 +31,10 @@ use Rattle.diag_cli.specs.Loads.{names_line, listed_lines, summary_lines, summar
 use Rattle.diag_cli.specs.Refusals.{or_memory}
 use Rattle.diag_cli.specs.inner.Loading.{if_found, summary_items, summary_output, IsSummaryOf}
 use Rattle.diag_cli.specs.inner.Serving.{IsServable}
+
+-- what is written over all of a vector
+pub whole : {A : Type 0} (n : ℕ) (xs more : List A) → length xs ≡ n → take n (xs ++ more) ≡ xs
+whole n xs more long = ap (λ m. take m (xs ++ more)) (sym long) ∙ take-append_seam xs more
 
 named : (device : Device) → length (part_names device.parts) ≡ length device.parts
 named device = length-map device.parts (λ (part : Component). part.name)

@@ -41,6 +41,23 @@ form_behind f (x ∷ y ∷ words) command next long c p =
     let rest : take (length (x ∷ y ∷ words) - 2) words ≡ words = take_all (length (x ∷ y ∷ words) - 2) words (omega arith) in
     sym (λ k. if same_name (f (c k)) (codes "load") then form_load (f (p k)) (map f (rest k)) else form_over (f (c k)) (f (p k)) (map f (rest k)))
 
+pub few_words : {S : Type 0} (f : S → List ℕ) (words : List S) → length words < 2 → None ≡ form_of (map f words)
+few_words f [] short = refl
+few_words f (x ∷ []) short = refl
+few_words f (x ∷ y ∷ words) short = absurd (omega (arith, short))
+
+pub load_words : {S : Type 0} (f : S → List ℕ) (words : List S) (command next : S) → 2 ≤ length words → command ≡ get_or words 0 command → next ≡ get_or words 1 next
+    → same_name (f command) (codes "load") ≡ true → form_of (map f words) ≡ form_load (f next) (map f (take (length words - 2) (drop 2 words)))
+load_words f words command next long c p is =
+    let rest = map f (take (length words - 2) (drop 2 words)) in
+    form_behind f words command next long c p ∙ ap (λ b. if b then form_load (f next) rest else form_over (f command) (f next) rest) is
+
+pub over_words : {S : Type 0} (f : S → List ℕ) (words : List S) (command next : S) → 2 ≤ length words → command ≡ get_or words 0 command → next ≡ get_or words 1 next
+    → same_name (f command) (codes "load") ≡ false → form_of (map f words) ≡ form_over (f command) (f next) (map f (take (length words - 2) (drop 2 words)))
+over_words f words command next long c p is =
+    let rest = map f (take (length words - 2) (drop 2 words)) in
+    form_behind f words command next long c p ∙ ap (λ b. if b then form_load (f next) rest else form_over (f command) (f next) rest) is
+
 -- no options yet
 pub over_options : (given : Options) (command path : List ℕ) (words : List (List ℕ)) (found : Option Options) → (given.budget ≡ None) × (given.sessions ≡ None)
     → and_options given words ≡ found → form_over command path words ≡ option_and_then (form_by command path) found

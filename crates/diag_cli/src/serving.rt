@@ -32,7 +32,7 @@ use text_rules::TEXT_LIMIT;
 pub const SCRIPT_LIMIT: u64 = 1_099_511_627_776;
 
 // The graph of a device, by its clauses.
-fn graph_of(alloc: Global, device: &Device, cnf: &Cnf) -> Result<Graph, AllocError>
+pub(crate) fn graph_of(alloc: Global, device: &Device, cnf: &Cnf) -> Result<Graph, AllocError>
     requires sum { sum_of cnf.now.clauses ≤ BUDGET_LIMIT }
     requires encoded { encoded device.now ≡ Ok cnf.now }
     requires describes { Describes cnf.now device.now }

@@ -6,7 +6,7 @@ use Rattle.std.proofs.lemmas.List.{length-drop, length-take}
 use Rattle.ranking.specs.Ranking.{cost, least_of, is_at_most, is_before, rest, states}
 use Rattle.graph_rules.specs.Graphs.{Graph}
 use Rattle.conditioner.specs.Models.{has_model, fits_words, models, least_under, diagnoses_under}
-use Rattle.minimiser.proofs.Members.{In, In-filter, In-filtered, least-from}
+use Rattle.ranking.proofs.Members.{In, In-filter, In-filtered, least-from}
 use Rattle.diagnosis_lister.specs.declared.listing.Step.{Step}
 use Rattle.diagnosis_lister.specs.declared.listing.Step.TheVariants.{Found, End, Inconsistent}
 use Rattle.diagnosis_lister.specs.Listing.{step_of}

@@ -1,9 +1,7 @@
 //! An adder that is made in memory, and what its readings come to.
-ghost use Rattle.std.specs.Prelude.{◌≡◌, ◌≢◌, ◌⊎◌, [], ◌∷◌, ◌-◌, ◌^◌, ◌<◌, ◌≤◌, Ok, length, All, IfOk};
+ghost use Rattle.std.specs.Prelude.{◌≡◌, ◌≢◌, ◌⊎◌, [], ◌∷◌, ◌-◌, ◌^◌, ◌<◌, ◌≤◌, Ok, length, IfOk};
 ghost use Rattle.bench_reader.specs.Netlists.{netlist};
 ghost use Rattle.clause_encoder.specs.Encoding.{encoded};
-ghost use Rattle.device_model.specs.Devices.{part_costs};
-ghost use Rattle.conditioner.specs.Models.{total_cost};
 ghost use Rattle.diag_edge.specs.Edge.{HasCause, RoseExactly};
 ghost use Rattle.diagnosis_lister.specs.Listing.{bits_of};
 ghost use Rattle.adder_load.specs.Adders.{adder_text};
@@ -18,13 +16,13 @@ ghost use Rattle.diag_cli.specs.inner.Serving.{IsServable};
 use crate::describing::netlist_device;
 use crate::planning::put_count;
 use crate::refusal::{Refusal, tell};
-use crate::serving::graph_of;
+use crate::serving::{costs_of, graph_of};
 use crate::weighing::clauses_within;
 use crate::words::DEFAULT_BUDGET;
 use adder_load::{Found, PLACE_LIMIT, adder_text, note_readings, sample};
 use device_model::{Device, Name};
 use diag_edge::{Sink, WriteFailed, put_line};
-use minimiser::{Steps, TOTAL_LIMIT};
+use minimiser::Steps;
 use node_store::Graph;
 use session_core::put_faulty;
 use std::alloc::{AllocError, Global};
@@ -43,16 +41,6 @@ struct Summary {
     found: Option<Found>,
     first: Vec<u32>,
     last: Vec<u32>,
-}
-
-// What the failure of each part costs.
-fn costs_of(alloc: Global, device: &Device) -> Result<Vec<u32>, AllocError>
-    ensures costs { IfOk result (λ costs. costs.items ≡ part_costs device.now) }
-    ensures many { IfOk result (λ costs. length costs.items ≡ length device.now.parts) }
-    ensures total { IfOk result (λ costs. total_cost costs.items < TOTAL_LIMIT) }
-    ensures dear { IfOk result (λ costs. All (λ c. 0 < c) costs.items) }
-{
-    vec![in alloc; 1; device.parts().len()]
 }
 
 // The device of an adder.

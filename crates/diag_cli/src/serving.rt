@@ -43,9 +43,10 @@ pub(crate) fn graph_of(alloc: Global, device: &Device, cnf: &Cnf) -> Result<Grap
     Ok(compile(alloc, cnf)?.graph)
 }
 
-// What a failure of each part costs.
-fn costs_of(alloc: Global, device: &Device) -> Result<Vec<u32>, AllocError>
+/// What a failure of each part costs.
+pub(crate) fn costs_of(alloc: Global, device: &Device) -> Result<Vec<u32>, AllocError>
     ensures costs { IfOk result (λ costs. costs.items ≡ part_costs device.now) }
+    ensures many { IfOk result (λ costs. length costs.items ≡ length device.now.parts) }
     ensures dear { IfOk result (λ costs. All (λ c. 0 < c) costs.items) }
     ensures total { IfOk result (λ costs. sum costs.items ≤ COST_LIMIT * PART_LIMIT) }
 {

@@ -1,5 +1,5 @@
 -- From what was done by a course to what holds of a run.
-use Rattle.std.proofs.Common.{◌≡◌, ◌≢◌, ◌⊎◌, ◌<◌, ◌≤◌, ◌+◌, ◌-◌, ℕ, true, false, List, length, Option, Some, None, IfSome, inl, inr, refl, ◌∙◌, ap, subst, sym, arith, codes, nat_le}
+use Rattle.std.proofs.Common.{◌≡◌, ◌≢◌, ◌⊎◌, ◌<◌, ◌≤◌, ◌+◌, ℕ, true, false, List, length, Option, Some, None, IfSome, inl, inr, refl, ◌∙◌, ap, subst, sym, arith, codes, nat_le}
 use Rattle.std.specs.Prelude.{Result, Ok, Err}
 use Rattle.std.specs.Io.KnownBytes.{Consumes, IsAtEnd}
 use Rattle.std.proofs.lemmas.Bool.{cases_eq}
@@ -15,7 +15,7 @@ use Rattle.diag_cli.specs.declared.serving.TheConstants.{SCRIPT_LIMIT}
 use Rattle.diag_cli.specs.Words.{Form, Load, Over, Command, Serve, Plan, Check, Compile}
 use Rattle.diag_cli.specs.Describing.{long_file_line, described, device_in}
 use Rattle.diag_cli.specs.Output.{Output, Gives, GivesUnlessMemory, says, no_memory}
-use Rattle.diag_cli.specs.Courses.{End, Ended, Failed, Cut, Course, Tells, Serves, read_error, served, wholly_served, whole_output, if_within, served_or_refused, course_by, course_of}
+use Rattle.diag_cli.specs.Courses.{End, Ended, Failed, Cut, Course, Tells, Serves, read_error, served, wholly_served, whole_output, if_within, served_or_refused, course_by}
 use Rattle.diag_cli.specs.Loads.{loaded}
 use Rattle.diag_cli.specs.Refusals.{or_memory}
 use Rattle.diag_cli.specs.Runs.{Reading, Writing, IsIdle, GivesUnlessShort, IsRun}

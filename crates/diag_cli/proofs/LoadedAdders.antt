@@ -1,5 +1,5 @@
 -- What is found of an adder's graph is what is told of its device.
-use Rattle.std.proofs.Common.{◌≡◌, ℕ, ◌+◌, ◌-◌, ◌<◌, ◌≤◌, Bool, List, [], ◌∷◌, ◌++◌, length, get_or, take, Option, Some, None, IfSome, Result, Ok, Err, refl, ap, ap₂, sym, ◌∙◌, subst, arith, inl, inr, codes}
+use Rattle.std.proofs.Common.{◌≡◌, ℕ, ◌-◌, ◌<◌, Bool, List, [], ◌∷◌, ◌++◌, length, get_or, take, Option, Some, None, IfSome, Result, Ok, refl, ap, ap₂, sym, ◌∙◌, subst, arith, inl, inr, codes}
 use Rattle.std.specs.Option.{option_map}
 use Rattle.std.proofs.Math.Seq.{get_or-take, take-append_seam}
 use Rattle.std.proofs.lemmas.List.{length-map, length-take}
@@ -12,7 +12,6 @@ use Rattle.graph_rules.specs.Graphs.{Graph}
 use Rattle.device_model.specs.Devices.{Device, part_names, part_costs}
 use Rattle.device_model.specs.declared.component.Component.{Component}
 use Rattle.device_model.specs.Diagnosis.{device_system}
-use Rattle.clause_encoder.specs.declared.encoding.EncodeError.{EncodeError}
 use Rattle.clause_encoder.specs.Clauses.{ClauseList}
 use Rattle.conditioner.specs.Models.{models, least_under, diagnoses_under}
 use Rattle.diagnosis_lister.specs.Listing.{bits_of}
@@ -29,7 +28,7 @@ use Rattle.diag_cli.specs.Output.{Output, Gives, GivesUnlessMemory}
 use Rattle.diag_cli.specs.Planning.{count_line}
 use Rattle.diag_cli.specs.Loads.{names_line, listed_lines, summary_lines, summary_by, summary_of}
 use Rattle.diag_cli.specs.Refusals.{or_memory}
-use Rattle.diag_cli.specs.inner.Loading.{if_found, summary_items, summary_output, IsSummaryOf}
+use Rattle.diag_cli.specs.inner.Loading.{if_found, summary_output, IsSummaryOf}
 use Rattle.diag_cli.specs.inner.Serving.{IsServable}
 
 -- what is written over all of a vector

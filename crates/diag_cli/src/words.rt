@@ -20,32 +20,22 @@ pub const DEFAULT_SESSIONS: u32 = 16;
 pub enum Command {
     /// `serve`: answers the script on the input over the device of the file, whose sum is within a budget, with at most so
     /// many sessions open at a time.
-    Serve {
-        budget: u32,
-        sessions: u32,
-    },
+    Serve { budget: u32, sessions: u32 },
     /// `plan`: tells how large a device is, and the sum that the budget limits.
     Plan,
     /// `check`: tells whether the text of the file is a decomposable graph.
     Check,
     /// `compile`: writes the graph of a device whose sum is within a budget.
-    Compile {
-        budget: u32,
-    },
+    Compile { budget: u32 },
 }
 
 /// What the words of the command line ask for.
 #[derive(Clone, Copy, Debug)]
 pub enum Form<'a> {
     /// `load N`: makes an adder of so many places, and tells what its readings come to.
-    Load {
-        places: u32,
-    },
+    Load { places: u32 },
     /// A command, and the file that it is done over.
-    Over {
-        path: &'a str,
-        command: Command,
-    },
+    Over { path: &'a str, command: Command },
 }
 
 /// The options behind a path, each where it is given.

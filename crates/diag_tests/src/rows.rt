@@ -10,7 +10,7 @@ struct Row {
     status: u8,
 }
 
-const ROWS: [Row; 22] = [
+const ROWS: [Row; 23] = [
     // The inputs are 0, so 22 and 23 are to be 0. One of 10 and 22 explains the 1, and the first of them is named.
     Row {
         file: File {
@@ -235,10 +235,18 @@ const ROWS: [Row; 22] = [
         out: "error: line 2: fault 3 child\n",
         status: 1,
     },
+    // The sum is 1 where all that is added is 0: its own gate is faulty, or the one that it reads.
+    Row {
+        file: CHAIN,
+        words: &["load", "1"],
+        script: "min S\n",
+        out: "parts 5\nwires 8\nclauses 17\nminimum 1\nfirst 0000s\nlisted 2\nlast 0000x\n",
+        status: 0,
+    },
 ];
 
 // Words that ask for nothing that the program does.
-const WRONG: [&[&str]; 20] = [
+const WRONG: [&[&str]; 25] = [
     &[],
     &["serve"],
     &["--help"],
@@ -259,6 +267,11 @@ const WRONG: [&[&str]; 20] = [
     &["compile", "c17.bench", "--sessions", "2"],
     &["compile", "c17.bench", "--budget", "0"],
     &["compile", "c17.bench", "--budget", "8388609"],
+    &["load"],
+    &["load", "0"],
+    &["load", "01"],
+    &["load", "801"],
+    &["load", "1", "--budget", "5"],
 ];
 
 #[test]

@@ -1,6 +1,4 @@
-use Rattle.std.proofs.Common.{◌≡◌, ◌<◌, ◌∙◌, IfSome, Err, arith, length, refl, ap, subst}
-use Rattle.text_rules.specs.declared.text_lines.TheConstants.{TEXT_LIMIT}
-use Rattle.diag_edge.specs.Edge.{told_bytes}
+use Rattle.std.proofs.Common.{◌∙◌, Err, arith, refl, ap}
 use Rattle.diag_edge.specs.declared.loading.LoadError.TheVariants.{Long}
 use Rattle.diag_cli.specs.Output.{says}
 use Rattle.diag_cli.specs.Describing.{long_file_line}

@@ -12,7 +12,7 @@ use Rattle.session_rules.specs.Items.{Item}
 use Rattle.session_rules.specs.Spelling.{Writes}
 use Rattle.device_model.specs.Devices.{Device}
 use Rattle.diag_cli.specs.declared.serving.TheConstants.{SCRIPT_LIMIT}
-use Rattle.diag_cli.specs.Words.{Form, Load, Over, Command, Serve, Plan, Check, Compile}
+use Rattle.diag_cli.specs.Words.{Form, Load, Over, Command, Serve, Plan, Check, Compile, asks_script}
 use Rattle.diag_cli.specs.Describing.{long_file_line, described, device_in}
 use Rattle.diag_cli.specs.Output.{Output, Gives, GivesUnlessMemory, says, no_memory}
 use Rattle.diag_cli.specs.Courses.{End, Ended, Failed, Cut, Course, Tells, Serves, read_error, served, wholly_served, whole_output, if_within, served_or_refused, course_by}
@@ -164,6 +164,7 @@ module _ (input new_input : Reading) (out new_out : Writing) (status : ℕ) wher
       no_name = λ none. absurd (let never : ⊥ = cc in never);
       absent_file = λ gone. absurd (there gone);
       no_file = λ moves. absurd (omega (arith, kept, moves));
+      not_asked = idle_by command done;
       no_script = some_map (told_bytes (held path)) (λ bytes same output course.
           (told_of (course_by path command file) output (ap (course_by path command) same ∙ course) done).0) is;
       output = given;
@@ -175,6 +176,12 @@ module _ (input new_input : Reading) (out new_out : Writing) (status : ℕ) wher
       cut = λ whole. (cut, λ taken. elim (cases_eq status 7) [ inl seven ↦ seven | inr other ↦ absurd (omega (arith, short whole other, taken)) ]);
     }
       where
+        idle_by : (any : Command) → Follows (course_by path any file) input new_input out new_out status → asks_script (Some (Over path any)) ≡ false → IsIdle input new_input
+        idle_by (Serve budget sessions) done asks = absurd (let never : ⊥ = cc in never)
+        idle_by Plan done asks = done.0
+        idle_by Check done asks = done.0
+        idle_by (Compile budget) done asks = done.0
+
         four_of : status ≢ 5 → input.faults < new_input.faults → status ≡ 4
         four_of whole moves = elim (cases_eq status 4) [ inl four ↦ four | inr not_four ↦ absurd (omega (arith, (reads whole).stayed not_four, moves)) ]
 
@@ -243,6 +250,7 @@ module _ (held : List ℕ → Holding) (shelf new_shelf input : Reading) (out ne
       no_name = λ none. absurd (let never : ⊥ = cc in never);
       absent_file = λ gone whole. (said.whole whole).0;
       no_file = λ rises. (idle, said);
+      not_asked = λ asks. idle;
       no_script = some_all (told_bytes (held path)) (λ file output course. idle);
       output = given;
       complete = completed writes given;
@@ -265,6 +273,7 @@ module _ (held : List ℕ → Holding) (shelf new_shelf input : Reading) (out ne
       no_name = λ none. absurd (let never : ⊥ = cc in never);
       absent_file = λ gone. absurd (there gone);
       no_file = λ moves. absurd (omega (arith, kept, moves));
+      not_asked = λ asks. idle;
       no_script = some_all (told_bytes (held path)) (λ file other course. idle);
       output = given;
       complete = completed writes given;
@@ -291,6 +300,7 @@ module _ (held : List ℕ → Holding) (shelf new_shelf input : Reading) (out ne
     no_name = λ none. record { taken = refl; faults = refl };
     absent_file = tt;
     no_file = λ moves. absurd (omega (arith, moves));
+    not_asked = λ asks. idle;
     no_script = λ output course. idle;
     output = λ read taken. inr said;
     complete = completes None shelf shelf input input out new_out status writes (says (codes "error: usage\n") 2) (λ read taken. inr said);
@@ -309,6 +319,7 @@ module _ (held : List ℕ → Holding) (shelf new_shelf input : Reading) (out ne
     no_name = λ none. record { taken = refl; faults = refl };
     absent_file = tt;
     no_file = λ moves. absurd (omega (arith, moves));
+    not_asked = λ asks. idle;
     no_script = λ output course. idle;
     output = λ read taken. with_form (Load places) said;
     complete = completes (Some (Load places)) shelf shelf input input out new_out status writes (loaded places) (λ read taken. with_form (Load places) said);

@@ -1,5 +1,5 @@
 -- What the words of the command line ask for.
-use Rattle.std.specs.Prelude.{ℕ, Bool, ◌&&◌, ◌||◌, is_none, nat_lt, ◌-◌, List, [], ◌∷◌, length, drop, Option, Some, None, unwrap_or, option_and_then, if◌then◌else◌, codes}
+use Rattle.std.specs.Prelude.{ℕ, Bool, true, false, ◌&&◌, ◌||◌, is_none, nat_lt, ◌-◌, List, [], ◌∷◌, length, drop, Option, Some, None, unwrap_or, option_and_then, if◌then◌else◌, codes}
 use Rattle.std.specs.Option.{option_map, option_map_or}
 use Rattle.text_rules.specs.Names.{same_name}
 use Rattle.text_rules.specs.Numbers.{plain_number_in}
@@ -36,6 +36,11 @@ named_file form = option_and_then path_of form
 -- what is told of that file; where none is named it is as good as empty
 abbrev pub told_file : (List ℕ → Holding) → Option Form → Option (List ℕ)
 told_file held form = option_map_or (λ path. told_bytes (held path)) (named_file form) (Some [])
+
+-- only `serve` asks for a script
+abbrev pub asks_script : Option Form → Bool
+asks_script (Some (Over path (Serve budget sessions))) = true
+asks_script form = false
 
 -- ---- files by their endings
 

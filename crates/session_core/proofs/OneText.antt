@@ -1,8 +1,6 @@
 -- Sessions with one case are told one text of its graph, and so is a session that asks again.
-use Rattle.std.proofs.Common.{◌≡◌, ◌∷◌, ◌++◌, [], ℕ, List, Option, Some, Result, codes, subst}
+use Rattle.std.proofs.Common.{◌≡◌, ℕ, List, Option, Some, Result, subst}
 use Rattle.text_rules.specs.Names.{Name}
-use Rattle.text_rules.specs.Tokens.{spaced}
-use Rattle.diag_edge.specs.Edge.{Puts}
 use Rattle.ranking.specs.Cases.{Case}
 use Rattle.script_lang.specs.Script.{Ask, Dnnf}
 use Rattle.session_rules.specs.GraphSystems.{Subject}

@@ -1,7 +1,5 @@
-use Rattle.std.proofs.Common.{◌≡◌, ◌∙◌, length, ap, sym, subst, Some}
-use Rattle.std.specs.Prelude.{IfSome, Option}
+use Rattle.std.proofs.Common.{◌∙◌, length, ap, sym, subst}
 use Rattle.scratch_pool.specs.declared.region.Span.{Span}
-use Rattle.scratch_pool.specs.Regions.{carved, words_used}
 use Rattle.scratch_pool.proofs.Laws.{length-run}
 use Rattle.session_table.specs.Tables.{Opened, StandsAt}
 use Rattle.session_core.specs.Services.{Shown}

@@ -1,8 +1,7 @@
 use Rattle.std.proofs.Common.{◌≡◌, ◌∙◌, length, ap, sym, subst, arith, Some}
-use Rattle.std.specs.Prelude.{IfSome, Option, if◌then◌else◌}
+use Rattle.std.specs.Prelude.{if◌then◌else◌}
 use Rattle.text_rules.specs.Tokens.{words}
 use Rattle.scratch_pool.specs.declared.region.Span.{Span}
-use Rattle.scratch_pool.specs.Regions.{carved, words_used}
 use Rattle.scratch_pool.proofs.Laws.{length-run}
 use Rattle.session_rules.specs.Sessions.{with_entry, state_of}
 use Rattle.session_table.specs.Tables.{Opened, StandsAt}

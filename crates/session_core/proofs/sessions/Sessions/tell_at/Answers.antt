@@ -1,8 +1,6 @@
 use Rattle.std.proofs.Common.{◌≡◌, ◌∙◌, ℕ, length, ap, sym, subst}
-use Rattle.std.specs.Prelude.{IfSome, Option, Some}
 use Rattle.ranking.specs.Cases.{Case}
 use Rattle.scratch_pool.specs.declared.region.Span.{Span}
-use Rattle.scratch_pool.specs.Regions.{carved, words_used}
 use Rattle.scratch_pool.proofs.Laws.{length-run}
 use Rattle.session_rules.specs.CaseWords.{case_of_words, AreWords}
 use Rattle.session_rules.specs.GraphSystems.{system_of}

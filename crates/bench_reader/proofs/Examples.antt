@@ -1,5 +1,5 @@
 -- Worked rows: netlists of which a reader can say the device or the fault beforehand. Their check computes both sides.
-use Rattle.std.proofs.Common.{◌≡◌, ℕ, List, [], ◌∷◌, ◌++◌, codes, replicate, refl}
+use Rattle.std.proofs.Common.{◌≡◌, ℕ, zero, suc, List, [], ◌∷◌, ◌++◌, codes, replicate, refl}
 use Rattle.text_rules.specs.Names.{Name}
 use Rattle.device_model.specs.declared.component.Kind.{Kind}
 use Rattle.device_model.specs.declared.component.Kind.TheVariants.{And, Nand, Xor, Not, Buff}
@@ -26,6 +26,14 @@ fault_of lines = shown (netlist (text lines))
 -- the same netlists with flip-flops taken
 abbrev with_flip_flops : List (List ℕ) → Result Device Fault
 with_flip_flops lines = netlist_with Taken (text lines)
+
+abbrev more_of_a : ℕ → List ℕ
+more_of_a zero = codes ")"
+more_of_a (suc n) = codes ",a" ++ more_of_a n
+
+-- y is a gate of the signal a, which is its input once and then so many times more
+abbrev gate_of_a : List ℕ → ℕ → List ℕ
+gate_of_a kind more = codes "y = " ++ kind ++ codes "(a" ++ more_of_a more
 
 abbrev part : List ℕ → Kind → List ℕ → Component
 part name kind ports = record { name = name; kind = kind; ports = ports }
@@ -74,8 +82,11 @@ small_letters : netlist (text (codes "INPUT(a)" ∷ codes "INPUT(b)" ∷ codes "
     ≡ Ok (device (part (codes "y") Xor (0 ∷ 1 ∷ 2 ∷ 3 ∷ []) ∷ []) (codes "a" ∷ codes "b" ∷ codes "c" ∷ codes "y" ∷ []))
 small_letters = refl
 
-sixteen_inputs : fault_of (codes "INPUT(a)" ∷ codes "y = NOR(a,a,a,a,a,a,a,a,a,a,a,a,a,a,a,a)" ∷ []) ≡ []
-sixteen_inputs = refl
+most_inputs : fault_of (codes "INPUT(a)" ∷ gate_of_a (codes "NOR") 63 ∷ []) ≡ []
+most_inputs = refl
+
+most_inputs_of_xor : fault_of (codes "INPUT(a)" ∷ gate_of_a (codes "XOR") 63 ∷ []) ≡ []
+most_inputs_of_xor = refl
 
 -- ---- faults
 
@@ -100,11 +111,11 @@ two_inputs_of_not = refl
 no_inputs : fault_of (codes "y = AND()" ∷ []) ≡ 1 ∷ 4 ∷ []
 no_inputs = refl
 
-seventeen_inputs : fault_of (codes "INPUT(a)" ∷ codes "y = NOR(a,a,a,a,a,a,a,a,a,a,a,a,a,a,a,a,a)" ∷ []) ≡ 2 ∷ 4 ∷ []
-seventeen_inputs = refl
+one_input_too_many : fault_of (codes "INPUT(a)" ∷ gate_of_a (codes "NOR") 64 ∷ []) ≡ 2 ∷ 4 ∷ []
+one_input_too_many = refl
 
-nine_inputs_of_xor : fault_of (codes "INPUT(a)" ∷ codes "y = XOR(a,a,a,a,a,a,a,a,a)" ∷ []) ≡ 2 ∷ 4 ∷ []
-nine_inputs_of_xor = refl
+one_input_of_xor_too_many : fault_of (codes "INPUT(a)" ∷ gate_of_a (codes "XOR") 64 ∷ []) ≡ 2 ∷ 4 ∷ []
+one_input_of_xor_too_many = refl
 
 -- the inputs of a flip-flop are not counted
 no_inputs_of_a_flip_flop : fault_of (codes "q = DFF()" ∷ []) ≡ 1 ∷ 5 ∷ []

@@ -5,14 +5,27 @@ use std::test::Fail;
 use text_rules::TEXT_LIMIT;
 
 // Netlists with their parts and wires.
-const DEVICES: [(&str, usize, usize); 2] = [
+const DEVICES: [(&str, usize, usize); 3] = [
     ("INPUT(a)\nOUTPUT(c)\nb = BUFF(a)\nc = BUFF(b)\n", 2, 3),
     ("INPUT(a)\nINPUT(b)\ny = xor(a, b)\n", 1, 3),
+    // 64 inputs
+    (
+        "INPUT(a)\ny = XOR(a,a,a,a,a,a,a,a,a,a,a,a,a,a,a,a,a,a,a,a,a,a,a,a,a,a,a,a,a,a,a,a,a,a,a,a,a,a,a,a,a,a,a,a,a,a,a,a,a,a,a,a,a,a,a,a,a,a,a,a,a,a,a,a)\n",
+        1,
+        2,
+    ),
 ];
 
 // Netlists with the line, the number and the name of their fault.
-const FAULTS: [(&str, u32, u32, &str); 2] = [
+const FAULTS: [(&str, u32, u32, &str); 3] = [
     ("INPUT(a)\nq = DFF(a)\n", 2, 5, "sequential"),
+    // 65 inputs
+    (
+        "INPUT(a)\ny = AND(a,a,a,a,a,a,a,a,a,a,a,a,a,a,a,a,a,a,a,a,a,a,a,a,a,a,a,a,a,a,a,a,a,a,a,a,a,a,a,a,a,a,a,a,a,a,a,a,a,a,a,a,a,a,a,a,a,a,a,a,a,a,a,a,a)\n",
+        2,
+        4,
+        "inputs",
+    ),
     ("OUTPUT(z)\nINPUT(a)\na = NOT(a)\n", 3, 6, "driven twice"),
 ];
 

@@ -1,28 +1,24 @@
 -- Steps from one level to the next, and lists of one state: what the laws and the sum stand on.
 use Rattle.std.proofs.Common.{inl, inr, min, ◌-◌, ◌≡◌, ℕ, zero, suc, ◌+◌, ◌*◌, ◌<◌, ◌≤◌, Bool, true, false, not, ◌&&◌, cond, List, [], ◌∷◌, ◌++◌, map, length, take, drop, get_or, refl, ap, sym, ◌∙◌, subst, arith, add-one}
 use Rattle.std.specs.List.{filter, flat_map, AllByRecursion}
+use Rattle.std.proofs.Math.Bool.{and-true, and_assoc}
 use Rattle.std.proofs.lemmas.Bool.{false≢true, or_parts, or_cases, and_parts, and_from, or_left, or_right, not_from_false, not_from_true, not-true, not-false}
+use Rattle.std.proofs.lemmas.List.Folds.{flat_map-map}
 use Rattle.std.proofs.lemmas.List.{take-append-drop, length-take, length-drop, nil_from_length}
 use Rattle.ranking.specs.Bits.{row_number, lists_of_bits}
+use Rattle.ranking.proofs.Bits.{not_left}
+use Rattle.ranking.proofs.Lists.{map-flat_map}
 use Rattle.clause_encoder.specs.Clauses.{Clause}
 use Rattle.branch_states.specs.Branches.{order, has_true, is_left, left, is_touched, is_covered, is_open, some_passes, is_dead, different, living, size, bits_of, words_of, state_of, without, branch, branches, IsLiving}
-use Rattle.branch_states.proofs.Lists.{longer, lists_of_bits-more, each-long, map-flat_map, flat_map_same, flat_map-map, filter-flat_map, flat_map-filter, different-flat_map, each-different, each-filter, each-map}
+use Rattle.branch_states.proofs.Lists.{longer, lists_of_bits-more, each-long, flat_map_same, filter-flat_map, flat_map-filter, different-flat_map, each-different, each-filter, each-map}
 use Rattle.branch_states.specs.inner.Steps.{AllOnce}
 use Rattle.branch_states.proofs.Places.{first_met-once, untouched-left, covered-without, covered-more}
 
 -- ---- one more bit
 
-and_true : (x : Bool) → (x && true) ≡ x
-and_true true = refl
-and_true false = refl
-
 and_last : (x y : Bool) → (x && true) ≡ (true && x)
 and_last true y = refl
 and_last false y = refl
-
-and_assoc : (x y z : Bool) → (x && (y && z)) ≡ ((x && y) && z)
-and_assoc true y z = refl
-and_assoc false y z = refl
 
 no_bits : (vs : List ℕ) (c : Clause) → is_left vs [] c ≡ true
 no_bits [] c = refl
@@ -32,9 +28,9 @@ no_bits (v ∷ vs) c = refl
 pub is_left-more : (vs : List ℕ) (bits : List Bool) (bit : Bool) (c : Clause) → length bits < length vs
     → is_left vs (bits ++ bit ∷ []) c ≡ (is_left vs bits c && not (has_true (get_or vs (length bits) 0) bit c))
 is_left-more [] bits bit c h = absurd (omega arith)
-is_left-more (v ∷ vs) [] bit c h = ap (λ t. not (has_true v bit c) && t) (no_bits vs c) ∙ and_true (not (has_true v bit c))
+is_left-more (v ∷ vs) [] bit c h = ap (λ t. not (has_true v bit c) && t) (no_bits vs c) ∙ and-true (not (has_true v bit c))
 is_left-more (v ∷ vs) (b ∷ bits) bit c h = ap (λ t. not (has_true v b c) && t) (is_left-more vs bits bit c (omega arith))
-    ∙ and_assoc (not (has_true v b c)) (is_left vs bits c) (not (has_true (get_or vs (length bits) 0) bit c))
+    ∙ sym (and_assoc (not (has_true v b c)) (is_left vs bits c) (not (has_true (get_or vs (length bits) 0) bit c)))
 
 without-map : (f g test : Clause → Bool) → ((c : Clause) → f c ≡ (g c && not (test c))) → (cs : List Clause) → map f cs ≡ without test cs (map g cs)
 without-map f g test h [] = refl
@@ -129,16 +125,12 @@ Known vs i [] (b ∷ list) = ⊥
 Known vs i (c ∷ cs) [] = ⊥
 Known vs i (c ∷ cs) (b ∷ list) = (is_touched vs i c ≡ false → b ≡ true) × (is_covered vs i c ≡ true → b ≡ false) × Known vs i cs list
 
-and_out : (x y : Bool) → (x && y) ≡ false → y ≡ true → x ≡ false
-and_out true y e f = sym f ∙ e
-and_out false y e f = refl
-
 known-left : (vs : List ℕ) (bits : List Bool) (cs : List Clause) → some_passes (is_covered vs (length bits)) cs (map (is_left vs bits) cs) ≡ false
     → Known vs (length bits) cs (map (is_left vs bits) cs)
 known-left vs bits [] e = tt
 known-left vs bits (c ∷ cs) e =
     let parts = or_parts (is_left vs bits c && is_covered vs (length bits) c) (some_passes (is_covered vs (length bits)) cs (map (is_left vs bits) cs)) e in
-    (untouched-left vs bits c, and_out (is_left vs bits c) (is_covered vs (length bits) c) parts.0, known-left vs bits cs parts.1)
+    (untouched-left vs bits c, not_left (is_left vs bits c) (is_covered vs (length bits) c) parts.0, known-left vs bits cs parts.1)
 
 pub known : (clauses : List Clause) (i : ℕ) (list : List Bool) → IsLiving clauses i list → Known (order clauses) i clauses list
 known clauses i list h = subst (λ n. Known (order clauses) n clauses list) h.many

@@ -9,17 +9,15 @@ use Rattle.std.proofs.lemmas.List.{map-append, length-append, length-map, append
 use Rattle.std.proofs.Math.Nat.{div-lt_iff_lt-mul}
 use Rattle.std.proofs.lemmas.List.Concat.{flat_map-append}
 use Rattle.std.proofs.lemmas.List.Sums.{sum_by-append}
+use Rattle.ranking.proofs.Bits.{pointwise-refl, pointwise-equal}
+use Rattle.ranking.proofs.Lists.{list_any-map}
 use Rattle.smallvec.specs.declared.small_vec.SmallVec.{SmallVec}
 use Rattle.clause_encoder.specs.Clauses.{Clause, ClauseList, var_of, is_clause, is_clause_list}
 use Rattle.branch_states.specs.Branches.{order, place, left, is_touched, is_covered, is_open, some_passes, is_dead, same_list, different, living, size, bits_of, words_of, state_of, weight, sum_of, branch, branches, IsLiving}
 use Rattle.branch_states.specs.inner.Steps.{with_state, followed, AreFound, AreStates}
-use Rattle.branch_states.proofs.Lists.{each-different, same_list-true, same_list-refl, is_among, different-append}
+use Rattle.branch_states.proofs.Lists.{each-different, is_among, different-append}
 use Rattle.branch_states.proofs.Branching.{left-more, living-next, each-living, same-state}
 use Rattle.branch_states.proofs.Ordering.{clauses-valid}
-
-list_any-map : {X Y : Type 0} (p : Y → Bool) (f : X → Y) (xs : List X) → list_any p (map f xs) ≡ list_any (λ x. p (f x)) xs
-list_any-map p f [] = refl
-list_any-map p f (x ∷ xs) = ap (λ b. p (f x) || b) (list_any-map p f xs)
 
 -- a state as a set keeps it
 abbrev pub State : Type 0
@@ -49,7 +47,7 @@ among-filter a x [] e = refl
 among-filter a x (l ∷ ls) e = by_test (same_list a l) refl (among-filter a x ls e) where
   by_test : (t : Bool) → same_list a l ≡ t → is_among (filter (λ l. not (same_list a l)) ls) x ≡ is_among ls x
       → is_among (cond (not t) (l ∷ filter (λ l. not (same_list a l)) ls) (filter (λ l. not (same_list a l)) ls)) x ≡ (same_list l x || is_among ls x)
-  by_test true t rest = rest ∙ ap (λ b. b || is_among ls x) (sym (ap (λ m. same_list m x) (sym (same_list-true a l t)) ∙ e))
+  by_test true t rest = rest ∙ ap (λ b. b || is_among ls x) (sym (ap (λ m. same_list m x) (sym (pointwise-equal a l t)) ∙ e))
   by_test false t rest = ap (λ b. same_list l x || b) rest
 
 pub among-different : (ls : List (List Bool)) (x : List Bool) → is_among (different ls) x ≡ is_among ls x
@@ -64,10 +62,10 @@ same-test : (clauses : List Clause) (i : ℕ) (x d : List Bool) → IsLiving cla
 same-test clauses i x d h k = elim (cases_Bool (bytes_eq (state_of clauses i x) (state_of clauses i d))) [
   | inl same ↦
       let e : x ≡ d = same-state clauses i x d h k ((bytes_eq-Decides (state_of clauses i x) (state_of clauses i d)).0 same) in
-      same ∙ sym (ap (λ l. same_list l x) (sym e) ∙ same_list-refl x)
+      same ∙ sym (ap (λ l. same_list l x) (sym e) ∙ pointwise-refl x)
   | inr other ↦
       other ∙ sym (false_from_ne_true (same_list d x) (λ e.
-      false≢true (sym other ∙ (bytes_eq-Decides (state_of clauses i x) (state_of clauses i d)).1 (ap (state_of clauses i) (sym (same_list-true d x e))))))
+      false≢true (sym other ∙ (bytes_eq-Decides (state_of clauses i x) (state_of clauses i d)).1 (ap (state_of clauses i) (sym (pointwise-equal d x e))))))
 ]
 
 seen-test : (clauses : List Clause) (i : ℕ) (x : List Bool) (ds : List (List Bool)) → IsLiving clauses i x → AllByRecursion (IsLiving clauses i) ds

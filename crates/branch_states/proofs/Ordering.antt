@@ -1,7 +1,8 @@
 -- The order of the variables, as it is found.
-use Rattle.std.proofs.Common.{◌≡◌, ℕ, zero, suc, ◌+◌, ◌-◌, ◌<◌, ◌≤◌, ◌^◌, inl, inr, Bool, true, false, not, ◌&&◌, ◌||◌, cond, List, [], ◌∷◌, ◌++◌, map, length, get_or, set, ℤ, refl, ap, sym, ◌∙◌, arith, add-one}
-use Rattle.std.specs.Prelude.{◌==◌, nat_lt, nat_le, if◌then◌else◌, count_by}
+use Rattle.std.proofs.Common.{◌≡◌, ℕ, zero, suc, ◌+◌, ◌-◌, ◌<◌, ◌≤◌, ◌^◌, inl, inr, Bool, true, false, not, ◌&&◌, ◌||◌, cond, List, [], ◌∷◌, ◌++◌, map, length, get_or, set, ℤ, refl, ap, sym, ◌∙◌, arith}
+use Rattle.std.specs.Prelude.{◌==◌, nat_lt, nat_le, count_by}
 use Rattle.std.specs.List.{list_any, list_all, filter, flat_map}
+use Rattle.std.proofs.Math.Bool.{or-false, or_assoc}
 use Rattle.std.proofs.lemmas.Bool.{false≢true, and_parts, or_cases, or_left, or_right, cases_Bool, cases_eq, eq-eqb, ne_eqb, eqb-true, ltb-true, leb-true}
 use Rattle.std.proofs.lemmas.List.{append-nil, length-append, length-set, get_or-set_same, get_or-set_other}
 use Rattle.std.proofs.lemmas.List.Elements.{filter-append}
@@ -78,14 +79,8 @@ place-new (u ∷ vs) v e = by_test (u == v) e (place-new vs v) where
   by_test false e rest = ap (λ n. 1 + n) (rest e) ∙ one_more (length vs)
 
 among-push : (vs : List ℕ) (v w : ℕ) → among (vs ++ v ∷ []) w ≡ (among vs w || (v == w))
-among-push [] v w = or_false (v == w) where
-  or_false : (x : Bool) → (x || false) ≡ x
-  or_false true = refl
-  or_false false = refl
-among-push (u ∷ vs) v w = ap (λ b. (u == w) || b) (among-push vs v w) ∙ or_assoc (u == w) (among vs w) (v == w) where
-  or_assoc : (x y z : Bool) → (x || (y || z)) ≡ ((x || y) || z)
-  or_assoc true y z = refl
-  or_assoc false y z = refl
+among-push [] v w = or-false (v == w)
+among-push (u ∷ vs) v w = ap (λ b. (u == w) || b) (among-push vs v w) ∙ sym (or_assoc (u == w) (among vs w) (v == w))
 
 or_none : (x y : Bool) → y ≡ false → (x || y) ≡ x
 or_none true y e = refl

@@ -1,13 +1,15 @@
 -- A clause is added to all walks as one that stays as it is, and then what happens to it is told at each of its variables.
-use Rattle.std.proofs.Common.{◌≡◌, ◌≢◌, ℕ, suc, ◌+◌, ◌-◌, ◌<◌, ◌≤◌, ◌^◌, ◌⊎◌, inl, inr, Bool, true, false, not, ◌&&◌, ◌||◌, cond, List, [], ◌∷◌, ◌++◌, map, length, take, get_or, set, All, ℤ, refl, ap, sym, ◌∙◌, subst, arith, add-one}
+use Rattle.std.proofs.Common.{◌≡◌, ◌≢◌, ℕ, suc, ◌+◌, ◌-◌, ◌<◌, ◌≤◌, ◌^◌, ◌⊎◌, inl, inr, Bool, true, false, not, ◌&&◌, ◌||◌, cond, List, [], ◌∷◌, ◌++◌, map, length, take, get_or, set, All, ℤ, refl, ap, sym, ◌∙◌, subst, arith}
 use mir.Val.{bool_byte}
-use Rattle.std.specs.Prelude.{◌==◌, nat_lt, nat_le, if◌then◌else◌}
+use Rattle.std.specs.Prelude.{◌==◌, nat_lt, nat_le}
 use Rattle.std.specs.List.{list_any}
+use Rattle.std.proofs.Math.Bool.{and-false}
 use Rattle.std.proofs.lemmas.Bool.{false≢true, and_parts, or_parts, or_from, and_left, and_from, not-true, cases_lt, cases_eq, cases_Bool, le-ltb, lt-ltb, le-leb, lt-leb, eqb-true, eqb-false, eq-eqb, ne_eqb, false_from_ne_true}
 use Rattle.std.proofs.lemmas.List.{append-nil, take_more, take_all, length-append, same_from_push, get_or-set_same, get_or-set_other}
 use Rattle.std.proofs.lemmas.List.Elements.{All-head, All-tail}
 use Rattle.ranking.specs.Bits.{same_bit}
 use Rattle.clause_encoder.specs.Clauses.{Clause, var_of, is_positive}
+use Rattle.ranking.proofs.Bits.{same_bit-refl}
 use Rattle.branch_states.specs.Branches.{place, is_true_by, has_true, is_touched, is_covered}
 use Rattle.branch_states.specs.inner.Steps.{is_walked, entry_of, walk_of, true_at, plain, spread, span_of, first_place, end_place, AllOnce, IsPlaced, has_place, IsTurning, AreTurning}
 use Rattle.branch_states.specs.declared.walk.Entry.{Entry}
@@ -84,10 +86,6 @@ walked-place vs c k l h =
     and_from (is_touched vs (p + 1) c) (not (is_covered vs p c)) (any-at (λ m. nat_lt (place vs (var_of m)) (p + 1)) c k l (lt-ltb p (p + 1) (omega arith)) h)
     (ap not (false_from_ne_true (is_covered vs p c) (λ e. false≢true (sym (le-ltb p p (omega arith)) ∙ all-at (λ m. nat_lt (place vs (var_of m)) p) c k l e h))))
 
-same_bit-refl : (b : Bool) → same_bit b b ≡ true
-same_bit-refl true = refl
-same_bit-refl false = refl
-
 plain-false : (b : Bool) → true_at plain b ≡ false
 plain-false true = refl
 plain-false false = refl
@@ -113,10 +111,6 @@ turning-first vs c span before after long few s in' out i h = elim (cases_lt i s
     | inr over ↦ record { apart = λ _. out i (inr over); within = λ w. absurd (false≢true (sym (not_walked i (omega arith) (inr over)) ∙ w)) }
   ]
 ] where
-  and_false : (x : Bool) → (x && false) ≡ false
-  and_false true = refl
-  and_false false = refl
-
   walked : (i : ℕ) → i < 2 ^ 29 → span.first ≤ i → i < span.end → is_walked vs i c ≡ true
   walked i few first end = walked-span vs i c few
       ∙ (λ j. lt-ltb (first_place vs c) (i + 1) (omega (arith, first, ap (λ x. x.first) s)) j && not (lt-leb (end_place vs c) i (omega (arith, end, ap (λ x. x.end) s)) j))
@@ -125,7 +119,7 @@ turning-first vs c span before after long few s in' out i h = elim (cases_lt i s
   not_walked i few away = walked-span vs i c few ∙ elim away [
     | inl far ↦ (λ j. le-ltb (first_place vs c) (i + 1) (omega (arith, far, ap (λ x. x.first) s)) j && not (nat_le (end_place vs c) i))
     | inr over ↦ (λ j. nat_lt (first_place vs c) (i + 1) && not (le-leb (end_place vs c) i (omega (arith, over, ap (λ x. x.end) s)) j))
-        ∙ and_false (nat_lt (first_place vs c) (i + 1))
+        ∙ and-false (nat_lt (first_place vs c) (i + 1))
   ]
 
 any-push : {X : Type 0} (p : X → Bool) (xs : List X) (x : X) → list_any p xs ≡ false → p x ≡ false → list_any p (xs ++ x ∷ []) ≡ false

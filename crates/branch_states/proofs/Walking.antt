@@ -4,6 +4,7 @@ use mir.Val.{bool_byte}
 use Rattle.std.proofs.lemmas.List.Filters.{length-filter_both}
 use Rattle.std.specs.Prelude.{nat_lt, if◌then◌else◌}
 use Rattle.std.specs.List.{filter}
+use Rattle.std.proofs.Math.Bool.{or-false, or_assoc}
 use Rattle.std.proofs.lemmas.Bool.{false≢true, or_parts, or_from, and_parts, and_from, and_left, and_right, or_cases, or_left, or_right, not-true, not-false}
 use Rattle.std.proofs.lemmas.List.{append-nil, append_assoc, get_or-drop, length-append, length-map, length-drop, length-replicate, replicate_more, take_more, take_all, drop_more, take-append-drop, length-take-le, map-append, take-append-le, drop-append-le, drop_at, get_or-map}
 use Rattle.std.proofs.lemmas.List.Elements.{filter-append, All-head, All-tail, All-push}
@@ -53,21 +54,13 @@ bits_of-push test (z ∷ xs) x (y ∷ list) b h = by_test (test z) (bits_of-push
   by_test true e = ap (λ bs. y ∷ bs) e
   by_test false e = e
 
-or_assoc : (x y z : Bool) → (x || (y || z)) ≡ ((x || y) || z)
-or_assoc true y z = refl
-or_assoc false y z = refl
-
-or_false : (x : Bool) → (x || false) ≡ x
-or_false true = refl
-or_false false = refl
-
 pub some_passes-push : {X : Type 0} (test : X → Bool) (xs : List X) (x : X) (list : List Bool) (b : Bool) → length list ≡ length xs
     → some_passes test (xs ++ x ∷ []) (list ++ b ∷ []) ≡ (some_passes test xs list || (b && test x))
-some_passes-push test [] x [] b h = or_false (b && test x)
+some_passes-push test [] x [] b h = or-false (b && test x)
 some_passes-push test [] x (y ∷ list) b h = absurd (omega arith)
 some_passes-push test (z ∷ xs) x [] b h = absurd (omega arith)
 some_passes-push test (z ∷ xs) x (y ∷ list) b h = ap (λ t. (y && test z) || t) (some_passes-push test xs x list b (omega arith))
-    ∙ or_assoc (y && test z) (some_passes test xs list) (b && test x)
+    ∙ sym (or_assoc (y && test z) (some_passes test xs list) (b && test x))
 
 pub length-bits_of : {X : Type 0} (test : X → Bool) (xs : List X) (list : List Bool) → length list ≡ length xs → length (bits_of test xs list) ≡ length (filter test xs)
 length-bits_of test [] list h = refl

@@ -1,20 +1,23 @@
 -- How many clauses a part has.
-use Rattle.std.proofs.Common.{◌≡◌, ℕ, ◌+◌, ◌-◌, ◌*◌, ◌%◌, ◌^◌, ◌<◌, ◌≤◌, Bool, true, false, not, ◌&&◌, ◌⊎◌, inl, inr, List, ◌∷◌, length, take, count_ones, Some, ap, sym, ◌∙◌, subst, arith}
-use Rattle.std.specs.Prelude.{nat_le}
+use Rattle.std.proofs.Common.{◌≡◌, ℕ, ◌+◌, ◌-◌, ◌*◌, ◌%◌, ◌^◌, ◌<◌, ◌≤◌, Bool, true, false, not, ◌⊎◌, inl, inr, List, [], ◌∷◌, map, length, take, drop, get_or, refl, count_ones, Some, ap, sym, ◌∙◌, subst, arith}
+use Rattle.std.specs.Prelude.{if◌then◌else◌}
 use Rattle.std.specs.List.{filter}
 use Rattle.std.proofs.Math.Pow.{pow_mono}
 use lib.Count.{ones-le}
-use Rattle.std.proofs.lemmas.Bool.{leb-true, and_parts}
-use Rattle.std.proofs.lemmas.List.{length-append, length-map, length-take-le}
+use Rattle.std.proofs.lemmas.Bool.{lt-ltb, le-ltb}
+use Rattle.std.proofs.lemmas.List.{length-append, length-map, length-take-le, length-drop}
 use Rattle.std.proofs.lemmas.List.FromFn.{length-map-range_with_len}
 use Rattle.device_model.specs.declared.component.Kind.{Kind}
-use Rattle.device_model.specs.declared.component.Kind.TheVariants.{Xor, Xnor}
+use Rattle.device_model.specs.declared.component.Kind.TheVariants.{And, Or, Nand, Nor, Xor, Xnor, Not, Buff, Table}
+use Rattle.device_model.specs.declared.component.Component.{Component}
+use Rattle.device_model.specs.declared.limits.TheConstants.{INPUT_LIMIT}
 use Rattle.device_model.specs.TruthTable.{TruthTable, is_table}
-use Rattle.device_model.specs.Devices.{takes_ports, is_set}
+use Rattle.device_model.specs.Devices.{Device, most_inputs, takes, is_set}
 use Rattle.clause_encoder.specs.Clauses.{literal}
-use Rattle.clause_encoder.specs.Encoding.{parity_clauses, raw_clauses, blocked_rows, table_clauses, rows_of, row_bits, blocking_literals}
+use Rattle.clause_encoder.specs.Encoding.{parity_clauses, gate_clauses, step_clauses, chain_clauses, wide_clauses, any_gate_clauses, raw_clauses, clauses_from, wire_variable, blocked_rows, table_clauses, rows_of, row_bits, blocking_literals}
 use Rattle.clause_encoder.proofs.RowBits.{others}
-use Rattle.clause_encoder.proofs.Writing.{IsTable-from, shifted_far}
+use Rattle.clause_encoder.proofs.Meaning.{takes-most, not_wide}
+use Rattle.clause_encoder.proofs.Writing.{IsTable-from, shifted_far, inner_at, split-at}
 
 -- ---- tables
 
@@ -47,20 +50,98 @@ length-table rows h vs e long =
     let bad = length-side false rows.bad h vs (subst (λ n. rows.bad < 2 ^ (2 ^ n)) (sym long) t.bad) in
     omega (arith, length-append (blocked_rows true rows.ok h vs) (blocked_rows false rows.bad h vs), ok, bad, ap (λ n. 2 ^ n) long)
 
--- ---- exclusive ors
+-- ---- gates
 
 length-rows : (odd : Bool) (h : ℕ) (xs : List ℕ) (y n : ℕ) → length xs ≡ n → length (parity_clauses odd h xs y) ≡ 2 ^ n
 length-rows odd h xs y n long = length-map-range_with_len _ 0 (2 ^ length xs) ∙ ap (λ n. 2 ^ n) long
 
-pub length-parity : (tables : List TruthTable) (kind : Kind) (h : ℕ) (vs : List ℕ) (ports : ℕ) → length vs ≡ ports → (kind ≡ Xor) ⊎ (kind ≡ Xnor) → takes_ports tables kind ports ≡ true
-    → length (raw_clauses tables kind h vs) ≡ 1 * 2 ^ (ports - 1) % 18446744073709551616
-length-parity tables kind h vs ports long (inl e) arity = by_kind (subst (λ k. takes_ports tables k ports ≡ true) e arity) where
-  by_kind : (nat_le 1 (ports - 1) && nat_le (ports - 1) 8) ≡ true → length (raw_clauses tables kind h vs) ≡ 1 * 2 ^ (ports - 1) % 18446744073709551616
-  by_kind a = ap (λ k. length (raw_clauses tables k h vs)) e
-      ∙ length-rows true h (take (length vs - 1) vs) _ (ports - 1) (length-take-le (length vs - 1) vs (omega arith) ∙ ap (λ n. n - 1) long)
-      ∙ sym (shifted_far (ports - 1) (leb-true (ports - 1) 8 (and_parts (nat_le 1 (ports - 1)) (nat_le (ports - 1) 8) a).1))
-length-parity tables kind h vs ports long (inr e) arity = by_kind (subst (λ k. takes_ports tables k ports ≡ true) e arity) where
-  by_kind : (nat_le 1 (ports - 1) && nat_le (ports - 1) 8) ≡ true → length (raw_clauses tables kind h vs) ≡ 1 * 2 ^ (ports - 1) % 18446744073709551616
-  by_kind a = ap (λ k. length (raw_clauses tables k h vs)) e
-      ∙ length-rows false h (take (length vs - 1) vs) _ (ports - 1) (length-take-le (length vs - 1) vs (omega arith) ∙ ap (λ n. n - 1) long)
-      ∙ sym (shifted_far (ports - 1) (leb-true (ports - 1) 8 (and_parts (nat_le 1 (ports - 1)) (nat_le (ports - 1) 8) a).1))
+pub length-parity : (kind : Kind) (h : ℕ) (xs : List ℕ) (y inputs : ℕ) → length xs ≡ inputs → inputs ≤ 4 → (kind ≡ Xor) ⊎ (kind ≡ Xnor)
+    → length (gate_clauses kind h xs y) ≡ 1 * 2 ^ inputs % 18446744073709551616
+length-parity kind h xs y inputs long few (inl e) = ap (λ k. length (gate_clauses k h xs y)) e ∙ length-rows true h xs y inputs long ∙ sym (shifted_far inputs (omega arith))
+length-parity kind h xs y inputs long few (inr e) = ap (λ k. length (gate_clauses k h xs y)) e ∙ length-rows false h xs y inputs long ∙ sym (shifted_far inputs (omega arith))
+
+pub few-rows : (n : ℕ) → n ≤ 4 → 1 * 2 ^ n % 18446744073709551616 ≤ 16
+few-rows n h = let most : 2 ^ n ≤ 2 ^ 4 = pow_mono h in omega arith
+
+-- ---- chains
+
+few_inputs : (kind : Kind) → most_inputs kind ≤ INPUT_LIMIT
+few_inputs Not = omega arith
+few_inputs Buff = omega arith
+few_inputs (Table t) = omega arith
+few_inputs gate = omega arith
+
+pub takes-few : (kind : Kind) (n : ℕ) → takes kind n ≡ true → n ≤ INPUT_LIMIT
+takes-few kind n e = omega (arith, few_inputs kind, takes-most kind n e)
+
+-- the gate at the end of a chain has as many clauses as a step
+length-two : (kind : Kind) (inputs h b l y z c x : ℕ) → 5 ≤ inputs → takes kind inputs ≡ true → length (gate_clauses kind h (b ∷ l ∷ []) y) ≡ length (step_clauses kind z c x)
+length-two And inputs h b l y z c x wide e = refl
+length-two Nand inputs h b l y z c x wide e = refl
+length-two Or inputs h b l y z c x wide e = refl
+length-two Nor inputs h b l y z c x wide e = refl
+length-two Xor inputs h b l y z c x wide e = refl
+length-two Xnor inputs h b l y z c x wide e = refl
+length-two Not inputs h b l y z c x wide e = absurd (not_wide Not inputs (omega arith) wide e)
+length-two Buff inputs h b l y z c x wide e = absurd (not_wide Buff inputs (omega arith) wide e)
+length-two (Table t) inputs h b l y z c x wide e = absurd (not_wide (Table t) inputs (omega arith) wide e)
+
+module _ (kind : Kind) (h last y n : ℕ) (step : (z b x : ℕ) → length (step_clauses kind z b x) ≡ n) (two : (b : ℕ) → length (gate_clauses kind h (b ∷ last ∷ []) y) ≡ n) where
+  length-chain : (xs : List ℕ) (z before : ℕ) → length (chain_clauses kind h last y z before xs) ≡ n * length xs + n
+  length-chain [] z before = omega (arith, two before)
+  length-chain (x ∷ xs) z before = omega (
+    arith,
+    length-append (step_clauses kind z before x) (chain_clauses kind h last y (z + 1) z xs),
+    step z before x,
+    length-chain xs (z + 1) z,
+  )
+
+pub length-any_gate : (kind : Kind) (inputs n : ℕ) → ((z b x : ℕ) → length (step_clauses kind z b x) ≡ n) → 5 ≤ inputs → takes kind inputs ≡ true
+    → (h z y : ℕ) (xs : List ℕ) → length xs ≡ inputs → length (any_gate_clauses kind h z xs y) ≡ n * (inputs - 1)
+length-any_gate kind inputs n step wide e h z y xs long =
+    ap (λ w. length (if w then wide_clauses kind h z xs y else gate_clauses kind h xs y)) (lt-ltb 4 (length xs) (omega arith))
+    ∙ length-chain kind h last y n step (λ b. length-two kind inputs h b last y z z z wide e ∙ step z z z) between z (get_or xs 0 0)
+    ∙ count (length between) inputs wide (length-take-le (length xs - 1 - 1) (drop 1 xs) (omega (arith, length-drop 1 xs)) ∙ less (length xs) inputs long) where
+      last : ℕ
+      last = get_or xs (length xs - 1) 0
+
+      between : List ℕ
+      between = take (length xs - 1 - 1) (drop 1 xs)
+
+      less : (m inputs : ℕ) → m ≡ inputs → m - 1 - 1 ≡ inputs - 1 - 1
+      less m inputs e = omega arith
+
+      times : (m : ℕ) → n * m + n ≡ n * (m + 1)
+      times m = omega arith
+
+      one_more : (m inputs : ℕ) → 5 ≤ inputs → m ≡ inputs - 1 - 1 → m + 1 ≡ inputs - 1
+      one_more m inputs wide e = omega arith
+
+      count : (m inputs : ℕ) → 5 ≤ inputs → m ≡ inputs - 1 - 1 → n * m + n ≡ n * (inputs - 1)
+      count m inputs wide e = times m ∙ ap (λ k. n * k) (one_more m inputs wide e)
+
+pub length-narrow : (kind : Kind) (inputs n : ℕ) → ((h y : ℕ) (xs : List ℕ) → length xs ≡ inputs → length (gate_clauses kind h xs y) ≡ n) → inputs ≤ 4
+    → (h z y : ℕ) (xs : List ℕ) → length xs ≡ inputs → length (any_gate_clauses kind h z xs y) ≡ n
+length-narrow kind inputs n narrow few h z y xs long =
+    ap (λ w. length (if w then wide_clauses kind h z xs y else gate_clauses kind h xs y)) (le-ltb 4 (length xs) (omega arith)) ∙ narrow h y xs long
+
+-- ---- parts
+
+-- what one part more adds
+pub part-counted : (device : Device) (place : ℕ) (parts : List Component) (part : Component) (tables : List TruthTable) (ports count n total : ℕ)
+    → parts ≡ device.parts → place < length parts → part ≡ get_or parts place part → tables ≡ device.tables → ports ≡ length part.ports
+    → ((h z : ℕ) (vs : List ℕ) → length vs ≡ ports → length (raw_clauses tables part.kind h z vs) ≡ n)
+    → count + length (clauses_from device (place + 1) (inner_at device place) (drop place device.parts)) ≡ total
+    → count + n + length (clauses_from device ((place + 1) + 1) (inner_at device (place + 1)) (drop (place + 1) device.parts)) ≡ total
+part-counted device place parts part tables ports count n total same lt is t long counts inv =
+    let vs = map (wire_variable device) part.ports in
+    let raw = raw_clauses device.tables part.kind (place + 1) (inner_at device place) vs in
+    let rest = clauses_from device ((place + 1) + 1) (inner_at device (place + 1)) (drop (place + 1) device.parts) in
+    let one : length raw ≡ n = ap (λ ts. length (raw_clauses ts part.kind (place + 1) (inner_at device place) vs)) (sym t) ∙ counts (place + 1) (inner_at device place) vs (length-map part.ports (wire_variable device) ∙ sym long) in
+    omega (
+      arith,
+      one,
+      length-append raw rest,
+      ap length (split-at device place part (omega (arith, ap length same)) (is ∙ ap (λ ps. get_or ps place part) same)),
+      inv,
+    )

@@ -2,7 +2,10 @@ pub mod Pieces
 pub mod Literals
 pub mod RowBits
 pub mod Meaning
+pub mod Settled
+pub mod Chains
 pub mod Describing
 pub mod Writing
 pub mod Counting
+pub mod Sizes
 mod Examples

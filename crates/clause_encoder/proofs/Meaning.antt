@@ -1,18 +1,18 @@
 -- The clauses of a part are true exactly where the part allows the bits of its ports.
-use Rattle.std.proofs.Common.{◌≡◌, ℕ, zero, suc, ◌-◌, ◌^◌, ◌<◌, ◌≤◌, Bool, true, false, not, ◌&&◌, ◌||◌, List, [], ◌∷◌, ◌++◌, map, length, take, get_or, pos, neg_ℤ, Option, Some, None, refl, ap, sym, ◌∙◌, arith}
-use Rattle.std.specs.Prelude.{◌==◌, slice_get, nat_le}
+use Rattle.std.proofs.Common.{◌≡◌, ℕ, zero, suc, ◌-◌, ◌^◌, ◌<◌, ◌≤◌, Bool, true, false, not, ◌&&◌, ◌||◌, List, [], ◌∷◌, ◌++◌, map, length, take, get_or, pos, neg_ℤ, Some, refl, ap, sym, ◌∙◌, arith}
+use Rattle.std.specs.Prelude.{◌==◌, nat_le}
 use Rattle.std.specs.List.{list_any, list_all}
-use Rattle.std.proofs.lemmas.Bool.{eqb-true, leb-true, and_parts, false≢true}
-use Rattle.std.proofs.lemmas.List.{length-map, take-map, get_or-map, length-take-le}
+use Rattle.std.proofs.lemmas.Bool.{leb-true, and_parts, false≢true}
+use Rattle.std.proofs.lemmas.List.{length-map}
 use Rattle.std.proofs.lemmas.List.Folds.{list_all-append, list_any-append, list_all-map}
 use Rattle.ranking.specs.Bits.{same_bit, bit_in, row_number, has_odd_ones}
 use Rattle.ranking.specs.Assignments.{Assignment}
 use Rattle.device_model.specs.declared.component.Kind.{Kind}
 use Rattle.device_model.specs.declared.component.Kind.TheVariants.{And, Or, Nand, Nor, Xor, Xnor, Not, Buff, Table}
 use Rattle.device_model.specs.TruthTable.{TruthTable}
-use Rattle.device_model.specs.Devices.{most_inputs, is_set, first_bit, gate_value, gate_allows, table_allows, any_table_allows, allows, takes, takes_ports, rows_take}
+use Rattle.device_model.specs.Devices.{is_set, first_bit, gate_value, gate_allows, table_allows, most_inputs, takes}
 use Rattle.clause_encoder.specs.Clauses.{Clause, literal, is_true_clause, all_hold}
-use Rattle.clause_encoder.specs.Encoding.{parity_clauses, and_clauses, row_bits, rows_of, blocking_literals, row_clause, blocked_rows, table_clauses, gate_clauses, raw_clauses}
+use Rattle.clause_encoder.specs.Encoding.{parity_clauses, and_clauses, row_bits, rows_of, blocking_literals, row_clause, blocked_rows, table_clauses, gate_clauses}
 use Rattle.clause_encoder.proofs.Literals.{lit, lit-literal, neg-literal}
 use Rattle.clause_encoder.proofs.RowBits.{AllPositive, row_bits-number, row_number-below, blocking_literals-row, all-rows, all-filtered}
 
@@ -167,7 +167,7 @@ side-holds a ok allowed h ports hh hs = all-filtered (is_true_clause a) clause_o
       at_row r lt = (λ i. not (not (is_set allowed r)) || (lit-literal a (not ok) h hh i || blocking_literals-row a ports r hs lt i))
           ∙ allowed-later (is_set allowed r) (same_bit (not ok) (a h)) (not (r == row))
 
-table-holds : (a : Assignment) (rows : TruthTable) (h : ℕ) (ports : List ℕ) → 1 ≤ h → AllPositive ports
+pub table-holds : (a : Assignment) (rows : TruthTable) (h : ℕ) (ports : List ℕ) → 1 ≤ h → AllPositive ports
     → all_hold a (table_clauses (Some rows) h ports) ≡ table_allows rows (a h) (map a ports)
 table-holds a rows h ports hh hs = list_all-append (is_true_clause a) (blocked_rows true rows.ok h ports) (blocked_rows false rows.bad h ports)
     ∙ (λ i. side-holds a true rows.ok h ports hh hs i && side-holds a false rows.bad h ports hh hs i)
@@ -185,7 +185,7 @@ one_input a (x ∷ y ∷ xs) e =
     absurd (omega (arith, leb-true (length (x ∷ y ∷ xs)) 1 (and_parts (nat_le 1 (length (x ∷ y ∷ xs))) (nat_le (length (x ∷ y ∷ xs)) 1) e).1))
 
 module _ (a : Assignment) (h : ℕ) (xs : List ℕ) (y : ℕ) (hh : 1 ≤ h) (hy : 1 ≤ y) (hs : AllPositive xs) where
-  gate-holds : (kind : Kind) → takes kind (length xs) ≡ true → all_hold a (gate_clauses kind h xs y) ≡ (not (a h) || same_bit (a y) (gate_value kind (map a xs)))
+  pub gate-holds : (kind : Kind) → takes kind (length xs) ≡ true → all_hold a (gate_clauses kind h xs y) ≡ (not (a h) || same_bit (a y) (gate_value kind (map a xs)))
   gate-holds And e = and-holds a h y true true hh hy xs hs ∙ ap (λ b. not (a h) || same_bit (a y) b) (all_bits a xs)
   gate-holds Buff e = and-holds a h y true true hh hy xs hs ∙ ap (λ b. not (a h) || same_bit (a y) b) (all_bits a xs ∙ one_input a xs e)
   gate-holds Nand e = and-holds a h y false true hh hy xs hs ∙ ap (λ b. not (a h) || b) (turned (a y) (list_all (λ x. a x) xs) ∙ ap (λ b. same_bit (a y) (not b)) (all_bits a xs))
@@ -199,45 +199,24 @@ module _ (a : Assignment) (h : ℕ) (xs : List ℕ) (y : ℕ) (hh : 1 ≤ h) (hy
 pub takes-some : (kind : Kind) (n : ℕ) → takes kind n ≡ true → 1 ≤ n
 takes-some kind n e = leb-true 1 n (and_parts (nat_le 1 n) (nat_le n (most_inputs kind)) e).0
 
-AllPositive-take : (n : ℕ) (vs : List ℕ) → AllPositive vs → AllPositive (take n vs)
+pub takes-most : (kind : Kind) (n : ℕ) → takes kind n ≡ true → n ≤ most_inputs kind
+takes-most kind n e = leb-true n (most_inputs kind) (and_parts (nat_le 1 n) (nat_le n (most_inputs kind)) e).1
+
+-- a kind of one input at most has no chain
+pub not_wide : (kind : Kind) (n : ℕ) → most_inputs kind ≤ 1 → 5 ≤ n → takes kind n ≡ true → ⊥
+not_wide kind n one wide e = omega (arith, one, takes-most kind n e)
+
+pub AllPositive-take : (n : ℕ) (vs : List ℕ) → AllPositive vs → AllPositive (take n vs)
 AllPositive-take zero vs h = tt
 AllPositive-take (suc n) [] h = tt
 AllPositive-take (suc n) (v ∷ vs) h = (h.0, AllPositive-take n vs h.1)
 
-AllPositive-at : (vs : List ℕ) (i : ℕ) → AllPositive vs → i < length vs → 1 ≤ get_or vs i 0
+pub AllPositive-at : (vs : List ℕ) (i : ℕ) → AllPositive vs → i < length vs → 1 ≤ get_or vs i 0
 AllPositive-at [] i h lt = absurd (omega arith)
 AllPositive-at (v ∷ vs) zero h lt = h.0
 AllPositive-at (v ∷ vs) (suc i) h lt = AllPositive-at vs i h.1 (omega arith)
 
-gate_allows-says : (kind : Kind) (ok : Bool) (row : List Bool)
+pub gate_allows-says : (kind : Kind) (ok : Bool) (row : List Bool)
     → (not ok || same_bit (bit_in row (length row - 1)) (gate_value kind (take (length row - 1) row))) ≡ gate_allows kind ok row
 gate_allows-says kind true row = refl
 gate_allows-says kind false row = refl
-
--- the last port of a gate is its output
-ports-hold : (a : Assignment) (kind : Kind) (h : ℕ) (ports : List ℕ) → 1 ≤ h → AllPositive ports → takes kind (length ports - 1) ≡ true
-    → all_hold a (gate_clauses kind h (take (length ports - 1) ports) (get_or ports (length ports - 1) 0)) ≡ gate_allows kind (a h) (map a ports)
-ports-hold a kind h ports hh hs e =
-    gate-holds a h (take inputs ports) (get_or ports inputs 0) hh (AllPositive-at ports inputs hs within) (AllPositive-take inputs ports hs) kind (ap (takes kind) long ∙ e)
-    ∙ (λ i. not (a h) || same_bit (output i) (gate_value kind (sym (take-map a inputs ports) i)))
-    ∙ (λ i. not (a h) || same_bit (bit_in (map a ports) (sym (length-map ports a) i - 1)) (gate_value kind (take (sym (length-map ports a) i - 1) (map a ports))))
-    ∙ gate_allows-says kind (a h) (map a ports) where
-      inputs : ℕ
-      inputs = length ports - 1
-
-      within : inputs < length ports
-      within = omega (arith, takes-some kind (length ports - 1) e)
-
-      long : length (take inputs ports) ≡ inputs
-      long = length-take-le inputs ports (omega arith)
-
-      output : a (get_or ports inputs 0) ≡ bit_in (map a ports) inputs
-      output = sym (get_or-map a ports inputs 0 false within)
-
-pub raw-holds : (a : Assignment) (tables : List TruthTable) (kind : Kind) (h : ℕ) (ports : List ℕ) → 1 ≤ h → AllPositive ports → takes_ports tables kind (length ports) ≡ true
-    → all_hold a (raw_clauses tables kind h ports) ≡ allows tables kind (a h) (map a ports)
-raw-holds a tables (Table t) h ports hh hs e = by_rows (slice_get tables t) e where
-  by_rows : (rows : Option TruthTable) → rows_take rows (length ports) ≡ true → all_hold a (table_clauses rows h ports) ≡ any_table_allows rows (a h) (map a ports)
-  by_rows None e = absurd (false≢true e)
-  by_rows (Some rows) e = table-holds a rows h ports hh hs
-raw-holds a tables gate h ports hh hs e = ports-hold a gate h ports hh hs e

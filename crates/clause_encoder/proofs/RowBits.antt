@@ -124,7 +124,7 @@ all-filtered p f keep (r ∷ rs) = by_test (keep r) (all-filtered p f keep rs) w
 
 -- ---- how many bits are set
 
-count-cons : (b : Bool) (bits : List Bool) → count_by (λ b. b) (b ∷ bits) ≡ cond b 1 0 + count_by (λ b. b) bits
+pub count-cons : (b : Bool) (bits : List Bool) → count_by (λ b. b) (b ∷ bits) ≡ cond b 1 0 + count_by (λ b. b) bits
 count-cons b bits = sum_by-cons (λ (b : Bool). cond b 1 0) b bits
 
 odd-bit : (r : ℕ) → cond (r % 2 == 1) 1 0 ≡ r % 2

@@ -1,18 +1,19 @@
 -- Clauses that are written one after the other: what a step of a loop adds to those that were there.
-use Rattle.std.proofs.Common.{◌≡◌, ℕ, zero, suc, ◌+◌, ◌-◌, ◌*◌, ◌/◌, ◌%◌, ◌^◌, ◌<◌, ◌≤◌, Bool, true, false, not, cond, List, [], ◌∷◌, ◌++◌, map, length, drop, get_or, ℤ, pos, count_ones, Some, ap, sym, ◌∙◌, subst, arith, append_assoc, ◌&&◌, w32, to_z, of_z, FitsSigned}
+use Rattle.std.proofs.Common.{◌≡◌, ℕ, zero, suc, ◌+◌, ◌-◌, ◌*◌, ◌/◌, ◌%◌, ◌^◌, ◌<◌, ◌≤◌, Bool, true, false, not, cond, List, [], ◌∷◌, ◌++◌, map, length, take, drop, get_or, ℤ, pos, count_ones, Some, ap, sym, ◌∙◌, arith, append_assoc, ◌&&◌, w32, to_z, of_z, FitsSigned}
 use Rattle.std.specs.List.{list_all, filter, range_with_len}
-use Rattle.std.proofs.lemmas.List.{append-nil, drop_more, drop_all, length-map, get_or-map}
+use Rattle.std.proofs.lemmas.List.{append-nil, drop_more, drop_all, take_all, take_more, length-map, get_or-map}
 use Rattle.std.specs.Prelude.{◌==◌, slice_get, nat_lt, nat_le}
 use Rattle.std.proofs.Math.Pow.{pow_mono}
 use Rattle.std.proofs.lemmas.Bool.{eqb-true, leb-true, ltb-true, and_parts, false≢true}
 use Rattle.std.proofs.lemmas.Bool.Decides.{nat_tests}
 use Rattle.std.proofs.lemmas.Int.{to_z-of_z, fits_signed_from_abs}
 use Rattle.ranking.specs.Bits.{same_bit, has_odd_ones}
-use Rattle.device_model.specs.TruthTable.{TruthTable, has_few_ports, is_table}
+use Rattle.device_model.specs.TruthTable.{TruthTable, has_few_ports, is_cost, is_table}
+use Rattle.device_model.specs.declared.component.Kind.{Kind}
 use Rattle.device_model.specs.declared.component.Component.{Component}
-use Rattle.device_model.specs.Devices.{Device, IsDevice, has_wires, is_set, rows_take}
+use Rattle.device_model.specs.Devices.{Device, IsDevice, has_arity, has_wires, is_set, rows_take, takes_ports}
 use Rattle.clause_encoder.specs.Clauses.{Clause, literal}
-use Rattle.clause_encoder.specs.Encoding.{tidy, and_clauses, row_bits, row_clause, blocking_literals, raw_clauses, clauses_from, wire_variable}
+use Rattle.clause_encoder.specs.Encoding.{tidy, and_clauses, row_bits, row_clause, blocking_literals, gate_clauses, step_clauses, chain_clauses, raw_clauses, inner_count, inner_vars, first_inner, clauses_from, wire_variable}
 use Rattle.clause_encoder.proofs.Literals.{tidy-append}
 use Rattle.clause_encoder.proofs.RowBits.{row_bits-cons, is_set-zero, odd-row}
 use Rattle.clause_encoder.proofs.Meaning.{and_clauses-literals}
@@ -46,6 +47,20 @@ module _ (now next start : List Clause) where
   kept-skipped f keep r n lt k e h = (λ i. e i ++ tidy (map f (filter keep (range_with_len (r + 1) (n - (r + 1))))))
       ∙ (λ i. now ++ tidy (map f (cond (sym k i) (r ∷ filter keep (range_with_len (r + 1) (n - (r + 1)))) (filter keep (range_with_len (r + 1) (n - (r + 1)))))))
       ∙ ap (λ rs. now ++ tidy (map f (filter keep rs))) (sym (rows-from r n lt)) ∙ h
+
+-- clauses behind those that were written before
+pub more-written : (start now next : List Clause) (front back : List Clause) → now ≡ start ++ tidy front → next ≡ now ++ tidy back → next ≡ start ++ tidy (front ++ back)
+more-written start now next front back e f =
+    f ∙ ap (λ w. w ++ tidy back) e ∙ append_assoc start (tidy front) (tidy back) ∙ ap (λ c. start ++ c) (sym (tidy-append front back))
+
+-- three clauses, and four, one after the other
+pub three-written : (start one two three : List Clause) (c d e : Clause) → one ≡ start ++ tidy (c ∷ []) → two ≡ one ++ tidy (d ∷ []) → three ≡ two ++ tidy (e ∷ [])
+    → three ≡ start ++ tidy (c ∷ d ∷ e ∷ [])
+three-written start one two three c d e f g h = more-written start two three (c ∷ d ∷ []) (e ∷ []) (more-written start one two (c ∷ []) (d ∷ []) f g) h
+
+pub four-written : (start one two three four : List Clause) (c d e f : Clause)
+    → one ≡ start ++ tidy (c ∷ []) → two ≡ one ++ tidy (d ∷ []) → three ≡ two ++ tidy (e ∷ []) → four ≡ three ++ tidy (f ∷ []) → four ≡ start ++ tidy (c ∷ d ∷ e ∷ f ∷ [])
+four-written start one two three four c d e f g h k l = more-written start three four (c ∷ d ∷ e ∷ []) (f ∷ []) (three-written start one two three c d e g h k) l
 
 -- nothing is left
 pub all-written : (now start : List Clause) → now ++ tidy [] ≡ start → now ≡ start
@@ -135,13 +150,13 @@ pub record IsTable (rows : TruthTable) : Type 0 where
 
 pub IsTable-from : (rows : TruthTable) → is_table rows ≡ true → IsTable rows
 IsTable-from rows e =
-    let both = and_parts (has_few_ports rows.ports) (nat_lt rows.ok (2 ^ (2 ^ rows.ports)) && nat_lt rows.bad (2 ^ (2 ^ rows.ports))) e in
+    let both = and_parts (has_few_ports rows.ports) (nat_lt rows.ok (2 ^ (2 ^ rows.ports)) && (nat_lt rows.bad (2 ^ (2 ^ rows.ports)) && is_cost rows.cost)) e in
     let ports = and_parts (nat_le 1 rows.ports) (nat_le rows.ports 6) both.0 in
-    let sets = and_parts (nat_lt rows.ok (2 ^ (2 ^ rows.ports))) (nat_lt rows.bad (2 ^ (2 ^ rows.ports))) both.1 in
+    let sets = and_parts (nat_lt rows.ok (2 ^ (2 ^ rows.ports))) (nat_lt rows.bad (2 ^ (2 ^ rows.ports)) && is_cost rows.cost) both.1 in
     record {
       few = leb-true rows.ports 6 ports.1;
       ok = ltb-true rows.ok (2 ^ (2 ^ rows.ports)) sets.0;
-      bad = ltb-true rows.bad (2 ^ (2 ^ rows.ports)) sets.1;
+      bad = ltb-true rows.bad (2 ^ (2 ^ rows.ports)) (and_parts (nat_lt rows.bad (2 ^ (2 ^ rows.ports))) (is_cost rows.cost) sets.1).0;
     }
 
 -- the table of a part that has one
@@ -154,19 +169,72 @@ taken (r ∷ tables) (suc t) ports rows e f = taken tables t ports rows e f
 
 -- ---- parts
 
+-- the first inner variable of a part
+abbrev pub inner_at : Device → ℕ → ℕ
+inner_at device place = first_inner device + inner_vars (take place device.parts)
+
+inner_vars-append : (parts more : List Component) → inner_vars (parts ++ more) ≡ inner_vars parts + inner_vars more
+inner_vars-append [] more = omega arith
+inner_vars-append (part ∷ parts) more = omega (arith, inner_vars-append parts more)
+
+pub inner_at-more : (device : Device) (place : ℕ) (part : Component) → place < length device.parts → part ≡ get_or device.parts place part
+    → inner_at device (place + 1) ≡ inner_at device place + inner_count part.kind (length part.ports)
+inner_at-more device place part lt is =
+    let more : inner_vars (take (place + 1) device.parts) ≡ inner_vars (take place device.parts ++ get_or device.parts place part ∷ []) = ap inner_vars (take_more device.parts place part lt) in
+    let last : inner_vars (get_or device.parts place part ∷ []) ≡ inner_vars (part ∷ []) = ap (λ p. inner_vars (p ∷ [])) (sym is) in
+    omega (arith, more, last, inner_vars-append (take place device.parts) (get_or device.parts place part ∷ []))
+
+pub inner_at-all : (device : Device) (place : ℕ) → length device.parts ≤ place → inner_at device place ≡ first_inner device + inner_vars device.parts
+inner_at-all device place past = ap (λ ps. first_inner device + inner_vars ps) (take_all place device.parts past)
+
+-- the clauses of a part, and of those behind it
+pub split-at : (device : Device) (place : ℕ) (part : Component) → place < length device.parts → part ≡ get_or device.parts place part
+    → clauses_from device (place + 1) (inner_at device place) (drop place device.parts)
+    ≡ raw_clauses device.tables part.kind (place + 1) (inner_at device place) (map (wire_variable device) part.ports)
+    ++ clauses_from device ((place + 1) + 1) (inner_at device (place + 1)) (drop (place + 1) device.parts)
+split-at device place part lt is =
+    ap (clauses_from device (place + 1) (inner_at device place)) (drop_more device.parts place part lt ∙ ap (λ q. q ∷ drop (place + 1) device.parts) (sym is))
+    ∙ ap (λ z. raw_clauses device.tables part.kind (place + 1) (inner_at device place) (map (wire_variable device) part.ports) ++ clauses_from device ((place + 1) + 1) z (drop (place + 1) device.parts))
+    (sym (inner_at-more device place part lt is))
+
 -- the clauses of one part more
-pub part-written : (device : Device) (place : ℕ) (parts : List Component) (part : Component) (tables : List TruthTable) (h : ℕ) (ports wires : List ℕ) (now next start : List Clause)
-    → parts ≡ device.parts → place < length parts → part ≡ get_or parts place part → tables ≡ device.tables → h ≡ place + 1
+pub part-written : (device : Device) (place : ℕ) (parts : List Component) (part : Component) (tables : List TruthTable) (h z : ℕ) (ports wires : List ℕ) (now next start : List Clause)
+    → parts ≡ device.parts → place < length parts → part ≡ get_or parts place part → tables ≡ device.tables → h ≡ place + 1 → z ≡ inner_at device place
     → ports ≡ map (λ wire. length parts + wire + 1) wires → wires ≡ part.ports
-    → next ≡ now ++ tidy (raw_clauses tables part.kind h ports)
-    → now ++ tidy (clauses_from device (place + 1) (drop place device.parts)) ≡ start
-    → next ++ tidy (clauses_from device ((place + 1) + 1) (drop (place + 1) device.parts)) ≡ start
-part-written device place parts part tables h ports wires now next start same lt is t height p w e inv =
-    written now next start (raw_clauses device.tables part.kind (place + 1) (map (wire_variable device) part.ports)) (clauses_from device ((place + 1) + 1) (drop (place + 1) device.parts))
-    (e ∙ (λ i. now ++ tidy (raw_clauses (t i) part.kind (height i) ((p ∙ (λ j. map (λ wire. length (same j) + wire + 1) (w j))) i))))
-    (ap (λ ps. now ++ tidy (clauses_from device (place + 1) ps)) (sym split) ∙ inv) where
-      split : drop place device.parts ≡ part ∷ drop (place + 1) device.parts
-      split = subst (λ ps. drop place ps ≡ part ∷ drop (place + 1) ps) same (drop_more parts place part lt ∙ ap (λ q. q ∷ drop (place + 1) parts) (sym is))
+    → next ≡ now ++ tidy (raw_clauses tables part.kind h z ports)
+    → now ++ tidy (clauses_from device (place + 1) (inner_at device place) (drop place device.parts)) ≡ start
+    → next ++ tidy (clauses_from device ((place + 1) + 1) (inner_at device (place + 1)) (drop (place + 1) device.parts)) ≡ start
+part-written device place parts part tables h z ports wires now next start same lt is t height first p w e inv =
+    written now next start (raw_clauses device.tables part.kind (place + 1) (inner_at device place) (map (wire_variable device) part.ports))
+    (clauses_from device ((place + 1) + 1) (inner_at device (place + 1)) (drop (place + 1) device.parts))
+    (e ∙ (λ i. now ++ tidy (raw_clauses (t i) part.kind (height i) (first i) ((p ∙ (λ j. map (λ wire. length (same j) + wire + 1) (w j))) i))))
+    (ap (λ cs. now ++ tidy cs) (sym (split-at device place part (omega (arith, ap length same)) (is ∙ ap (λ ps. get_or ps place part) same))) ∙ inv)
+
+-- where the inner variables of the next part begin
+pub inner-next : (device : Device) (place : ℕ) (parts : List Component) (part : Component) (inner next : ℕ) (ports wires : List ℕ)
+    → parts ≡ device.parts → place < length parts → part ≡ get_or parts place part → inner ≡ inner_at device place
+    → ports ≡ map (λ wire. length parts + wire + 1) wires → wires ≡ part.ports → next ≡ inner + inner_count part.kind (length ports) → next ≡ inner_at device (place + 1)
+inner-next device place parts part inner next ports wires same lt is first p w e =
+    e ∙ (λ i. first i + inner_count part.kind ((ap length p ∙ length-map wires (λ wire. length parts + wire + 1) ∙ ap length w) i))
+    ∙ sym (inner_at-more device place part (omega (arith, ap length same)) (is ∙ ap (λ ps. get_or ps place part) same))
+
+-- ---- chains
+
+-- the step of one input more
+pub step-written : (kind : Kind) (h last y z before : ℕ) (xs : List ℕ) (i : ℕ) (now next start : List Clause) → i < length xs
+    → next ≡ now ++ tidy (step_clauses kind z before (get_or xs i 0))
+    → now ++ tidy (chain_clauses kind h last y z before (drop i xs)) ≡ start
+    → next ++ tidy (chain_clauses kind h last y (z + 1) z (drop (i + 1) xs)) ≡ start
+step-written kind h last y z before xs i now next start lt e inv =
+    written now next start (step_clauses kind z before (get_or xs i 0)) (chain_clauses kind h last y (z + 1) z (drop (i + 1) xs)) e
+    (ap (λ ys. now ++ tidy (chain_clauses kind h last y z before ys)) (sym (drop_more xs i 0 lt)) ∙ inv)
+
+-- the gate at the end of its chain
+pub chain-written : (kind : Kind) (h last y z before : ℕ) (xs : List ℕ) (i : ℕ) (now next start : List Clause) → length xs ≤ i
+    → next ≡ now ++ tidy (gate_clauses kind h (before ∷ last ∷ []) y)
+    → now ++ tidy (chain_clauses kind h last y z before (drop i xs)) ≡ start → next ≡ start
+chain-written kind h last y z before xs i now next start past e inv =
+    e ∙ ap (λ ys. now ++ tidy (chain_clauses kind h last y z before ys)) (sym (drop_all i xs past)) ∙ inv
 
 -- the variables of wires are small
 pub small : (parts : ℕ) (wires ports items : List ℕ) → ports ≡ items → items ≡ map (λ wire. parts + wire + 1) wires → parts ≤ 4096 → ((k d : ℕ) → k < length wires → get_or wires k d < 16384)
@@ -190,3 +258,11 @@ low device parts place part wires valid same lt is w k d within =
     ∙ ap (λ ps. has_wires (length device.wires) (get_or ps place part)) same
     ∙ list_all-at (has_wires (length device.wires)) device.parts place part valid.joined (omega (arith, ap length same)) in
     omega (arith, valid.few_wires, ltb-true (get_or wires k d) (length device.wires) (list_all-at (λ port. nat_lt port (length device.wires)) wires k d at within))
+
+-- the number of ports of a part, as its kind takes it
+pub arity-taken : (device : Device) (parts : List Component) (place : ℕ) (part : Component) (tables : List TruthTable) (ports : List ℕ) → IsDevice device → parts ≡ device.parts
+    → place < length parts → part ≡ get_or parts place part → tables ≡ device.tables → ports ≡ part.ports → takes_ports tables part.kind (length ports) ≡ true
+arity-taken device parts place part tables ports valid same lt is t p =
+    (λ i. takes_ports (t i) part.kind (length (p i)))
+    ∙ ap (has_arity device.tables) (is ∙ ap (λ ps. get_or ps place part) same)
+    ∙ list_all-at (has_arity device.tables) device.parts place part valid.arities (omega (arith, ap length same))

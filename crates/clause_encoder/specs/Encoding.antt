@@ -1,5 +1,5 @@
 -- The clauses of a device.
-use Rattle.std.specs.Prelude.{◌≡◌, ℕ, ◌+◌, ◌-◌, ◌^◌, Bool, true, false, not, ◌&&◌, ◌||◌, List, [], ◌∷◌, ◌++◌, map, length, take, Option, Some, None, ℤ, pos, neg_ℤ, Result, Ok, Err, ◌==◌, nat_lt, slice_index_or, slice_get, if◌then◌else◌}
+use Rattle.std.specs.Prelude.{◌≡◌, ℕ, ◌+◌, ◌-◌, ◌^◌, Bool, true, false, not, ◌&&◌, ◌||◌, List, [], ◌∷◌, ◌++◌, map, length, take, drop, Option, Some, None, ℤ, pos, neg_ℤ, Result, Ok, Err, ◌==◌, nat_lt, slice_index_or, slice_get, if◌then◌else◌}
 use Rattle.std.specs.List.{filter, list_any, range_with_len}
 use Rattle.ranking.specs.Bits.{has_odd_ones, same_bit, lists_of_bits}
 use Rattle.ranking.specs.Assignments.{assignment}
@@ -8,7 +8,7 @@ use Rattle.device_model.specs.declared.component.Kind.TheVariants.{And, Or, Nand
 use Rattle.device_model.specs.declared.component.Component.{Component}
 use Rattle.device_model.specs.TruthTable.{TruthTable}
 use Rattle.device_model.specs.Devices.{Device, is_set, fits}
-use Rattle.clause_encoder.specs.declared.limits.TheConstants.{CLAUSE_LIMIT}
+use Rattle.clause_encoder.specs.declared.limits.TheConstants.{CLAUSE_LIMIT, NARROW_LIMIT}
 use Rattle.clause_encoder.specs.declared.encoding.EncodeError.{EncodeError}
 use Rattle.clause_encoder.specs.declared.encoding.EncodeError.TheVariants.{TooManyClauses, Memory}
 use Rattle.clause_encoder.specs.Clauses.{var_of, is_positive, literal, Clause, ClauseList, all_hold}
@@ -88,11 +88,64 @@ gate_clauses Xor h xs y = parity_clauses true h xs y
 gate_clauses Xnor h xs y = parity_clauses false h xs y
 gate_clauses (Table t) h xs y = []
 
--- The last port of a gate is its output.
-abbrev pub raw_clauses : List TruthTable → Kind → ℕ → List ℕ → List Clause
-raw_clauses tables (Table t) h ports = table_clauses (slice_get tables t) h ports
-raw_clauses tables kind h ports =
-    let inputs = length ports - 1 in gate_clauses kind h (take inputs ports) (slice_index_or ports inputs 0)
+-- ---- a gate of more inputs than the limit: a chain of inner variables
+
+-- z is the and of a and b, or their or, where all three are negated
+abbrev pub and_step : Bool → ℕ → ℕ → ℕ → List Clause
+and_step as_is z a b =
+    (literal (not as_is) z ∷ literal as_is a ∷ [])
+    ∷ (literal (not as_is) z ∷ literal as_is b ∷ [])
+    ∷ (literal as_is z ∷ literal (not as_is) a ∷ literal (not as_is) b ∷ []) ∷ []
+
+-- z is 1 where a and b differ
+abbrev pub xor_step : ℕ → ℕ → ℕ → List Clause
+xor_step z a b =
+    (literal false z ∷ literal true a ∷ literal true b ∷ [])
+    ∷ (literal false z ∷ literal false a ∷ literal false b ∷ [])
+    ∷ (literal true z ∷ literal true a ∷ literal false b ∷ [])
+    ∷ (literal true z ∷ literal false a ∷ literal true b ∷ []) ∷ []
+
+-- what an inner variable is, by the one before it and the next input
+abbrev pub step_clauses : Kind → ℕ → ℕ → ℕ → List Clause
+step_clauses And z a b = and_step true z a b
+step_clauses Nand z a b = and_step true z a b
+step_clauses Or z a b = and_step false z a b
+step_clauses Nor z a b = and_step false z a b
+step_clauses Xor z a b = xor_step z a b
+step_clauses Xnor z a b = xor_step z a b
+step_clauses kind z a b = []
+
+-- A step for each of these inputs, whose inner variables are z and up, and then the gate itself: of what the last step
+-- gave and of the last input.
+abbrev pub chain_clauses : Kind → ℕ → ℕ → ℕ → ℕ → ℕ → List ℕ → List Clause
+chain_clauses kind h last y z before [] = gate_clauses kind h (before ∷ last ∷ []) y
+chain_clauses kind h last y z before (x ∷ xs) =
+    step_clauses kind z before x ++ chain_clauses kind h last y (z + 1) z xs
+
+-- The chain begins with the first input, and has a step for each between it and the last.
+abbrev pub wide_clauses : Kind → ℕ → ℕ → List ℕ → ℕ → List Clause
+wide_clauses kind h z xs y =
+    let last = length xs - 1 in
+    chain_clauses kind h (slice_index_or xs last 0) y z (slice_index_or xs 0 0) (take (last - 1) (drop 1 xs))
+
+-- whether a gate of so many inputs has a chain
+abbrev pub is_wide : ℕ → Bool
+is_wide inputs = nat_lt NARROW_LIMIT inputs
+
+-- the clauses of a gate of any number of inputs, whose inner variables are z and up
+abbrev pub any_gate_clauses : Kind → ℕ → ℕ → List ℕ → ℕ → List Clause
+any_gate_clauses kind h z xs y = if is_wide (length xs) then wide_clauses kind h z xs y else gate_clauses kind h xs y
+
+-- how many inner variables a part of so many ports has: one for each input but the first and the last
+abbrev pub inner_count : Kind → ℕ → ℕ
+inner_count (Table t) ports = 0
+inner_count kind ports = if is_wide (ports - 1) then ports - 3 else 0
+
+-- The last port of a gate is its output. Its inner variables are z and up.
+abbrev pub raw_clauses : List TruthTable → Kind → ℕ → ℕ → List ℕ → List Clause
+raw_clauses tables (Table t) h z ports = table_clauses (slice_get tables t) h ports
+raw_clauses tables kind h z ports =
+    let inputs = length ports - 1 in any_gate_clauses kind h z (take inputs ports) (slice_index_or ports inputs 0)
 
 -- ---- the clauses of a device
 
@@ -100,21 +153,34 @@ raw_clauses tables kind h ports =
 abbrev pub wire_variable : Device → ℕ → ℕ
 wire_variable device wire = length device.parts + wire + 1
 
--- of parts whose first has this health variable
-abbrev pub clauses_from : Device → ℕ → List Component → List Clause
-clauses_from device h [] = []
-clauses_from device h (part ∷ parts) =
-    raw_clauses device.tables part.kind h (map (wire_variable device) part.ports) ++ clauses_from device (h + 1) parts
+-- The inner variables come after all wires, part by part.
+abbrev pub first_inner : Device → ℕ
+first_inner device = length device.parts + length device.wires + 1
+
+-- how many inner variables parts have
+abbrev pub inner_vars : List Component → ℕ
+inner_vars [] = 0
+inner_vars (part ∷ parts) = inner_count part.kind (length part.ports) + inner_vars parts
+
+-- of parts of which the first has the health variable h, and all together the inner variables z and up
+abbrev pub clauses_from : Device → ℕ → ℕ → List Component → List Clause
+clauses_from device h z [] = []
+clauses_from device h z (part ∷ parts) =
+    raw_clauses device.tables part.kind h z (map (wire_variable device) part.ports)
+    ++ clauses_from device (h + 1) (z + inner_count part.kind (length part.ports)) parts
 
 abbrev pub all_clauses : Device → List Clause
-all_clauses device = clauses_from device 1 device.parts
+all_clauses device = clauses_from device 1 (first_inner device) device.parts
 
 -- how many clauses the parts have, before any is left out
 abbrev pub raw_count : Device → ℕ
 raw_count device = length (all_clauses device)
 
 abbrev pub clause_list : Device → ClauseList
-clause_list device = record { vars = length device.parts + length device.wires; clauses = tidy (all_clauses device) }
+clause_list device = record {
+  vars = length device.parts + length device.wires + inner_vars device.parts;
+  clauses = tidy (all_clauses device);
+}
 
 -- an error is a reason, but for want of memory
 abbrev pub reason : EncodeError → Option EncodeError

@@ -1,12 +1,12 @@
 ghost use Rattle.std.specs.Prelude.{◌≡◌, ◌≢◌, ◌<◌, ◌≤◌, ◌+◌, ◌++◌, ℕ, true, List, map, length, All, MatchResult, IfOk, OnOk};
 ghost use Rattle.text_rules.specs.Expected.{Fulfils};
-ghost use Rattle.device_model.specs.Devices.{takes_ports};
-ghost use Rattle.clause_encoder.specs.Encoding.{encoded, reason, Describes, raw_count, raw_clauses, table_clauses, all_clauses, tidy};
+ghost use Rattle.device_model.specs.Devices.{IsDevice, takes, takes_ports};
+ghost use Rattle.clause_encoder.specs.Encoding.{encoded, reason, Describes, raw_count, raw_clauses, table_clauses, gate_clauses, step_clauses, any_gate_clauses, all_clauses, clause_list, tidy};
 ghost use Rattle.clause_encoder.specs.declared.encoding.EncodeError.TheVariants.{Memory};
 
 use crate::cnf::Cnf;
 use crate::gates::push_part;
-use crate::limits::CLAUSE_LIMIT;
+use crate::limits::{CLAUSE_LIMIT, NARROW_LIMIT, VARIABLE_LIMIT};
 use crate::writer::Writer;
 use device_model::{Component, Device, Kind, Table};
 use std::alloc::{AllocError, Global};
@@ -28,9 +28,11 @@ impl From<AllocError> for EncodeError {
     }
 }
 
-/// The clauses of a device. Its parts' health variables are 1 and up, in the order of the parts, and the wires' follow.
+/// The clauses of a device. Its parts' health variables are 1 and up, in the order of the parts, and the wires' follow. Then come
+/// the inner variables of the gates of more than four inputs.
 ///
-/// All clauses are true exactly where the parts' health and the bits of the wires fit the device.
+/// All clauses are true, for some bits of the inner variables, exactly where the parts' health and the bits of the wires fit the
+/// device.
 pub fn encode(alloc: Global, device: &Device) -> Result<Cnf, EncodeError>
     ensures encoded { Fulfils (λ cnf. cnf) reason (encoded device.now) result }
     ensures describes { IfOk result (λ cnf. Describes cnf device.now) }
@@ -40,28 +42,33 @@ pub fn encode(alloc: Global, device: &Device) -> Result<Cnf, EncodeError>
         return Err(EncodeError::TooManyClauses { count });
     }
     let mut writer = Writer::new(alloc);
-    push_parts(alloc, &mut writer, device)?;
-    let vars = device.parts().len() + device.wires().len();
-    Ok(Cnf::of_flat(vars as u32, writer.into_clauses()))
+    let vars = push_parts(alloc, &mut writer, device)?;
+    Ok(Cnf::of_flat(vars, writer.into_clauses()))
 }
 
-fn push_parts(alloc: Global, writer: &mut Writer, device: &Device) -> Result<(), AllocError>
-    ensures { OnOk result (writer.new ≡ writer.old ++ tidy (all_clauses device.now)) }
+// Writes the clauses of all parts, and returns the greatest variable.
+fn push_parts(alloc: Global, writer: &mut Writer, device: &Device) -> Result<u32, AllocError>
+    ensures clauses { OnOk result (writer.new ≡ writer.old ++ tidy (all_clauses device.now)) }
+    ensures vars { IfOk result (λ vars. vars ≡ (clause_list device.now).vars) }
+    ensures few { IfOk result (λ vars. vars < VARIABLE_LIMIT) }
 {
     let parts = device.parts();
+    let wires = device.wires();
+    let mut inner = parts.len() as u32 + wires.len() as u32 + 1;
     let mut ports = Vec::new(alloc);
     for (place, part) in parts.iter().enumerate() {
         set_ports(&mut ports, parts.len(), part.ports.as_slice())?;
-        push_part(
+        inner = push_part(
             alloc,
             writer,
             device.tables(),
             part.kind,
             place as u32 + 1,
+            inner,
             &ports,
         )?;
     }
-    Ok(())
+    Ok(inner - 1)
 }
 
 // Makes `ports` the variables of wires, which follow those of so many parts.
@@ -79,7 +86,8 @@ fn set_ports(ports: &mut Vec<u32>, parts: usize, wires: &[u32]) -> Result<(), Al
 
 // How many clauses the parts have, before any is left out.
 fn raw_count(device: &Device) -> u64
-    ensures { result ≡ raw_count device.now }
+    ensures count { result ≡ raw_count device.now }
+    ensures valid { IsDevice device.now }
 {
     let mut count = 0;
     for part in device.parts() {
@@ -90,14 +98,51 @@ fn raw_count(device: &Device) -> u64
 
 fn part_count(tables: &[Table], kind: Kind, ports: usize) -> u64
     requires { takes_ports tables.now kind ports ≡ true }
-    ensures count { (h : ℕ) (vs : List ℕ) → length vs ≡ ports
-        → length (raw_clauses tables.now kind h vs) ≡ result }
+    ensures count { (h z : ℕ) (vs : List ℕ) → length vs ≡ ports
+        → length (raw_clauses tables.now kind h z vs) ≡ result }
     ensures few { result ≤ 256 }
 {
     match kind {
         Kind::Table(table) => table_count(&tables[table as usize]),
-        Kind::Xor | Kind::Xnor => 1 << (ports - 1),
-        _ => ports as u64,
+        gate => gate_count(gate, ports - 1),
+    }
+}
+
+fn gate_count(gate: Kind, inputs: usize) -> u64
+    requires { takes gate inputs ≡ true }
+    ensures count { (h z y : ℕ) (xs : List ℕ) → length xs ≡ inputs
+        → length (any_gate_clauses gate h z xs y) ≡ result }
+    ensures few { result ≤ 252 }
+{
+    if inputs > NARROW_LIMIT {
+        return step_count(gate) * (inputs as u64 - 1);
+    }
+    narrow_count(gate, inputs)
+}
+
+// How many clauses a gate without a chain has.
+fn narrow_count(gate: Kind, inputs: usize) -> u64
+    requires arity { takes gate inputs ≡ true }
+    requires few { inputs ≤ NARROW_LIMIT }
+    ensures count { (h y : ℕ) (xs : List ℕ) → length xs ≡ inputs
+        → length (gate_clauses gate h xs y) ≡ result }
+    ensures few { result ≤ 16 }
+{
+    match gate {
+        Kind::Xor | Kind::Xnor => 1 << inputs,
+        _ => inputs as u64 + 1,
+    }
+}
+
+// How many clauses a step of a chain has.
+fn step_count(gate: Kind) -> u64
+    ensures count { (z before x : ℕ) → length (step_clauses gate z before x) ≡ result }
+    ensures few { result ≤ 4 }
+{
+    match gate {
+        Kind::And | Kind::Nand | Kind::Or | Kind::Nor => 3,
+        Kind::Xor | Kind::Xnor => 4,
+        Kind::Not | Kind::Buff | Kind::Table(_) => 0,
     }
 }
 

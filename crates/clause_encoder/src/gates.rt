@@ -1,34 +1,50 @@
-ghost use Rattle.std.specs.Prelude.{◌≡◌, ◌<◌, ◌≤◌, ◌^◌, ◌%◌, ◌==◌, ◌++◌, ◌∷◌, pos, true, map, length, count_ones, All, OnOk};
+ghost use Rattle.std.specs.Prelude.{◌≡◌, ◌<◌, ◌≤◌, ◌+◌, ◌-◌, ◌^◌, ◌%◌, ◌==◌, ◌++◌, ◌∷◌, pos, true, map, length, count_ones, All, OnOk, IfOk, if◌then◌else◌};
 ghost use Rattle.ranking.specs.Bits.{same_bit};
 ghost use Rattle.device_model.specs.Devices.{is_set, takes, takes_ports};
 ghost use Rattle.clause_encoder.specs.Clauses.{literal};
-ghost use Rattle.clause_encoder.specs.Encoding.{tidy, and_clauses, parity_clauses, row_bits, blocking_literals, blocked_rows, table_clauses, gate_clauses, raw_clauses};
+ghost use Rattle.clause_encoder.specs.Encoding.{tidy, and_clauses, parity_clauses, row_bits, blocking_literals, blocked_rows, table_clauses, gate_clauses, and_step, xor_step, step_clauses, wide_clauses, is_wide, any_gate_clauses, inner_count, raw_clauses};
 
-use crate::limits::VARIABLE_LIMIT;
+use crate::limits::{NARROW_LIMIT, VARIABLE_LIMIT};
 use crate::writer::Writer;
-use device_model::{Kind, Table};
+use device_model::{INPUT_LIMIT, Kind, Table};
 use std::alloc::{AllocError, Global};
 
-// Writes the clauses of a part, by the variables of its health and of its ports.
+// Writes the clauses of a part, by the variables of its health and of its ports. Its inner variables are `inner` and up; the
+// next one is returned.
 pub(crate) fn push_part(
     alloc: Global,
     writer: &mut Writer,
     tables: &[Table],
     kind: Kind,
     health: u32,
+    inner: u32,
     ports: &[u32],
-) -> Result<(), AllocError>
+) -> Result<u32, AllocError>
     requires arity { takes_ports tables.now kind (length ports.now) ≡ true }
     requires health { health < VARIABLE_LIMIT }
+    requires inner { inner + INPUT_LIMIT < VARIABLE_LIMIT }
     requires ports { All (λ v. v < VARIABLE_LIMIT) ports.now }
-    ensures { OnOk result
-        (writer.new ≡ writer.old ++ tidy (raw_clauses tables.now kind health ports.now)) }
+    ensures clauses { OnOk result
+        (writer.new ≡ writer.old ++ tidy (raw_clauses tables.now kind health inner ports.now)) }
+    ensures inner { IfOk result (λ next. next ≡ inner + inner_count kind (length ports.now)) }
+    ensures few { IfOk result (λ next. next ≤ inner + INPUT_LIMIT) }
 {
     match kind {
-        Kind::Table(table) => push_table(alloc, writer, &tables[table as usize], health, ports),
+        Kind::Table(table) => {
+            push_table(alloc, writer, &tables[table as usize], health, ports)?;
+            Ok(inner)
+        }
         gate => {
             let inputs = ports.len() - 1;
-            push_gate(alloc, writer, gate, health, &ports[..inputs], ports[inputs])
+            push_gate(
+                alloc,
+                writer,
+                gate,
+                health,
+                inner,
+                &ports[..inputs],
+                ports[inputs],
+            )
         }
     }
 }
@@ -38,10 +54,131 @@ fn push_gate(
     writer: &mut Writer,
     gate: Kind,
     health: u32,
+    inner: u32,
+    inputs: &[u32],
+    output: u32,
+) -> Result<u32, AllocError>
+    requires arity { takes gate (length inputs.now) ≡ true }
+    requires health { health < VARIABLE_LIMIT }
+    requires inner { inner + INPUT_LIMIT < VARIABLE_LIMIT }
+    requires inputs { All (λ v. v < VARIABLE_LIMIT) inputs.now }
+    requires output { output < VARIABLE_LIMIT }
+    ensures clauses { OnOk result
+        (writer.new ≡ writer.old ++ tidy (any_gate_clauses gate health inner inputs.now output)) }
+    ensures inner { IfOk result
+        (λ next. next ≡ inner + (if is_wide (length inputs.now) then length inputs.now - 2 else 0)) }
+{
+    if inputs.len() > NARROW_LIMIT {
+        return push_chain(alloc, writer, gate, health, inner, inputs, output);
+    }
+    push_narrow(alloc, writer, gate, health, inputs, output)?;
+    Ok(inner)
+}
+
+// The chain of a gate of more than four inputs.
+fn push_chain(
+    alloc: Global,
+    writer: &mut Writer,
+    gate: Kind,
+    health: u32,
+    inner: u32,
+    inputs: &[u32],
+    output: u32,
+) -> Result<u32, AllocError>
+    requires arity { takes gate (length inputs.now) ≡ true }
+    requires wide { NARROW_LIMIT < length inputs.now }
+    requires health { health < VARIABLE_LIMIT }
+    requires inner { inner + INPUT_LIMIT < VARIABLE_LIMIT }
+    requires inputs { All (λ v. v < VARIABLE_LIMIT) inputs.now }
+    requires output { output < VARIABLE_LIMIT }
+    ensures clauses { OnOk result
+        (writer.new ≡ writer.old ++ tidy (wide_clauses gate health inner inputs.now output)) }
+    ensures inner { IfOk result (λ next. next ≡ inner + (length inputs.now - 2)) }
+{
+    let last = inputs.len() - 1;
+    let between = &inputs[1..last];
+    let mut next = inner;
+    let mut before = inputs[0];
+    for input in between {
+        push_step(writer, gate, next, before, *input)?;
+        before = next;
+        next += 1;
+    }
+    push_narrow(alloc, writer, gate, health, &[before, inputs[last]], output)?;
+    Ok(next)
+}
+
+// What an inner variable is, by the one before it and the next input.
+fn push_step(
+    writer: &mut Writer,
+    gate: Kind,
+    inner: u32,
+    before: u32,
+    input: u32,
+) -> Result<(), AllocError>
+    requires inner { inner < VARIABLE_LIMIT }
+    requires before { before < VARIABLE_LIMIT }
+    requires input { input < VARIABLE_LIMIT }
+    ensures { OnOk result (writer.new ≡ writer.old ++ tidy (step_clauses gate inner before input)) }
+{
+    match gate {
+        Kind::And | Kind::Nand => push_and_step(writer, inner, before, input, true),
+        Kind::Or | Kind::Nor => push_and_step(writer, inner, before, input, false),
+        Kind::Xor | Kind::Xnor => push_xor_step(writer, inner, before, input),
+        Kind::Not | Kind::Buff | Kind::Table(_) => Ok(()),
+    }
+}
+
+fn push_and_step(
+    writer: &mut Writer,
+    inner: u32,
+    before: u32,
+    input: u32,
+    as_is: bool,
+) -> Result<(), AllocError>
+    requires inner { inner < VARIABLE_LIMIT }
+    requires before { before < VARIABLE_LIMIT }
+    requires input { input < VARIABLE_LIMIT }
+    ensures { OnOk result (writer.new ≡ writer.old ++ tidy (and_step as_is inner before input)) }
+{
+    let not_inner = literal(!as_is, inner);
+    writer.push(&[not_inner, literal(as_is, before)])?;
+    writer.push(&[not_inner, literal(as_is, input)])?;
+    writer.push(&[
+        literal(as_is, inner),
+        literal(!as_is, before),
+        literal(!as_is, input),
+    ])
+}
+
+fn push_xor_step(writer: &mut Writer, inner: u32, before: u32, input: u32) -> Result<(), AllocError>
+    requires inner { inner < VARIABLE_LIMIT }
+    requires before { before < VARIABLE_LIMIT }
+    requires input { input < VARIABLE_LIMIT }
+    ensures { OnOk result (writer.new ≡ writer.old ++ tidy (xor_step inner before input)) }
+{
+    let inner_set = literal(true, inner);
+    let inner_clear = literal(false, inner);
+    let before_set = literal(true, before);
+    let before_clear = literal(false, before);
+    let input_set = literal(true, input);
+    let input_clear = literal(false, input);
+    writer.push(&[inner_clear, before_set, input_set])?;
+    writer.push(&[inner_clear, before_clear, input_clear])?;
+    writer.push(&[inner_set, before_set, input_clear])?;
+    writer.push(&[inner_set, before_clear, input_set])
+}
+
+// The clauses of a gate without a chain.
+fn push_narrow(
+    alloc: Global,
+    writer: &mut Writer,
+    gate: Kind,
+    health: u32,
     inputs: &[u32],
     output: u32,
 ) -> Result<(), AllocError>
-    requires arity { takes gate (length inputs.now) ≡ true }
+    requires few { length inputs.now ≤ NARROW_LIMIT }
     requires health { health < VARIABLE_LIMIT }
     requires inputs { All (λ v. v < VARIABLE_LIMIT) inputs.now }
     requires output { output < VARIABLE_LIMIT }
@@ -108,7 +245,7 @@ fn push_parity(
     output: u32,
     odd: bool,
 ) -> Result<(), AllocError>
-    requires few { length inputs.now ≤ 8 }
+    requires few { length inputs.now ≤ NARROW_LIMIT }
     requires health { health < VARIABLE_LIMIT }
     requires inputs { All (λ v. v < VARIABLE_LIMIT) inputs.now }
     requires output { output < VARIABLE_LIMIT }

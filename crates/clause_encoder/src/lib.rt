@@ -12,4 +12,4 @@ mod writer;
 
 pub use cnf::{Clause, Cnf};
 pub use encoding::{EncodeError, encode};
-pub use limits::{CLAUSE_LIMIT, VARIABLE_LIMIT};
+pub use limits::{CLAUSE_LIMIT, NARROW_LIMIT, VARIABLE_LIMIT};

@@ -22,21 +22,33 @@ fn of_a(rt: &impl Abort, alloc: Global, kind: Kind) -> Result<Device, Fail> {
     Ok(Device::build(alloc, parts, wires, Vec::new(alloc))?)
 }
 
-// So many exclusive ors of the same eight inputs.
-fn parities(rt: &impl Abort, alloc: Global, gates: u16) -> Result<Device, Fail> {
+// So many gates of one kind, of the same inputs.
+fn gates_of(
+    rt: &impl Abort,
+    alloc: Global,
+    kind: Kind,
+    inputs: u32,
+    gates: u32,
+) -> Result<Device, Fail> {
+    assert!(rt; inputs <= 64 && gates <= 4096);
     let mut wires = Vec::new(alloc);
-    for input in 0..8u32 {
-        wires.push(named(rt, alloc, &format!(in alloc; "i{input}")?)?)?;
+    let mut ports = Vec::new(alloc);
+    for input in 0..inputs {
+        let name = format!(in alloc; "i{input}")?;
+        wires.push(named(rt, alloc, &name)?)?;
+        ports.push(input)?;
     }
     let mut parts = Vec::new(alloc);
     for gate in 0..gates {
-        let name = format!(in alloc; "g{gate}")?;
+        let name = format!(in alloc; "j{gate}")?;
+        wires.push(named(rt, alloc, &name)?)?;
+        ports.push(inputs + gate)?;
         parts.push(Component {
             name: named(rt, alloc, &name)?,
-            kind: Kind::Xor,
-            ports: Wires::new(alloc, &[0, 1, 2, 3, 4, 5, 6, 7, 8 + u32::from(gate)])?,
+            kind,
+            ports: Wires::new(alloc, &ports)?,
         })?;
-        wires.push(named(rt, alloc, &name)?)?;
+        ports.pop();
     }
     Ok(Device::build(alloc, parts, wires, Vec::new(alloc))?)
 }
@@ -65,12 +77,38 @@ fn encodes_gates(rt: HostRuntime) -> Result<(), Fail> {
 }
 
 #[test]
+fn chains_wide_gates(rt: HostRuntime) -> Result<(), Fail> {
+    let alloc = rt.alloc();
+    let expected: [&[i32]; 12] = [
+        &[2, -8],
+        &[3, -8],
+        &[-2, -3, 8],
+        &[8, -9],
+        &[4, -9],
+        &[-4, -8, 9],
+        &[9, -10],
+        &[5, -10],
+        &[-5, -9, 10],
+        &[-1, -7, 10],
+        &[-1, 6, -7],
+        &[-1, -6, 7, -10],
+    ];
+    let cnf = encode(alloc, &gates_of(&rt, alloc, Kind::And, 5, 1)?)?;
+    assert_eq!(rt; cnf.vars(), 10);
+    assert_clauses(&rt, &cnf, &expected)
+}
+
+#[test]
 fn counts_before_it_writes(rt: HostRuntime) -> Result<(), Fail> {
     let alloc = rt.alloc();
-    let most = encode(alloc, &parities(&rt, alloc, 1024)?)?;
-    assert_eq!(rt; most.len(), 262_144);
-    let error = encode(alloc, &parities(&rt, alloc, 1025)?).err();
-    assert_eq!(rt; error, Some(EncodeError::TooManyClauses { count: 262_400 }));
+    let most = encode(alloc, &gates_of(&rt, alloc, Kind::Xor, 64, 1040)?)?;
+    assert_eq!(rt; most.len(), 262_080);
+    assert_eq!(rt; most.vars(), 66_624);
+    let error = encode(alloc, &gates_of(&rt, alloc, Kind::Xor, 64, 1041)?).err();
+    assert_eq!(rt; error, Some(EncodeError::TooManyClauses { count: 262_332 }));
+    let few = encode(alloc, &gates_of(&rt, alloc, Kind::Xor, 8, 1024)?)?;
+    assert_eq!(rt; few.len(), 28_672);
+    assert_eq!(rt; few.vars(), 8_200);
     Ok(())
 }
 

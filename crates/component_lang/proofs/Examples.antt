@@ -1,13 +1,13 @@
 -- Worked rows: what the definitions make of small texts.
-use Rattle.std.proofs.Common.{◌≡◌, ℕ, List, [], ◌∷◌, ◌++◌, Result, Ok, Err, refl}
-use Rattle.std.specs.Prelude.{codes}
+use Rattle.std.proofs.Common.{◌≡◌, ℕ, zero, suc, List, [], ◌∷◌, ◌++◌, Result, Ok, Err, refl}
+use Rattle.std.specs.Prelude.{codes, replicate}
 use Rattle.text_rules.specs.Names.{Name}
-use Rattle.device_model.specs.declared.component.Kind.TheVariants.{Not}
+use Rattle.device_model.specs.declared.component.Kind.TheVariants.{Xnor, Not}
 use Rattle.component_lang.specs.declared.design.UsedKind.TheVariants.{Gate, Shape as OfShape, Block as OfBlock}
 use Rattle.component_lang.specs.declared.design.Shape.{Shape}
 use Rattle.component_lang.specs.declared.design.Block.{Block}
 use Rattle.component_lang.specs.declared.fault.LangFault.{LangFault}
-use Rattle.component_lang.specs.declared.fault.LangFault.TheVariants.{Line as NotHere, Name as NoName, Twice, Unknown, Ports, Row, NoTop, AfterTop}
+use Rattle.component_lang.specs.declared.fault.LangFault.TheVariants.{Line as NotHere, Name as NoName, Twice, Unknown, Ports, Row, NoTop, AfterTop, Cost}
 use Rattle.component_lang.specs.Designs.{Design}
 use Rattle.component_lang.specs.Reading.{Fault, design}
 
@@ -22,6 +22,14 @@ bad line what = Err (record { line = line; what = what })
 abbrev made : List Shape → List Block → ℕ → Result Design Fault
 made types blocks top = Ok (record { types = types; blocks = blocks; top = top })
 
+abbrev arguments_a : ℕ → List ℕ
+arguments_a zero = []
+arguments_a (suc n) = codes " a" ++ arguments_a n
+
+-- a part u of a kind, of which all of so many ports are at the wire a
+abbrev part_of_a : List ℕ → ℕ → List ℕ
+part_of_a kind ports = codes "part u " ++ kind ++ arguments_a ports
+
 -- ---- refused, each for the first fault of its first line with one
 
 row_too_long : design (text_of (codes "type U p" ∷ codes "ok 00" ∷ codes "end" ∷ [])) ≡ bad 2 Row
@@ -32,6 +40,10 @@ row_of_a_letter = refl
 
 gate_of_one_argument : design (text_of (codes "block M a" ∷ codes "part u NOT a" ∷ codes "end" ∷ codes "top M" ∷ [])) ≡ bad 2 Ports
 gate_of_one_argument = refl
+
+-- 65 inputs and an output
+one_input_too_many : design (text_of (codes "block M a" ∷ part_of_a (codes "AND") 66 ∷ codes "end" ∷ codes "top M" ∷ [])) ≡ bad 2 Ports
+one_input_too_many = refl
 
 unknown_kind : design (text_of (codes "block M a" ∷ codes "part u V a" ∷ codes "end" ∷ codes "top M" ∷ [])) ≡ bad 2 Unknown
 unknown_kind = refl
@@ -94,6 +106,34 @@ type_of_seven_ports = refl
 wire_without_names : design (text_of (codes "block M a" ∷ codes "wire" ∷ [])) ≡ bad 2 NotHere
 wire_without_names = refl
 
+cost_of_0 : design (text_of (codes "type C a" ∷ codes "cost 0" ∷ codes "end" ∷ [])) ≡ bad 2 Cost
+cost_of_0 = refl
+
+cost_of_1001 : design (text_of (codes "type C a" ∷ codes "cost 1001" ∷ codes "end" ∷ [])) ≡ bad 2 Cost
+cost_of_1001 = refl
+
+cost_with_a_leading_zero : design (text_of (codes "type C a" ∷ codes "cost 01" ∷ codes "end" ∷ [])) ≡ bad 2 Cost
+cost_with_a_leading_zero = refl
+
+cost_twice : design (text_of (codes "type C a" ∷ codes "cost 2" ∷ codes "cost 2" ∷ codes "end" ∷ [])) ≡ bad 3 Twice
+cost_twice = refl
+
+-- that it is the second comes before that it is no number
+twice_before_cost : design (text_of (codes "type C a" ∷ codes "cost 2" ∷ codes "cost x" ∷ codes "end" ∷ [])) ≡ bad 3 Twice
+twice_before_cost = refl
+
+cost_without_a_number : design (text_of (codes "type C a" ∷ codes "cost" ∷ codes "end" ∷ [])) ≡ bad 2 NotHere
+cost_without_a_number = refl
+
+cost_of_two_numbers : design (text_of (codes "type C a" ∷ codes "cost 1 2" ∷ codes "end" ∷ [])) ≡ bad 2 NotHere
+cost_of_two_numbers = refl
+
+cost_in_a_block : design (text_of (codes "block M a" ∷ codes "cost 2" ∷ codes "end" ∷ [])) ≡ bad 2 NotHere
+cost_in_a_block = refl
+
+cost_outside : design (text_of (codes "cost 2" ∷ [])) ≡ bad 1 NotHere
+cost_outside = refl
+
 -- ---- read
 
 -- Ok are the rows 00 and 11, and where it is faulty 01: its first port is 0 and its second 1. The block N stands on M.
@@ -101,7 +141,7 @@ two_blocks : design (text_of (codes "# a design" ∷ codes "type T p q" ∷ code
     ++ codes "block M a b" ∷ codes "wire c" ∷ codes "part u NOT a c" ∷ codes "part v T c b" ∷ codes "end" ∷ []
     ++ codes "block N x" ∷ codes "part m M x x" ∷ codes "end" ∷ codes "top N" ∷ codes "  # the end" ∷ []))
     ≡ made
-    (record { name = codes "T"; table = record { ports = 2; ok = 9; bad = 4 } } ∷ [])
+    (record { name = codes "T"; table = record { ports = 2; ok = 9; bad = 4; cost = 1 } } ∷ [])
     (record {
       name = codes "M";
       ports = 2;
@@ -112,6 +152,16 @@ two_blocks = refl
 
 -- without a line `bad` all four rows are allowed
 free_where_faulty : design (text_of (codes "type U p q" ∷ codes "ok 10" ∷ codes "end" ∷ codes "block M a" ∷ codes "part u U a a" ∷ codes "end" ∷ codes "top M" ∷ []))
-    ≡ made (record { name = codes "U"; table = record { ports = 2; ok = 2; bad = 15 } } ∷ [])
+    ≡ made (record { name = codes "U"; table = record { ports = 2; ok = 2; bad = 15; cost = 1 } } ∷ [])
     (record { name = codes "M"; ports = 1; wires = codes "a" ∷ []; parts = record { name = codes "u"; kind = OfShape 0; args = 0 ∷ 0 ∷ [] } ∷ [] } ∷ []) 0
 free_where_faulty = refl
+
+-- 64 inputs and an output
+most_inputs : design (text_of (codes "block M a" ∷ part_of_a (codes "XNOR") 65 ∷ codes "end" ∷ codes "top M" ∷ []))
+    ≡ made [] (record { name = codes "M"; ports = 1; wires = codes "a" ∷ []; parts = record { name = codes "u"; kind = Gate Xnor; args = replicate 65 0 } ∷ [] } ∷ []) 0
+most_inputs = refl
+
+dear_where_faulty : design (text_of (codes "type U p" ∷ codes "ok 1" ∷ codes "cost 1000" ∷ codes "end" ∷ codes "block M a" ∷ codes "part u U a" ∷ codes "end" ∷ codes "top M" ∷ []))
+    ≡ made (record { name = codes "U"; table = record { ports = 1; ok = 2; bad = 3; cost = 1000 } } ∷ [])
+    (record { name = codes "M"; ports = 1; wires = codes "a" ∷ []; parts = record { name = codes "u"; kind = OfShape 0; args = 0 ∷ [] } ∷ [] } ∷ []) 0
+dear_where_faulty = refl

@@ -1,23 +1,25 @@
 -- Each line keeps a reader sound, and adds no more to it than it has words.
 use Rattle.std.proofs.Common.{◌≡◌, ℕ, ◌+◌, ◌-◌, ◌^◌, ◌<◌, ◌≤◌, Bool, true, false, not, List, [], ◌∷◌, ◌++◌, map, length, codes, Option, Some, None, Result, Ok, Err, is_some, unwrap_or, refl, sym, ap, ◌∙◌, length-append, length-take, arith}
-use Rattle.std.specs.Prelude.{◌==◌, nat_lt, if◌then◌else◌}
+use Rattle.std.specs.Prelude.{◌==◌, nat_le, nat_lt, ◌&&◌, if◌then◌else◌}
 use Rattle.std.specs.List.{list_all, prefix_len}
 use Rattle.std.proofs.lemmas.Bool.{and_parts, and_from, not-true, le-leb, ltb-true, lt-ltb, eqb-true}
 use Rattle.std.proofs.lemmas.Nat.{pow_pos}
 use Rattle.text_rules.specs.Names.{Name, same_name, is_among}
 use Rattle.text_rules.specs.TextLines.{uncommented}
+use Rattle.text_rules.specs.Numbers.{value_behind, are_digits, has_leading_zero, number_in}
 use Rattle.text_rules.specs.Tokens.{words}
 use Rattle.text_rules.proofs.TokenLemmas.{length-tokens}
-use Rattle.device_model.specs.TruthTable.{has_few_ports}
+use Rattle.device_model.specs.TruthTable.{has_few_ports, is_cost}
 use Rattle.device_model.specs.Building.{place_in}
+use Rattle.device_model.specs.declared.limits.TheConstants.{COST_LIMIT}
 use Rattle.component_lang.specs.declared.design.UsedKind.{UsedKind}
 use Rattle.component_lang.specs.declared.design.UsedKind.TheVariants.{Gate, Shape as OfShape, Block as OfBlock}
 use Rattle.component_lang.specs.declared.design.Block.{Block}
 use Rattle.component_lang.specs.declared.fault.LangFault.{LangFault}
-use Rattle.component_lang.specs.declared.fault.LangFault.TheVariants.{Line as NotHere, Name as NoName, Twice, Ports, Row}
+use Rattle.component_lang.specs.declared.fault.LangFault.TheVariants.{Line as NotHere, Name as NoName, Twice, Ports, Row, Cost}
 use Rattle.component_lang.specs.Designs.{is_plain_name, are_distinct, used_names, takes_args, is_block, are_blocks}
 use Rattle.component_lang.specs.Kinds.{OpenType, Section, Outside, InType, InBlock, AfterTop, Reader, kind_named}
-use Rattle.component_lang.specs.TypeRows.{is_row, row_in, with_row, shape_of}
+use Rattle.component_lang.specs.TypeRows.{is_row, row_in, with_row, cost_in, shape_of}
 use Rattle.component_lang.specs.DesignLines.{at, is_new, type_line, block_line, top_of_kind, are_new, wire_line, part_of, with_part, part_line, outside, in_type, in_block, at_section, after_words, after_line}
 use Rattle.component_lang.specs.inner.Sound.{is_free, is_sound_type, is_sound_block, is_sound_section, is_sound, open_wires, reader_size}
 use Rattle.component_lang.proofs.RowSets.{row_in-fits, with_row-fits}
@@ -45,16 +47,37 @@ either-keeps n false r s h g = g
 all_fits : (k : ℕ) → nat_lt (2 ^ k - 1) (2 ^ k) ≡ true
 all_fits k = lt-ltb (2 ^ k - 1) (2 ^ k) (let p = pow_pos k in omega arith)
 
+-- a cost that is read may be one
+cost_in-fits : (word : List ℕ) → is_cost (unwrap_or (cost_in word) 1) ≡ true
+cost_in-fits word = by_zero (has_leading_zero word) where
+  value : ℕ
+  value = value_behind 0 word
+
+  by_range : (b : Bool) → (nat_le 1 value && nat_le value COST_LIMIT) ≡ b → is_cost (unwrap_or (if b then Some value else None) 1) ≡ true
+  by_range true e = e
+  by_range false e = refl
+
+  by_digits : (b : Bool) → is_cost (unwrap_or (elim b [
+    | true ↦ (if nat_le 1 value && nat_le value COST_LIMIT then Some value else None)
+    | false ↦ None
+  ]) 1) ≡ true
+  by_digits true = by_range (nat_le 1 value && nat_le value COST_LIMIT) refl
+  by_digits false = refl
+
+  by_zero : (b : Bool) → is_cost (unwrap_or (if b then None else number_in 4 1 COST_LIMIT word) 1) ≡ true
+  by_zero true = refl
+  by_zero false = by_digits (are_digits 4 word)
+
 module _ (reader : Reader) (n : ℕ) (blocks_sound : are_blocks reader.types [] reader.blocks ≡ true) where
   type_line-keeps : (name : Name) (ports : List Name) → length reader.types + length reader.blocks ≤ n → Keeps n (type_line reader name ports)
   type_line-keeps name ports l =
       if-keeps n (list_all is_plain_name (name ∷ ports)) NoName _ (λ plain.
       if-keeps n (is_new reader name ports) Twice _ (λ new.
-      if-keeps n (has_few_ports (length ports)) Ports (Ok (at reader (InType (record { name = name; ports = length ports; ok = 0; bad = None })))) (λ few.
+      if-keeps n (has_few_ports (length ports)) Ports (Ok (at reader (InType (record { name = name; ports = length ports; ok = 0; bad = None; cost = None })))) (λ few.
       let named = and_parts (is_plain_name name) (list_all is_plain_name ports) plain in
       let fresh = and_parts (not (is_some (kind_named reader name))) (are_distinct ports) new in (
         and_from _ _ blocks_sound (and_from _ _ (and_from _ _ named.0 fresh.0)
-            (and_from _ _ few (and_from _ _ (lt-ltb 0 (2 ^ (2 ^ length ports)) (pow_pos (2 ^ length ports))) (all_fits (2 ^ length ports))))),
+            (and_from _ _ few (and_from _ _ (lt-ltb 0 (2 ^ (2 ^ length ports)) (pow_pos (2 ^ length ports))) (and_from _ _ (all_fits (2 ^ length ports)) refl)))),
         omega arith,
       ))))
 
@@ -95,11 +118,17 @@ module _ (reader : Reader) (n : ℕ) (blocks_sound : are_blocks reader.types [] 
     few : has_few_ports open_type.ports ≡ true
     few = (and_parts (has_few_ports open_type.ports) _ (and_parts (is_free reader open_type.name) _ sound).1).0
 
-    ok_fits : open_type.ok < 2 ^ (2 ^ open_type.ports)
-    ok_fits = ltb-true open_type.ok (2 ^ (2 ^ open_type.ports)) (and_parts _ _ (and_parts (has_few_ports open_type.ports) _ (and_parts (is_free reader open_type.name) _ sound).1).1).0
+    ok_test : nat_lt open_type.ok (2 ^ (2 ^ open_type.ports)) ≡ true
+    ok_test = (and_parts _ _ (and_parts (has_few_ports open_type.ports) _ (and_parts (is_free reader open_type.name) _ sound).1).1).0
+
+    bad_and_cost : (nat_lt (unwrap_or open_type.bad (2 ^ (2 ^ open_type.ports) - 1)) (2 ^ (2 ^ open_type.ports)) && is_cost (unwrap_or open_type.cost 1)) ≡ true
+    bad_and_cost = (and_parts (nat_lt open_type.ok (2 ^ (2 ^ open_type.ports))) _ (and_parts (has_few_ports open_type.ports) _ (and_parts (is_free reader open_type.name) _ sound).1).1).1
 
     bad_test : nat_lt (unwrap_or open_type.bad (2 ^ (2 ^ open_type.ports) - 1)) (2 ^ (2 ^ open_type.ports)) ≡ true
-    bad_test = (and_parts (nat_lt open_type.ok (2 ^ (2 ^ open_type.ports))) _ (and_parts (has_few_ports open_type.ports) _ (and_parts (is_free reader open_type.name) _ sound).1).1).1
+    bad_test = (and_parts _ (is_cost (unwrap_or open_type.cost 1)) bad_and_cost).0
+
+    cost_test : is_cost (unwrap_or open_type.cost 1) ≡ true
+    cost_test = (and_parts (nat_lt (unwrap_or open_type.bad (2 ^ (2 ^ open_type.ports) - 1)) (2 ^ (2 ^ open_type.ports))) _ bad_and_cost).1
 
     bad_fits : (o : Option ℕ) → nat_lt (unwrap_or o (2 ^ (2 ^ open_type.ports) - 1)) (2 ^ (2 ^ open_type.ports)) ≡ true → unwrap_or o 0 < 2 ^ (2 ^ open_type.ports)
     bad_fits None h = pow_pos (2 ^ open_type.ports)
@@ -118,14 +147,18 @@ module _ (reader : Reader) (n : ℕ) (blocks_sound : are_blocks reader.types [] 
     in_type-keeps (word ∷ []) l =
         if-keeps n (same_name word (codes "end")) NotHere (Ok (record reader { types = reader.types ++ shape_of open_type ∷ []; section = Outside })) (λ e.
         (and_from _ _ (are_blocks-types reader.types (shape_of open_type ∷ []) [] reader.blocks blocks_sound) refl, omega (arith, length-append reader.types (shape_of open_type ∷ []))))
-    in_type-keeps (word ∷ row ∷ []) l =
+    in_type-keeps (word ∷ value ∷ []) l =
         either-keeps n (same_name word (codes "ok")) _ _
-        (if-keeps n (is_row open_type.ports row) Row (Ok (at reader (InType (record open_type { ok = with_row open_type.ok (row_in row) })))) (λ is.
-        (and_from _ _ blocks_sound (and_from _ _ free (and_from _ _ few (and_from _ _ (more_fits open_type.ok row ok_fits is) bad_test))), omega arith)))
-        (either-keeps n (same_name word (codes "bad")) _ (Err NotHere)
-        (if-keeps n (is_row open_type.ports row) Row (Ok (at reader (InType (record open_type { bad = Some (with_row (unwrap_or open_type.bad 0) (row_in row)) })))) (λ is.
-        (and_from _ _ blocks_sound (and_from _ _ free (and_from _ _ few (and_from _ _ (lt-ltb open_type.ok (2 ^ (2 ^ open_type.ports)) ok_fits) (more_fits (unwrap_or open_type.bad 0) row (bad_fits open_type.bad bad_test) is)))), omega arith))) tt)
-    in_type-keeps (word ∷ row ∷ more ∷ line) l = tt
+        (if-keeps n (is_row open_type.ports value) Row (Ok (at reader (InType (record open_type { ok = with_row open_type.ok (row_in value) })))) (λ is.
+        (and_from _ _ blocks_sound (and_from _ _ free (and_from _ _ few (and_from _ _ (more_fits open_type.ok value (ltb-true open_type.ok (2 ^ (2 ^ open_type.ports)) ok_test) is) bad_and_cost))), omega arith)))
+        (either-keeps n (same_name word (codes "bad")) _ _
+        (if-keeps n (is_row open_type.ports value) Row (Ok (at reader (InType (record open_type { bad = Some (with_row (unwrap_or open_type.bad 0) (row_in value)) })))) (λ is.
+        (and_from _ _ blocks_sound (and_from _ _ free (and_from _ _ few (and_from _ _ ok_test (and_from _ _ (more_fits (unwrap_or open_type.bad 0) value (bad_fits open_type.bad bad_test) is) cost_test)))), omega arith)))
+        (either-keeps n (same_name word (codes "cost")) _ (Err NotHere)
+        (if-keeps n (not (is_some open_type.cost)) Twice _ (λ first.
+        if-keeps n (is_some (cost_in value)) Cost (Ok (at reader (InType (record open_type { cost = cost_in value })))) (λ is.
+        (and_from _ _ blocks_sound (and_from _ _ free (and_from _ _ few (and_from _ _ ok_test (and_from _ _ bad_test (cost_in-fits value))))), omega arith)))) tt))
+    in_type-keeps (word ∷ value ∷ more ∷ line) l = tt
 
   -- ---- in a block
 

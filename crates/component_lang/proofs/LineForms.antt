@@ -14,7 +14,7 @@ use Rattle.component_lang.specs.declared.fault.LangFault.{LangFault}
 use Rattle.component_lang.specs.declared.fault.LangFault.TheVariants.{Name as NoName, Twice, Ports}
 use Rattle.component_lang.specs.Designs.{is_plain_name, used_names, takes_args}
 use Rattle.component_lang.specs.Kinds.{OpenType, Reader, InType, InBlock, kind_named}
-use Rattle.component_lang.specs.DesignLines.{at, is_new, type_line, block_line, ok_line, bad_line, are_new, wire_line, places_in, part_of, with_part, part_line, outside, in_type, in_block}
+use Rattle.component_lang.specs.DesignLines.{at, is_new, type_line, block_line, ok_line, bad_line, cost_line, are_new, wire_line, places_in, part_of, with_part, part_line, outside, in_type, in_block}
 use Rattle.component_lang.specs.inner.Words.{new_ports, places_among}
 use Rattle.component_lang.proofs.NameLists.{more_names, places_among-ok}
 
@@ -34,7 +34,7 @@ abbrev if_new : {A : Type 0} → Bool → Result A LangFault → Result A LangFa
 if_new n r = if n then r else Err Twice
 
 abbrev pub type_begun : Reader → Name → ℕ → Reader
-type_begun reader name n = at reader (InType (record { name = name; ports = n; ok = 0; bad = None }))
+type_begun reader name n = at reader (InType (record { name = name; ports = n; ok = 0; bad = None; cost = None }))
 
 abbrev pub type_with : Reader → Name → List Name → Result Reader LangFault
 type_with reader name ports = if has_few_ports (length ports) then Ok (type_begun reader name (length ports)) else Err Ports
@@ -164,6 +164,10 @@ in_type-ok reader open_type word row words left e none b = rw (e, none, equal_if
 pub in_type-bad : (reader : Reader) (open_type : OpenType) (word row : Name) (words left : List Name) → words ≡ row ∷ left → left ≡ [] → same_name word (codes "bad") ≡ true
     → in_type reader open_type (word ∷ words) ≡ bad_line reader open_type row
 in_type-bad reader open_type word row words left e none b = rw (e, none, equal_if_same word (codes "bad") b) refl
+
+pub in_type-cost : (reader : Reader) (open_type : OpenType) (word value : Name) (words left : List Name) → words ≡ value ∷ left → left ≡ [] → same_name word (codes "cost") ≡ true
+    → in_type reader open_type (word ∷ words) ≡ cost_line reader open_type value
+in_type-cost reader open_type word value words left e none b = rw (e, none, equal_if_same word (codes "cost") b) refl
 
 pub in_block-wire : (reader : Reader) (block : Block) (word name : Name) (words others : List Name) → words ≡ name ∷ others → same_name word (codes "wire") ≡ true
     → in_block reader block (word ∷ words) ≡ wire_line reader block (name ∷ others)

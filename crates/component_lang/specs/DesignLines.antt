@@ -11,10 +11,10 @@ use Rattle.component_lang.specs.declared.design.UsedKind.TheVariants.{Gate, Shap
 use Rattle.component_lang.specs.declared.design.Used.{Used}
 use Rattle.component_lang.specs.declared.design.Block.{Block}
 use Rattle.component_lang.specs.declared.fault.LangFault.{LangFault}
-use Rattle.component_lang.specs.declared.fault.LangFault.TheVariants.{Line as NotHere, Name as NoName, Twice, Unknown, Ports, Row, AfterTop as PastTop}
+use Rattle.component_lang.specs.declared.fault.LangFault.TheVariants.{Line as NotHere, Name as NoName, Twice, Unknown, Ports, Row, AfterTop as PastTop, Cost}
 use Rattle.component_lang.specs.Designs.{is_plain_name, are_distinct, used_names, takes_args}
 use Rattle.component_lang.specs.Kinds.{OpenType, Section, Outside, InType, InBlock, AfterTop, Reader, kind_named}
-use Rattle.component_lang.specs.TypeRows.{is_row, row_in, with_row, shape_of}
+use Rattle.component_lang.specs.TypeRows.{is_row, row_in, with_row, cost_in, shape_of}
 
 -- Of the tests of a line the first that fails is its fault. Where none does, the reader goes on.
 abbrev pub tested : List (Bool × LangFault) → Reader → Result Reader LangFault
@@ -35,7 +35,7 @@ is_new reader name ports = not (is_some (kind_named reader name)) && are_distinc
 abbrev pub type_line : Reader → Name → List Name → Result Reader LangFault
 type_line reader name ports =
     tested ((list_all is_plain_name (name ∷ ports), NoName) ∷ (is_new reader name ports, Twice) ∷ (has_few_ports (length ports), Ports) ∷ [])
-    (at reader (InType (record { name = name; ports = length ports; ok = 0; bad = None })))
+    (at reader (InType (record { name = name; ports = length ports; ok = 0; bad = None; cost = None })))
 
 -- `block NAME PORT ..`
 abbrev pub block_line : Reader → Name → List Name → Result Reader LangFault
@@ -81,14 +81,21 @@ bad_line reader open_type row =
     tested ((is_row open_type.ports row, Row) ∷ [])
     (at reader (InType (record open_type { bad = Some (with_row (unwrap_or open_type.bad 0) (row_in row)) })))
 
+-- `cost N`, which may stand once
+abbrev pub cost_line : Reader → OpenType → List ℕ → Result Reader LangFault
+cost_line reader open_type word =
+    tested ((not (is_some open_type.cost), Twice) ∷ (is_some (cost_in word), Cost) ∷ [])
+    (at reader (InType (record open_type { cost = cost_in word })))
+
 -- a line by its words, of which `end` closes the type
 abbrev pub in_type : Reader → OpenType → List (List ℕ) → Result Reader LangFault
 in_type reader open_type (word ∷ []) =
     if same_name word (codes "end") then Ok (record reader { types = reader.types ++ shape_of open_type ∷ []; section = Outside })
     else Err NotHere
-in_type reader open_type (word ∷ row ∷ []) =
-    if same_name word (codes "ok") then ok_line reader open_type row
-    else if same_name word (codes "bad") then bad_line reader open_type row
+in_type reader open_type (word ∷ value ∷ []) =
+    if same_name word (codes "ok") then ok_line reader open_type value
+    else if same_name word (codes "bad") then bad_line reader open_type value
+    else if same_name word (codes "cost") then cost_line reader open_type value
     else Err NotHere
 in_type reader open_type line = Err NotHere
 

@@ -1,7 +1,7 @@
 -- How the faults of designs are numbered and named.
 use Rattle.std.specs.Prelude.{ℕ, List, codes, Option, Some, None}
 use Rattle.component_lang.specs.declared.fault.LangFault.{LangFault}
-use Rattle.component_lang.specs.declared.fault.LangFault.TheVariants.{Line, Name, Twice, Unknown, Ports, Row, NoTop, AfterTop}
+use Rattle.component_lang.specs.declared.fault.LangFault.TheVariants.{Line, Name, Twice, Unknown, Ports, Row, NoTop, AfterTop, Cost}
 use Rattle.component_lang.specs.declared.fault.LangError.{LangError}
 use Rattle.component_lang.specs.declared.fault.LangError.TheVariants.{Bad, Memory}
 use Rattle.component_lang.specs.Reading.{Fault}
@@ -15,6 +15,7 @@ fault_number Ports = 5
 fault_number Row = 6
 fault_number NoTop = 7
 fault_number AfterTop = 8
+fault_number Cost = 9
 
 abbrev pub fault_name : LangFault → List ℕ
 fault_name Line = codes "line"
@@ -25,6 +26,7 @@ fault_name Ports = codes "ports"
 fault_name Row = codes "row"
 fault_name NoTop = codes "no top"
 fault_name AfterTop = codes "after top"
+fault_name Cost = codes "cost"
 
 -- An error tells a fault, but for want of memory.
 abbrev pub told : LangError → Option Fault

@@ -8,12 +8,14 @@ use Rattle.component_lang.specs.declared.design.UsedKind.TheVariants.{Gate, Shap
 use Rattle.component_lang.specs.declared.design.Shape.{Shape}
 use Rattle.component_lang.specs.declared.design.Block.{Block}
 
--- A type while its lines are read. Without a line `bad` every row is allowed where the part is faulty.
+-- A type while its lines are read. Without a line `bad` every row is allowed where the part is faulty, and without a line
+-- `cost` a failure costs 1.
 pub record OpenType : Type 0 where
   pub name : Name
   pub ports : ℕ
   pub ok : ℕ
   pub bad : Option ℕ
+  pub cost : Option ℕ
 
 -- where a line stands: outside, in a type, in a block, or after the top
 pub data Section : Type 0 where

@@ -11,7 +11,7 @@ pub enum LangFault {
     Line,
     /// A word that has to be a name is none: 1 to 64 bytes of names, without a dot.
     Name,
-    /// A type or block, a port, a wire or a part of this name is there already.
+    /// A type or block, a port, a wire or a part of this name is there already, or the cost of this type.
     Twice,
     /// The kind is not closed above, an argument is no wire of the block, or the top is no block.
     Unknown,
@@ -23,10 +23,12 @@ pub enum LangFault {
     NoTop,
     /// A line that is not blank follows the top.
     AfterTop,
+    /// A cost is not a number from 1 to 1000, in decimal digits without a leading zero.
+    Cost,
 }
 
 impl LangFault {
-    /// The number of the fault, 1 to 8.
+    /// The number of the fault, 1 to 9.
     pub fn number(self) -> u32
         ensures { result ≡ fault_number self }
     {
@@ -39,6 +41,7 @@ impl LangFault {
             LangFault::Row => 6,
             LangFault::NoTop => 7,
             LangFault::AfterTop => 8,
+            LangFault::Cost => 9,
         }
     }
 
@@ -55,6 +58,7 @@ impl LangFault {
             LangFault::Row => "row",
             LangFault::NoTop => "no top",
             LangFault::AfterTop => "after top",
+            LangFault::Cost => "cost",
         }
     }
 }

@@ -58,6 +58,7 @@ fn start_type<'a>(
         ports: ports as u8,
         ok: 0,
         bad: None,
+        cost: None,
     })
 }
 
@@ -114,7 +115,7 @@ fn in_type<'a>(
     ensures { Fulfils (reader_in library.new) fault_told
         (in_type (library_in library.old) (open_type_in open_type.entry) (word.now ∷ tokens_left words.entry)) result }
 {
-    let Some(row) = words.next() else {
+    let Some(value) = words.next() else {
         if !spells(word, b"end") {
             return Err(LineError::Fault(LangFault::Line));
         }
@@ -124,9 +125,11 @@ fn in_type<'a>(
     if words.next().is_some() {
         Err(LineError::Fault(LangFault::Line))
     } else if spells(word, b"ok") {
-        Ok(Section::InType(open_type.with_ok(row)?))
+        Ok(Section::InType(open_type.with_ok(value)?))
     } else if spells(word, b"bad") {
-        Ok(Section::InType(open_type.with_bad(row)?))
+        Ok(Section::InType(open_type.with_bad(value)?))
+    } else if spells(word, b"cost") {
+        Ok(Section::InType(open_type.with_cost(value)?))
     } else {
         Err(LineError::Fault(LangFault::Line))
     }

@@ -7,7 +7,7 @@ use std::test::Fail;
 // What is wrong with a text: the line and the fault.
 fn fault_of(rt: &impl Abort, alloc: Global, text: &str) -> Result<(u32, LangFault), Fail> {
     let bytes = text.as_bytes();
-    assert!(rt; bytes.len() < 100);
+    assert!(rt; bytes.len() < 200);
     match read_lang(alloc, bytes) {
         Err(LangError::Bad { line, what }) => Ok((line, what)),
         Err(LangError::Memory) => Err("no memory".into()),
@@ -16,7 +16,7 @@ fn fault_of(rt: &impl Abort, alloc: Global, text: &str) -> Result<(u32, LangFaul
 }
 
 const PAIR: &str = "type T p q # two ports\nok 00\nok 11\nbad 01\nend\n
-type U p\nok 1\nend\nblock M a b\nwire c\npart u NOT a c\npart v T c b\nend
+type U p\nok 1\ncost 30\nend\nblock M a b\nwire c\npart u NOT a c\npart v T c b\nend
 block N x\npart m M x x\npart w U x\nend\ntop N\n# after\n";
 
 #[test]
@@ -37,6 +37,7 @@ fn reads_types_and_blocks(rt: HostRuntime) -> Result<(), Fail> {
         (single.table.ports(), single.table.ok(), single.table.bad()),
         (1, 2, 3)
     );
+    assert_eq!(rt; (pair.table.cost(), single.table.cost()), (1, 30));
     let [inner, outer] = design.blocks() else {
         return Err("blocks".into());
     };
@@ -64,6 +65,12 @@ fn refuses(rt: HostRuntime) -> Result<(), Fail> {
     let rows = [
         ("type U p\nok 00\nend\n", 2, LangFault::Row),
         ("block M a\npart u NOT a\nend\ntop M\n", 2, LangFault::Ports),
+        // 65 inputs and an output
+        (
+            "block M a\npart u AND a a a a a a a a a a a a a a a a a a a a a a a a a a a a a a a a a a a a a a a a a a a a a a a a a a a a a a a a a a a a a a a a a a\n",
+            2,
+            LangFault::Ports,
+        ),
         ("block M a\npart u V a\nend\ntop M\n", 2, LangFault::Unknown),
         ("block M a\npart u a.b x\n", 2, LangFault::Name),
         (
@@ -76,6 +83,8 @@ fn refuses(rt: HostRuntime) -> Result<(), Fail> {
         ("block M a\nend\n", 0, LangFault::NoTop),
         ("block M a\nend\ntop M\nend\n", 4, LangFault::AfterTop),
         ("part u NOT a b\n", 1, LangFault::Line),
+        ("type C a\ncost 0\nend\n", 2, LangFault::Cost),
+        ("type C a\ncost 2\ncost 2\n", 3, LangFault::Twice),
     ];
     for (text, line, what) in rows {
         assert_eq!(rt; fault_of(&rt, rt.alloc(), text)?, (line, what));

@@ -4,23 +4,26 @@ ghost use Rattle.device_model.specs.TruthTable.{is_table};
 ghost use Rattle.component_lang.specs.Designs.{is_plain_name};
 ghost use Rattle.component_lang.specs.Kinds.{Reader, InType};
 ghost use Rattle.component_lang.specs.TypeRows.{is_row, row_in, with_row, shape_of};
-ghost use Rattle.component_lang.specs.DesignLines.{at, ok_line, bad_line};
+ghost use Rattle.component_lang.specs.DesignLines.{at, ok_line, bad_line, cost_line};
 ghost use Rattle.component_lang.specs.inner.LineFaults.{fault_told};
 ghost use Rattle.component_lang.specs.inner.Views.{open_type_in};
 
 use crate::design::Shape;
 use crate::fault::LangFault;
 use crate::line_error::LineError;
-use device_model::{Name, TYPE_PORT_LIMIT, Table};
+use device_model::{COST_LIMIT, Name, TYPE_PORT_LIMIT, Table};
 use std::alloc::Global;
+use text_rules::plain_number;
 
-/// A type while its lines are read. Without a line `bad` every row is allowed where the part is faulty.
+/// A type while its lines are read. Without a line `bad` every row is allowed where the part is faulty, and without a line `cost`
+/// a failure costs 1.
 #[derive(Clone, Copy)]
 pub struct OpenType<'a> {
     pub name: &'a [u8],
     pub ports: u8,
     pub ok: u64,
     pub bad: Option<u64>,
+    pub cost: Option<u32>,
 }
 
 // The number of a row of so many characters 0 and 1.
@@ -81,6 +84,23 @@ impl<'a> OpenType<'a> {
         })
     }
 
+    /// Says what a failure costs.
+    pub fn with_cost(self, word: &[u8]) -> Result<OpenType<'a>, LineError>
+        ensures { (reader : Reader) → Fulfils (λ open_type. at reader (InType (open_type_in open_type))) fault_told
+            (cost_line reader (open_type_in self.entry) word.now) result }
+    {
+        if self.cost.is_some() {
+            return Err(LineError::Fault(LangFault::Twice));
+        }
+        let Some(cost) = plain_number(4, 1, u64::from(COST_LIMIT), word) else {
+            return Err(LineError::Fault(LangFault::Cost));
+        };
+        Ok(OpenType {
+            cost: Some(cost as u32),
+            ..self
+        })
+    }
+
     /// The type whose lines have ended.
     pub fn close(self, alloc: Global) -> Result<Shape, LineError>
         requires named { is_plain_name self.name.now ≡ true }
@@ -88,7 +108,8 @@ impl<'a> OpenType<'a> {
         ensures { Fulfils (λ shape. shape) fault_told (Ok (shape_of (open_type_in self.entry))) result }
     {
         let all_rows = Table::all_rows(self.ports).unwrap();
-        let table = Table::new(self.ports, self.ok, self.bad.unwrap_or(all_rows)).unwrap();
+        let bad = self.bad.unwrap_or(all_rows);
+        let table = Table::new(self.ports, self.ok, bad, self.cost.unwrap_or(1)).unwrap();
         let name = Name::new(alloc, self.name)?;
         Ok(Shape { name, table })
     }

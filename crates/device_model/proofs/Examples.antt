@@ -5,10 +5,10 @@ use Rattle.text_rules.specs.Names.{names_rise}
 use Rattle.ranking.specs.Cases.{Case}
 use Rattle.device_model.specs.declared.component.Component.{Component}
 use Rattle.device_model.specs.declared.component.Kind.{Kind}
-use Rattle.device_model.specs.declared.component.Kind.TheVariants.{Nand, Xor, Xnor, Buff, Table}
+use Rattle.device_model.specs.declared.component.Kind.TheVariants.{And, Or, Nand, Nor, Xor, Xnor, Not, Buff, Table}
 use Rattle.device_model.specs.declared.building.BuildError.TheVariants.{TooMany, TwoParts, TwoWires, Arity, NoWire}
-use Rattle.device_model.specs.TruthTable.{TruthTable}
-use Rattle.device_model.specs.Devices.{Device, gate_value, allows, takes}
+use Rattle.device_model.specs.TruthTable.{TruthTable, is_cost}
+use Rattle.device_model.specs.Devices.{Device, gate_value, kind_cost, part_costs, allows, takes}
 use Rattle.ranking.specs.Systems.{least_cost, all_diagnoses}
 use Rattle.device_model.specs.Diagnosis.{device_system}
 use Rattle.device_model.specs.Building.{built}
@@ -79,15 +79,21 @@ xor_of_three_ones = refl
 xnor_of_three_ones : gate_value Xnor (true ∷ true ∷ true ∷ []) ≡ false
 xnor_of_three_ones = refl
 
-xor_takes_eight : takes Xor 8 ≡ true
-xor_takes_eight = refl
+a_gate_takes_64 : map (λ kind. takes kind 64) (And ∷ Or ∷ Nand ∷ Nor ∷ Xor ∷ Xnor ∷ []) ≡ replicate 6 true
+a_gate_takes_64 = refl
 
-xor_takes_no_nine : takes Xor 9 ≡ false
-xor_takes_no_nine = refl
+a_gate_takes_no_65 : map (λ kind. takes kind 65) (And ∷ Or ∷ Nand ∷ Nor ∷ Xor ∷ Xnor ∷ []) ≡ replicate 6 false
+a_gate_takes_no_65 = refl
 
--- ok allows 00 and 11, bad allows 00 and 10
+an_inverter_takes_one : map (takes Not) (0 ∷ 1 ∷ 2 ∷ []) ≡ false ∷ true ∷ false ∷ []
+an_inverter_takes_one = refl
+
+a_buffer_takes_one : map (takes Buff) (0 ∷ 1 ∷ 2 ∷ []) ≡ false ∷ true ∷ false ∷ []
+a_buffer_takes_one = refl
+
+-- ok allows 00 and 11, bad allows 00 and 10, and a failure costs 7
 abbrev tables : List TruthTable
-tables = record { ports = 2; ok = 9; bad = 3 } ∷ []
+tables = record { ports = 2; ok = 9; bad = 3; cost = 7 } ∷ []
 
 abbrev table_rows : Bool → List Bool
 table_rows ok =
@@ -100,8 +106,41 @@ ok_rows = refl
 bad_rows : table_rows false ≡ true ∷ true ∷ false ∷ false ∷ []
 bad_rows = refl
 
+-- a part of the type costs what it says, and a gate 1
+costs : map (kind_cost tables) (Table 0 ∷ Xor ∷ []) ≡ 7 ∷ 1 ∷ []
+costs = refl
+
+gates_cost_1 : part_costs buffers ≡ 1 ∷ 1 ∷ []
+gates_cost_1 = refl
+
+least_and_greatest : map is_cost (0 ∷ 1 ∷ 1000 ∷ 1001 ∷ []) ≡ false ∷ true ∷ true ∷ false ∷ []
+least_and_greatest = refl
+
 no_table : allows tables (Table 1) true (false ∷ false ∷ []) ≡ false
 no_table = refl
+
+-- ---- a part of a type beside a gate: a and b are joined by t, whose failure costs 7, and then c = BUFF(b)
+
+abbrev priced : Device
+priced = record {
+  parts = gate (codes "c") Buff (1 ∷ 2 ∷ []) ∷ gate (codes "t") (Table 0) (0 ∷ 1 ∷ []) ∷ [];
+  wires = codes "a" ∷ codes "b" ∷ codes "c" ∷ [];
+  tables = tables;
+}
+
+-- a is seen as 1 and c as 0: the gate explains it at 1, and t, which may have 10, at 7
+abbrev priced_case : Case
+priced_case = record { seen = Some true ∷ None ∷ Some false ∷ []; held = None ∷ None ∷ [] }
+
+priced_least : least_cost (device_system priced) priced_case ≡ Some 1
+priced_least = refl
+
+priced_diagnoses : all_diagnoses (device_system priced) priced_case ≡ (false ∷ true ∷ []) ∷ []
+priced_diagnoses = refl
+
+-- where the gate is held ok, t is left
+priced_held : least_cost (device_system priced) (record priced_case { held = Some true ∷ None ∷ [] }) ≡ Some 7
+priced_held = refl
 
 -- ---- devices that are built
 

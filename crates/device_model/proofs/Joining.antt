@@ -1,6 +1,6 @@
 -- Where nothing is wrong with parts and wires, what is built is the device of these parts over the names of their wires.
-use Rattle.std.proofs.Common.{◌≡◌, ℕ, ◌+◌, ◌≤◌, Bool, true, cond, not, nat_lt, List, [], ◌∷◌, map, length, get_or, Option, Some, None, Result, Ok, Err, refl, sym, ap, ◌∙◌, arith}
-use Rattle.std.specs.Prelude.{position, if◌then◌else◌}
+use Rattle.std.proofs.Common.{◌≡◌, ℕ, ◌+◌, ◌≤◌, Bool, true, cond, not, nat_lt, List, [], ◌∷◌, map, length, get_or, Some, None, Ok, refl, sym, ap, ◌∙◌, arith}
+use Rattle.std.specs.Prelude.{position}
 use Rattle.std.specs.List.{list_all, position_or_len}
 use Rattle.std.proofs.lemmas.Bool.{and_parts, and_from, lt-ltb, le-ltb}
 use Rattle.std.proofs.lemmas.Simd.{map-map}
@@ -9,8 +9,8 @@ use Rattle.device_model.specs.declared.limits.TheConstants.{PART_LIMIT, WIRE_LIM
 use Rattle.device_model.specs.declared.component.Component.{Component}
 use Rattle.device_model.specs.TruthTable.{TruthTable}
 use Rattle.device_model.specs.Order.{sorted_distinct}
-use Rattle.device_model.specs.Devices.{Device, part_names, has_arity, has_wires}
-use Rattle.device_model.specs.Building.{NamedPart, place_in, joined, renumbered, repeated, built, device_of, device_over}
+use Rattle.device_model.specs.Devices.{part_names, has_arity, has_wires}
+use Rattle.device_model.specs.Building.{NamedPart, place_in, joined, renumbered, repeated, built, device_over}
 use Rattle.device_model.proofs.Answering.{built-device}
 use Rattle.device_model.proofs.CallerLemmas.{get_or-place_in}
 use Rattle.device_model.proofs.Making.{component_name, position_or_len-among}

@@ -6,6 +6,7 @@ pub mod CallerLemmas
 mod Steps
 pub mod Tables
 pub mod Making
+pub mod Costs
 mod Placing
 pub mod Answering
 mod Examples

@@ -4,11 +4,10 @@ use Rattle.std.specs.Int.{bit_at}
 use Rattle.std.specs.List.{list_all, list_any}
 use Rattle.text_rules.specs.Names.{Name, same_name, names_rise}
 use Rattle.ranking.specs.Bits.{bit_in, same_bit, has_odd_ones, row_number}
-use Rattle.ranking.specs.Ranking.{plain_costs}
 use Rattle.device_model.specs.declared.component.Kind.{Kind}
 use Rattle.device_model.specs.declared.component.Kind.TheVariants.{And, Or, Nand, Nor, Xor, Xnor, Not, Buff, Table}
 use Rattle.device_model.specs.declared.component.Component.{Component}
-use Rattle.device_model.specs.declared.limits.TheConstants.{PART_LIMIT, WIRE_LIMIT}
+use Rattle.device_model.specs.declared.limits.TheConstants.{INPUT_LIMIT, PART_LIMIT, WIRE_LIMIT}
 use Rattle.device_model.specs.TruthTable.{TruthTable}
 
 -- Parts and wires are each in the order of their names. A port of a part is the place of a wire.
@@ -28,10 +27,8 @@ place_of name names = position (same_name name) names
 abbrev pub most_inputs : Kind → ℕ
 most_inputs Not = 1
 most_inputs Buff = 1
-most_inputs Xor = 8
-most_inputs Xnor = 8
 most_inputs (Table t) = 0
-most_inputs gate = 16
+most_inputs gate = INPUT_LIMIT
 
 -- whether a gate takes so many inputs
 abbrev pub takes : Kind → ℕ → Bool
@@ -88,9 +85,17 @@ parts_fit tables (part ∷ parts) (ok ∷ state) wires = part_allows tables part
 abbrev pub fits : Device → List Bool → List Bool → Bool
 fits device state wires = parts_fit device.tables device.parts state wires
 
--- each part costs 1
+abbrev pub table_cost : Option TruthTable → ℕ
+table_cost None = 1
+table_cost (Some rows) = rows.cost
+
+-- What a failure of a part of this kind costs: 1 of a gate, and what its table says of a part of a type.
+abbrev pub kind_cost : List TruthTable → Kind → ℕ
+kind_cost tables (Table t) = table_cost (slice_get tables t)
+kind_cost tables gate = 1
+
 abbrev pub part_costs : Device → List ℕ
-part_costs device = plain_costs (length device.parts)
+part_costs device = map (λ (part : Component). kind_cost device.tables part.kind) device.parts
 
 abbrev pub rows_take : Option TruthTable → ℕ → Bool
 rows_take None ports = false

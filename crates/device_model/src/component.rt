@@ -2,6 +2,7 @@ ghost use Rattle.std.specs.Prelude.{◌≡◌, ◌<◌, length, map, slice_index
 ghost use Rattle.device_model.specs.TruthTable.{set_of_all, is_table};
 ghost use Rattle.device_model.specs.Devices.{most_inputs, takes};
 
+use crate::limits::{COST_LIMIT, INPUT_LIMIT};
 use crate::names::Name;
 use std::alloc::{AllocError, Global};
 use std::marker::Model;
@@ -61,7 +62,7 @@ pub enum Kind {
 }
 
 impl Kind {
-    /// Whether a gate takes so many inputs: 1 to 16, but 1 to 8 of an exclusive or and just 1 of an inverter or a buffer.
+    /// Whether a gate takes so many inputs: 1 to 64, but just 1 of an inverter or a buffer.
     ///
     /// A table has ports and no inputs.
     pub fn takes(self, inputs: usize) -> bool
@@ -75,8 +76,7 @@ impl Kind {
     {
         match self {
             Kind::Not | Kind::Buff => 1,
-            Kind::Xor | Kind::Xnor => 8,
-            Kind::And | Kind::Or | Kind::Nand | Kind::Nor => 16,
+            Kind::And | Kind::Or | Kind::Nand | Kind::Nor | Kind::Xor | Kind::Xnor => INPUT_LIMIT,
             Kind::Table(_) => 0,
         }
     }
@@ -90,12 +90,14 @@ pub struct Component {
     pub ports: Wires,
 }
 
-/// The rows that the parts of a type allow: bit r of `ok` and of `bad` stands for the row whose port i has bit i of r.
+/// What the parts of a type allow, and what a failure of one of them costs. Bit r of `ok` and of `bad` stands for the row whose
+/// port i has bit i of r.
 #[derive(Clone, Copy, Debug)]
 pub struct Table {
     ports: u8,
     ok: u64,
     bad: u64,
+    cost: u32,
 }
 
 impl Model for Table {
@@ -104,22 +106,28 @@ impl Model for Table {
 
     ghost Value = { TruthTable };
 
-    ghost view = { λ t. record { ports = t.ports; ok = t.ok; bad = t.bad } };
+    ghost view = { λ t. record { ports = t.ports; ok = t.ok; bad = t.bad; cost = t.cost } };
 
-    ghost inverse = { λ t. record { ports = t.ports; ok = t.ok; bad = t.bad } };
+    ghost inverse = { λ t. record { ports = t.ports; ok = t.ok; bad = t.bad; cost = t.cost } };
 
-    ghost invariant = { λ t. is_table (record { ports = t.ports; ok = t.ok; bad = t.bad }) ≡ true };
+    ghost invariant = { λ t. is_table (record { ports = t.ports; ok = t.ok; bad = t.bad; cost = t.cost }) ≡ true };
 }
 
 impl Table {
-    /// The rows of a type. There is none where the number of ports is not 1 to 6, or a row is not one of so many ports.
-    pub fn new(ports: u8, ok: u64, bad: u64) -> Option<Table>
-        ensures { result ≡ (if is_table (record { ports = ports; ok = ok; bad = bad })
-            then Some (record { ports = ports; ok = ok; bad = bad }) else None) }
+    /// The rows of a type and what a failure costs. There is none where the number of ports is not 1 to 6, a row is not one of so
+    /// many ports, or the cost is not 1 to 1,000.
+    pub fn new(ports: u8, ok: u64, bad: u64, cost: u32) -> Option<Table>
+        ensures { result ≡ (if is_table (record { ports = ports; ok = ok; bad = bad; cost = cost })
+            then Some (record { ports = ports; ok = ok; bad = bad; cost = cost }) else None) }
     {
         let all = Table::all_rows(ports)?;
-        if ok <= all && bad <= all {
-            Some(Table { ports, ok, bad })
+        if ok <= all && bad <= all && 1 <= cost && cost <= COST_LIMIT {
+            Some(Table {
+                ports,
+                ok,
+                bad,
+                cost,
+            })
         } else {
             None
         }
@@ -160,5 +168,13 @@ impl Table {
         ensures { result ≡ self.now.bad }
     {
         self.bad
+    }
+
+    /// What a failure of a part costs, 1 to 1,000.
+    pub fn cost(&self) -> u32
+        ensures cost { result ≡ self.now.cost }
+        ensures valid { is_table self.now ≡ true }
+    {
+        self.cost
     }
 }

@@ -1,7 +1,8 @@
-ghost use Rattle.std.specs.Prelude.{◌≡◌, IfOk};
-ghost use Rattle.device_model.specs.Devices.{IsDevice, place_of, part_names};
+ghost use Rattle.std.specs.Prelude.{◌≡◌, ◌<◌, true, length, slice_index, IfOk};
+ghost use Rattle.device_model.specs.TruthTable.{is_cost};
+ghost use Rattle.device_model.specs.Devices.{IsDevice, place_of, part_names, part_costs};
 
-use crate::component::{Component, Table};
+use crate::component::{Component, Kind, Table};
 use crate::names::Name;
 use indexmap::IndexSet;
 use std::alloc::{AllocError, Global};
@@ -82,6 +83,18 @@ impl Device {
         ensures valid { IsDevice self.now }
     {
         &self.tables
+    }
+
+    /// What a failure of a part costs, 1 to 1,000: 1 of a gate, and what its table says of a part of a type.
+    pub fn cost(&self, part: u32) -> u32
+        requires { part < length self.now.parts }
+        ensures cost { result ≡ slice_index (part_costs self.now) part }
+        ensures within { is_cost result ≡ true }
+    {
+        match self.parts[part as usize].kind {
+            Kind::Table(table) => self.tables[table as usize].cost(),
+            _ => 1,
+        }
     }
 
     /// The place of the part of a name. There is none exactly where no part has the name.

@@ -12,5 +12,5 @@ mod tests;
 pub use building::BuildError;
 pub use component::{Component, Kind, Table, Wires};
 pub use device::Device;
-pub use limits::{NAME_LIMIT, PART_LIMIT, TYPE_PORT_LIMIT, WIRE_LIMIT};
+pub use limits::{COST_LIMIT, INPUT_LIMIT, NAME_LIMIT, PART_LIMIT, TYPE_PORT_LIMIT, WIRE_LIMIT};
 pub use names::{Name, Names};

@@ -9,5 +9,11 @@ pub const WIRE_LIMIT: usize = 16384;
 /// The longest name of a part or a wire, in bytes.
 pub const NAME_LIMIT: usize = 255;
 
+/// The most inputs of a gate.
+pub const INPUT_LIMIT: usize = 64;
+
 /// The most ports of a part of a type.
 pub const TYPE_PORT_LIMIT: u8 = 6;
+
+/// The most that a failure of a part costs.
+pub const COST_LIMIT: u32 = 1000;

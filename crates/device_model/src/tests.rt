@@ -123,15 +123,45 @@ fn refuses_too_many(rt: HostRuntime) -> Result<(), Fail> {
 }
 
 #[test]
-fn makes_tables_and_lists_of_names(rt: HostRuntime) -> Result<(), Fail> {
-    let refused = [(0, 0, 0), (7, 0, 0), (1, 4, 0), (5, 0, 1 << 32)];
-    for (ports, ok, bad) in refused {
-        assert!(rt; Table::new(ports, ok, bad).is_none(), "{ports} ports");
+fn tells_costs(rt: HostRuntime) -> Result<(), Fail> {
+    let alloc = rt.alloc();
+    let mut parts = Vec::new(alloc);
+    for (name, kind) in [("c", Kind::Table(0)), ("b", Kind::Buff)] {
+        parts.push(Component {
+            name: named(&rt, alloc, name)?,
+            kind,
+            ports: Wires::new(alloc, [0, 0].as_slice())?,
+        })?;
     }
-    let table = Table::new(6, u64::MAX, 1).ok_or("no table")?;
+    let mut tables = Vec::new(alloc);
+    tables.push(Table::new(2, 9, 3, 7).ok_or("no table")?)?;
+    let device = Device::build(alloc, parts, numbered(alloc, 1)?, tables)?;
+    assert!(rt; device.parts().len() == 2);
+    assert_eq!(rt; (device.cost(0), device.cost(1)), (1, 7));
+    Ok(())
+}
+
+#[test]
+fn makes_tables_and_lists_of_names(rt: HostRuntime) -> Result<(), Fail> {
+    let refused = [
+        (0, 0, 0, 1),
+        (7, 0, 0, 1),
+        (1, 4, 0, 1),
+        (5, 0, 1 << 32, 1),
+        (1, 0, 0, 0),
+        (1, 0, 0, 1001),
+    ];
+    for (ports, ok, bad, cost) in refused {
+        assert!(rt;
+            Table::new(ports, ok, bad, cost).is_none(),
+            "{ports} ports, a cost of {cost}"
+        );
+    }
+    let table = Table::new(6, u64::MAX, 1, 1000).ok_or("no table")?;
     assert_eq!(rt; table.ports(), 6);
     assert_eq!(rt; table.ok(), u64::MAX);
     assert_eq!(rt; table.bad(), 1);
+    assert_eq!(rt; table.cost(), 1000);
     let names = Names::of(numbered(rt.alloc(), 3)?);
     assert_eq!(rt; names.as_slice().len(), 3);
     assert_eq!(rt; names.into_vec().len(), 3);

@@ -1,37 +1,58 @@
 -- Worked rows: what words ask for. Their check computes both sides.
 use Rattle.std.proofs.Common.{◌≡◌, [], ◌∷◌, Some, None, codes, refl}
-use Rattle.diag_cli.specs.Words.{Serve, Plan, Check, Compile, form_of}
+use Rattle.diag_cli.specs.Words.{Load, Over, Serve, Plan, Check, Compile, form_of}
 
 -- ---- words with a form
 
-serve_a_netlist : form_of (codes "serve" ∷ codes "c17.bench" ∷ []) ≡ Some (Serve (codes "c17.bench") 2097152 16)
+serve_a_netlist : form_of (codes "serve" ∷ codes "c17.bench" ∷ []) ≡ Some (Over (codes "c17.bench") (Serve 2097152 16))
 serve_a_netlist = refl
 
-serve_within_a_budget : form_of (codes "serve" ∷ codes "d/adder.dev" ∷ codes "--budget" ∷ codes "8388608" ∷ []) ≡ Some (Serve (codes "d/adder.dev") 8388608 16)
+serve_within_a_budget : form_of (codes "serve" ∷ codes "d/adder.dev" ∷ codes "--budget" ∷ codes "8388608" ∷ []) ≡ Some (Over (codes "d/adder.dev") (Serve 8388608 16))
 serve_within_a_budget = refl
 
-serve_many_sessions : form_of (codes "serve" ∷ codes "c.bench" ∷ codes "--sessions" ∷ codes "1024" ∷ []) ≡ Some (Serve (codes "c.bench") 2097152 1024)
+serve_many_sessions : form_of (codes "serve" ∷ codes "c.bench" ∷ codes "--sessions" ∷ codes "1024" ∷ []) ≡ Some (Over (codes "c.bench") (Serve 2097152 1024))
 serve_many_sessions = refl
 
-budget_before_sessions : form_of (codes "serve" ∷ codes "c.bench" ∷ codes "--budget" ∷ codes "7" ∷ codes "--sessions" ∷ codes "1" ∷ []) ≡ Some (Serve (codes "c.bench") 7 1)
+budget_before_sessions : form_of (codes "serve" ∷ codes "c.bench" ∷ codes "--budget" ∷ codes "7" ∷ codes "--sessions" ∷ codes "1" ∷ []) ≡ Some (Over (codes "c.bench") (Serve 7 1))
 budget_before_sessions = refl
 
-sessions_before_budget : form_of (codes "serve" ∷ codes "c.bench" ∷ codes "--sessions" ∷ codes "1" ∷ codes "--budget" ∷ codes "7" ∷ []) ≡ Some (Serve (codes "c.bench") 7 1)
+sessions_before_budget : form_of (codes "serve" ∷ codes "c.bench" ∷ codes "--sessions" ∷ codes "1" ∷ codes "--budget" ∷ codes "7" ∷ []) ≡ Some (Over (codes "c.bench") (Serve 7 1))
 sessions_before_budget = refl
 
-compile_a_design : form_of (codes "compile" ∷ codes "adder.dev" ∷ []) ≡ Some (Compile (codes "adder.dev") 2097152)
+compile_a_design : form_of (codes "compile" ∷ codes "adder.dev" ∷ []) ≡ Some (Over (codes "adder.dev") (Compile 2097152))
 compile_a_design = refl
 
-compile_within_a_budget : form_of (codes "compile" ∷ codes "c.bench" ∷ codes "--budget" ∷ codes "6" ∷ []) ≡ Some (Compile (codes "c.bench") 6)
+compile_within_a_budget : form_of (codes "compile" ∷ codes "c.bench" ∷ codes "--budget" ∷ codes "6" ∷ []) ≡ Some (Over (codes "c.bench") (Compile 6))
 compile_within_a_budget = refl
 
-plan_a_netlist : form_of (codes "plan" ∷ codes "c.bench" ∷ []) ≡ Some (Plan (codes "c.bench"))
+plan_a_netlist : form_of (codes "plan" ∷ codes "c.bench" ∷ []) ≡ Some (Over (codes "c.bench") Plan)
 plan_a_netlist = refl
 
-check_a_graph : form_of (codes "check" ∷ codes "g.nnf" ∷ []) ≡ Some (Check (codes "g.nnf"))
+check_a_graph : form_of (codes "check" ∷ codes "g.nnf" ∷ []) ≡ Some (Over (codes "g.nnf") Check)
 check_a_graph = refl
 
+load_an_adder : form_of (codes "load" ∷ codes "64" ∷ []) ≡ Some (Load 64)
+load_an_adder = refl
+
+load_the_largest : form_of (codes "load" ∷ codes "800" ∷ []) ≡ Some (Load 800)
+load_the_largest = refl
+
 -- ---- words without one
+
+load_too_large : form_of (codes "load" ∷ codes "801" ∷ []) ≡ None
+load_too_large = refl
+
+load_nothing : form_of (codes "load" ∷ codes "0" ∷ []) ≡ None
+load_nothing = refl
+
+load_a_leading_zero : form_of (codes "load" ∷ codes "01" ∷ []) ≡ None
+load_a_leading_zero = refl
+
+load_alone : form_of (codes "load" ∷ []) ≡ None
+load_alone = refl
+
+load_within_a_budget : form_of (codes "load" ∷ codes "1" ∷ codes "--budget" ∷ codes "5" ∷ []) ≡ None
+load_within_a_budget = refl
 
 no_words : form_of [] ≡ None
 no_words = refl

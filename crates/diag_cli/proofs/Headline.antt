@@ -1,5 +1,5 @@
 -- From what was done by a course to what holds of a run.
-use Rattle.std.proofs.Common.{◌≡◌, ◌≢◌, ◌⊎◌, ◌<◌, ◌≤◌, ◌+◌, ◌-◌, ℕ, true, false, List, length, Option, Some, None, IfSome, inl, inr, refl, ◌∙◌, ap, subst, sym, arith, codes, nat_le}
+use Rattle.std.proofs.Common.{◌≡◌, ◌≢◌, ◌⊎◌, ◌<◌, ◌≤◌, ◌+◌, ℕ, true, false, List, length, Option, Some, None, IfSome, inl, inr, refl, ◌∙◌, ap, subst, sym, arith, codes, nat_le}
 use Rattle.std.specs.Prelude.{Result, Ok, Err}
 use Rattle.std.specs.Io.KnownBytes.{Consumes, IsAtEnd}
 use Rattle.std.proofs.lemmas.Bool.{cases_eq}
@@ -12,10 +12,11 @@ use Rattle.session_rules.specs.Items.{Item}
 use Rattle.session_rules.specs.Spelling.{Writes}
 use Rattle.device_model.specs.Devices.{Device}
 use Rattle.diag_cli.specs.declared.serving.TheConstants.{SCRIPT_LIMIT}
-use Rattle.diag_cli.specs.Words.{Form, Serve, Plan, Check, Compile, path_of}
+use Rattle.diag_cli.specs.Words.{Form, Load, Over, Command, Serve, Plan, Check, Compile, asks_script}
 use Rattle.diag_cli.specs.Describing.{long_file_line, described, device_in}
 use Rattle.diag_cli.specs.Output.{Output, Gives, GivesUnlessMemory, says, no_memory}
-use Rattle.diag_cli.specs.Courses.{End, Ended, Failed, Cut, Course, Tells, Serves, read_error, served, wholly_served, whole_output, if_within, served_or_refused, course_of}
+use Rattle.diag_cli.specs.Courses.{End, Ended, Failed, Cut, Course, Tells, Serves, read_error, served, wholly_served, whole_output, if_within, served_or_refused, course_by}
+use Rattle.diag_cli.specs.Loads.{loaded}
 use Rattle.diag_cli.specs.Refusals.{or_memory}
 use Rattle.diag_cli.specs.Runs.{Reading, Writing, IsIdle, GivesUnlessShort, IsRun}
 use Rattle.diag_cli.specs.inner.Courses.{EndsAs, CameTo, IsServed, Follows}
@@ -149,13 +150,13 @@ module _ (input new_input : Reading) (out new_out : Writing) (status : ℕ) wher
 
   -- ---- runs
 
-  module _ (form : Form) (held : List ℕ → Holding) (shelf new_shelf : Reading) where
+  module _ (path : List ℕ) (command : Command) (held : List ℕ → Holding) (shelf new_shelf : Reading) where
     -- The file was read.
-    pub run_loaded : (file : List ℕ) → IfSome (told_bytes (held (path_of form))) (λ bytes. file ≡ bytes) → held (path_of form) ≢ absent → new_shelf.faults ≡ shelf.faults
+    pub run_loaded : (file : List ℕ) → IfSome (told_bytes (held path)) (λ bytes. file ≡ bytes) → held path ≢ absent → new_shelf.faults ≡ shelf.faults
         → RoseExactly out.faults new_out.faults (status ≡ 5) → (status ≢ 5 → RoseExactly input.faults new_input.faults (status ≡ 4)) → status ≢ 2
-        → Follows (course_of (Some form) file) input new_input out new_out status → (status ≡ 7 → new_input.taken ≡ input.taken + SCRIPT_LIMIT)
+        → Follows (course_by path command file) input new_input out new_out status → (status ≡ 7 → new_input.taken ≡ input.taken + SCRIPT_LIMIT)
         → (status ≢ 5 → status ≢ 7 → new_input.taken < input.taken + SCRIPT_LIMIT)
-        → IsRun (Some form) held shelf new_shelf input new_input out new_out status
+        → IsRun (Some (Over path command)) held shelf new_shelf input new_input out new_out status
     run_loaded file is there kept writes reads other done cut short = record {
       write_fault = writes;
       read_fault = λ whole. ((λ four. inr ((reads whole).rose four)), λ rises. elim rises [ inl moves ↦ absurd (omega (arith, kept, moves)) | inr moves ↦ four_of whole moves ]);
@@ -163,48 +164,55 @@ module _ (input new_input : Reading) (out new_out : Writing) (status : ℕ) wher
       no_name = λ none. absurd (let never : ⊥ = cc in never);
       absent_file = λ gone. absurd (there gone);
       no_file = λ moves. absurd (omega (arith, kept, moves));
-      no_script = some_map (told_bytes (held (path_of form))) (λ bytes same output course.
-          (told_of (course_of (Some form) file) output (ap (course_of (Some form)) same ∙ course) done).0) is;
+      not_asked = idle_by command done;
+      no_script = some_map (told_bytes (held path)) (λ bytes same output course.
+          (told_of (course_by path command file) output (ap (course_by path command) same ∙ course) done).0) is;
       output = given;
-      complete = all_complete (Some form) shelf new_shelf input new_input out new_out status writes (told_bytes (held (path_of form))) (λ bytes. whole_output (course_of (Some form) bytes) input.left) given;
-      script_fault = some_map (told_bytes (held (path_of form))) (λ bytes same answers course rises.
-          fault_of answers rises (served_of (course_of (Some form) file) answers (ap (course_of (Some form)) same ∙ course) done)) is;
-      all_read = some_map (told_bytes (held (path_of form))) (λ bytes same answers course zero.
-          (served_of (course_of (Some form) file) answers (ap (course_of (Some form)) same ∙ course) done).all_read zero) is;
+      complete = all_complete (Some (Over path command)) shelf new_shelf input new_input out new_out status writes (told_bytes (held path)) (λ bytes. whole_output (course_by path command bytes) input.left) given;
+      script_fault = some_map (told_bytes (held path)) (λ bytes same answers course rises.
+          fault_of answers rises (served_of (course_by path command file) answers (ap (course_by path command) same ∙ course) done)) is;
+      all_read = some_map (told_bytes (held path)) (λ bytes same answers course zero.
+          (served_of (course_by path command file) answers (ap (course_by path command) same ∙ course) done).all_read zero) is;
       cut = λ whole. (cut, λ taken. elim (cases_eq status 7) [ inl seven ↦ seven | inr other ↦ absurd (omega (arith, short whole other, taken)) ]);
     }
       where
+        idle_by : (any : Command) → Follows (course_by path any file) input new_input out new_out status → asks_script (Some (Over path any)) ≡ false → IsIdle input new_input
+        idle_by (Serve budget sessions) done asks = absurd (let never : ⊥ = cc in never)
+        idle_by Plan done asks = done.0
+        idle_by Check done asks = done.0
+        idle_by (Compile budget) done asks = done.0
+
         four_of : status ≢ 5 → input.faults < new_input.faults → status ≡ 4
         four_of whole moves = elim (cases_eq status 4) [ inl four ↦ four | inr not_four ↦ absurd (omega (arith, (reads whole).stayed not_four, moves)) ]
 
-        given : IfSome (told_bytes (held (path_of form))) (λ bytes. IfSome (whole_output (course_of (Some form) bytes) input.left) (IsGiven (Some form) shelf new_shelf input new_input out new_out status))
-        given = some_map (told_bytes (held (path_of form))) (λ bytes same.
-            subst (λ text. IfSome (whole_output (course_of (Some form) text) input.left) (IsGiven (Some form) shelf new_shelf input new_input out new_out status)) same
-            (some_map (whole_output (course_of (Some form) file) input.left) (λ output gives read taken. with_form form (gives taken)) (output_of (course_of (Some form) file) input.left refl done))) is
+        given : IfSome (told_bytes (held path)) (λ bytes. IfSome (whole_output (course_by path command bytes) input.left) (IsGiven (Some (Over path command)) shelf new_shelf input new_input out new_out status))
+        given = some_map (told_bytes (held path)) (λ bytes same.
+            subst (λ text. IfSome (whole_output (course_by path command text) input.left) (IsGiven (Some (Over path command)) shelf new_shelf input new_input out new_out status)) same
+            (some_map (whole_output (course_by path command file) input.left) (λ output gives read taken. with_form (Over path command) (gives taken)) (output_of (course_by path command file) input.left refl done))) is
 
 -- ---- what may be told without a look at the script
 
 -- an output that tells that memory ran out, or the one that the file comes to
-abbrev pub IsRight : Form → Output → List ℕ → Type 0
-IsRight form output file = (output ≡ no_memory) ⊎ (course_of (Some form) file ≡ Tells output)
+abbrev pub IsRight : List ℕ → Command → Output → List ℕ → Type 0
+IsRight path command output file = (output ≡ no_memory) ⊎ (course_by path command file ≡ Tells output)
 
 -- a file that is too long has this output
-long_course : (form : Form) (file : List ℕ) → TEXT_LIMIT < length file → course_of (Some form) file ≡ Tells (says long_file_line 1)
-long_course form file long = by form
+long_course : (path : List ℕ) (command : Command) (file : List ℕ) → TEXT_LIMIT < length file → course_by path command file ≡ Tells (says long_file_line 1)
+long_course path command file long = by command
   where
     no_more : nat_le (length file) TEXT_LIMIT ≡ false
     no_more = grind arith
 
-    by : (form : Form) → course_of (Some form) file ≡ Tells (says long_file_line 1)
-    by (Serve path budget sessions) = rw no_more
-    by (Plan path) = rw no_more
-    by (Check path) = rw no_more
-    by (Compile path budget) = rw no_more
+    by : (any : Command) → course_by path any file ≡ Tells (says long_file_line 1)
+    by (Serve budget sessions) = rw no_more
+    by Plan = rw no_more
+    by Check = rw no_more
+    by (Compile budget) = rw no_more
 
 -- and so it is right to tell that
-pub long_is_right : (form : Form) (told : Option (List ℕ)) → IfSome told (λ file. TEXT_LIMIT < length file) → IfSome told (IsRight form (says long_file_line 1))
-long_is_right form None long = tt
-long_is_right form (Some file) long = inr (long_course form file long)
+pub long_is_right : (path : List ℕ) (command : Command) (told : Option (List ℕ)) → IfSome told (λ file. TEXT_LIMIT < length file) → IfSome told (IsRight path command (says long_file_line 1))
+long_is_right path command None long = tt
+long_is_right path command (Some file) long = inr (long_course path command file long)
 
 -- ---- runs in which the script is not begun
 
@@ -218,15 +226,15 @@ module _ (held : List ℕ → Holding) (shelf new_shelf input : Reading) (out ne
   known : (output : Output) → Gives output status out.got new_out.got → (s : ℕ) → status ≡ s → s ≢ 5 → output.status ≢ s → ⊥
   known output said s is whole other = other (sym ((said.whole (λ five. whole (sym is ∙ five))).0) ∙ is)
 
-  module _ (form : Form) where
+  module _ (path : List ℕ) (command : Command) where
     abbrev output_by : List ℕ → Option Output
-    output_by file = whole_output (course_of (Some form) file) input.left
+    output_by file = whole_output (course_by path command file) input.left
 
     abbrev OutputsGiven : Type 0
-    OutputsGiven = IfSome (told_bytes (held (path_of form))) (λ file. IfSome (output_by file) (IsGiven (Some form) shelf new_shelf input input out new_out status))
+    OutputsGiven = IfSome (told_bytes (held path)) (λ file. IfSome (output_by file) (IsGiven (Some (Over path command)) shelf new_shelf input input out new_out status))
 
-    completed : RoseExactly out.faults new_out.faults (status ≡ 5) → OutputsGiven → IfSome (told_bytes (held (path_of form))) (λ file. IfSome (output_by file) (IsComplete (Some form) shelf new_shelf input input out new_out status))
-    completed writes given = all_complete (Some form) shelf new_shelf input input out new_out status writes (told_bytes (held (path_of form))) output_by given
+    completed : RoseExactly out.faults new_out.faults (status ≡ 5) → OutputsGiven → IfSome (told_bytes (held path)) (λ file. IfSome (output_by file) (IsComplete (Some (Over path command)) shelf new_shelf input input out new_out status))
+    completed writes given = all_complete (Some (Over path command)) shelf new_shelf input input out new_out status writes (told_bytes (held path)) output_by given
 
     -- the limit was not taken
     not_cut : {P : Type 0} → input.taken ≡ input.taken + SCRIPT_LIMIT → P
@@ -234,7 +242,7 @@ module _ (held : List ℕ → Holding) (shelf new_shelf input : Reading) (out ne
 
     -- The file could not be read.
     pub run_failed : shelf.faults < new_shelf.faults → RoseExactly out.faults new_out.faults (status ≡ 5)
-        → Gives (says read_error 4) status out.got new_out.got → IsRun (Some form) held shelf new_shelf input input out new_out status
+        → Gives (says read_error 4) status out.got new_out.got → IsRun (Some (Over path command)) held shelf new_shelf input input out new_out status
     run_failed moves writes said = record {
       write_fault = writes;
       read_fault = λ whole. ((λ four. inl moves), λ rises. (said.whole whole).0);
@@ -242,21 +250,22 @@ module _ (held : List ℕ → Holding) (shelf new_shelf input : Reading) (out ne
       no_name = λ none. absurd (let never : ⊥ = cc in never);
       absent_file = λ gone whole. (said.whole whole).0;
       no_file = λ rises. (idle, said);
-      no_script = some_all (told_bytes (held (path_of form))) (λ file output course. idle);
+      not_asked = λ asks. idle;
+      no_script = some_all (told_bytes (held path)) (λ file output course. idle);
       output = given;
       complete = completed writes given;
-      script_fault = some_all (told_bytes (held (path_of form))) (λ file answers course rises. never_rises rises);
-      all_read = some_all (told_bytes (held (path_of form))) (λ file answers course zero. absurd (known (says read_error 4) said 0 zero (λ e. absurd (omega (arith, e))) (λ e. absurd (omega (arith, e)))));
+      script_fault = some_all (told_bytes (held path)) (λ file answers course rises. never_rises rises);
+      all_read = some_all (told_bytes (held path)) (λ file answers course zero. absurd (known (says read_error 4) said 0 zero (λ e. absurd (omega (arith, e))) (λ e. absurd (omega (arith, e)))));
       cut = λ whole. ((λ seven. absurd (known (says read_error 4) said 7 seven (λ e. absurd (omega (arith, e))) (λ e. absurd (omega (arith, e))))), not_cut);
     }
       where
         given : OutputsGiven
-        given = some_all (told_bytes (held (path_of form))) (λ file. some_all (output_by file) (λ output kept same. absurd (omega (arith, kept, moves))))
+        given = some_all (told_bytes (held path)) (λ file. some_all (output_by file) (λ output kept same. absurd (omega (arith, kept, moves))))
 
     -- One output was given without a look at the script.
-    pub run_told : (output : Output) → output.status ≢ 0 → output.status ≢ 2 → output.status ≢ 4 → output.status ≢ 7 → IfSome (told_bytes (held (path_of form))) (IsRight form output)
-        → held (path_of form) ≢ absent → new_shelf.faults ≡ shelf.faults → RoseExactly out.faults new_out.faults (status ≡ 5)
-        → Gives output status out.got new_out.got → IsRun (Some form) held shelf new_shelf input input out new_out status
+    pub run_told : (output : Output) → output.status ≢ 0 → output.status ≢ 2 → output.status ≢ 4 → output.status ≢ 7 → IfSome (told_bytes (held path)) (IsRight path command output)
+        → held path ≢ absent → new_shelf.faults ≡ shelf.faults → RoseExactly out.faults new_out.faults (status ≡ 5)
+        → Gives output status out.got new_out.got → IsRun (Some (Over path command)) held shelf new_shelf input input out new_out status
     run_told output no0 no2 no4 no7 right there kept writes said = record {
       write_fault = writes;
       read_fault = λ whole. ((λ four. absurd (no4 (sym (said.whole whole).0 ∙ four))), λ rises. elim rises [ inl moves ↦ absurd (omega (arith, kept, moves)) | inr moves ↦ never_rises moves ]);
@@ -264,21 +273,22 @@ module _ (held : List ℕ → Holding) (shelf new_shelf input : Reading) (out ne
       no_name = λ none. absurd (let never : ⊥ = cc in never);
       absent_file = λ gone. absurd (there gone);
       no_file = λ moves. absurd (omega (arith, kept, moves));
-      no_script = some_all (told_bytes (held (path_of form))) (λ file other course. idle);
+      not_asked = λ asks. idle;
+      no_script = some_all (told_bytes (held path)) (λ file other course. idle);
       output = given;
       complete = completed writes given;
-      script_fault = some_all (told_bytes (held (path_of form))) (λ file answers course rises. never_rises rises);
-      all_read = some_all (told_bytes (held (path_of form))) (λ file answers course zero. absurd (known output said 0 zero (λ e. absurd (omega (arith, e))) no0));
+      script_fault = some_all (told_bytes (held path)) (λ file answers course rises. never_rises rises);
+      all_read = some_all (told_bytes (held path)) (λ file answers course zero. absurd (known output said 0 zero (λ e. absurd (omega (arith, e))) no0));
       cut = λ whole. ((λ seven. absurd (known output said 7 seven (λ e. absurd (omega (arith, e))) no7)), not_cut);
     }
       where
-        given_by : (file : List ℕ) → IsRight form output file → IfSome (output_by file) (IsGiven (Some form) shelf new_shelf input input out new_out status)
+        given_by : (file : List ℕ) → IsRight path command output file → IfSome (output_by file) (IsGiven (Some (Over path command)) shelf new_shelf input input out new_out status)
         given_by file (inl memory) = some_all (output_by file) (λ other read taken. inl (refl, subst (λ o. Gives o status out.got new_out.got) memory said))
         given_by file (inr is) =
-            subst (λ course. IfSome (whole_output course input.left) (IsGiven (Some form) shelf new_shelf input input out new_out status)) (sym is) (λ read taken. inr said)
+            subst (λ course. IfSome (whole_output course input.left) (IsGiven (Some (Over path command)) shelf new_shelf input input out new_out status)) (sym is) (λ read taken. inr said)
 
         given : OutputsGiven
-        given = some_map (told_bytes (held (path_of form))) given_by right
+        given = some_map (told_bytes (held path)) given_by right
 
   -- The words have no form.
   pub run_usage : RoseExactly out.faults new_out.faults (status ≡ 5) → Gives (says (codes "error: usage\n") 2) status out.got new_out.got
@@ -290,10 +300,30 @@ module _ (held : List ℕ → Holding) (shelf new_shelf input : Reading) (out ne
     no_name = λ none. record { taken = refl; faults = refl };
     absent_file = tt;
     no_file = λ moves. absurd (omega (arith, moves));
+    not_asked = λ asks. idle;
     no_script = λ output course. idle;
     output = λ read taken. inr said;
     complete = completes None shelf shelf input input out new_out status writes (says (codes "error: usage\n") 2) (λ read taken. inr said);
     script_fault = λ answers course rises. never_rises rises;
     all_read = λ answers course zero. absurd (let never : ⊥ = cc in never);
     cut = λ whole. ((λ seven. absurd (known (says (codes "error: usage\n") 2) said 7 seven (λ e. absurd (omega (arith, e))) (λ e. absurd (omega (arith, e))))), λ taken. absurd (omega (arith, taken)));
+  }
+
+  -- An adder is made, and no file is named.
+  pub run_load : (places : ℕ) → RoseExactly out.faults new_out.faults (status ≡ 5) → status ≢ 2 → status ≢ 4 → status ≢ 7 → GivesUnlessMemory (loaded places) status out.got new_out.got
+      → IsRun (Some (Load places)) held shelf shelf input input out new_out status
+  run_load places writes no2 no4 no7 said = record {
+    write_fault = writes;
+    read_fault = λ whole. ((λ four. absurd (no4 four)), λ rises. elim rises [ inl moves ↦ absurd (omega (arith, moves)) | inr moves ↦ never_rises moves ]);
+    usage = λ whole. ((λ two. absurd (no2 two)), λ none. absurd (let never : ⊥ = cc in never));
+    no_name = λ none. record { taken = refl; faults = refl };
+    absent_file = tt;
+    no_file = λ moves. absurd (omega (arith, moves));
+    not_asked = λ asks. idle;
+    no_script = λ output course. idle;
+    output = λ read taken. with_form (Load places) said;
+    complete = completes (Some (Load places)) shelf shelf input input out new_out status writes (loaded places) (λ read taken. with_form (Load places) said);
+    script_fault = λ answers course rises. never_rises rises;
+    all_read = λ answers course zero. absurd (let never : ⊥ = cc in never);
+    cut = λ whole. ((λ seven. absurd (no7 seven)), λ taken. absurd (omega (arith, taken)));
   }

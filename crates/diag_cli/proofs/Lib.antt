@@ -8,3 +8,4 @@ pub mod Scripts
 pub mod Headline
 pub mod Adapting
 pub mod WholeGraphs
+pub mod LoadedAdders

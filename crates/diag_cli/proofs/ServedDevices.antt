@@ -1,15 +1,14 @@
 -- A service over a device's graph answers as the device's system does.
-use Rattle.std.proofs.Common.{◌≡◌, ◌≤◌, ◌+◌, ◌*◌, ℕ, List, ◌∷◌, length, sym, ap, subst, arith}
-use Rattle.std.specs.Prelude.{Result, Ok, Err, Bool, true, false, nat_lt, if◌then◌else◌}
+use Rattle.std.proofs.Common.{◌≡◌, ◌≤◌, ◌+◌, ◌*◌, ℕ, List, ◌∷◌, length, sym, subst, arith}
+use Rattle.std.specs.Prelude.{Result, Ok}
 use Rattle.std.proofs.lemmas.List.{length-map}
 use Rattle.graph_rules.specs.Graphs.{Graph, IsGraph}
 use Rattle.device_model.specs.Devices.{Device, IsDevice, part_names}
 use Rattle.device_model.specs.declared.component.Component.{Component}
 use Rattle.device_model.specs.Diagnosis.{device_system}
-use Rattle.clause_encoder.specs.declared.limits.TheConstants.{CLAUSE_LIMIT}
-use Rattle.clause_encoder.specs.declared.encoding.EncodeError.TheVariants.{TooManyClauses}
 use Rattle.clause_encoder.specs.Clauses.{ClauseList}
-use Rattle.clause_encoder.specs.Encoding.{encoded, raw_count, clause_list, Describes}
+use Rattle.clause_encoder.specs.Encoding.{encoded, Describes}
+use Rattle.clause_encoder.proofs.Sizes.{encoded-few_vars}
 use Rattle.branch_states.specs.declared.measuring.TheConstants.{BUDGET_LIMIT}
 use Rattle.branch_states.specs.Branches.{sum_of}
 use Rattle.dnnf_compiler.specs.Compiled.{IsGraphOf, SaysAll}
@@ -27,21 +26,17 @@ use Rattle.diag_cli.specs.inner.Serving.{IsServable, IsSound, IsServiceOf}
 -- ---- the graph of a device is such as a service takes
 
 module _ (device : Device) (cnf : ClauseList) (is : encoded device ≡ Ok cnf) where
-  listed : (too_many : Bool) → (if too_many then Err (TooManyClauses (raw_count device)) else Ok (clause_list device)) ≡ Ok cnf → cnf.vars ≡ length device.parts + length device.wires
-  listed true e = let f : Err (TooManyClauses (raw_count device)) ≡ Ok cnf = e in absurd (cc)
-  listed false e = let same : clause_list device ≡ cnf = cc in sym (ap (λ (l : ClauseList). l.vars) same)
-
-  vars_are : cnf.vars ≡ length device.parts + length device.wires
-  vars_are = listed (nat_lt CLAUSE_LIMIT (raw_count device)) is
-
   pub servable : (graph : Graph) (made : ℕ) → IsDevice device → Describes cnf device → sum_of cnf.clauses ≤ BUDGET_LIMIT
       → IsGraph graph → graph.vars ≡ cnf.vars → SaysAll cnf.clauses graph → made ≤ 3 * sum_of cnf.clauses + 2 → length graph.nodes ≤ made + 2 * cnf.vars → IsServable device graph
   servable graph made valid describes small decomposable vars says few_made few_nodes = record {
     valid = decomposable;
     meaning = graph_of_device device cnf graph is describes vars says;
-    few_vars = omega (arith, vars_are, vars, valid.few_parts, valid.few_wires);
-    few_nodes = omega (arith, vars_are, valid.few_parts, valid.few_wires, few_made, few_nodes, small);
+    few_vars = omega (arith, listed, vars);
+    few_nodes = omega (arith, listed, few_made, few_nodes, small);
   }
+    where
+      listed : cnf.vars ≤ 107861
+      listed = encoded-few_vars device cnf valid is
 
 -- every reply of the service of a device has a text
 pub sound_of : (device : Device) (sessions : ℕ) (service : Shown) → IsServiceOf device sessions service → IsSound service.subject

@@ -19,7 +19,8 @@ use Rattle.session_rules.specs.Spelling.{IsWholeOf}
 use Rattle.session_rules.proofs.Spellings.{replies_one}
 use Rattle.diag_cli.specs.Output.{Output, Gives, GivesUnlessMemory}
 use Rattle.diag_cli.specs.Describing.{described, device_in}
-use Rattle.diag_cli.specs.Courses.{within, graph_by, compiled}
+use Rattle.diag_cli.specs.Planning.{within}
+use Rattle.diag_cli.specs.Courses.{graph_by, compiled}
 use Rattle.diag_cli.specs.Refusals.{or_memory}
 use Rattle.diag_cli.proofs.Failing.{replies_give}
 

@@ -5,12 +5,13 @@ use Rattle.std.specs.Option.{option_map}
 use Rattle.std.proofs.lemmas.Bool.{and_parts, leb-true}
 use Rattle.text_rules.specs.Names.{same_name}
 use Rattle.text_rules.specs.Numbers.{value_behind, are_digits, has_leading_zero, number_in, plain_number_in}
+use Rattle.adder_load.specs.declared.adders.TheConstants.{PLACE_LIMIT}
 use Rattle.branch_states.specs.declared.measuring.TheConstants.{BUDGET_LIMIT}
 use Rattle.session_core.specs.declared.limits.TheConstants.{SESSION_LIMIT}
 use Rattle.diag_cli.specs.declared.words.TheConstants.{DEFAULT_BUDGET, DEFAULT_SESSIONS}
 use Rattle.diag_cli.specs.declared.words.Options.{Options}
 use Rattle.diag_cli.specs.declared.words.Form.{Form as FormRead}
-use Rattle.diag_cli.specs.Words.{Form, Serve, Plan, Check, Compile, no_options, given_once, with_budget, with_sessions, and_option, and_options, form_by, form_of, is_device_path, is_graph_path, are_none, only_if}
+use Rattle.diag_cli.specs.Words.{Form, Load, Over, Serve, Plan, Check, Compile, no_options, given_once, with_budget, with_sessions, and_option, and_options, form_by, form_over, form_load, form_of, is_device_path, is_graph_path, are_none, only_if}
 use Rattle.diag_cli.specs.inner.Forms.{meant, IsWithinLimits}
 
 -- ---- words of the code and words of the definition
@@ -30,17 +31,39 @@ two_words given f (x ∷ y ∷ words) option value found long o v is =
     sym (λ k. option_and_then (λ more. and_options more (map f (rest k))) (and_option given (f (o k)) (f (v k))))
     ∙ ap (option_and_then (λ more. and_options more (map f (take (length (x ∷ y ∷ words) - 2) words)))) is
 
-pub form_behind : {S : Type 0} (f : S → List ℕ) (words : List S) (command path : S) (given : Options) (found : Option Options) → 2 ≤ length words
-    → command ≡ get_or words 0 command → path ≡ get_or words 1 path → (given.budget ≡ None) × (given.sessions ≡ None)
-    → and_options given (map f (take (length words - 2) (drop 2 words))) ≡ found
-    → form_of (map f words) ≡ option_and_then (form_by (f command) (f path)) found
-form_behind f [] command path given found long c p none is = absurd (omega (arith, long))
-form_behind f (x ∷ []) command path given found long c p none is = absurd (omega (arith, long))
-form_behind f (x ∷ y ∷ words) command path given found long c p none is =
+-- the words behind the first two
+pub form_behind : {S : Type 0} (f : S → List ℕ) (words : List S) (command next : S) → 2 ≤ length words
+    → command ≡ get_or words 0 command → next ≡ get_or words 1 next
+    → form_of (map f words) ≡ (if same_name (f command) (codes "load") then form_load (f next) (map f (take (length words - 2) (drop 2 words))) else form_over (f command) (f next) (map f (take (length words - 2) (drop 2 words))))
+form_behind f [] command next long c p = absurd (omega (arith, long))
+form_behind f (x ∷ []) command next long c p = absurd (omega (arith, long))
+form_behind f (x ∷ y ∷ words) command next long c p =
     let rest : take (length (x ∷ y ∷ words) - 2) words ≡ words = take_all (length (x ∷ y ∷ words) - 2) words (omega arith) in
+    sym (λ k. if same_name (f (c k)) (codes "load") then form_load (f (p k)) (map f (rest k)) else form_over (f (c k)) (f (p k)) (map f (rest k)))
+
+pub few_words : {S : Type 0} (f : S → List ℕ) (words : List S) → length words < 2 → None ≡ form_of (map f words)
+few_words f [] short = refl
+few_words f (x ∷ []) short = refl
+few_words f (x ∷ y ∷ words) short = absurd (omega (arith, short))
+
+pub load_words : {S : Type 0} (f : S → List ℕ) (words : List S) (command next : S) → 2 ≤ length words → command ≡ get_or words 0 command → next ≡ get_or words 1 next
+    → same_name (f command) (codes "load") ≡ true → form_of (map f words) ≡ form_load (f next) (map f (take (length words - 2) (drop 2 words)))
+load_words f words command next long c p is =
+    let rest = map f (take (length words - 2) (drop 2 words)) in
+    form_behind f words command next long c p ∙ ap (λ b. if b then form_load (f next) rest else form_over (f command) (f next) rest) is
+
+pub over_words : {S : Type 0} (f : S → List ℕ) (words : List S) (command next : S) → 2 ≤ length words → command ≡ get_or words 0 command → next ≡ get_or words 1 next
+    → same_name (f command) (codes "load") ≡ false → form_of (map f words) ≡ form_over (f command) (f next) (map f (take (length words - 2) (drop 2 words)))
+over_words f words command next long c p is =
+    let rest = map f (take (length words - 2) (drop 2 words)) in
+    form_behind f words command next long c p ∙ ap (λ b. if b then form_load (f next) rest else form_over (f command) (f next) rest) is
+
+-- no options yet
+pub over_options : (given : Options) (command path : List ℕ) (words : List (List ℕ)) (found : Option Options) → (given.budget ≡ None) × (given.sessions ≡ None)
+    → and_options given words ≡ found → form_over command path words ≡ option_and_then (form_by command path) found
+over_options given command path words found none is =
     let no_more : no_options ≡ given = λ k. record { budget = sym none.0 k; sessions = sym none.1 k } in
-    sym (λ k. option_and_then (form_by (f (c k)) (f (p k))) (and_options (sym no_more k) (map f (rest k))))
-    ∙ ap (option_and_then (form_by (f command) (f path))) is
+    ap (λ options. option_and_then (form_by command path) (and_options options words)) no_more ∙ ap (option_and_then (form_by command path)) is
 
 -- ---- the order of options does not matter
 
@@ -108,7 +131,8 @@ options_in_either_order given a x b y words =
 -- words ask for the same in whatever order their options stand
 pub form_in_either_order : (command path a x b y : List ℕ) (words : List (List ℕ))
     → form_of (command ∷ path ∷ a ∷ x ∷ b ∷ y ∷ words) ≡ form_of (command ∷ path ∷ b ∷ y ∷ a ∷ x ∷ words)
-form_in_either_order command path a x b y words = ap (option_and_then (form_by command path)) (options_in_either_order no_options a x b y words)
+form_in_either_order command path a x b y words =
+    ap (λ options. if same_name command (codes "load") then None else option_and_then (form_by command path) options) (options_in_either_order no_options a x b y words)
 
 -- ---- the numbers of a form lie within their limits
 
@@ -189,17 +213,32 @@ form_by_within : (command path : List ℕ) (options : Options) → AreWithin opt
 form_by_within command path options are =
     let budget = or_default (IsWithin 1 BUDGET_LIMIT) options.budget DEFAULT_BUDGET are.budget (lit≤ tt, lit≤ tt) in
     let sessions = or_default (IsWithin 1 SESSION_LIMIT) options.sessions DEFAULT_SESSIONS are.sessions (lit≤ tt, lit≤ tt) in
-    one_form (same_name command (codes "serve")) (is_device_path path) (Serve path _ _) _ (budget.1, sessions.0, sessions.1)
-    (one_form (same_name command (codes "compile")) (is_device_path path && is_none options.sessions) (Compile path _) _ budget.1
-    (one_form (same_name command (codes "plan")) (is_device_path path && are_none options) (Plan path) _ tt
-    (one_form (same_name command (codes "check")) (is_graph_path path && are_none options) (Check path) None tt (record { given = tt }))))
+    one_form (same_name command (codes "serve")) (is_device_path path) (Over path (Serve _ _)) _ (budget.1, sessions.0, sessions.1)
+    (one_form (same_name command (codes "compile")) (is_device_path path && is_none options.sessions) (Over path (Compile _)) _ budget.1
+    (one_form (same_name command (codes "plan")) (is_device_path path && are_none options) (Over path Plan) _ tt
+    (one_form (same_name command (codes "check")) (is_graph_path path && are_none options) (Over path Check) None tt (record { given = tt }))))
+
+form_over_within : (command path : List ℕ) (words : List (List ℕ)) → IfSome (form_over command path words) IsWithinLimits
+form_over_within command path words =
+    and_then_holds AreWithin IsWithinLimits (form_by command path) (and_options no_options words)
+    (all_within no_options words (record { budget = tt; sessions = tt })) (λ options are. (form_by_within command path options are).given)
+
+load_within : (places : Option ℕ) → IfSome places (IsWithin 1 PLACE_LIMIT) → IfSome (option_map Load places) IsWithinLimits
+load_within None is = tt
+load_within (Some places) is = is.1
+
+form_load_within : (places : List ℕ) (words : List (List ℕ)) → IfSome (form_load places words) IsWithinLimits
+form_load_within places [] = load_within (plain_number_in 3 1 PLACE_LIMIT places) (plain_number_in-range 3 1 PLACE_LIMIT places)
+form_load_within places (word ∷ words) = tt
 
 form_of_within : (words : List (List ℕ)) → IfSome (form_of words) IsWithinLimits
 form_of_within [] = tt
 form_of_within (command ∷ []) = tt
-form_of_within (command ∷ path ∷ words) =
-    and_then_holds AreWithin IsWithinLimits (form_by command path) (and_options no_options words)
-    (all_within no_options words (record { budget = tt; sessions = tt })) (λ options are. (form_by_within command path options are).given)
+form_of_within (command ∷ next ∷ words) =
+    elim (same_name command (codes "load")) as (λ b. IfSome (if b then form_load next words else form_over command next words) IsWithinLimits) [
+      | true ↦ form_load_within next words
+      | false ↦ form_over_within command next words
+    ]
 
 pub meant_within : (form : Option FormRead) (words : List (List ℕ)) → option_map meant form ≡ form_of words → IfSome form (λ f. IsWithinLimits (meant f))
 meant_within None words is = tt

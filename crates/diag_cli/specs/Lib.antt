@@ -2,6 +2,8 @@ pub mod Words
 pub mod Output
 pub mod Describing
 pub mod Checking
+pub mod Planning
+pub mod Loads
 pub mod Courses
 pub mod Runs
 pub mod Refusals

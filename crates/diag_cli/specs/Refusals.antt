@@ -7,7 +7,7 @@ use Rattle.diag_cli.specs.Output.{Output, says, no_memory, no_memory_line}
 use Rattle.graph_rules.specs.GraphTexts as graphs
 use Rattle.diag_cli.specs.Describing.{fault_line, above_line}
 use Rattle.diag_cli.specs.Checking.{graph_fault_line}
-use Rattle.diag_cli.specs.Courses.{sum_line}
+use Rattle.diag_cli.specs.Planning.{sum_line}
 
 -- the line that tells a refusal
 abbrev pub refusal_line : Refusal → List ℕ

@@ -1,12 +1,12 @@
 -- What holds of each run of the program.
-use Rattle.std.specs.Prelude.{◌≡◌, ◌≢◌, ◌⊎◌, ◌↔◌, ◌+◌, ◌<◌, ℕ, List, Option, None, IfSome}
+use Rattle.std.specs.Prelude.{◌≡◌, ◌≢◌, ◌⊎◌, ◌↔◌, ◌+◌, ◌<◌, ℕ, false, List, Option, None, IfSome}
 use Rattle.std.specs.Option.{IsSome}
 use Rattle.std.specs.Io.KnownBytes.{Consumes, IsAtEnd}
 use Rattle.diag_edge.specs.Edge.{RoseExactly, Holding, absent}
 use Rattle.session_rules.specs.Items.{Item}
 use Rattle.session_rules.specs.Spelling.{Writes}
 use Rattle.diag_cli.specs.declared.serving.TheConstants.{SCRIPT_LIMIT}
-use Rattle.diag_cli.specs.Words.{Form, named_file, told_file}
+use Rattle.diag_cli.specs.Words.{Form, named_file, told_file, asks_script}
 use Rattle.diag_cli.specs.Output.{Output, Gives, no_memory, says}
 use Rattle.diag_cli.specs.Courses.{Failed, Tells, Serves, read_error, served, whole_output, course_of}
 
@@ -39,11 +39,12 @@ pub record IsRun (form : Option Form) (held : List ℕ → Holding) (shelf new_s
   -- Otherwise it is 2 exactly where the words have no form.
   pub usage : status ≢ 5 → (status ≡ 2) ↔ (form ≡ None)
   -- Where no file is named, nothing is read of the shelf.
-  pub no_name : form ≡ None → IsIdle shelf new_shelf
+  pub no_name : named_file form ≡ None → IsIdle shelf new_shelf
   -- A file that is absent cannot be read. Where the file is not read, the script is not begun, and one line is written.
   pub absent_file : IfSome (named_file form) (λ name. held name ≡ absent → status ≢ 5 → status ≡ 4)
   pub no_file : shelf.faults < new_shelf.faults → IsIdle input new_input × Gives (says read_error 4) status out.got new_out.got
-  -- Where no script is to be answered, none is read.
+  -- Where the words ask for no script, none is read, and where the file is refused neither.
+  pub not_asked : asks_script form ≡ false → IsIdle input new_input
   pub no_script : IfSome (told_file held form) (λ file. (output : Output) → course_of form file ≡ Tells output → IsIdle input new_input)
   -- Where no read failed, what is written is the output for the words, the file and the script, or memory ran out for words
   -- with a form.

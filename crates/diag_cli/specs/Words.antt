@@ -1,8 +1,9 @@
 -- What the words of the command line ask for.
-use Rattle.std.specs.Prelude.{ℕ, Bool, ◌&&◌, ◌||◌, is_none, nat_lt, ◌-◌, List, [], ◌∷◌, length, drop, Option, Some, None, unwrap_or, option_and_then, if◌then◌else◌, codes}
+use Rattle.std.specs.Prelude.{ℕ, Bool, true, false, ◌&&◌, ◌||◌, is_none, nat_lt, ◌-◌, List, [], ◌∷◌, length, drop, Option, Some, None, unwrap_or, option_and_then, if◌then◌else◌, codes}
 use Rattle.std.specs.Option.{option_map, option_map_or}
 use Rattle.text_rules.specs.Names.{same_name}
 use Rattle.text_rules.specs.Numbers.{plain_number_in}
+use Rattle.adder_load.specs.declared.adders.TheConstants.{PLACE_LIMIT}
 use Rattle.branch_states.specs.declared.measuring.TheConstants.{BUDGET_LIMIT}
 use Rattle.diag_edge.specs.Edge.{Holding, told_bytes}
 use Rattle.diag_cli.specs.declared.words.Options.{Options}
@@ -11,27 +12,35 @@ use Rattle.diag_cli.specs.declared.words.TheConstants.{DEFAULT_BUDGET, DEFAULT_S
 
 -- ---- forms
 
--- the forms of the command line
+-- what is done over a file
+pub data Command : Type 0 where
+  Serve : (budget sessions : ℕ) → Command
+  Plan : Command
+  Check : Command
+  Compile : (budget : ℕ) → Command
+
+-- the forms of the command line: an adder of so many places is made, or a file is named
 pub data Form : Type 0 where
-  Serve : (path : List ℕ) (budget sessions : ℕ) → Form
-  Plan : (path : List ℕ) → Form
-  Check : (path : List ℕ) → Form
-  Compile : (path : List ℕ) (budget : ℕ) → Form
+  Load : (places : ℕ) → Form
+  Over : (path : List ℕ) (command : Command) → Form
 
--- the file that a form names
-abbrev pub path_of : Form → List ℕ
-path_of (Serve path budget sessions) = path
-path_of (Plan path) = path
-path_of (Check path) = path
-path_of (Compile path budget) = path
+-- the file that a form names, if it names one
+abbrev pub path_of : Form → Option (List ℕ)
+path_of (Load places) = None
+path_of (Over path command) = Some path
 
--- the file that the words name, if they have a form
+-- the file that the words name, if they have a form that names one
 abbrev pub named_file : Option Form → Option (List ℕ)
-named_file form = option_map path_of form
+named_file form = option_and_then path_of form
 
 -- what is told of that file; where none is named it is as good as empty
 abbrev pub told_file : (List ℕ → Holding) → Option Form → Option (List ℕ)
 told_file held form = option_map_or (λ path. told_bytes (held path)) (named_file form) (Some [])
+
+-- only `serve` asks for a script
+abbrev pub asks_script : Option Form → Bool
+asks_script (Some (Over path (Serve budget sessions))) = true
+asks_script form = false
 
 -- ---- files by their endings
 
@@ -96,13 +105,22 @@ abbrev pub form_by : List ℕ → List ℕ → Options → Option Form
 form_by command path options =
     let budget = unwrap_or options.budget DEFAULT_BUDGET in
     let sessions = unwrap_or options.sessions DEFAULT_SESSIONS in
-    if same_name command (codes "serve") then only_if (is_device_path path) (Serve path budget sessions)
-    else if same_name command (codes "compile") then only_if (is_device_path path && is_none options.sessions) (Compile path budget)
-    else if same_name command (codes "plan") then only_if (is_device_path path && are_none options) (Plan path)
-    else if same_name command (codes "check") then only_if (is_graph_path path && are_none options) (Check path)
+    if same_name command (codes "serve") then only_if (is_device_path path) (Over path (Serve budget sessions))
+    else if same_name command (codes "compile") then only_if (is_device_path path && is_none options.sessions) (Over path (Compile budget))
+    else if same_name command (codes "plan") then only_if (is_device_path path && are_none options) (Over path Plan)
+    else if same_name command (codes "check") then only_if (is_graph_path path && are_none options) (Over path Check)
     else None
 
--- a command, a file, and options
+-- and with the words of these
+abbrev pub form_over : List ℕ → List ℕ → List (List ℕ) → Option Form
+form_over command path words = option_and_then (form_by command path) (and_options no_options words)
+
+-- an adder of so many places, with no further word
+abbrev pub form_load : List ℕ → List (List ℕ) → Option Form
+form_load places [] = option_map Load (plain_number_in 3 1 PLACE_LIMIT places)
+form_load places (word ∷ words) = None
+
+-- `load` and a number; or a command, a file, and options
 abbrev pub form_of : List (List ℕ) → Option Form
-form_of (command ∷ path ∷ words) = option_and_then (form_by command path) (and_options no_options words)
+form_of (command ∷ next ∷ words) = if same_name command (codes "load") then form_load next words else form_over command next words
 form_of words = None

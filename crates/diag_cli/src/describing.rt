@@ -15,7 +15,8 @@ use flattener::{FlattenError, INSTANCE_LIMIT, flatten};
 use std::alloc::Global;
 use text_rules::TEXT_LIMIT;
 
-fn netlist_device(alloc: Global, text: &[u8]) -> Result<Device, Refusal>
+// The device of a netlist.
+pub(crate) fn netlist_device(alloc: Global, text: &[u8]) -> Result<Device, Refusal>
     requires { length text.now ≤ TEXT_LIMIT }
     ensures { Finds (or_line netlist_line (netlist text.now)) result }
 {

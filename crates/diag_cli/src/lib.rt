@@ -5,6 +5,7 @@ mod adapters;
 mod checking;
 mod compiling;
 mod describing;
+mod loading;
 mod planning;
 mod program;
 mod refusal;

@@ -3,7 +3,7 @@ ghost use Rattle.diag_edge.specs.Edge.{HasCause, RoseExactly};
 ghost use Rattle.clause_encoder.specs.Encoding.{encoded};
 ghost use Rattle.diag_cli.specs.Describing.{device_in};
 ghost use Rattle.diag_cli.specs.Output.{Gives, GivesUnlessMemory};
-ghost use Rattle.diag_cli.specs.Courses.{count_line, size_lines, within, sizes_by, sizes_in, planned};
+ghost use Rattle.diag_cli.specs.Planning.{count_line, size_lines, within, sizes_by, sizes_in, planned};
 ghost use Rattle.session_rules.specs.Spelling.{Replies};
 ghost use Rattle.diag_cli.specs.Refusals.{Finds};
 
@@ -48,7 +48,7 @@ fn sizes_in(alloc: Global, path: &str, file: &[u8]) -> Result<Sizes, Refusal>
 
 // Puts a line of a word and a number.
 #[tactic(auto, using(crate::proofs::Failing::line_replies))]
-fn put_count<O: Sink>(out: &mut O, what: &[u8], count: u64) -> Result<(), WriteFailed>
+pub(crate) fn put_count<O: Sink>(out: &mut O, what: &[u8], count: u64) -> Result<(), WriteFailed>
     ensures text { Replies (O.got out.old) (O.got out.new) result (count_line what.now count ∷ []) }
     ensures cause { HasCause (O.faults out.old) (O.faults out.new) result }
 {

@@ -1,31 +1,33 @@
 ghost use Rattle.std.specs.Prelude.{◌-◌, ◌^◌, ◌<◌, map, string_bytes, Some, IfSome};
-ghost use Rattle.diag_cli.specs.Words.{form_of, path_of, named_file};
+ghost use Rattle.diag_cli.specs.Words.{form_of, named_file, Over};
 ghost use Rattle.diag_cli.specs.Runs.{IsRun};
-ghost use Rattle.diag_cli.specs.inner.Forms.{meant, IsWithinLimits};
+ghost use Rattle.diag_cli.specs.inner.Forms.{command_meant, IsCommandWithin};
 
+use crate::loading::load_adder;
 use crate::run::run_file;
 use crate::saying::say;
-use crate::words::{Form, form_of};
+use crate::words::{Command, Form, form_of};
 use diag_edge::{LoadError, Shelf, Sink, Source, load};
 use std::alloc::Global;
 use text_rules::TEXT_LIMIT;
 
-// Reads the file that the words name, and does with it what they ask for.
-fn run_form<H: Shelf, I: Source, O: Sink>(
+// Reads a file, and does over it what a command asks for.
+fn run_over<H: Shelf, I: Source, O: Sink>(
     alloc: Global,
-    form: Form<'_>,
+    path: &str,
+    command: Command,
     shelf: &mut H,
     input: &mut I,
     out: &mut O,
 ) -> u8
-    requires may { H.may shelf.old (path_of (meant form)) }
-    requires limits { IsWithinLimits (meant form) }
+    requires may { H.may shelf.old path.now }
+    requires limits { IsCommandWithin (command_meant command) }
     requires shelf_taken { H.taken shelf.old < 2 ^ 62 }
     requires input_taken { I.taken input.old < 2 ^ 62 }
     requires shelf_faults { H.faults shelf.old < 2 ^ 64 - 1 }
     requires input_faults { I.faults input.old < 2 ^ 64 - 1 }
     requires out_faults { O.faults out.old < 2 ^ 64 - 1 }
-    ensures { IsRun (Some (meant form.entry)) (H.held shelf.old)
+    ensures { IsRun (Some (Over path.now (command_meant command))) (H.held shelf.old)
         (record { left = H.left shelf.old; taken = H.taken shelf.old; faults = H.faults shelf.old })
         (record { left = H.left shelf.new; taken = H.taken shelf.new; faults = H.faults shelf.new })
         (record { left = I.left input.old; taken = I.taken input.old; faults = I.faults input.old })
@@ -33,16 +35,16 @@ fn run_form<H: Shelf, I: Source, O: Sink>(
         (record { got = O.got out.old; faults = O.faults out.old })
         (record { got = O.got out.new; faults = O.faults out.new }) result }
 {
-    match load(alloc, shelf, form.path(), TEXT_LIMIT) {
-        Ok(file) => run_file(alloc, form, &file, input, out),
+    match load(alloc, shelf, path, TEXT_LIMIT) {
+        Ok(file) => run_file(alloc, path, command, &file, input, out),
         Err(LoadError::Failed) => say(out, b"error: read\n", 4),
         Err(LoadError::Long { limit: _ }) => say(out, b"error: file above 16777216 bytes\n", 1),
         Err(LoadError::Memory) => say(out, b"error: memory\n", 6),
     }
 }
 
-/// Does all that the program does: reads the file that the words name, does with it what they ask for, and gives the
-/// status.
+/// Does all that the program does: reads the file that the words name, if they name one, does what they ask for, and gives
+/// the status.
 ///
 /// `words` are those behind the program's name. `IsRun` says, clause by clause, what holds of each run.
 pub fn diag<H: Shelf, I: Source, O: Sink>(
@@ -68,6 +70,7 @@ pub fn diag<H: Shelf, I: Source, O: Sink>(
 {
     match form_of(words) {
         None => say(out, b"error: usage\n", 2),
-        Some(form) => run_form(alloc, form, shelf, input, out),
+        Some(Form::Load { places }) => load_adder(alloc, places, out),
+        Some(Form::Over { path, command }) => run_over(alloc, path, command, shelf, input, out),
     }
 }

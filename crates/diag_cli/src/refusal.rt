@@ -3,7 +3,7 @@ ghost use Rattle.diag_edge.specs.Edge.{HasCause, RoseExactly, Puts};
 ghost use Rattle.diag_cli.specs.Describing.{fault_line, above_line};
 ghost use Rattle.graph_rules.specs.GraphTexts.{Counts, TooLarge, Shared};
 ghost use Rattle.diag_cli.specs.Checking.{graph_fault_line};
-ghost use Rattle.diag_cli.specs.Courses.{sum_line};
+ghost use Rattle.diag_cli.specs.Planning.{sum_line};
 ghost use Rattle.diag_cli.specs.Output.{Gives};
 ghost use Rattle.diag_cli.specs.Refusals.{refusal_line, refusal_status, told_by, or_memory};
 

@@ -1,27 +1,28 @@
-ghost use Rattle.std.specs.Prelude.{◌≡◌, ◌≢◌, ◌+◌, ◌-◌, ◌^◌, ◌<◌, ◌≤◌, length, Some};
+ghost use Rattle.std.specs.Prelude.{◌≡◌, ◌≢◌, ◌+◌, ◌-◌, ◌^◌, ◌<◌, ◌≤◌, length};
 ghost use Rattle.diag_edge.specs.Edge.{RoseExactly};
-ghost use Rattle.diag_cli.specs.Courses.{course_of};
+ghost use Rattle.diag_cli.specs.Courses.{course_by};
 ghost use Rattle.diag_cli.specs.inner.Courses.{Follows};
-ghost use Rattle.diag_cli.specs.inner.Forms.{meant, IsWithinLimits};
+ghost use Rattle.diag_cli.specs.inner.Forms.{command_meant, IsCommandWithin};
 
 use crate::checking::check_file;
 use crate::compiling::compile_file;
 use crate::planning::plan_file;
 use crate::serving::{SCRIPT_LIMIT, serve_file};
-use crate::words::Form;
+use crate::words::Command;
 use diag_edge::{Sink, Source};
 use std::alloc::Global;
 use text_rules::TEXT_LIMIT;
 
-/// Does what the words ask for, over the file that they name.
+/// Does what a command asks for, over the file that is named.
 pub(crate) fn run_file<I: Source, O: Sink>(
     alloc: Global,
-    form: Form<'_>,
+    path: &str,
+    command: Command,
     file: &[u8],
     input: &mut I,
     out: &mut O,
 ) -> u8
-    requires limits { IsWithinLimits (meant form) }
+    requires limits { IsCommandWithin (command_meant command) }
     requires short { length file.now ≤ TEXT_LIMIT }
     requires taken { I.taken input.old < 2 ^ 62 }
     requires reads { I.faults input.old < 2 ^ 64 - 1 }
@@ -29,7 +30,7 @@ pub(crate) fn run_file<I: Source, O: Sink>(
     ensures write_fault { RoseExactly (O.faults out.old) (O.faults out.new) (result ≡ 5) }
     ensures read_fault { result ≢ 5 → RoseExactly (I.faults input.old) (I.faults input.new) (result ≡ 4) }
     ensures not_usage { result ≢ 2 }
-    ensures follows { Follows (course_of (Some (meant form.entry)) file.now)
+    ensures follows { Follows (course_by path.now (command_meant command) file.now)
         (record { left = I.left input.old; taken = I.taken input.old; faults = I.faults input.old })
         (record { left = I.left input.new; taken = I.taken input.new; faults = I.faults input.new })
         (record { got = O.got out.old; faults = O.faults out.old })
@@ -37,14 +38,12 @@ pub(crate) fn run_file<I: Source, O: Sink>(
     ensures cut { result ≡ 7 → I.taken input.new ≡ I.taken input.old + SCRIPT_LIMIT }
     ensures short { result ≢ 5 → result ≢ 7 → I.taken input.new < I.taken input.old + SCRIPT_LIMIT }
 {
-    match form {
-        Form::Serve {
-            path,
-            budget,
-            sessions,
-        } => serve_file(alloc, path, file, budget, sessions, input, out),
-        Form::Plan { path } => plan_file(alloc, path, file, out),
-        Form::Check { path: _ } => check_file(alloc, file, out),
-        Form::Compile { path, budget } => compile_file(alloc, path, file, budget, out),
+    match command {
+        Command::Serve { budget, sessions } => {
+            serve_file(alloc, path, file, budget, sessions, input, out)
+        }
+        Command::Plan => plan_file(alloc, path, file, out),
+        Command::Check => check_file(alloc, file, out),
+        Command::Compile { budget } => compile_file(alloc, path, file, budget, out),
     }
 }

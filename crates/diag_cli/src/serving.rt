@@ -1,7 +1,9 @@
-ghost use Rattle.std.specs.Prelude.{◌≡◌, ◌≢◌, ◌+◌, ◌-◌, ◌^◌, ◌<◌, ◌≤◌, [], ◌∷◌, Ok, length, codes, decimal, IfOk, IfErr};
+ghost use Rattle.std.specs.Prelude.{◌≡◌, ◌≢◌, ◌+◌, ◌-◌, ◌*◌, ◌^◌, ◌<◌, ◌≤◌, [], ◌∷◌, Ok, length, codes, decimal, All, IfOk, IfErr};
+ghost use Rattle.std.specs.List.{sum};
 ghost use Rattle.text_rules.specs.Tokens.{spaced};
 ghost use Rattle.text_rules.specs.Expected.{Fulfils};
 ghost use Rattle.diag_edge.specs.Edge.{HasCause, Puts, RoseExactly};
+ghost use Rattle.device_model.specs.Devices.{part_costs};
 ghost use Rattle.branch_states.specs.Branches.{sum_of};
 ghost use Rattle.clause_encoder.specs.Encoding.{encoded, Describes};
 ghost use Rattle.session_rules.specs.GraphSystems.{system_of};
@@ -17,7 +19,7 @@ use crate::saying::say;
 use crate::weighing::clauses_within;
 use branch_states::BUDGET_LIMIT;
 use clause_encoder::Cnf;
-use device_model::Device;
+use device_model::{COST_LIMIT, Device, PART_LIMIT};
 use diag_edge::{Sink, Source, WriteFailed, put_line};
 use dnnf_compiler::compile;
 use itoa::Buffer;
@@ -30,14 +32,30 @@ use text_rules::TEXT_LIMIT;
 pub const SCRIPT_LIMIT: u64 = 1_099_511_627_776;
 
 // The graph of a device, by its clauses.
-fn graph_of(alloc: Global, device: &Device, cnf: &Cnf) -> Result<Graph, AllocError>
+pub(crate) fn graph_of(alloc: Global, device: &Device, cnf: &Cnf) -> Result<Graph, AllocError>
     requires sum { sum_of cnf.now.clauses ≤ BUDGET_LIMIT }
     requires encoded { encoded device.now ≡ Ok cnf.now }
     requires describes { Describes cnf.now device.now }
     ensures { IfOk result (IsServable device.now) }
 {
+    // parts and wires of a device are few
     let _parts = device.parts();
     Ok(compile(alloc, cnf)?.graph)
+}
+
+/// What a failure of each part costs.
+pub(crate) fn costs_of(alloc: Global, device: &Device) -> Result<Vec<u32>, AllocError>
+    ensures costs { IfOk result (λ costs. costs.items ≡ part_costs device.now) }
+    ensures many { IfOk result (λ costs. length costs.items ≡ length device.now.parts) }
+    ensures dear { IfOk result (λ costs. All (λ c. 0 < c) costs.items) }
+    ensures total { IfOk result (λ costs. sum costs.items ≤ COST_LIMIT * PART_LIMIT) }
+{
+    let parts = device.parts().len();
+    let mut costs = Vec::with_capacity(alloc, parts)?;
+    for part in 0..parts as u32 {
+        costs.push(device.cost(part))?;
+    }
+    Ok(costs)
 }
 
 // A service over a device and its graph, of at most so many sessions. All their memory is taken here.
@@ -52,14 +70,14 @@ fn service_over(
     ensures service { IfOk result (IsServiceOf device sessions) }
     ensures memory { IfErr result (λ refusal. refusal ≡ Refusal.Memory) }
 {
+    // the names of a device rise, and are few
     let _parts = device.parts();
-    let (parts, wires) = match device.take_names(alloc) {
-        Ok(names) => names,
+    let costs = match costs_of(alloc, &device) {
+        Ok(costs) => costs,
         Err(_) => return Err(Refusal::Memory),
     };
-    // every part costs 1
-    let costs = match vec![in alloc; 1; parts.len()] {
-        Ok(costs) => costs,
+    let (parts, wires) = match device.take_names(alloc) {
+        Ok(names) => names,
         Err(_) => return Err(Refusal::Memory),
     };
     match Service::over(alloc, parts, wires, costs, graph, sessions) {

@@ -2,7 +2,7 @@ ghost use Rattle.std.specs.Prelude.{◌≡◌, ◌≤◌, Ok, IfOk};
 ghost use Rattle.text_rules.specs.Expected.{Fulfils};
 ghost use Rattle.clause_encoder.specs.Encoding.{encoded, Describes};
 ghost use Rattle.branch_states.specs.Branches.{sum_of};
-ghost use Rattle.diag_cli.specs.Courses.{within};
+ghost use Rattle.diag_cli.specs.Planning.{within};
 ghost use Rattle.diag_cli.specs.Refusals.{told_by};
 
 use crate::describing::above;

@@ -1,9 +1,10 @@
 ghost use Rattle.std.specs.Prelude.{◌≡◌, map, string_bytes, IfSome};
 ghost use Rattle.std.specs.Option.{option_map};
 ghost use Rattle.text_rules.specs.Numbers.{plain_number_in};
-ghost use Rattle.diag_cli.specs.Words.{form_of, form_by, are_none, given_once, and_option, and_options, path_of, ends_in, is_design_path, is_device_path, is_graph_path};
+ghost use Rattle.diag_cli.specs.Words.{form_of, form_over, form_load, form_by, are_none, given_once, and_option, and_options, ends_in, is_design_path, is_device_path, is_graph_path};
 ghost use Rattle.diag_cli.specs.inner.Forms.{meant, IsWithinLimits};
 
+use adder_load::PLACE_LIMIT;
 use branch_states::BUDGET_LIMIT;
 use session_core::SESSION_LIMIT;
 use text_rules::plain_number;
@@ -14,46 +15,27 @@ pub const DEFAULT_BUDGET: u32 = 2_097_152;
 /// How many sessions may be open at a time where the words give no number.
 pub const DEFAULT_SESSIONS: u32 = 16;
 
+/// What is done over a file.
+#[derive(Clone, Copy, Debug)]
+pub enum Command {
+    /// `serve`: answers the script on the input over the device of the file, whose sum is within a budget, with at most so
+    /// many sessions open at a time.
+    Serve { budget: u32, sessions: u32 },
+    /// `plan`: tells how large a device is, and the sum that the budget limits.
+    Plan,
+    /// `check`: tells whether the text of the file is a decomposable graph.
+    Check,
+    /// `compile`: writes the graph of a device whose sum is within a budget.
+    Compile { budget: u32 },
+}
+
 /// What the words of the command line ask for.
 #[derive(Clone, Copy, Debug)]
 pub enum Form<'a> {
-    /// `serve FILE`: answers the script on the input over the device of a file, whose sum is within a budget, with at
-    /// most so many sessions open at a time.
-    Serve {
-        path: &'a str,
-        budget: u32,
-        sessions: u32,
-    },
-    /// `plan FILE`: tells how large a device is, and the sum that the budget limits.
-    Plan {
-        path: &'a str,
-    },
-    /// `check FILE`: tells whether the text of a file is a decomposable graph.
-    Check {
-        path: &'a str,
-    },
-    /// `compile FILE`: writes the graph of a device whose sum is within a budget.
-    Compile {
-        path: &'a str,
-        budget: u32,
-    },
-}
-
-impl<'a> Form<'a> {
-    /// The file that is named.
-    pub fn path(self) -> &'a str
-        ensures { result.now ≡ path_of (meant self.entry) }
-    {
-        match self {
-            Form::Plan { path } | Form::Check { path } => path,
-            Form::Compile { path, budget: _ } => path,
-            Form::Serve {
-                path,
-                budget: _,
-                sessions: _,
-            } => path,
-        }
-    }
+    /// `load N`: makes an adder of so many places, and tells what its readings come to.
+    Load { places: u32 },
+    /// A command, and the file that it is done over.
+    Over { path: &'a str, command: Command },
 }
 
 /// The options behind a path, each where it is given.
@@ -165,19 +147,35 @@ fn form_by<'a>(command: &str, path: &'a str, options: Options) -> Option<Form<'a
 {
     let budget = options.budget.unwrap_or(DEFAULT_BUDGET);
     let sessions = options.sessions.unwrap_or(DEFAULT_SESSIONS);
-    match command {
-        "serve" if is_device_path(path) => Some(Form::Serve {
-            path,
-            budget,
-            sessions,
-        }),
+    let command = match command {
+        "serve" if is_device_path(path) => Command::Serve { budget, sessions },
         "compile" if is_device_path(path) && options.sessions.is_none() => {
-            Some(Form::Compile { path, budget })
+            Command::Compile { budget }
         }
-        "plan" if is_device_path(path) && options.are_none() => Some(Form::Plan { path }),
-        "check" if is_graph_path(path) && options.are_none() => Some(Form::Check { path }),
-        _ => None,
+        "plan" if is_device_path(path) && options.are_none() => Command::Plan,
+        "check" if is_graph_path(path) && options.are_none() => Command::Check,
+        _ => return None,
+    };
+    Some(Form::Over { path, command })
+}
+
+// The form of a command over a file, with the words of options.
+fn form_over<'a>(command: &str, path: &'a str, words: &[String]) -> Option<Form<'a>>
+    ensures { option_map meant result ≡ form_over command.now path.now (map string_bytes words.now) }
+{
+    let options = and_options(Options::default(), words)?;
+    form_by(command, path, options)
+}
+
+// The form of an adder, with no further word.
+fn form_load<'a>(places: &str, words: &[String]) -> Option<Form<'a>>
+    ensures { option_map meant result ≡ form_load places.now (map string_bytes words.now) }
+{
+    if !words.is_empty() {
+        return None;
     }
+    let places = number_to(3, PLACE_LIMIT, places)?;
+    Some(Form::Load { places })
 }
 
 /// The form of the words, if they have one.
@@ -185,9 +183,12 @@ pub fn form_of(words: &[String]) -> Option<Form<'_>>
     ensures form { option_map meant result ≡ form_of (map string_bytes words.now) }
     ensures limits { IfSome result (λ form. IsWithinLimits (meant form)) }
 {
-    let [command, path, rest @ ..] = words else {
+    let [command, next, rest @ ..] = words else {
         return None;
     };
-    let options = and_options(Options::default(), rest)?;
-    form_by(command.as_str(), path.as_str(), options)
+    if command.as_str() == "load" {
+        form_load(next.as_str(), rest)
+    } else {
+        form_over(command.as_str(), next.as_str(), rest)
+    }
 }

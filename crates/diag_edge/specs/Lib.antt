@@ -1,3 +1,4 @@
 pub mod Edge
 pub mod InMemory
 pub mod Adding
+pub mod Sure

@@ -2,7 +2,8 @@
 //!
 //! The traits are `Source`, `Shelf` and `Sink`. `load` reads a whole file from a shelf, and
 //! `put_line` writes a line of words; longer texts are gathered in a `Chunk`. `MemSource`,
-//! `MemShelf` and `MemSink` are ends in memory, whose bytes and failures the caller chooses.
+//! `MemShelf` and `MemSink` are ends in memory, whose bytes and failures the caller chooses; the
+//! calls of `SureSource`, `SureShelf` and `TallySink` never fail.
 //!
 //! Counts of faults and of calls are u64 and stop at the greatest one.
 #![tactic(auto)]
@@ -15,6 +16,7 @@ mod mem_shelf;
 mod mem_sink;
 mod mem_source;
 mod outside;
+mod sure;
 #[cfg(test)]
 mod tests;
 
@@ -24,3 +26,4 @@ pub use mem_shelf::MemShelf;
 pub use mem_sink::MemSink;
 pub use mem_source::MemSource;
 pub use outside::{Memory, ReadFailed, Shelf, Sink, Source, WriteFailed};
+pub use sure::{SureShelf, SureSource, TallySink};

@@ -1,5 +1,6 @@
 use crate::{
-    LoadError, MemShelf, MemSink, MemSource, ReadFailed, Sink, Source, WriteFailed, load, put_line,
+    LoadError, MemShelf, MemSink, MemSource, ReadFailed, Sink, Source, SureShelf, SureSource,
+    TallySink, WriteFailed, load, put_line,
 };
 use std::alloc::{AllocError, Global};
 use std::test::Fail;
@@ -124,5 +125,26 @@ fn puts_lines(rt: HostRuntime) -> Result<(), Fail> {
     assert_eq!(rt; text.len(), 6 + 10_006);
     assert!(rt; text.starts_with(b"S ok\n\na xx"));
     assert!(rt; text.ends_with(b"xx b\n"));
+    Ok(())
+}
+
+#[test]
+fn never_fails(rt: HostRuntime) -> Result<(), Fail> {
+    let alloc = rt.alloc();
+    let mut source = SureSource::new(Vec::from_slice(alloc, b"abc")?, 2);
+    let mut into = [0u8; 4];
+    assert_eq!(rt; source.read(&mut into), Ok(2));
+    assert_eq!(rt; source.read(&mut into), Ok(1));
+    assert_eq!(rt; source.read(&mut into), Ok(0));
+    let mut shelf = SureShelf::new(Vec::from_slice(alloc, b"abcde")?);
+    assert_eq!(rt; shelf.read(&mut into), Ok(0));
+    match load(alloc, &mut shelf, "any name", 5) {
+        Ok(file) => assert_eq!(rt; file.as_slice(), "abcde".as_bytes()),
+        Err(_) => assert!(rt; false, "no file"),
+    }
+    let mut tally = TallySink::new();
+    assert_eq!(rt; put_line(&mut tally, &[b"S", b"ok"]), Ok(()));
+    assert_eq!(rt; tally.put(b"abc"), Ok(()));
+    assert_eq!(rt; tally.count(), 8);
     Ok(())
 }

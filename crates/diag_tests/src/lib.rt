@@ -1,19 +1,17 @@
-//! Tests that cross crates: whole runs of the program over ends in memory, and one call of each part below it.
+//! Tests that cross crates: whole runs of the program over ends in memory.
 #![tactic(auto)]
 
 #[cfg(test)]
 mod adapters;
 #[cfg(test)]
-mod asking;
-#[cfg(test)]
 mod failing;
-#[cfg(test)]
-mod parts;
 #[cfg(test)]
 mod rows;
 #[cfg(test)]
 mod running;
 #[cfg(test)]
 mod sessions;
+#[cfg(test)]
+mod sure;
 #[cfg(test)]
 mod texts;

@@ -1,4 +1,5 @@
-use crate::running::{C17, CHAIN, File, Meeting, NOTHING_FAILS, run};
+use crate::running::{CHAIN, File, Meeting, NOTHING_FAILS, run};
+use graph_tests::C17;
 use std::test::Fail;
 
 struct Row {
@@ -9,7 +10,7 @@ struct Row {
     status: u8,
 }
 
-const ROWS: [Row; 20] = [
+const ROWS: [Row; 23] = [
     // The inputs are 0, so 22 and 23 are to be 0. One of 10 and 22 explains the 1, and the first of them is named.
     Row {
         file: File {
@@ -110,6 +111,27 @@ const ROWS: [Row; 20] = [
         script: "open S\nsee S a=1\nsee S b=0\nmin S\nsee S a=0\nsee S b=1\nmin S\n",
         out: "ready 1 2\nS open\nS ok\nS ok\nS min 1 v\nS ok\nS ok\nS inconsistent\n",
         status: 0,
+    },
+    // One failure of p costs as much as those of q and r together, so there are two diagnoses at the cost 2.
+    Row {
+        file: File {
+            name: "costs.dev",
+            text: "type C a y\nok 00\nok 11\ncost 2\nend\ntype D a y\nok 00\nok 11\nend\nblock M a c d\nwire b\npart p C a b\npart q D b c\npart r D b d\nend\ntop M\n",
+        },
+        words: &["serve", "costs.dev"],
+        script: "open S\nsee S a=0\nsee S c=1\nsee S d=1\nmin S\nlist S 5\nprobe S b\nhold S p=ok\nmin S\nsee S d=0\nmin S\n",
+        out: "ready 3 4\nS open\nS ok\nS ok\nS ok\nS min 2 p\nS diag p\nS diag q r\nS end\nS probe b 2 2\nS ok\nS min 2 q r\nS ok\nS min 1 q\n",
+        status: 0,
+    },
+    Row {
+        file: File {
+            name: "free.dev",
+            text: "type C a\ncost 0\nend\n",
+        },
+        words: &["serve", "free.dev"],
+        script: "open S\n",
+        out: "error: line 2: fault 9 cost\n",
+        status: 1,
     },
     Row {
         file: File {
@@ -213,10 +235,18 @@ const ROWS: [Row; 20] = [
         out: "error: line 2: fault 3 child\n",
         status: 1,
     },
+    // The sum is 1 where all that is added is 0: its own gate is faulty, or the one that it reads.
+    Row {
+        file: CHAIN,
+        words: &["load", "1"],
+        script: "min S\n",
+        out: "parts 5\nwires 8\nclauses 17\nminimum 1\nfirst 0000s\nlisted 2\nlast 0000x\n",
+        status: 0,
+    },
 ];
 
 // Words that ask for nothing that the program does.
-const WRONG: [&[&str]; 20] = [
+const WRONG: [&[&str]; 25] = [
     &[],
     &["serve"],
     &["--help"],
@@ -237,6 +267,11 @@ const WRONG: [&[&str]; 20] = [
     &["compile", "c17.bench", "--sessions", "2"],
     &["compile", "c17.bench", "--budget", "0"],
     &["compile", "c17.bench", "--budget", "8388609"],
+    &["load"],
+    &["load", "0"],
+    &["load", "01"],
+    &["load", "801"],
+    &["load", "1", "--budget", "5"],
 ];
 
 #[test]

@@ -6,10 +6,6 @@ use diag_edge::{MemShelf, MemSink, MemSource};
 use std::alloc::{AllocError, Global};
 use std::test::Fail;
 
-/// The netlist that the outputs below are worked out for.
-pub const C17: &str =
-    "# c17\nINPUT(1)\nINPUT(2)\nINPUT(3)\nINPUT(6)\nINPUT(7)\nOUTPUT(22)\nOUTPUT(23)\n\n10 = NAND(1, 3)\n11 = NAND(3, 6)\n16 = NAND(2, 11)\n19 = NAND(11, 7)\n22 = NAND(10, 16)\n23 = NAND(16, 19)\n";
-
 /// A file of the shelf.
 #[derive(Clone, Copy)]
 pub struct File {
@@ -69,7 +65,8 @@ fn shelf_of(alloc: Global, file: File, failing: u64) -> Result<MemShelf, AllocEr
     Ok(MemShelf::new(files, numbers(alloc, failing)?))
 }
 
-fn owned(alloc: Global, words: &[&str]) -> Result<Vec<String>, AllocError> {
+/// The words of a command line.
+pub fn owned(alloc: Global, words: &[&str]) -> Result<Vec<String>, AllocError> {
     let mut owned = Vec::new(alloc);
     for word in words {
         owned.push(String::from_str(alloc, word)?)?;

@@ -9,7 +9,7 @@ use Rattle.graph_rules.specs.Graphs.{Graph}
 use Rattle.conditioner.specs.Words.{word_of}
 use Rattle.conditioner.specs.Models.{has_model, fits_words, models, least_under, diagnoses_under}
 use Rattle.minimiser.specs.Suspects.{Passes}
-use Rattle.minimiser.proofs.Members.{In, In-filter, In-filtered, empty-none}
+use Rattle.ranking.proofs.Members.{In, In-filter, In-filtered, empty-none}
 use Rattle.diagnosis_lister.specs.declared.listing.Step.TheVariants.{Found, End}
 use Rattle.diagnosis_lister.specs.Listing.{step_of}
 use Rattle.diagnosis_lister.specs.inner.Working.{IsFirst, AlikeBelow, NoneAfter, Leaves}

@@ -4,7 +4,7 @@ use Rattle.std.specs.Prelude.{◌⊎◌}
 use Rattle.std.specs.List.{filter}
 use Rattle.ranking.specs.Bits.{bit_in, lists_of_bits}
 use Rattle.ranking.specs.Ranking.{is_before}
-use Rattle.minimiser.proofs.Members.{In, In-append, from_map, In-filter}
+use Rattle.ranking.proofs.Members.{In, In-append, from_map, In-filter}
 use Rattle.diagnosis_lister.specs.inner.Working.{AlikeBelow}
 
 pub before-at : (h k : List Bool) (n : ℕ) → n < length h → n < length k → AlikeBelow n h k → bit_in h n ≡ false → bit_in k n ≡ true → is_before h k ≡ true

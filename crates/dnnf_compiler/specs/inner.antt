@@ -1,8 +1,7 @@
 -- What only private contracts cite.
-pub mod Bits
+pub mod Forks
 pub mod Joining
-pub mod Levels
-pub mod Leaving
+pub mod Making
 pub mod Meaning
+pub mod Rooting
 pub mod States
-pub mod Walking

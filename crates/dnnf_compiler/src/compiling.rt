@@ -4,9 +4,11 @@ ghost use Rattle.graph_rules.specs.GraphTexts.{edges};
 ghost use Rattle.branch_states.specs.declared.measuring.TheConstants.{BUDGET_LIMIT};
 ghost use Rattle.branch_states.specs.Branches.{sum_of};
 ghost use Rattle.dnnf_compiler.specs.Compiled.{SaysAll};
-ghost use Rattle.dnnf_compiler.specs.inner.Walking.{IsRoot};
+ghost use Rattle.dnnf_compiler.specs.inner.Rooting.{IsRoot};
 
-use crate::walk::Walk;
+use crate::forks::find_forks;
+use crate::maker::Maker;
+use branch_states::Branches;
 use clause_encoder::Cnf;
 use node_store::{Graph, Store};
 use std::alloc::{AllocError, Global};
@@ -31,12 +33,15 @@ pub fn compile(alloc: Global, cnf: &Cnf) -> Result<Compiled, AllocError>
     ensures few_nodes { IfOk result (λ c. length c.graph.nodes ≤ c.made + 2 * cnf.now.vars) }
     ensures few_edges { IfOk result (λ c. edges c.graph.nodes ≤ 6 * (sum_of cnf.now.clauses + 1)) }
 {
-    let mut walk = Walk::new(alloc, cnf)?;
-    loop {
-        if let Some(root) = walk.step(alloc, cnf)? {
-            return frozen(cnf, walk.into_store(), root);
-        }
+    let mut branches = Branches::of(alloc, cnf)?;
+    let (levels, last) = find_forks(alloc, &mut branches)?;
+    let mut maker = Maker::new(alloc, cnf.vars())?;
+    let mut nodes = vec![in alloc; maker.yes; last]?;
+    for level in (0..branches.len()).rev() {
+        branches.up();
+        nodes = maker.make_level(alloc, branches.var(), &levels[level as usize], &nodes)?;
     }
+    frozen(cnf, maker.store, nodes[0])
 }
 
 // The graph of the node of all clauses.

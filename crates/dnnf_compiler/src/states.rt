@@ -19,11 +19,24 @@ pub(crate) enum States {
 }
 
 impl States {
-    /// No state.
-    pub(crate) fn new(alloc: Global) -> States
-        ensures { states_of result ≡ [] }
+    /// No state, with room for so many of so many words.
+    pub(crate) fn with_room(alloc: Global, words: u32, room: usize) -> Result<States, AllocError>
+        ensures { IfOk result (λ states. states_of states ≡ []) }
     {
-        States::Words(IndexSet::new(alloc))
+        if words == 1 {
+            return Ok(States::Words(IndexSet::with_capacity(alloc, room)?));
+        }
+        Ok(States::Lists(IndexSet::with_capacity(alloc, room)?))
+    }
+
+    /// How many there are.
+    pub(crate) fn len(&self) -> usize
+        ensures { result ≡ length (states_of self.now) }
+    {
+        match self {
+            States::Words(words) => words.len(),
+            States::Lists(lists) => lists.len(),
+        }
     }
 
     /// The state at a place.

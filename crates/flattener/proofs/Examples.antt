@@ -87,7 +87,7 @@ dashed_flat = refl
 
 abbrev shaped : Design
 shaped = record {
-  types = record { name = codes "S"; table = record { ports = 1; ok = 1; bad = 3 } } ∷ record { name = codes "R"; table = record { ports = 2; ok = 9; bad = 15 } } ∷ [];
+  types = record { name = codes "S"; table = record { ports = 1; ok = 1; bad = 3; cost = 1 } } ∷ record { name = codes "R"; table = record { ports = 2; ok = 9; bad = 15; cost = 40 } } ∷ [];
   blocks = record {
     name = codes "T";
     ports = 1;
@@ -101,7 +101,7 @@ shaped = record {
 shaped_flat : flattened shaped ≡ Ok (record {
   parts = record { name = codes "x"; kind = Table 1; ports = 1 ∷ 0 ∷ [] } ∷ record { name = codes "y"; kind = Table 0; ports = 0 ∷ [] } ∷ [];
   wires = codes "a" ∷ codes "b" ∷ [];
-  tables = record { ports = 1; ok = 1; bad = 3 } ∷ record { ports = 2; ok = 9; bad = 15 } ∷ [];
+  tables = record { ports = 1; ok = 1; bad = 3; cost = 1 } ∷ record { ports = 2; ok = 9; bad = 15; cost = 40 } ∷ [];
 })
 shaped_flat = refl
 

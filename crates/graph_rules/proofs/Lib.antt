@@ -1,3 +1,5 @@
 mod Examples
 pub mod NodeValues
 pub mod NodesFit
+pub mod Kids
+pub mod Mentions

@@ -1,8 +1,9 @@
 -- Nodes that stand as those of a graph, and one more behind them.
 use Rattle.std.proofs.Common.{◌≡◌, ℕ, zero, suc, ◌+◌, ◌<◌, ◌≤◌, Bool, true, List, [], ◌∷◌, ◌++◌, length, Some, refl, ap, sym, ◌∙◌, subst, arith, zero-add}
-use Rattle.std.specs.Prelude.{slice_get}
+use Rattle.std.specs.Prelude.{◌==◌, ◌&&◌, nat_le, slice_get}
 use Rattle.std.specs.List.{AllByRecursion}
-use Rattle.std.proofs.lemmas.Bool.{and_parts, and_from}
+use Rattle.std.proofs.lemmas.Bool.{and_parts, and_from, eqb-true, leb-true}
+use Rattle.std.proofs.lemmas.List.{nil_from_length}
 use Rattle.std.proofs.lemmas.Option.{get_or_from_slice_get, slice_get_within}
 use Rattle.graph_rules.specs.declared.NodeKind.{NodeKind}
 use Rattle.graph_rules.specs.declared.NodeKind.TheVariants.{Literal, And, Or}
@@ -31,6 +32,18 @@ fits vars own node is = let parts = and_parts (are_below own node.kids) (kind_fi
 
 pub fits-at : (vars : ℕ) (nodes : List Node) (i : ℕ) → nodes_fit vars 0 nodes ≡ true → i < length nodes → Fits vars i (node_at nodes i)
 fits-at vars nodes i all inside = fits vars i (node_at nodes i) (subst (λ o. node_fits vars o (node_at nodes i) ≡ true) (zero-add i) (nodes_fit-at vars 0 nodes i all inside))
+
+-- a literal has no kids, and a variable that is there
+pub record IsLiteral (vars var : ℕ) (kids : List ℕ) : Type 0 where
+  pub alone : kids ≡ []
+  pub low : 1 ≤ var
+  pub high : var ≤ vars
+
+pub literal : (vars var : ℕ) (positive : Bool) (kids : List ℕ) → kind_fits vars (Literal var positive) kids ≡ true → IsLiteral vars var kids
+literal vars var positive kids fit =
+    let parts = and_parts (length kids == 0) (nat_le 1 var && nat_le var vars) fit in
+    let range = and_parts (nat_le 1 var) (nat_le var vars) parts.1 in
+    record { alone = nil_from_length kids (eqb-true (length kids) 0 parts.0); low = leb-true 1 var range.0; high = leb-true var vars range.1 }
 
 pub apart-at : (f : ℕ → Bool) (nodes : List Node) (i : ℕ) → AllByRecursion (λ (n : Node). apart_at f n.what n.kids ≡ true) nodes → i < length nodes → apart_at f (node_at nodes i).what (node_at nodes i).kids ≡ true
 apart-at f [] i all inside = absurd (omega arith)

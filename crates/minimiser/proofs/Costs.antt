@@ -1,10 +1,13 @@
 -- The least cost at which a node is true, from those of its kids.
 use Rattle.std.proofs.Common.{◌≡◌, ℕ, ◌+◌, ◌<◌, ◌≤◌, Bool, true, false, cond, ◌&&◌, ◌||◌, Option, Some, None, refl, ap, sym, ◌∙◌, subst, arith, eqb, inl, inr, ⊎_elim}
 use Rattle.std.specs.Prelude.{◌⊎◌}
-use Rattle.std.proofs.lemmas.Bool.{eqb-true, eq-eqb, cases_lt}
+use Rattle.std.proofs.lemmas.Bool.{and_from, or_cases, or_left, or_right, eqb-true, eq-eqb, cases_lt}
 use Rattle.ranking.specs.Bits.{same_bit}
 use Rattle.ranking.specs.Cases.{agrees_at}
 use Rattle.ranking.specs.Assignments.{Assignment}
+use Rattle.ranking.proofs.Bits.{same_bit-refl, not_left}
+use Rattle.ranking.proofs.Cases.{usual_bit, usual_bit-agrees, agrees_cond}
+use Rattle.ranking.proofs.Members.{AtMost, AtMost-le}
 use Rattle.conditioner.specs.Words.{leaf_of}
 use Rattle.minimiser.specs.Costs.{add_costs, min_costs, literal_cost}
 use Rattle.minimiser.proofs.Totals.{total, total-le, total-le-add, add-le-total, total-zero, total-one, le-total}
@@ -15,29 +18,20 @@ fault None cost false = cost
 fault None cost true = 0
 fault (Some b) cost x = 0
 
--- there is a cost, at most n
-abbrev pub Below : Option ℕ → ℕ → Type 0
-Below None n = ⊥
-Below (Some c) n = c ≤ n
+AtMost-add : (c d : Option ℕ) (n m : ℕ) → AtMost c n → AtMost d m → AtMost (add_costs c d) (n + m)
+AtMost-add None d n m h k = h
+AtMost-add (Some c) None n m h k = k
+AtMost-add (Some c) (Some d) n m h k = omega arith
 
-pub Below-le : (c : Option ℕ) (n m : ℕ) → Below c n → n ≤ m → Below c m
-Below-le None n m h e = h
-Below-le (Some c) n m h e = omega arith
+pub AtMost-min_left : (c d : Option ℕ) (n : ℕ) → AtMost c n → AtMost (min_costs c d) n
+AtMost-min_left None d n h = absurd h
+AtMost-min_left (Some c) None n h = h
+AtMost-min_left (Some c) (Some d) n h = omega arith
 
-Below-add : (c d : Option ℕ) (n m : ℕ) → Below c n → Below d m → Below (add_costs c d) (n + m)
-Below-add None d n m h k = h
-Below-add (Some c) None n m h k = k
-Below-add (Some c) (Some d) n m h k = omega arith
-
-pub Below-min_left : (c d : Option ℕ) (n : ℕ) → Below c n → Below (min_costs c d) n
-Below-min_left None d n h = absurd h
-Below-min_left (Some c) None n h = h
-Below-min_left (Some c) (Some d) n h = omega arith
-
-pub Below-min_right : (c d : Option ℕ) (n : ℕ) → Below d n → Below (min_costs c d) n
-Below-min_right None d n h = h
-Below-min_right (Some c) None n h = absurd h
-Below-min_right (Some c) (Some d) n h = omega arith
+pub AtMost-min_right : (c d : Option ℕ) (n : ℕ) → AtMost d n → AtMost (min_costs c d) n
+AtMost-min_right None d n h = h
+AtMost-min_right (Some c) None n h = absurd h
+AtMost-min_right (Some c) (Some d) n h = omega arith
 
 pub and_left : (x y : Bool) → (x && y) ≡ true → x ≡ true
 and_left true y e = refl
@@ -46,22 +40,6 @@ and_left false y e = e
 pub and_right : (x y : Bool) → (x && y) ≡ true → y ≡ true
 and_right true y e = e
 and_right false y e = absurd (cc)
-
-pub both : (x y : Bool) → x ≡ true → y ≡ true → (x && y) ≡ true
-both true y e f = f
-both false y e f = e
-
-pub either : (x y : Bool) → (x || y) ≡ true → (x ≡ true) ⊎ (y ≡ true)
-either true y e = inl refl
-either false y e = inr e
-
-pub or_left : (x y : Bool) → x ≡ true → (x || y) ≡ true
-or_left true y e = refl
-or_left false y e = absurd (cc)
-
-pub or_right : (x y : Bool) → y ≡ true → (x || y) ≡ true
-or_right true y e = refl
-or_right false y e = e
 
 -- variables are mentioned by at most one of two
 pub apart_sum : (p q : Bool) (n : ℕ) → (p && q) ≡ false → cond p n 0 + cond q n 0 ≤ cond (p || q) n 0
@@ -84,19 +62,6 @@ fault_cond None w true false y = omega arith
 fault_cond None w false x true = omega arith
 fault_cond None w false x false = omega arith
 fault_cond (Some b) w p x y = omega arith
-
-agrees_cond : (k : Option Bool) (p x y : Bool) → agrees_at k x ≡ true → agrees_at k y ≡ true → agrees_at k (cond p x y) ≡ true
-agrees_cond k true x y e f = e
-agrees_cond k false x y e f = f
-
-abbrev pub usual_bit : Option Bool → Bool
-usual_bit None = true
-usual_bit (Some b) = b
-
-usual_bit-agrees : (k : Option Bool) → agrees_at k (usual_bit k) ≡ true
-usual_bit-agrees None = refl
-usual_bit-agrees (Some true) = refl
-usual_bit-agrees (Some false) = refl
 
 usual_bit-fault : (k : Option Bool) (w : ℕ) → fault k w (usual_bit k) ≤ 0
 usual_bit-fault None w = omega arith
@@ -125,25 +90,17 @@ ap_both x y z w e f = cc
 ap_both_and : (x y z w : Bool) → x ≡ y → z ≡ w → (x && z) ≡ (y && w)
 ap_both_and x y z w e f = cc
 
-pub not_left : (x y : Bool) → (x && y) ≡ false → y ≡ true → x ≡ false
-not_left true y e f = absurd (cc)
-not_left false y e f = refl
-
 false_fault : (w : ℕ) (x : Bool) → same_bit false x ≡ true → w ≤ fault None w x
 false_fault w true e = absurd (cc)
 false_fault w false e = omega arith
 
-agreed : (positive b x : Bool) (w : ℕ) → agrees_at (Some b) x ≡ true → same_bit positive x ≡ true → Below (literal_cost (leaf_of positive (Some b)) w positive) 0
+agreed : (positive b x : Bool) (w : ℕ) → agrees_at (Some b) x ≡ true → same_bit positive x ≡ true → AtMost (literal_cost (leaf_of positive (Some b)) w positive) 0
 agreed true true x w ag h = omega arith
 agreed true false true w ag h = absurd (cc)
 agreed true false false w ag h = absurd (cc)
 agreed false true true w ag h = absurd (cc)
 agreed false true false w ag h = absurd (cc)
 agreed false false x w ag h = omega arith
-
-same_bit-refl : (b : Bool) → same_bit b b ≡ true
-same_bit-refl true = refl
-same_bit-refl false = refl
 
 zero_cond : (b : Bool) → cond b 0 0 ≤ 0
 zero_cond true = omega arith
@@ -177,7 +134,7 @@ module _ (known : ℕ → Option Bool) (cost : ℕ → ℕ) (parts : ℕ) where
 
   -- The cost is the least at which the node is true: t is its truth, and m says which variables it mentions.
   pub record IsCost (t : Assignment → Bool) (m : ℕ → Bool) (c : Option ℕ) : Type 0 where
-    pub bound : (a : Assignment) → Agrees a → t a ≡ true → Below c (faults_in m a)
+    pub bound : (a : Assignment) → Agrees a → t a ≡ true → AtMost c (faults_in m a)
     pub reached : (n : ℕ) → c ≡ Some n → Reaches t n
     pub local : (a b : Assignment) → ((v : ℕ) → m v ≡ true → a v ≡ b v) → t a ≡ t b
 
@@ -214,9 +171,9 @@ module _ (known : ℕ → Option Bool) (cost : ℕ → ℕ) (parts : ℕ) where
     pub or_is : IsCost (λ a. t a || u a) (λ v. m v || o v) (min_costs c d)
     or_is = record {
       bound = λ a ag h. ⊎_elim
-          (λ p. Below-le (min_costs c d) (faults_in m a) _ (Below-min_left c d _ (is_t.bound a ag p)) (total-le _ _ (λ v. wider (m v) (o v) _) 1 parts))
-          (λ p. Below-le (min_costs c d) (faults_in o a) _ (Below-min_right c d _ (is_u.bound a ag p)) (total-le _ _ (λ v. wider_right (m v) (o v) _) 1 parts))
-          (either (t a) (u a) h);
+          (λ p. AtMost-le (min_costs c d) (faults_in m a) _ (AtMost-min_left c d _ (is_t.bound a ag p)) (total-le _ _ (λ v. wider (m v) (o v) _) 1 parts))
+          (λ p. AtMost-le (min_costs c d) (faults_in o a) _ (AtMost-min_right c d _ (is_u.bound a ag p)) (total-le _ _ (λ v. wider_right (m v) (o v) _) 1 parts))
+          (or_cases (t a) (u a) h);
       reached = λ n e. ⊎_elim
           (λ p. let r = is_t.reached n p in record { by = r.by; agrees = r.agrees; holds = or_left _ _ r.holds; cheap = r.cheap })
           (λ p. let r = is_u.reached n p in record { by = r.by; agrees = r.agrees; holds = or_right _ _ r.holds; cheap = r.cheap })
@@ -238,7 +195,7 @@ module _ (known : ℕ → Option Bool) (cost : ℕ → ℕ) (parts : ℕ) where
           record {
             by = a;
             agrees = λ v. agrees_cond (known v) (m v) _ _ (r.agrees v) (s.agrees v);
-            holds = both _ _ (is_t.local a r.by (λ v p. ap (λ x. cond x (r.by v) (s.by v)) p) ∙ r.holds)
+            holds = and_from _ _ (is_t.local a r.by (λ v p. ap (λ x. cond x (r.by v) (s.by v)) p) ∙ r.holds)
                 (is_u.local a s.by (λ v p. ap (λ x. cond x (r.by v) (s.by v)) (not_left (m v) (o v) (apart v) p)) ∙ s.holds);
             cheap = omega (arith, r.cheap, s.cheap, both_are.sum_is, total-le-add _ _ _ (λ v. fault_cond (known v) (cost v) (m v) (r.by v) (s.by v)) 1 parts);
           }
@@ -269,8 +226,8 @@ module _ (known : ℕ → Option Bool) (cost : ℕ → ℕ) (parts : ℕ) where
 
       pub and_is : IsCost (λ a. t a && u a) (λ v. m v || o v) (add_costs c d)
       and_is = record {
-        bound = λ a ag h. Below-le (add_costs c d) (faults_in m a + faults_in o a) _
-            (Below-add c d _ _ (is_t.bound a ag (and_left _ _ h)) (is_u.bound a ag (and_right _ _ h)))
+        bound = λ a ag h. AtMost-le (add_costs c d) (faults_in m a + faults_in o a) _
+            (AtMost-add c d _ _ (is_t.bound a ag (and_left _ _ h)) (is_u.bound a ag (and_right _ _ h)))
             (add-le-total _ _ _ (λ v. apart_sum (m v) (o v) _ (apart v)) 1 parts);
         reached = and_reached;
         local = λ a b h. ap_both_and _ _ _ _ (is_t.local a b (λ v p. h v (or_left _ _ p))) (is_u.local a b (λ v p. h v (or_right _ _ p)));
@@ -302,12 +259,12 @@ module _ (known : ℕ → Option Bool) (cost : ℕ → ℕ) (parts : ℕ) where
           flip (inr x) = inl x
 
     literal_bound : (k : Option Bool) → known var ≡ k → (positive : Bool) (a : Assignment) → Agrees a → same_bit positive (a var) ≡ true
-        → Below (literal_cost (leaf_of positive k) (cost var) positive) (faults_in (λ u. eqb var u) a)
+        → AtMost (literal_cost (leaf_of positive k) (cost var) positive) (faults_in (λ u. eqb var u) a)
     unfolding own
     literal_bound None e true a ag h = omega arith
     literal_bound None e false a ag h = counted a e h
     literal_bound (Some b) e positive a ag h =
-        Below-le (literal_cost (leaf_of positive (Some b)) (cost var) positive) 0 _ (agreed positive b (a var) (cost var) (subst (λ k. agrees_at k (a var) ≡ true) e (ag var)) h) (omega arith)
+        AtMost-le (literal_cost (leaf_of positive (Some b)) (cost var) positive) 0 _ (agreed positive b (a var) (cost var) (subst (λ k. agrees_at k (a var) ≡ true) e (ag var)) h) (omega arith)
 
     chosen-Agrees : (positive : Bool) → agrees_at (known var) positive ≡ true → Agrees (chosen positive)
     unfolding chosen
@@ -349,7 +306,7 @@ module _ (known : ℕ → Option Bool) (cost : ℕ → ℕ) (parts : ℕ) where
 
   pub IsCost-same : {t u : Assignment → Bool} {m o : ℕ → Bool} {c d : Option ℕ} → ((a : Assignment) → u a ≡ t a) → ((v : ℕ) → o v ≡ m v) → d ≡ c → IsCost t m c → IsCost u o d
   IsCost-same {m = m} {o = o} {c = c} {d = d} p q e is = record {
-    bound = λ a ag h. subst (λ x. Below x (faults_in o a)) (sym e) (Below-le c (faults_in m a) (faults_in o a) (is.bound a ag (sym (p a) ∙ h)) (total-le _ _ (λ v. same_cond (o v) (m v) _ (q v)) 1 parts));
+    bound = λ a ag h. subst (λ x. AtMost x (faults_in o a)) (sym e) (AtMost-le c (faults_in m a) (faults_in o a) (is.bound a ag (sym (p a) ∙ h)) (total-le _ _ (λ v. same_cond (o v) (m v) _ (q v)) 1 parts));
     reached = λ n r. let s = is.reached n (sym e ∙ r) in record { by = s.by; agrees = s.agrees; holds = p s.by ∙ s.holds; cheap = s.cheap };
     local = λ a b h. p a ∙ is.local a b (λ v r. h v (q v ∙ r)) ∙ sym (p b);
   }

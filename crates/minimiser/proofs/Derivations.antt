@@ -1,26 +1,28 @@
 -- Which nodes make the root true at its least cost.
-use Rattle.std.proofs.Common.{◌≡◌, ℕ, zero, suc, ◌+◌, ◌-◌, ◌<◌, ◌≤◌, Bool, true, false, cond, eqb, ◌&&◌, ◌||◌, List, [], ◌∷◌, map, length, get_or, take, Option, Some, None, refl, ap, sym, ◌∙◌, subst, arith, inl, inr, ⊎_elim}
+use Rattle.std.proofs.Common.{◌≡◌, ℕ, zero, suc, ◌+◌, ◌-◌, ◌<◌, ◌≤◌, Bool, true, false, cond, eqb, ◌&&◌, List, [], ◌∷◌, map, length, get_or, take, Option, Some, None, refl, ap, sym, ◌∙◌, subst, arith, inl, inr, ⊎_elim}
 use Rattle.std.specs.Prelude.{slice_get, nat_lt}
 use Rattle.std.specs.List.{list_all, list_any}
-use Rattle.std.proofs.lemmas.Bool.{and_parts, cases_lt, false≢true, eqb-true, eq-eqb, ltb-true}
+use Rattle.std.proofs.lemmas.Bool.{and_from, and_parts, cases_lt, false≢true, eqb-true, eq-eqb, ltb-true}
 use Rattle.std.proofs.lemmas.List.{get_or_past}
 use Rattle.std.proofs.lemmas.Option.{get_or_from_slice_get, slice_get_within, same_Some}
 use Rattle.ranking.specs.Bits.{same_bit}
 use Rattle.ranking.specs.Assignments.{Assignment}
 use Rattle.ranking.specs.Values.{values}
+use Rattle.ranking.proofs.Lists.{list_any-map}
+use Rattle.ranking.proofs.Members.{In, Passing, any_from, any_in, AtMost}
 use Rattle.ranking.proofs.Values.{length-values_after, values-at, values-before}
 use Rattle.graph_rules.specs.declared.NodeKind.{NodeKind}
 use Rattle.graph_rules.specs.declared.NodeKind.TheVariants.{Literal, And, Or}
 use Rattle.graph_rules.specs.Graphs.{at_most_one, Node, Graph, truth, truth_by, mention, mention_by, mentions, is_true, IsGraph}
 use Rattle.graph_rules.proofs.NodeValues.{are_below, map-below, value_of-get}
+use Rattle.graph_rules.proofs.Kids.{at_most_one-tail, not_both}
 use Rattle.graph_rules.proofs.NodesFit.{fits-get, apart-get}
 use Rattle.conditioner.specs.Words.{leaf_of}
 use Rattle.minimiser.specs.Costs.{part_cost, known_at, cost_at, sum_costs, cheapest, node_cost, cost_by, literal_cost}
 use Rattle.minimiser.proofs.Totals.{total-le, add-le-total, le-total}
-use Rattle.minimiser.proofs.Costs.{fault, false_is, IsCost, Below, Agrees, faults_in, all_faults, and_left, and_right, both, joins, from_add, Below-min_left, Below-min_right, or_left, or_right, apart_sum}
-use Rattle.minimiser.proofs.Nodes.{nodes_are, kids_and, at_most_one-tail, not_both}
+use Rattle.minimiser.proofs.Costs.{fault, false_is, IsCost, Agrees, faults_in, all_faults, and_left, and_right, joins, from_add, AtMost-min_left, AtMost-min_right, apart_sum}
+use Rattle.minimiser.proofs.Nodes.{nodes_are, kids_and}
 use Rattle.minimiser.proofs.Apart.{decomposed}
-use Rattle.minimiser.proofs.Members.{In}
 use Rattle.minimiser.proofs.Whole.{part_cost-none}
 
 -- ---- the cost at a node, by those of its kids
@@ -43,22 +45,11 @@ cost-at by nodes i n e below =
 
 -- ---- members of the kids
 
-pub any-kid : (f : ℕ → Bool) (kids : List ℕ) (k : ℕ) → In k kids → f k ≡ true → list_any (λ b. b) (map f kids) ≡ true
-any-kid f [] k m e = absurd m
-any-kid f (j ∷ kids) k (inl q) e = or_left _ _ (ap f (sym q) ∙ e)
-any-kid f (j ∷ kids) k (inr r) e = or_right (f j) _ (any-kid f kids k r e)
+any-kid : (f : ℕ → Bool) (kids : List ℕ) (k : ℕ) → In k kids → f k ≡ true → list_any (λ b. b) (map f kids) ≡ true
+any-kid f kids k m e = list_any-map (λ b. b) f kids ∙ any_in f k kids m e
 
-pub record KidWith (f : ℕ → Bool) (kids : List ℕ) : Type 0 where
-  pub kid : ℕ
-  pub is_in : In kid kids
-  pub has : f kid ≡ true
-
-pub kid-with : (f : ℕ → Bool) (kids : List ℕ) → list_any (λ b. b) (map f kids) ≡ true → KidWith f kids
-kid-with f [] e = absurd (cc)
-kid-with f (j ∷ kids) e = by_test (kid-with f kids) (f j) refl e where
-  by_test : (list_any (λ b. b) (map f kids) ≡ true → KidWith f kids) → (b : Bool) → f j ≡ b → (b || list_any (λ b. b) (map f kids)) ≡ true → KidWith f (j ∷ kids)
-  by_test more true q e = record { kid = j; is_in = inl refl; has = q }
-  by_test more false q e = let r = more e in record { kid = r.kid; is_in = inr r.is_in; has = r.has }
+kid-with : (f : ℕ → Bool) (kids : List ℕ) → list_any (λ b. b) (map f kids) ≡ true → Passing f kids
+kid-with f kids e = any_from f kids (sym (list_any-map (λ b. b) f kids) ∙ e)
 
 all-kid : (f : ℕ → Bool) (kids : List ℕ) (k : ℕ) → In k kids → list_all (λ b. b) (map f kids) ≡ true → f k ≡ true
 all-kid f [] k m e = absurd m
@@ -71,10 +62,10 @@ all-below n (j ∷ kids) k all (inl q) = subst (λ x. x < n) (sym q) (ltb-true j
 all-below n (j ∷ kids) k all (inr r) = all-below n kids k (and_parts (nat_lt j n) (are_below n kids) all).1 r
 
 -- an or costs no more than a kid
-pub cheapest-kid : (C : ℕ → Option ℕ) (kids : List ℕ) (j d : ℕ) → In j kids → C j ≡ Some d → Below (cheapest (map C kids)) d
+pub cheapest-kid : (C : ℕ → Option ℕ) (kids : List ℕ) (j d : ℕ) → In j kids → C j ≡ Some d → AtMost (cheapest (map C kids)) d
 cheapest-kid C [] j d m e = absurd m
-cheapest-kid C (i ∷ kids) j d (inl q) e = Below-min_left (C i) (cheapest (map C kids)) d (subst (λ o. Below o d) (sym (ap C (sym q) ∙ e)) (omega arith))
-cheapest-kid C (i ∷ kids) j d (inr r) e = Below-min_right (C i) (cheapest (map C kids)) d (cheapest-kid C kids j d r e)
+cheapest-kid C (i ∷ kids) j d (inl q) e = AtMost-min_left (C i) (cheapest (map C kids)) d (subst (λ o. AtMost o d) (sym (ap C (sym q) ∙ e)) (omega arith))
+cheapest-kid C (i ∷ kids) j d (inr r) e = AtMost-min_right (C i) (cheapest (map C kids)) d (cheapest-kid C kids j d r e)
 
 module _ (graph : Graph) (words costs : List ℕ) (ok : IsGraph graph) where
   abbrev kn : ℕ → Option Bool
@@ -183,7 +174,7 @@ module _ (graph : Graph) (words costs : List ℕ) (ok : IsGraph graph) where
       record {
         by = x.by;
         agrees = x.agrees;
-        holds = both _ _ x.left x.right;
+        holds = and_from _ _ x.left x.right;
         cheap = omega (arith, x.cheap, h.cheap, r.cheap, sum.sum_is, same_cost);
         same = λ v m. x.as_left v (subst (λ i. M v i ≡ true) q m);
       }
@@ -196,7 +187,7 @@ module _ (graph : Graph) (words costs : List ℕ) (ok : IsGraph graph) where
       record {
         by = x.by;
         agrees = x.agrees;
-        holds = both _ _ x.left x.right;
+        holds = and_from _ _ x.left x.right;
         cheap = omega (arith, x.cheap, r.cheap, more.cheap, sum.sum_is);
         same = λ v t. x.as_right v (any-kid (M v) kids k m t) ∙ more.same v t;
       }
@@ -271,7 +262,7 @@ module _ (graph : Graph) (words costs : List ℕ) (ok : IsGraph graph) where
         by_test false q = omega (arith, cond-le (m v) (o v) (fl v) (h v))
 
     bound-at : (k c : ℕ) → T a k ≡ true → C k ≡ Some c → c ≤ faults (λ v. M v k)
-    bound-at k c h e = subst (λ o. Below o (faults (λ v. M v k))) e ((is_cost k).bound a agree h)
+    bound-at k c h e = subst (λ o. AtMost o (faults (λ v. M v k))) e ((is_cost k).bound a agree h)
 
     -- a node that is true, costs no more than it has to, and has the faulty variable below it
     pub record OnFault (k : ℕ) : Type 0 where
@@ -300,7 +291,7 @@ module _ (graph : Graph) (words costs : List ℕ) (ok : IsGraph graph) where
         let here : T a i ≡ true = and_left _ _ h in
         let there : TA kids a ≡ true = and_right (T a i) _ h in
         let low_here = bound-at i sum.left here sum.left_is in
-        let low_there : sum.right ≤ faults (MA kids) = subst (λ o. Below o (faults (MA kids))) sum.right_is ((kids-cost kids (apart-tail i kids apart)).bound a agree there) in
+        let low_there : sum.right ≤ faults (MA kids) = subst (λ o. AtMost o (faults (MA kids))) sum.right_is ((kids-cost kids (apart-tail i kids apart)).bound a agree there) in
         let all = add-le-total (λ v. cond (M v i) (fl v) 0) (λ v. cond (MA kids v) (fl v) 0) (λ v. cond (MA (i ∷ kids) v) (fl v) 0) (λ v. apart_sum (M v i) (MA kids v) (fl v) (apart-both i kids apart v)) 1 n in
         by_place (tight-kids kids (apart-tail i kids apart) there sum.right sum.right_is (omega (arith, all, low_here, low_there, sum.sum_is)) j) m
         (λ q. record { holds = here; has = q; cost = sum.left; is = sum.left_is; tight = omega (arith, all, low_there, sum.sum_is) }) where
@@ -314,10 +305,10 @@ module _ (graph : Graph) (words costs : List ℕ) (ok : IsGraph graph) where
     on-and k kids e on =
         let j = kid-with (M p) kids (sym (mention-at k _ e p) ∙ on.has) in
         record {
-          kid = j.kid;
+          kid = j.item;
           is_in = j.is_in;
           on = tight-kids kids (apart-kids k kids e) (sym (true-at k _ e a) ∙ on.holds) on.cost (sym (costs-at k _ e) ∙ on.is)
-              (omega (arith, on.tight, faults-le (MA kids) (λ v. M v k) (λ v q. mention-at k _ e v ∙ q))) j.kid j.is_in j.has;
+              (omega (arith, on.tight, faults-le (MA kids) (λ v. M v k) (λ v q. mention-at k _ e v ∙ q))) j.item j.is_in j.passes;
         }
 
     -- some kid of an or, that costs as much
@@ -329,12 +320,12 @@ module _ (graph : Graph) (words costs : List ℕ) (ok : IsGraph graph) where
 
     on-or : (k : ℕ) (kids : List ℕ) → slice_get graph.nodes k ≡ Some (record { what = Or; kids = kids }) → (on : OnFault k) → CheapKid kids on.cost
     on-or k kids e on = let j = kid-with (T a) kids (sym (true-at k _ e a) ∙ on.holds) in
-        by_cost j.kid j.is_in j.has (C j.kid) refl ((is_cost j.kid).bound a agree j.has) where
-          by_cost : (j : ℕ) → In j kids → T a j ≡ true → (o : Option ℕ) → C j ≡ o → Below o (faults (λ v. M v j)) → CheapKid kids on.cost
+        by_cost j.item j.is_in j.passes (C j.item) refl ((is_cost j.item).bound a agree j.passes) where
+          by_cost : (j : ℕ) → In j kids → T a j ≡ true → (o : Option ℕ) → C j ≡ o → AtMost o (faults (λ v. M v j)) → CheapKid kids on.cost
           by_cost j m h None q b = absurd b
           by_cost j m h (Some d) q b =
               let inside : (v : ℕ) → M v j ≡ true → M v k ≡ true = λ v r. mention-at k _ e v ∙ any-kid (M v) kids j m r in
-              let most : on.cost ≤ d = subst (λ o. Below o d) (sym (costs-at k _ e) ∙ on.is) (cheapest-kid C kids j d m q) in
+              let most : on.cost ≤ d = subst (λ o. AtMost o d) (sym (costs-at k _ e) ∙ on.is) (cheapest-kid C kids j d m q) in
               let less = faults-le (λ v. M v j) (λ v. M v k) inside in
               let cost_is : C j ≡ Some on.cost = q ∙ ap Some (omega (arith, b, less, on.tight, most)) in
               record { kid = j; is_in = m; same = cost_is; on = record { holds = h; has = by_test (M p j) refl; cost = on.cost; is = cost_is; tight = omega (arith, less, on.tight) } } where
@@ -344,7 +335,7 @@ module _ (graph : Graph) (words costs : List ℕ) (ok : IsGraph graph) where
                   arith,
                   b,
                   on.tight,
-                  subst (λ o. Below o d) (sym (costs-at k _ e) ∙ on.is) (cheapest-kid C kids j d m q),
+                  subst (λ o. AtMost o d) (sym (costs-at k _ e) ∙ on.is) (cheapest-kid C kids j d m q),
                   faults-lt (λ v. M v j) (λ v. M v k) (λ v s. mention-at k _ e v ∙ any-kid (M v) kids j m s) r on.has,
                 ))
 

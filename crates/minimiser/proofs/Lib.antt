@@ -2,7 +2,6 @@ pub mod Totals
 pub mod Costs
 pub mod Nodes
 pub mod Apart
-pub mod Members
 pub mod Held
 pub mod Sums
 pub mod Whole

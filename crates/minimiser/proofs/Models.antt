@@ -1,16 +1,17 @@
 -- The states that a graph allows, as words are changed.
 use Rattle.std.proofs.Common.{◌≡◌, ◌≢◌, ℕ, zero, suc, ◌-◌, ◌<◌, ◌≤◌, Bool, true, false, eqb, ◌&&◌, List, [], ◌∷◌, ◌++◌, length, get_or, Option, Some, None, refl, ap, sym, ◌∙◌, subst, arith, inl, inr, ⊎_elim, length-append}
 use Rattle.std.specs.Prelude.{◌⊎◌}
-use Rattle.std.proofs.lemmas.Bool.{eqb-true, eqb-false, cases_lt, leb-true, le-leb}
+use Rattle.std.proofs.lemmas.Bool.{and_from, eqb-true, eqb-false, cases_lt, leb-true, le-leb}
 use Rattle.ranking.specs.Bits.{bit_in, lists_of_bits}
 use Rattle.ranking.specs.Cases.{agrees_at}
 use Rattle.ranking.specs.Ranking.{cost, least, least_with, is_at_most, states}
 use Rattle.graph_rules.specs.Graphs.{Graph, holds}
 use Rattle.conditioner.specs.Words.{known_of, word_of}
 use Rattle.conditioner.specs.Models.{has_model, fits_words, models, least_under, diagnoses_under}
-use Rattle.minimiser.proofs.Costs.{and_left, and_right, both}
-use Rattle.minimiser.proofs.Members.{In, In-filter, In-filtered, bits_in, bits_length, any_from, any_in, AtMost, least-below, least-from}
-use Rattle.minimiser.proofs.Whole.{agrees_to, agrees_from, bit_in-front, from_bounds, AtMost-le}
+use Rattle.conditioner.proofs.FittingWords.{fits_words-at, fits_words-from}
+use Rattle.minimiser.proofs.Costs.{and_left, and_right}
+use Rattle.ranking.proofs.Members.{In, In-filter, In-filtered, bits_in, bits_length, any_from, any_in, AtMost, AtMost-le, least-below, least-from}
+use Rattle.minimiser.proofs.Whole.{bit_in-front, from_bounds}
 use Rattle.minimiser.specs.Suspects.{Passes}
 
 pub same_or_not : (k i : ℕ) → (k ≡ i) ⊎ (k ≢ i)
@@ -55,7 +56,7 @@ module _ (graph : Graph) (costs : List ℕ) (within : length costs ≤ graph.var
       let r = any_from (λ others. fits_words words (h ++ others) && holds graph (h ++ others)) (lists_of_bits (graph.vars - length costs)) m in
       let len : length r.item ≡ graph.vars - length costs = bits_length (graph.vars - length costs) r.item r.is_in in
       subst (λ b. Agree (get_or words i 0) b) (bit_in-front h r.item i (omega arith))
-      (agrees_to words (h ++ r.item) (omega (arith, length-append h r.item)) (and_left _ _ r.passes) i)
+      (fits_words-at words (h ++ r.item) (omega (arith, length-append h r.item)) (and_left _ _ r.passes) i)
 
   -- a state that the words allow is allowed by others that say the same of the other variables, and nothing else of it
   pub model-moved : (words others : List ℕ) (h : List Bool) → length words ≡ graph.vars → length others ≡ graph.vars → length h ≡ length costs → has_model graph (fits_words words) (length costs) h ≡ true
@@ -65,10 +66,10 @@ module _ (graph : Graph) (costs : List ℕ) (within : length costs ≤ graph.var
       let len : length r.item ≡ graph.vars - length costs = bits_length (graph.vars - length costs) r.item r.is_in in
       let all : length (h ++ r.item) ≡ graph.vars = omega (arith, length-append h r.item) in
       any_in (λ rest. fits_words others (h ++ rest) && holds graph (h ++ rest)) r.item (lists_of_bits (graph.vars - length costs)) r.is_in
-      (both _ _ (agrees_from others (h ++ r.item) (all ∙ sym long')
+      (and_from _ _ (fits_words-from others (h ++ r.item)
       (λ i lt. ⊎_elim
       (λ (p : i < length costs). subst (λ b. Agree (get_or others i 0) b) (sym (bit_in-front h r.item i (omega arith))) (agree i p))
-      (λ (p : length costs ≤ i). subst (λ w. Agree w (bit_in (h ++ r.item) i)) (sym (same i p)) (agrees_to words (h ++ r.item) (all ∙ sym long) (and_left _ _ r.passes) i))
+      (λ (p : length costs ≤ i). subst (λ w. Agree w (bit_in (h ++ r.item) i)) (sym (same i p)) (fits_words-at words (h ++ r.item) (all ∙ sym long) (and_left _ _ r.passes) i))
       (cases_lt i (length costs))))
       (and_right (fits_words words (h ++ r.item)) _ r.passes))
 

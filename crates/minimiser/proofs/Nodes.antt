@@ -1,5 +1,5 @@
 -- The least costs of all nodes of a graph.
-use Rattle.std.proofs.Common.{◌≡◌, ℕ, zero, suc, ◌+◌, ◌<◌, ◌≤◌, Bool, true, false, not, ◌&&◌, List, [], ◌∷◌, ◌++◌, map, length, Option, None, refl, ap, sym, ◌∙◌, arith, inl, inr, length-append}
+use Rattle.std.proofs.Common.{◌≡◌, ℕ, zero, suc, ◌+◌, ◌<◌, ◌≤◌, Bool, true, false, List, [], ◌∷◌, ◌++◌, map, length, Option, None, refl, ap, sym, ◌∙◌, arith, inl, inr, length-append}
 use Rattle.std.specs.Prelude.{◌⊎◌}
 use Rattle.std.specs.List.{list_any, list_all}
 use Rattle.std.proofs.lemmas.Bool.{cases_lt}
@@ -10,23 +10,9 @@ use Rattle.ranking.specs.Values.{values_after}
 use Rattle.graph_rules.specs.declared.NodeKind.{NodeKind}
 use Rattle.graph_rules.specs.declared.NodeKind.TheVariants.{Literal, And, Or}
 use Rattle.graph_rules.specs.Graphs.{at_most_one, Node, truth, truth_by, mention, mention_by, apart_at}
+use Rattle.graph_rules.proofs.Kids.{at_most_one-tail, not_both}
 use Rattle.minimiser.specs.Costs.{sum_costs, cheapest, cost_at, cost_by, node_cost}
 use Rattle.minimiser.proofs.Costs.{IsCost, IsCost-same, and_is, or_is, true_is, false_is, literal_is}
-
-pub not_both : (b : Bool) (bs : List Bool) → at_most_one (b ∷ bs) ≡ true → (b && list_any (λ x. x) bs) ≡ false
-not_both true bs e = flip (list_any (λ x. x) bs) e where
-  flip : (x : Bool) → not x ≡ true → x ≡ false
-  flip true e = absurd (cc)
-  flip false e = refl
-not_both false bs e = refl
-
-pub at_most_one-tail : (b : Bool) (bs : List Bool) → at_most_one (b ∷ bs) ≡ true → at_most_one bs ≡ true
-at_most_one-tail true bs e = none bs e where
-  none : (xs : List Bool) → not (list_any (λ x. x) xs) ≡ true → at_most_one xs ≡ true
-  none [] e = refl
-  none (true ∷ xs) e = absurd (cc)
-  none (false ∷ xs) e = none xs e
-at_most_one-tail false bs e = e
 
 cost_at-before : (xs : List (Option ℕ)) (x : Option ℕ) (k : ℕ) → k < length xs → cost_at (xs ++ x ∷ []) k ≡ cost_at xs k
 cost_at-before [] x k h = absurd (omega arith)

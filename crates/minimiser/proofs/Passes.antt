@@ -8,18 +8,19 @@ use Rattle.std.proofs.lemmas.Option.{slice_get-get_or}
 use Rattle.ranking.specs.Bits.{bit_in}
 use Rattle.ranking.specs.Values.{values_after, values}
 use Rattle.ranking.proofs.Values.{length-values_after, values_after-append}
+use Rattle.ranking.proofs.Members.{AtMost}
 use Rattle.graph_rules.specs.declared.NodeKind.{NodeKind}
 use Rattle.graph_rules.specs.declared.NodeKind.TheVariants.{Literal, And}
 use Rattle.graph_rules.specs.Graphs.{Node, Graph, mention, true_node, node_at, IsGraph}
 use Rattle.graph_rules.proofs.NodeValues.{below-each}
-use Rattle.graph_rules.proofs.NodesFit.{fits-get}
+use Rattle.graph_rules.proofs.NodesFit.{fits-get, literal}
 use Rattle.conditioner.specs.Models.{least_under, total_cost}
 use Rattle.minimiser.specs.Costs.{part_cost, known_at, cost_at, sum_costs, node_cost, held_cost}
 use Rattle.minimiser.specs.Stored.{cost_in, costs_to, AreLeastCosts}
 use Rattle.minimiser.proofs.Totals.{total-le}
-use Rattle.minimiser.proofs.Costs.{fault, false_is, Below, faults_in}
+use Rattle.minimiser.proofs.Costs.{fault, false_is, faults_in}
 use Rattle.minimiser.proofs.Nodes.{nodes_are, ApartAfter, cost_at-last}
-use Rattle.minimiser.proofs.Apart.{decomposed, literal_range, and_few}
+use Rattle.minimiser.proofs.Apart.{decomposed, and_few}
 use Rattle.minimiser.proofs.Held.{full_cost-is}
 use Rattle.minimiser.proofs.Sums.{cost_in-some, cost_at-map}
 use Rattle.minimiser.proofs.Whole.{AddHeld, least_is, part_cost-none}
@@ -61,7 +62,7 @@ cost_small graph words costs i k ok n e =
     (λ v. ApartAfter-take v [] graph.nodes i (decomposed graph.vars graph.nodes ok.nodes v)) k in
     let r = is.reached n e in
     let m : ℕ → Bool = λ v. bit_in (values_after (mention v) [] (take i graph.nodes)) k in
-    let b : n ≤ faults_in kn price (length costs) m r.by = subst (λ c. Below c (faults_in kn price (length costs) m r.by)) e (is.bound r.by r.agrees r.holds) in
+    let b : n ≤ faults_in kn price (length costs) m r.by = subst (λ c. AtMost c (faults_in kn price (length costs) m r.by)) e (is.bound r.by r.agrees r.holds) in
     omega (arith, b, full_cost-is costs, total-le (λ v. cond (m v) (fault (kn v) (price v) (r.by v)) 0) price (λ v. fault-le (kn v) (price v) (r.by v) (m v)) 1 (length costs))
 
 -- ---- what a node of a graph is
@@ -70,7 +71,8 @@ pub kids_below : (graph : Graph) (i : ℕ) (n : Node) → IsGraph graph → slic
 kids_below graph i n ok e = below-each i n.kids (fits-get graph.vars graph.nodes i n ok.nodes.fit e).below
 
 pub literal_at : (graph : Graph) (i var : ℕ) (positive : Bool) (kids : List ℕ) → IsGraph graph → slice_get graph.nodes i ≡ Some (record { what = Literal var positive; kids = kids }) → (1 ≤ var) × (var ≤ graph.vars)
-literal_at graph i var positive kids ok e = literal_range graph.vars var positive kids (fits-get graph.vars graph.nodes i _ ok.nodes.fit e).kind
+literal_at graph i var positive kids ok e =
+    let is = literal graph.vars var positive kids (fits-get graph.vars graph.nodes i _ ok.nodes.fit e).kind in (is.low, is.high)
 
 pub few_kids : (graph : Graph) (i : ℕ) (kids : List ℕ) → IsGraph graph → slice_get graph.nodes i ≡ Some (record { what = And; kids = kids }) → length kids < 2 ^ 32
 few_kids graph i kids ok e = and_few graph.vars kids (fits-get graph.vars graph.nodes i _ ok.nodes.fit e).kind

@@ -2,23 +2,22 @@
 use Rattle.std.proofs.Common.{◌≡◌, ◌≢◌, ℕ, zero, suc, ◌+◌, ◌-◌, ◌<◌, ◌≤◌, Bool, true, false, cond, eqb, ◌&&◌, ◌||◌, List, [], ◌∷◌, map, length, get_or, min, All, Option, Some, None, refl, ap, sym, ◌∙◌, subst, arith, inl, inr, ⊎_elim}
 use Rattle.std.specs.Prelude.{◌⊎◌, ◌==◌, slice_get, nat_le, IsSome}
 use Rattle.std.proofs.Math.Seq.{take-length}
-use Rattle.std.proofs.lemmas.Bool.{cases_lt, eqb-true, eq-eqb, leb-true, le-leb, ltb-true, lt-ltb}
+use Rattle.std.proofs.lemmas.Bool.{and_from, cases_lt, eqb-true, eq-eqb, leb-true, le-leb, ltb-true, lt-ltb}
 use Rattle.std.proofs.lemmas.Option.{slice_get-get_or, slice_get_within, get_or_from_slice_get, same_Some}
 use Rattle.ranking.specs.Bits.{bit_in}
 use Rattle.ranking.specs.Values.{values}
 use Rattle.graph_rules.specs.declared.NodeKind.{NodeKind}
 use Rattle.graph_rules.specs.declared.NodeKind.TheVariants.{Literal, And, Or}
 use Rattle.graph_rules.specs.Graphs.{Node, Graph, true_node, node_at, IsGraph}
-use Rattle.graph_rules.proofs.NodesFit.{fits-get}
+use Rattle.graph_rules.proofs.NodesFit.{fits-get, literal}
 use Rattle.conditioner.specs.Words.{known_of}
 use Rattle.conditioner.specs.Models.{least_under, total_cost}
 use Rattle.minimiser.specs.Costs.{part_cost, known_at, cost_at, sum_costs, node_cost, held_cost}
 use Rattle.minimiser.specs.Stored.{cost_in, costs_to, AreLeastCosts}
 use Rattle.minimiser.specs.Suspects.{Suspect, LeastState, OkBelow}
 use Rattle.minimiser.specs.inner.Marked.{IsValue, has_mark, unmarked, IsMarked, is_kid, spread_value, HasMarkedParent, IsSwept, suspect_of, suspect_at}
-use Rattle.minimiser.proofs.Costs.{fault, Below, from_add, and_left, and_right, both}
-use Rattle.minimiser.proofs.Members.{In}
-use Rattle.minimiser.proofs.Apart.{literal_alone}
+use Rattle.minimiser.proofs.Costs.{fault, from_add, and_left, and_right}
+use Rattle.ranking.proofs.Members.{In, AtMost}
 use Rattle.minimiser.proofs.Sums.{cost_in-some, cost_at-map}
 use Rattle.minimiser.proofs.Whole.{AddHeld, least_is, state_of, assignment_of}
 use Rattle.minimiser.proofs.Passes.{value_small, length-least_costs, kids_below, literal_at}
@@ -32,7 +31,7 @@ some-least (Some m) h = (m, refl)
 -- ---- marks of values
 
 mark-in : (v : ℕ) → 2147483648 ≤ v → v < 4294967295 → has_mark v ≡ true
-mark-in v h g = both _ _ (le-leb _ _ h) (lt-ltb _ _ g)
+mark-in v h g = and_from _ _ (le-leb _ _ h) (lt-ltb _ _ g)
 
 mark-out : (v : ℕ) → has_mark v ≡ true → (2147483648 ≤ v) × (v < 4294967295)
 mark-out v e = (leb-true _ _ (and_left _ _ e), ltb-true _ _ (and_right (nat_le 2147483648 v) _ e))
@@ -83,7 +82,7 @@ spread-is kids cost j v = by_test (is_kid kids j && nat_le v cost) refl where
   by_test false e = stays
 
 spread-kid : (kids : List ℕ) (cost j v : ℕ) → is_kid kids j ≡ true → v ≤ cost → spread_value kids cost j v ≡ v + 2147483648
-spread-kid kids cost j v m h = λ i. cond (both _ _ m (le-leb _ _ h) i) (v + 2147483648) v
+spread-kid kids cost j v m h = λ i. cond (and_from _ _ m (le-leb _ _ h) i) (v + 2147483648) v
 
 spread-marked : (kids : List ℕ) (cost j v w : ℕ) → cost < 2147483647 → Spread kids cost j v w → has_mark v ≡ true → has_mark w ≡ true
 spread-marked kids cost j v w small stays e = e
@@ -248,10 +247,10 @@ module _ (graph : Graph) (words costs : List ℕ) (ok : IsGraph graph) (long : l
     kid-useful p k hp hk mp mk kid cheap useful = by_kind (node_at graph.nodes p).what (node_at graph.nodes p).kids (slice_get-get_or graph.nodes p true_node hp) kid where
       by_kind : (what : NodeKind) (kids : List ℕ) → slice_get graph.nodes p ≡ Some (record { what = what; kids = kids }) → is_kid kids k ≡ true → Useful graph words costs ok k
       by_kind (Literal var positive) [] e i = absurd (cc)
-      by_kind (Literal var positive) (x ∷ kids) e i = absurd (omega (arith, literal_alone graph.vars var positive (x ∷ kids) (fits-get graph.vars graph.nodes p _ ok.nodes.fit e).kind))
+      by_kind (Literal var positive) (x ∷ kids) e i = absurd (omega (arith, ap length (literal graph.vars var positive (x ∷ kids) (fits-get graph.vars graph.nodes p _ ok.nodes.fit e).kind).alone))
       by_kind And kids e i = useful-and graph words costs ok p kids (get_or cs p 0) e (cost-of p hp mp) useful k (kid-out kids k i)
       by_kind Or kids e i =
-          let least : get_or cs p 0 ≤ get_or cs k 0 = subst (λ o. Below o (get_or cs k 0)) (sym (costs-at graph words costs ok p _ e) ∙ cost-of p hp mp)
+          let least : get_or cs p 0 ≤ get_or cs k 0 = subst (λ o. AtMost o (get_or cs k 0)) (sym (costs-at graph words costs ok p _ e) ∙ cost-of p hp mp)
           (cheapest-kid (node_least graph words costs) kids k (get_or cs k 0) (kid-out kids k i) (cost-of k hk mk)) in
           let same : get_or cs k 0 ≡ get_or cs p 0 = omega arith in
           useful-or graph words costs ok p kids (get_or cs p 0) e (cost-of p hp mp) useful k (kid-out kids k i) (cost-of k hk mk ∙ ap Some same)
@@ -334,7 +333,7 @@ module _ (graph : Graph) (words costs : List ℕ) (ok : IsGraph graph) (long : l
         (x.node, slice_get_within graph.nodes x.node _ x.is, found x.node x.kids x.is x.marked) where
           found : (k : ℕ) (kids : List ℕ) → slice_get graph.nodes k ≡ Some (record { what = Literal (suc part) false; kids = kids }) → IsMarked xs k → suspect_at graph.nodes words (length costs) xs k ≡ Some part
           found k kids e m =
-              let fits : (nat_le (suc part) (length costs) && (get_or words (suc part - 1) 0 == 0)) ≡ true = both _ _ (le-leb _ _ (omega arith)) (eq-eqb _ 0 (ap (λ j. get_or words j 0) (one_less part) ∙ open_)) in
+              let fits : (nat_le (suc part) (length costs) && (get_or words (suc part - 1) 0 == 0)) ≡ true = and_from _ _ (le-leb _ _ (omega arith)) (eq-eqb _ 0 (ap (λ j. get_or words j 0) (one_less part) ∙ open_)) in
               (λ i. cond (m i) (suspect_of words (length costs) (get_or_from_slice_get graph.nodes k _ true_node e i).what) None)
               ∙ (λ i. cond (fits i) (Some (suc part - 1)) None) ∙ ap Some (one_less part)
 

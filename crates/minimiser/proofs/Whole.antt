@@ -1,33 +1,24 @@
 -- The least cost of the models of a graph is what the costs of its nodes say.
-use Rattle.std.proofs.Common.{◌≡◌, ℕ, zero, suc, ◌+◌, ◌-◌, ◌<◌, ◌≤◌, Bool, true, false, cond, ◌&&◌, List, [], ◌∷◌, ◌++◌, length, take, drop, get_or, Option, Some, None, refl, ap, sym, ◌∙◌, subst, arith, length-drop, ⊎_elim}
+use Rattle.std.proofs.Common.{◌≡◌, ℕ, zero, suc, ◌+◌, ◌-◌, ◌<◌, ◌≤◌, Bool, true, false, cond, ◌&&◌, List, [], ◌∷◌, ◌++◌, length, take, drop, get_or, Option, Some, None, refl, ap, sym, ◌∙◌, subst, arith, length-append, length-drop, ⊎_elim}
 use Rattle.std.specs.Prelude.{option_map}
-use Rattle.std.proofs.lemmas.Bool.{cases_lt, false≢true}
+use Rattle.std.proofs.lemmas.Bool.{and_from, cases_lt}
 use Rattle.std.proofs.lemmas.List.{take-append-drop, length-take-le, get_or_append_left, get_or_past}
 use Rattle.ranking.specs.Bits.{bit_in, lists_of_bits}
-use Rattle.ranking.specs.Cases.{agrees_at, agrees}
+use Rattle.ranking.specs.Cases.{agrees_at}
 use Rattle.ranking.specs.Ranking.{cost, least}
 use Rattle.ranking.specs.Assignments.{Assignment, assignment}
 use Rattle.ranking.specs.Values.{values}
 use Rattle.graph_rules.specs.Graphs.{Graph, mentions, is_true, holds, IsGraph}
-use Rattle.conditioner.specs.Words.{known_of, known}
+use Rattle.ranking.proofs.Members.{In, bits_in, bits_length, any_from, any_in, AtMost, AtMost-le, least-below, least-from}
+use Rattle.graph_rules.proofs.Mentions.{mentioned-range}
+use Rattle.conditioner.specs.Words.{known_of}
 use Rattle.conditioner.specs.Models.{has_model, fits_words, models}
+use Rattle.conditioner.proofs.FittingWords.{fits_words-at, fits_words-from}
 use Rattle.minimiser.specs.Costs.{part_cost, known_at, cost_at, node_cost, held_one, held_cost}
 use Rattle.minimiser.proofs.Totals.{total, total-le}
-use Rattle.minimiser.proofs.Costs.{fault, false_is, IsCost, Below, Below-le, Agrees, faults_in, all_faults, and_left, and_right, both}
+use Rattle.minimiser.proofs.Costs.{fault, false_is, IsCost, Agrees, faults_in, all_faults, and_left, and_right}
 use Rattle.minimiser.proofs.Nodes.{nodes_are}
-use Rattle.minimiser.proofs.Apart.{decomposed, not_outside}
-use Rattle.minimiser.proofs.Members.{In, bits_in, bits_length, any_from, any_in, AtMost, least-below, least-from}
-
-pub agrees_to : (words : List ℕ) (bits : List Bool) → length bits ≡ length words → agrees (known words) bits ≡ true → (i : ℕ) → agrees_at (known_of (get_or words i 0)) (bit_in bits i) ≡ true
-agrees_to [] bits l e i = refl
-agrees_to (w ∷ words) [] l e i = absurd (omega arith)
-agrees_to (w ∷ words) (b ∷ bits) l e zero = and_left _ _ e
-agrees_to (w ∷ words) (b ∷ bits) l e (suc i) = agrees_to words bits (omega arith) (and_right (agrees_at (known_of w) b) _ e) i
-
-pub agrees_from : (words : List ℕ) (bits : List Bool) → length bits ≡ length words → ((i : ℕ) → i < length words → agrees_at (known_of (get_or words i 0)) (bit_in bits i) ≡ true) → agrees (known words) bits ≡ true
-agrees_from [] bits l h = refl
-agrees_from (w ∷ words) [] l h = absurd (omega arith)
-agrees_from (w ∷ words) (b ∷ bits) l h = both _ _ (h zero (omega arith)) (agrees_from words bits (omega arith) (λ i g. h (suc i) (omega arith)))
+use Rattle.minimiser.proofs.Apart.{decomposed}
 
 pub bit_in-front : (xs ys : List Bool) (i : ℕ) → i < length xs → bit_in (xs ++ ys) i ≡ bit_in xs i
 bit_in-front xs ys i h = get_or_append_left xs ys false i h
@@ -106,10 +97,6 @@ from_bounds (Some k) n h low = let l = low k refl in ap Some (omega arith)
 less_one : (i : ℕ) → i ≡ 1 + i - 1
 less_one i = omega arith
 
-pub AtMost-le : (o : Option ℕ) (n m : ℕ) → AtMost o n → n ≤ m → AtMost o m
-AtMost-le None n m h e = h
-AtMost-le (Some c) n m h e = omega arith
-
 is_none_of : (o : Option ℕ) → ((k : ℕ) → o ≡ Some k → ⊥) → o ≡ None
 is_none_of None h = refl
 is_none_of (Some k) h = absurd (h k refl)
@@ -149,39 +136,30 @@ module _ (graph : Graph) (words costs : List ℕ) (ok : IsGraph graph) (long : l
               one_more = omega arith
 
   all_bits : (bits others : List Bool) → length bits ≡ length costs → length others ≡ graph.vars - length costs → length (bits ++ others) ≡ length words
-  all_bits bits others l m = omega (arith, length-append' bits others) where
-    length-append' : (xs ys : List Bool) → length (xs ++ ys) ≡ length xs + length ys
-    length-append' [] ys = omega arith
-    length-append' (x ∷ xs) ys = omega (arith, length-append' xs ys)
+  all_bits bits others l m = omega (arith, length-append bits others)
 
   cost_of : (bits others : List Bool) → length bits ≡ length costs → length others ≡ graph.vars - length costs → fits_words words (bits ++ others) ≡ true
       → cost costs bits ≡ held + all_faults kn price (length costs) (assignment (bits ++ others))
   cost_of bits others l m ag = cost_by_bits bits (assignment (bits ++ others)) l
       (λ i h. sym (ap (bit_in (bits ++ others)) (sym (less_one i)) ∙ bit_in-front bits others i (omega arith)))
-      (λ i h. ap (agrees_at (known_of (get_or words i 0))) (sym (bit_in-front bits others i (omega arith))) ∙ agrees_to words (bits ++ others) (all_bits bits others l m) ag i)
+      (λ i h. ap (agrees_at (known_of (get_or words i 0))) (sym (bit_in-front bits others i (omega arith))) ∙ fits_words-at words (bits ++ others) (all_bits bits others l m) ag i)
 
   abbrev is_model : List Bool → List Bool → Bool
   is_model bits others = fits_words words (bits ++ others) && holds graph (bits ++ others)
 
   -- a model has at least the cost
   model_bound : (bits others : List Bool) → length bits ≡ length costs → length others ≡ graph.vars - length costs → is_model bits others ≡ true
-      → (held ≤ cost costs bits) × Below root_cost (cost costs bits - held)
+      → (held ≤ cost costs bits) × AtMost root_cost (cost costs bits - held)
   model_bound bits others l m is =
       let ag : fits_words words (bits ++ others) ≡ true = and_left _ _ is in
       let a : Assignment = assignment (bits ++ others) in
-      let b : Below root_cost (faults_in kn price (length costs) (λ v. mentions graph.nodes v root) a) =
-      root_is.bound a (λ v. agrees_to words (bits ++ others) (all_bits bits others l m) ag (v - 1)) (and_right (fits_words words (bits ++ others)) _ is) in
+      let b : AtMost root_cost (faults_in kn price (length costs) (λ v. mentions graph.nodes v root) a) =
+      root_is.bound a (λ v. fits_words-at words (bits ++ others) (all_bits bits others l m) ag (v - 1)) (and_right (fits_words words (bits ++ others)) _ is) in
       let e = cost_of bits others l m ag in (
         omega arith,
-        Below-le root_cost _ (cost costs bits - held) b
+        AtMost-le root_cost _ (cost costs bits - held) b
             (omega (arith, total-le _ _ (λ v. le_cond (mentions graph.nodes v root) (fault (kn v) (price v) (a v))) 1 (length costs))),
       )
-
-  in_range : (v : ℕ) → mentions graph.nodes v root ≡ true → (1 ≤ v) × (v ≤ graph.vars)
-  in_range v m = (
-    ⊎_elim (λ h. omega arith) (λ h. absurd (false≢true (sym (not_outside v graph.vars graph.nodes ok.nodes.fit root (λ p q. omega arith)) ∙ m))) (cases_lt 0 v),
-    ⊎_elim (λ h. absurd (false≢true (sym (not_outside v graph.vars graph.nodes ok.nodes.fit root (λ p q. omega arith)) ∙ m))) (λ h. h) (cases_lt graph.vars v),
-  )
 
   abbrev fewest : Option ℕ
   fewest = least costs (models graph words (length costs))
@@ -205,18 +183,18 @@ module _ (graph : Graph) (words costs : List ℕ) (ok : IsGraph graph) (long : l
       let o_long : length others ≡ graph.vars - length costs = omega (arith, length-drop (length costs) full) in
       let ag : fits_words words full ≡ true = full_agrees a agree in
       let tr : truth_of (assignment full) ≡ true = full_true a ∙ true_at in
-      let m : is_model bits others ≡ true = subst (λ xs. (fits_words words xs && holds graph xs) ≡ true) (sym joins) (both _ _ ag tr) in
+      let m : is_model bits others ≡ true = subst (λ xs. (fits_words words xs && holds graph xs) ≡ true) (sym joins) (and_from _ _ ag tr) in
       let passes : has_model graph (fits_words words) (length costs) bits ≡ true = any_in (is_model bits) others _ (subst (λ n. In others (lists_of_bits n)) o_long (bits_in others)) m in
       let same : (i : ℕ) → i < length costs → bit_in bits i ≡ a (1 + i) = λ i h. sym (bit_in-front bits others i (omega arith)) ∙ ap (λ xs. bit_in xs i) joins ∙ bit_in-bits_from a 1 graph.vars i (omega arith) in
       let f : cost costs bits ≡ held + all_faults kn price (length costs) a = cost_by_bits bits a h_long same
-      (λ i h. ap (agrees_at (known_of (get_or words i 0))) (sym (ap (λ xs. bit_in xs i) (sym joins) ∙ bit_in-front bits others i (omega arith))) ∙ agrees_to words full (full_long ∙ sym long) ag i) in
+      (λ i h. ap (agrees_at (known_of (get_or words i 0))) (sym (ap (λ xs. bit_in xs i) (sym joins) ∙ bit_in-front bits others i (omega arith))) ∙ fits_words-at words full (full_long ∙ sym long) ag i) in
       record { state = bits; long_state = h_long; model = passes; cost_is = f; bits = same } where
         full_agrees : (a : Assignment) → Agrees kn price (length costs) a → fits_words words (bits_from a 1 graph.vars) ≡ true
-        full_agrees a ag = agrees_from words (bits_from a 1 graph.vars) (length-bits_from a 1 graph.vars ∙ sym long)
-            (λ i h. rw (bit_in-bits_from a 1 graph.vars i (omega arith)) (subst (λ j. agrees_at (known_of (get_or words j 0)) (a (1 + i)) ≡ true) (sym (less_one i)) (ag (1 + i))))
+        full_agrees a ag = fits_words-from words (bits_from a 1 graph.vars)
+            (λ i h. rw (bit_in-bits_from a 1 graph.vars i (omega (arith, h, length-bits_from a 1 graph.vars))) (subst (λ j. agrees_at (known_of (get_or words j 0)) (a (1 + i)) ≡ true) (sym (less_one i)) (ag (1 + i))))
 
         full_true : (a : Assignment) → truth_of (assignment (bits_from a 1 graph.vars)) ≡ truth_of a
-        full_true a = root_is.local _ a (λ v m. let h = in_range v m in bit_in-bits_from a 1 graph.vars (v - 1) (omega (arith, h.0, h.1)) ∙ ap a (omega (arith, h.0, h.1)))
+        full_true a = root_is.local _ a (λ v m. let h = mentioned-range graph.vars graph.nodes v root ok.nodes.fit m in bit_in-bits_from a 1 graph.vars (v - 1) (omega (arith, h.low, h.high)) ∙ ap a (omega (arith, h.low, h.high)))
 
   -- a cost has a model
   cost_has : (c : ℕ) → root_cost ≡ Some c → AtMost fewest (held + c)
@@ -240,7 +218,7 @@ module _ (graph : Graph) (words costs : List ℕ) (ok : IsGraph graph) (long : l
       let len : length r.item ≡ graph.vars - length costs = bits_length (graph.vars - length costs) r.item r.is_in in
       let ag : fits_words words (h ++ r.item) ≡ true = and_left _ _ r.passes in record {
         by = assignment (h ++ r.item);
-        agrees = λ v. agrees_to words (h ++ r.item) (all_bits h r.item l len) ag (v - 1);
+        agrees = λ v. fits_words-at words (h ++ r.item) (all_bits h r.item l len) ag (v - 1);
         holds = and_right (fits_words words (h ++ r.item)) _ r.passes;
         cost_is = cost_of h r.item l len ag;
         bits = λ i g. sym (bit_in-front h r.item i (omega arith)) ∙ ap (bit_in (h ++ r.item)) (less_one i);
@@ -249,15 +227,15 @@ module _ (graph : Graph) (words costs : List ℕ) (ok : IsGraph graph) (long : l
   -- The least cost of a model is that of the held parts and of the root.
   pub least_is : fewest ≡ AddHeld held root_cost
   least_is = by_cost root_cost refl where
-    of_state : (k : ℕ) → fewest ≡ Some k → (held ≤ k) × Below root_cost (k - held)
+    of_state : (k : ℕ) → fewest ≡ Some k → (held ≤ k) × AtMost root_cost (k - held)
     of_state k e =
         let s = least-from (cost costs) (has_model graph (fits_words words) (length costs)) k (lists_of_bits (length costs)) e in
         let long_enough : length s.item ≡ length costs = bits_length (length costs) s.item s.is_in in
         let m = any_from (is_model s.item) (lists_of_bits (graph.vars - length costs)) s.passes in
-        subst (λ n. (held ≤ n) × Below root_cost (n - held)) s.is_size
+        subst (λ n. (held ≤ n) × AtMost root_cost (n - held)) s.is_size
         (model_bound s.item m.item long_enough (bits_length (graph.vars - length costs) m.item m.is_in) m.passes)
 
     by_cost : (o : Option ℕ) → root_cost ≡ o → fewest ≡ AddHeld held o
-    by_cost None e = is_none_of _ (λ k h. subst (λ c. Below c (k - held)) e (of_state k h).1)
+    by_cost None e = is_none_of _ (λ k h. subst (λ c. AtMost c (k - held)) e (of_state k h).1)
     by_cost (Some c) e = from_bounds _ (held + c) (cost_has c e)
-        (λ k h. let p = of_state k h in let q : c ≤ k - held = subst (λ c. Below c (k - held)) e p.1 in omega (arith, q, p.0))
+        (λ k h. let p = of_state k h in let q : c ≤ k - held = subst (λ c. AtMost c (k - held)) e p.1 in omega (arith, q, p.0))

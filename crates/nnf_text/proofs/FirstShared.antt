@@ -8,7 +8,7 @@ use Rattle.graph_rules.specs.Graphs.{Node, Graph, node_at, mentions, apart_at, n
 use Rattle.graph_rules.specs.GraphTexts.{Shared, read_unless, shares, shared_at, node_shared, all_shared, checked}
 use Rattle.nnf_text.specs.inner.Sharing.{AreVariables, first_of, FirstOf}
 use Rattle.nnf_text.proofs.Options.{chosen, none≢some}
-use Rattle.nnf_text.proofs.Mentions.{IsUsed-shared, IsUsed-range}
+use Rattle.graph_rules.proofs.Mentions.{IsUsed-shared, IsUsed-range}
 use Rattle.nnf_text.proofs.Sparse.{Rises-from, find-sparse}
 
 -- ---- all variables, by those that literals have

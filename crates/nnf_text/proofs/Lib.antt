@@ -3,7 +3,6 @@ pub mod ReadTexts
 pub mod LineSteps
 pub mod LineTexts
 pub mod ReadingBack
-pub mod Mentions
 pub mod Sparse
 pub mod Bits
 pub mod Marking

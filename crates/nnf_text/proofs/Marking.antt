@@ -15,7 +15,7 @@ use Rattle.graph_rules.proofs.NodeValues.{map-below, below-each, value_of-at}
 use Rattle.graph_rules.proofs.NodesFit.{fits-at, apart_at-below}
 use Rattle.nnf_text.specs.inner.Sharing.{has_bit, has, IsWord, first_of, IsFirstOf, FirstOf, earlier}
 use Rattle.nnf_text.proofs.Bits.{has_bit-zero}
-use Rattle.nnf_text.proofs.Mentions.{unshared-0}
+use Rattle.graph_rules.proofs.Mentions.{unshared-0}
 use Rattle.nnf_text.proofs.Sparse.{find-none_at, find-first_at}
 
 -- kids of the node of a number share a variable

@@ -2,3 +2,4 @@
 pub mod Flat
 pub mod Keeping
 pub mod Freezing
+pub mod Nearby

@@ -3,6 +3,7 @@
 
 mod flat;
 mod graph;
+mod nearby;
 mod store;
 #[cfg(test)]
 mod tests;

@@ -9,6 +9,7 @@ ghost use Rattle.node_store.specs.inner.Freezing.{AreBefore, IsBelow, IsClosed, 
 
 use crate::flat::Nodes;
 use crate::graph::Graph;
+use crate::nearby::Nearby;
 use graph_rules::{CHILD_LIMIT, NodeKind};
 use indexmap::IndexSet;
 use smallvec::SmallVec;
@@ -34,7 +35,7 @@ struct Kept {
 /// Nodes that are shared: each stands once, and its number is its place.
 #[derive(Debug, Drop)]
 pub struct Store {
-    nodes: IndexSet<Kept>,
+    nodes: IndexSet<Kept, Nearby>,
     vars: u32,
     made: u64,
     handed: u64,
@@ -60,7 +61,7 @@ impl Store {
             ≡ record { nodes = literals vars; vars = vars; made = 0; handed = 0 }) }
         ensures valid { IfOk result IsStore }
     {
-        let mut nodes = IndexSet::new(alloc);
+        let mut nodes = IndexSet::with_hasher(alloc, Nearby);
         for before in 0..vars {
             add_literal(alloc, &mut nodes, before + 1, true)?;
             add_literal(alloc, &mut nodes, before + 1, false)?;
@@ -183,7 +184,7 @@ impl Store {
 // Adds a node unless it is there, and gives its place.
 fn insert(
     alloc: Global,
-    nodes: &mut IndexSet<Kept>,
+    nodes: &mut IndexSet<Kept, Nearby>,
     what: NodeKind,
     kids: &[u32],
 ) -> Result<usize, AllocError>
@@ -212,7 +213,7 @@ fn kept_kids(alloc: Global, kids: &[u32]) -> Result<Kids, AllocError>
 // Adds a literal that is not there yet.
 fn add_literal(
     alloc: Global,
-    nodes: &mut IndexSet<Kept>,
+    nodes: &mut IndexSet<Kept, Nearby>,
     var: u32,
     positive: bool,
 ) -> Result<(), AllocError>

@@ -2,14 +2,15 @@
 use Rattle.std.proofs.Common.{◌≡◌, ℕ, zero, suc, ◌<◌, ◌≤◌, Bool, true, false, not, cond, ◌&&◌, ◌||◌, List, [], ◌∷◌, map, length, get_or, Some, None, refl, ap, sym, ◌∙◌, subst, inl, inr}
 use Rattle.std.specs.Prelude.{◌↔◌, ◌==◌, slice_get}
 use Rattle.std.specs.List.{list_all, list_any}
-use Rattle.std.proofs.lemmas.Bool.{false≢true, eqb-true, eq-eqb}
+use Rattle.std.proofs.Math.Bool.{and-false}
+use Rattle.std.proofs.lemmas.Bool.{and_from, false≢true, eqb-true, eq-eqb}
 use Rattle.ranking.specs.Bits.{bit_in, same_bit}
 use Rattle.ranking.specs.Ranking.{least, passing, diagnoses}
+use Rattle.ranking.proofs.Lists.{list_any-map}
+use Rattle.ranking.proofs.Members.{In, any_in}
 use Rattle.graph_rules.specs.Graphs.{Graph}
 use Rattle.conditioner.specs.Models.{has_model, fits_words, models, least_under, diagnoses_under}
 use Rattle.minimiser.specs.Suspects.{Passes, Suspect}
-use Rattle.minimiser.proofs.Costs.{both}
-use Rattle.minimiser.proofs.Members.{In}
 use Rattle.minimiser.proofs.Models.{Agree, Agree-bit, Passes-agrees, LeastIs, least-some, least-none, diagnosis-in, diagnosis-out}
 use Rattle.diagnosis_lister.proofs.Fixing.{least-passes, passes-least}
 use Rattle.probe_report.specs.declared.verdicts.Blame.{Blame}
@@ -26,23 +27,15 @@ module _ (f : List Bool → Bool) where
 
   all-true : (ds : List (List Bool)) → ((d : List Bool) → In d ds → f d ≡ true) → list_all id (map f ds) ≡ true
   all-true [] h = refl
-  all-true (d ∷ ds) h = both _ _ (h d (inl refl)) (all-true ds (λ x m. h x (inr m)))
+  all-true (d ∷ ds) h = and_from _ _ (h d (inl refl)) (all-true ds (λ x m. h x (inr m)))
 
   all-false : (ds : List (List Bool)) (d : List Bool) → In d ds → f d ≡ false → list_all id (map f ds) ≡ false
   all-false [] d m e = absurd m
   all-false (x ∷ ds) d (inl q) e = ap (λ b. b && list_all id (map f ds)) (ap f (sym q) ∙ e)
-  all-false (x ∷ ds) d (inr r) e = ap (λ b. f x && b) (all-false ds d r e) ∙ none (f x) where
-    none : (b : Bool) → (b && false) ≡ false
-    none true = refl
-    none false = refl
+  all-false (x ∷ ds) d (inr r) e = ap (λ b. f x && b) (all-false ds d r e) ∙ and-false (f x)
 
   any-true : (ds : List (List Bool)) (d : List Bool) → In d ds → f d ≡ true → list_any id (map f ds) ≡ true
-  any-true [] d m e = absurd m
-  any-true (x ∷ ds) d (inl q) e = ap (λ b. b || list_any id (map f ds)) (ap f (sym q) ∙ e)
-  any-true (x ∷ ds) d (inr r) e = ap (λ b. f x || b) (any-true ds d r e) ∙ some (f x) where
-    some : (b : Bool) → (b || true) ≡ true
-    some true = refl
-    some false = refl
+  any-true ds d m e = list_any-map id f ds ∙ any_in f d ds m e
 
   any-false : (ds : List (List Bool)) → ((d : List Bool) → In d ds → f d ≡ false) → list_any id (map f ds) ≡ false
   any-false [] h = refl

@@ -1,81 +1,25 @@
 -- One more bit is asked of the states.
-use Rattle.std.proofs.Common.{◌≡◌, ℕ, zero, suc, ◌-◌, ◌<◌, ◌≤◌, Bool, true, false, not, cond, ◌&&◌, ◌||◌, List, [], ◌∷◌, ◌++◌, length, get_or, set, Option, Some, None, refl, ap, sym, ◌∙◌, subst, arith, inl, inr, ⊎_elim, length-append}
-use Rattle.std.specs.List.{list_any, filter}
+use Rattle.std.proofs.Common.{◌≡◌, ℕ, zero, suc, ◌-◌, ◌<◌, ◌≤◌, Bool, true, false, not, ◌&&◌, List, [], ◌++◌, length, get_or, set, Option, Some, None, refl, ap, sym, ◌∙◌, subst, arith, ⊎_elim}
 use Rattle.std.proofs.Math.ListN.{length-set}
-use Rattle.std.proofs.lemmas.Bool.{false≢true}
+use Rattle.std.proofs.lemmas.Bool.{and_from}
 use Rattle.std.proofs.lemmas.Grind.{same_number_lists}
 use Rattle.std.proofs.lemmas.List.{get_or-set_same, get_or-set_other}
 use Rattle.ranking.specs.Bits.{bit_in, same_bit, lists_of_bits}
-use Rattle.ranking.specs.Cases.{agrees_at}
 use Rattle.ranking.specs.Ranking.{Test, cost, least, states, passing}
+use Rattle.ranking.proofs.Bits.{same_bit-refl, same_bit-equal}
+use Rattle.ranking.proofs.Members.{In, bits_in, bits_length, any_from, any_in, least-below, least-from, AtMost-le}
 use Rattle.graph_rules.specs.Graphs.{Graph, holds}
 use Rattle.conditioner.specs.declared.leaves.Leaf.TheVariants.{True, False, Open}
 use Rattle.conditioner.specs.Words.{known_of, word_of, leaf_of}
 use Rattle.conditioner.specs.Models.{has_model, fits_words, models, models_with}
+use Rattle.conditioner.proofs.FittingWords.{known_of-word_of, known-at}
+use Rattle.conditioner.proofs.ModelsWith.{with_bit-open, with_bit-known, with_bit-other}
 use Rattle.minimiser.specs.Suspects.{Passes}
-use Rattle.minimiser.proofs.Costs.{and_left, and_right, both}
-use Rattle.minimiser.proofs.Members.{In, In-filter, empty-none, bits_in, bits_length, any_from, any_in, least-below, least-from}
-use Rattle.minimiser.proofs.Whole.{agrees_to, bit_in-front, from_bounds, AtMost-le}
+use Rattle.minimiser.proofs.Costs.{and_left, and_right}
+use Rattle.minimiser.proofs.Whole.{bit_in-front, from_bounds}
 use Rattle.minimiser.proofs.Models.{LeastIs, least-low, same_or_not}
 
--- ---- tests that agree
-
-filter-same : {A : Type 0} (p q : A → Bool) (xs : List A) → ((x : A) → In x xs → p x ≡ q x) → filter p xs ≡ filter q xs
-filter-same p q [] h = refl
-filter-same p q (x ∷ xs) h = λ i. cond (h x (inl refl) i) (x ∷ filter-same p q xs (λ y m. h y (inr m)) i) (filter-same p q xs (λ y m. h y (inr m)) i)
-
-any-same : {A : Type 0} (p q : A → Bool) (xs : List A) → ((x : A) → In x xs → p x ≡ q x) → list_any p xs ≡ list_any q xs
-any-same p q [] h = refl
-any-same p q (x ∷ xs) h = λ i. h x (inl refl) i || any-same p q xs (λ y m. h y (inr m)) i
-
--- tests that agree on all bits of the variables leave the same states
-states-same : (graph : Graph) (costs : List ℕ) (p q : Test) → length costs ≤ graph.vars → ((bits : List Bool) → length bits ≡ graph.vars → p bits ≡ q bits) → passing (length costs) (has_model graph p (length costs)) ≡ passing (length costs) (has_model graph q (length costs))
-states-same graph costs p q within h = filter-same (has_model graph p (length costs)) (has_model graph q (length costs)) (states (length costs)) (λ x m.
-    any-same (λ others. p (x ++ others) && holds graph (x ++ others)) (λ others. q (x ++ others) && holds graph (x ++ others)) (lists_of_bits (graph.vars - length costs)) (λ y n.
-    ap (λ b. b && holds graph (x ++ y)) (h (x ++ y) (omega (arith, length-append x y, bits_length (length costs) x m, bits_length (graph.vars - length costs) y n)))))
-
 -- ---- a literal under the words
-
-and_swap : (a b : Bool) → (b && a) ≡ (a && b)
-and_swap true true = refl
-and_swap true false = refl
-and_swap false true = refl
-and_swap false false = refl
-
-and_assoc : (a b c : Bool) → (a && (b && c)) ≡ ((a && b) && c)
-and_assoc true b c = refl
-and_assoc false b c = refl
-
--- an open variable is fixed
-fits-set : (words : List ℕ) (bits : List Bool) (i : ℕ) (b : Bool) → i < length words → length bits ≡ length words → get_or words i 0 ≡ 0
-    → fits_words (set words i (word_of b)) bits ≡ (fits_words words bits && same_bit b (bit_in bits i))
-fits-set [] bits i b h l e = absurd (omega arith)
-fits-set (w ∷ words) [] i b h l e = absurd (omega arith)
-fits-set (w ∷ words) (x ∷ bits) zero b h l e = says b ∙ and_swap (fits_words words bits) (same_bit b x) ∙ (λ i. (agrees_at (known_of (sym e i)) x && fits_words words bits) && same_bit b x) where
-  says : (b : Bool) → (agrees_at (known_of (word_of b)) x && fits_words words bits) ≡ (same_bit b x && fits_words words bits)
-  says true = refl
-  says false = refl
-fits-set (w ∷ words) (x ∷ bits) (suc i) b h l e = ap (λ t. agrees_at (known_of w) x && t) (fits-set words bits i b (omega arith) (omega arith) e) ∙ and_assoc (agrees_at (known_of w) x) (fits_words words bits) (same_bit b (bit_in bits i))
-
--- a variable that is fixed to the bit
-fits-true : (words : List ℕ) (bits : List Bool) (i : ℕ) (b : Bool) → length bits ≡ length words → known_of (get_or words i 0) ≡ Some b → fits_words words bits ≡ (fits_words words bits && same_bit b (bit_in bits i))
-fits-true words bits i b l e = by_test (fits_words words bits) refl where
-  by_test : (t : Bool) → fits_words words bits ≡ t → t ≡ (t && same_bit b (bit_in bits i))
-  by_test true q = sym (subst (λ k. agrees_at k (bit_in bits i) ≡ true) e (agrees_to words bits l q i))
-  by_test false q = refl
-
--- a variable that is fixed to the other bit
-fits-false : (words : List ℕ) (bits : List Bool) (i : ℕ) (b : Bool) → length bits ≡ length words → known_of (get_or words i 0) ≡ Some (not b) → (fits_words words bits && same_bit b (bit_in bits i)) ≡ false
-fits-false words bits i b l e = by_test (fits_words words bits) refl where
-  other : (b x : Bool) → same_bit (not b) x ≡ true → same_bit b x ≡ false
-  other true true q = absurd (cc)
-  other true false q = refl
-  other false true q = refl
-  other false false q = absurd (cc)
-
-  by_test : (t : Bool) → fits_words words bits ≡ t → (t && same_bit b (bit_in bits i)) ≡ false
-  by_test true q = other b (bit_in bits i) (subst (λ k. agrees_at k (bit_in bits i) ≡ true) e (agrees_to words bits l q i))
-  by_test false q = refl
 
 leaf-true : (b : Bool) (k : Option Bool) → True ≡ leaf_of b k → k ≡ Some b
 leaf-true b None e = absurd (cc)
@@ -102,18 +46,17 @@ module _ (graph : Graph) (words costs : List ℕ) (var : ℕ) (bit : Bool) (long
   abbrev i : ℕ
   i = var - 1
 
+  inside : i < graph.vars
+  inside = omega (arith, low, high)
+
   pub with-true : True ≡ leaf_of bit (known_of (get_or words i 0)) → models graph words (length costs) ≡ models_with graph words (length costs) var bit
-  with-true e = states-same graph costs _ _ within (λ bits l. fits-true words bits i bit (l ∙ sym long) (leaf-true bit _ e))
+  with-true e = sym (with_bit-known graph words (length costs) i bit long within inside (known-at words i ∙ leaf-true bit _ e))
 
   pub with-open : Open ≡ leaf_of bit (known_of (get_or words i 0)) → models graph (set words i (word_of bit)) (length costs) ≡ models_with graph words (length costs) var bit
-  with-open e = states-same graph costs _ _ within (λ bits l. fits-set words bits i bit (omega arith) (l ∙ sym long) (leaf-open bit _ e))
+  with-open e = sym (with_bit-open graph words (length costs) i bit long within inside (word_of bit) (known_of-word_of bit) (known-at words i ∙ ap known_of (leaf-open bit _ e)))
 
   pub with-false : False ≡ leaf_of bit (known_of (get_or words i 0)) → models_with graph words (length costs) var bit ≡ []
-  with-false e = empty-none (models_with graph words (length costs) var bit) (λ h m.
-      let r = In-filter (has_model graph (λ bits. fits_words words bits && same_bit bit (bit_in bits i)) (length costs)) h (states (length costs)) m in
-      let s = any_from (λ others. (fits_words words (h ++ others) && same_bit bit (bit_in (h ++ others) i)) && holds graph (h ++ others)) (lists_of_bits (graph.vars - length costs)) r.1 in
-      false≢true (sym (fits-false words (h ++ s.item) i bit (omega (arith, length-append h s.item, bits_length (length costs) h r.0, bits_length (graph.vars - length costs) s.item s.is_in)) (leaf-false bit _ e))
-      ∙ and_left _ _ s.passes))
+  with-false e = with_bit-other graph words (length costs) i bit long within inside (known-at words i ∙ leaf-false bit _ e)
 
 -- an open variable that was fixed is open again
 pub loose-again : (words : List ℕ) (i word : ℕ) → i < length words → get_or words i 0 ≡ 0 → set (set words i word) i 0 ≡ words
@@ -128,30 +71,20 @@ module _ (graph : Graph) (words costs : List ℕ) (i : ℕ) (bit : Bool) (lt : i
   abbrev with_bit : Test
   with_bit = has_model graph (λ bits. fits_words words bits && same_bit bit (bit_in bits i)) (length costs)
 
-  same-bit : (b x : Bool) → same_bit b x ≡ true → x ≡ b
-  same-bit true true e = refl
-  same-bit true false e = absurd (cc)
-  same-bit false true e = absurd (cc)
-  same-bit false false e = refl
-
-  bit-same : (x : Bool) → same_bit x x ≡ true
-  bit-same true = refl
-  bit-same false = refl
-
   with-out : (h : List Bool) → length h ≡ length costs → with_bit h ≡ true → (has_model graph (fits_words words) (length costs) h ≡ true) × (bit_in h i ≡ bit)
   with-out h l e =
       let s = any_from (λ others. (fits_words words (h ++ others) && same_bit bit (bit_in (h ++ others) i)) && holds graph (h ++ others)) (lists_of_bits (graph.vars - length costs)) e in
       let a = and_left _ _ s.passes in (
         any_in (λ others. fits_words words (h ++ others) && holds graph (h ++ others)) s.item (lists_of_bits (graph.vars - length costs)) s.is_in
-            (both _ _ (and_left _ _ a) (and_right (fits_words words (h ++ s.item) && same_bit bit (bit_in (h ++ s.item) i)) _ s.passes)),
-        sym (bit_in-front h s.item i (omega arith)) ∙ same-bit bit (bit_in (h ++ s.item) i) (and_right (fits_words words (h ++ s.item)) _ a),
+            (and_from _ _ (and_left _ _ a) (and_right (fits_words words (h ++ s.item) && same_bit bit (bit_in (h ++ s.item) i)) _ s.passes)),
+        sym (bit_in-front h s.item i (omega arith)) ∙ sym (same_bit-equal bit (bit_in (h ++ s.item) i) (and_right (fits_words words (h ++ s.item)) _ a)),
       )
 
   with-in : (h : List Bool) → length h ≡ length costs → has_model graph (fits_words words) (length costs) h ≡ true → bit_in h i ≡ bit → with_bit h ≡ true
   with-in h l e f =
       let s = any_from (λ others. fits_words words (h ++ others) && holds graph (h ++ others)) (lists_of_bits (graph.vars - length costs)) e in
       any_in (λ others. (fits_words words (h ++ others) && same_bit bit (bit_in (h ++ others) i)) && holds graph (h ++ others)) s.item (lists_of_bits (graph.vars - length costs)) s.is_in
-      (both _ _ (both _ _ (and_left _ _ s.passes) (subst (λ x. same_bit bit x ≡ true) (sym (bit_in-front h s.item i (omega arith) ∙ f)) (bit-same bit)))
+      (and_from _ _ (and_from _ _ (and_left _ _ s.passes) (subst (λ x. same_bit bit x ≡ true) (sym (bit_in-front h s.item i (omega arith) ∙ f)) (same_bit-refl bit)))
       (and_right (fits_words words (h ++ s.item)) _ s.passes))
 
   -- some diagnosis has the bit

@@ -5,6 +5,7 @@ use Rattle.std.specs.List.{list_any}
 use Rattle.std.proofs.lemmas.Bool.{and_parts, ltb-true, cases_lt, or_cases, or_left, or_right}
 use Rattle.graph_rules.specs.Graphs.{at_most_one}
 use Rattle.graph_rules.proofs.NodeValues.{are_below}
+use Rattle.graph_rules.proofs.Kids.{at_most_one-tail, not_both}
 
 -- where a fact holds of a number as soon as it holds of those below it, it holds of all below n
 pub each_below : (P : ℕ → Type 0) (n : ℕ) → ((i : ℕ) → i < n → ((k : ℕ) → k < i → P k) → P i) → (m : ℕ) → m ≤ n → (k : ℕ) → k < m → P k
@@ -27,23 +28,6 @@ any_more Q f g own (kid ∷ kids) below more any =
     (or_cases (f kid) (list_any (λ b. b) (map f kids)) any)
 
 -- ---- at most one of them
-
-not-true : (x : Bool) → not x ≡ true → x ≡ false
-not-true true e = absurd (let no : false ≡ true = e in cc)
-not-true false e = refl
-
-at_most_one-none : (bs : List Bool) → list_any (λ b. b) bs ≡ false → at_most_one bs ≡ true
-at_most_one-none [] none = refl
-at_most_one-none (true ∷ bs) none = absurd (let no : true ≡ false = none in cc)
-at_most_one-none (false ∷ bs) none = at_most_one-none bs none
-
-pub at_most_one-tail : (b : Bool) (bs : List Bool) → at_most_one (b ∷ bs) ≡ true → at_most_one bs ≡ true
-at_most_one-tail true bs e = at_most_one-none bs (not-true _ e)
-at_most_one-tail false bs e = e
-
-pub not_both : (b : Bool) (bs : List Bool) → at_most_one (b ∷ bs) ≡ true → (b && list_any (λ x. x) bs) ≡ false
-not_both true bs e = not-true _ e
-not_both false bs e = refl
 
 pub at_most_one-from : (b : Bool) (bs : List Bool) → (list_any (λ x. x) bs ≡ true → b ≡ false) → at_most_one bs ≡ true → at_most_one (b ∷ bs) ≡ true
 at_most_one-from true bs h e = ap not (off (list_any (λ x. x) bs) h) where

@@ -1,4 +1,3 @@
-mod Bits
 mod Examples
 mod HeldLiterals
 mod Kids

@@ -1,11 +1,11 @@
 -- What a literal becomes: when it is true, which variables it mentions, and that it fits.
 use Rattle.std.proofs.Common.{◌≡◌, ℕ, suc, ◌-◌, ◌≤◌, Bool, true, false, cond, ◌==◌, ◌&&◌, List, [], length, Option, Some, None, refl, sym, ap, ◌∙◌, arith}
 use Rattle.std.specs.Prelude.{nat_lt, nat_le}
-use Rattle.std.proofs.lemmas.Bool.{and_parts, and_from, eqb-true, leb-true, le-leb}
-use Rattle.std.proofs.lemmas.List.{nil_from_length}
+use Rattle.std.proofs.lemmas.Bool.{and_parts, and_from, eqb-true, le-leb}
 use Rattle.ranking.specs.Bits.{same_bit}
 use Rattle.ranking.specs.Assignments.{Assignment}
 use Rattle.ranking.specs.Cases.{agrees_at}
+use Rattle.ranking.proofs.Bits.{same_bit-swap}
 use Rattle.graph_rules.specs.declared.NodeKind.{NodeKind}
 use Rattle.graph_rules.specs.declared.NodeKind.TheVariants.{Literal, And, Or}
 use Rattle.graph_rules.specs.Graphs.{truth_by, mention_by, kind_fits}
@@ -13,19 +13,6 @@ use Rattle.graph_rules.specs.GraphTexts.{variable_fits}
 use Rattle.conditioner.specs.declared.leaves.Leaf.TheVariants.{True, False}
 use Rattle.conditioner.specs.Words.{leaf_of}
 use Rattle.projector.specs.Projecting.{projected_literal}
-use Rattle.projector.proofs.Bits.{same_bit-swap}
-
--- a literal of a graph has no kids, and a variable that is there
-pub record IsLiteral (vars var : ℕ) (kids : List ℕ) : Type 0 where
-  pub alone : kids ≡ []
-  pub low : 1 ≤ var
-  pub high : var ≤ vars
-
-pub literal : (vars var : ℕ) (positive : Bool) (kids : List ℕ) → kind_fits vars (Literal var positive) kids ≡ true → IsLiteral vars var kids
-literal vars var positive kids fits =
-    let parts = and_parts (length kids == 0) (nat_le 1 var && nat_le var vars) fits in
-    let range = and_parts (nat_le 1 var) (nat_le var vars) parts.1 in
-    record { alone = nil_from_length kids (eqb-true (length kids) 0 parts.0); low = leb-true 1 var range.0; high = leb-true var vars range.1 }
 
 pub variable_fits-from : (vars : ℕ) (kind : NodeKind) (kids : List ℕ) → kind_fits vars kind kids ≡ true → variable_fits vars kind ≡ true
 variable_fits-from vars (Literal var positive) kids fits = (and_parts (length kids == 0) (nat_le 1 var && nat_le var vars) fits).1

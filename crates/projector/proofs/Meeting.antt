@@ -1,39 +1,23 @@
 -- Where bits are wanted of some variables of a decomposable graph, whether the other variables can have bits that make it true is
 -- computed node by node: a literal can be true unless the other bit is wanted.
-use Rattle.std.proofs.Common.{◌≡◌, ℕ, ◌<◌, Bool, true, false, cond, ◌&&◌, ◌||◌, ◌==◌, List, [], ◌∷◌, map, Option, Some, None, refl, sym, ap, ◌∙◌, subst, eqb, ⊎_elim}
+use Rattle.std.proofs.Common.{◌≡◌, ℕ, ◌<◌, Bool, true, false, cond, ◌&&◌, ◌||◌, ◌==◌, List, [], ◌∷◌, map, Option, refl, sym, ap, ◌∙◌, subst, eqb, ⊎_elim}
 use Rattle.std.specs.Prelude.{nat_lt}
 use Rattle.std.specs.List.{list_all, list_any}
 use Rattle.std.proofs.lemmas.Bool.{and_parts, and_from, or_cases, or_left, or_right, eqb-true, eq-eqb, ltb-true}
 use Rattle.ranking.specs.Bits.{same_bit}
 use Rattle.ranking.specs.Assignments.{Assignment}
 use Rattle.ranking.specs.Cases.{agrees_at}
+use Rattle.ranking.proofs.Bits.{same_bit-equal, same_bit-refl, not_left}
+use Rattle.ranking.proofs.Cases.{usual_bit, usual_bit-agrees, agrees_cond}
 use Rattle.graph_rules.specs.declared.NodeKind.{NodeKind}
 use Rattle.graph_rules.specs.declared.NodeKind.TheVariants.{Literal, And, Or}
 use Rattle.graph_rules.specs.Graphs.{at_most_one, truth_by, mention_by, apart_at}
 use Rattle.graph_rules.proofs.NodeValues.{are_below}
-use Rattle.projector.proofs.Bits.{same_bit-equal, same_bit-refl}
-use Rattle.projector.proofs.Kids.{at_most_one-tail, not_both}
-
--- a bit that is wanted, and 1 where none is
-abbrev usual_bit : Option Bool → Bool
-usual_bit None = true
-usual_bit (Some b) = b
-
-usual_bit-agrees : (k : Option Bool) → agrees_at k (usual_bit k) ≡ true
-usual_bit-agrees None = refl
-usual_bit-agrees (Some b) = same_bit-refl b
-
-agrees_cond : (k : Option Bool) (p x y : Bool) → agrees_at k x ≡ true → agrees_at k y ≡ true → agrees_at k (cond p x y) ≡ true
-agrees_cond k true x y e f = e
-agrees_cond k false x y e f = f
-
-not_left : (x y : Bool) → (x && y) ≡ false → y ≡ true → x ≡ false
-not_left true y e f = absurd (let no : true ≡ false = sym f ∙ e in cc)
-not_left false y e f = refl
+use Rattle.graph_rules.proofs.Kids.{at_most_one-tail, not_both}
 
 -- what is wanted of a literal's variable allows the literal
 literal_agrees : (k : Option Bool) (positive bit : Bool) → agrees_at k bit ≡ true → same_bit positive bit ≡ true → agrees_at k positive ≡ true
-literal_agrees k positive bit e f = subst (λ b. agrees_at k b ≡ true) (same_bit-equal positive bit f) e
+literal_agrees k positive bit e f = subst (λ b. agrees_at k b ≡ true) (sym (same_bit-equal positive bit f)) e
 
 module _ (wanted : ℕ → Option Bool) where
   abbrev pub Agrees : Assignment → Type 0

@@ -2,14 +2,21 @@
 use Rattle.std.proofs.Common.{◌≡◌, ℕ, zero, suc, ◌+◌, ◌-◌, ◌^◌, ◌<◌, ◌≤◌, Bool, true, false, ◌&&◌, List, [], ◌∷◌, ◌++◌, map, length, take, Option, Some, None, get_or, refl, sym, ap, ◌∙◌, subst, arith, inl, inr, append_assoc, length-append}
 use Rattle.std.specs.Prelude.{nat_lt, slice_index}
 use Rattle.std.specs.List.{list_any, range_with_len, AllByRecursion}
-use Rattle.std.proofs.lemmas.Bool.{and_parts, and_from, ltb-true, lt-ltb, eqb-true, eq-eqb, cases_lt, false_from_ne_true}
+use Rattle.std.proofs.lemmas.Bool.{and_parts, and_from, ltb-true, lt-ltb, eq-eqb, cases_lt, false_from_ne_true}
 use Rattle.std.proofs.lemmas.List.{length-map, length-take-le, get_or_append_left, get_or-append_right, get_or-take, get_or-map, get_or_at}
 use Rattle.std.proofs.lemmas.List.FromFn.{length-map-range_with_len, get_or-map-range_with_len, length-range_with_len}
+use Rattle.std.specs.Cmp.{both_ways}
 use Rattle.std.specs.Cmp.Lexicographic.{pointwise}
+use Rattle.std.proofs.Math.Bool.{and-true}
+use Rattle.std.proofs.lemmas.Map.Views.{any-filter_same}
 use Rattle.ranking.specs.Bits.{bit_in, same_bit, lists_of_bits}
 use Rattle.ranking.specs.Assignments.{Assignment, assignment}
 use Rattle.ranking.specs.Cases.{agrees_at, agrees}
-use Rattle.ranking.specs.Ranking.{passing}
+use Rattle.ranking.specs.Ranking.{Test, passing}
+use Rattle.ranking.proofs.Bits.{same_bit-equal, same_bit-refl, pointwise-refl, pointwise-equal}
+use Rattle.ranking.proofs.Lists.{AllByRecursion-append}
+use Rattle.ranking.proofs.Cases.{agrees-at}
+use Rattle.ranking.proofs.Members.{any_from, any_in, bits_in, bits_length}
 use Rattle.graph_rules.specs.declared.TheConstants.{CHILD_LIMIT}
 use Rattle.graph_rules.specs.declared.NodeKind.{NodeKind}
 use Rattle.graph_rules.specs.declared.NodeKind.TheVariants.{Literal, And, Or}
@@ -17,16 +24,24 @@ use Rattle.graph_rules.specs.Graphs.{Node, Graph, true_node, node_at, at_most_on
 use Rattle.graph_rules.specs.GraphTexts.{parsed}
 use Rattle.text_rules.specs.Tokens.{is_neat}
 use Rattle.graph_rules.proofs.NodeValues.{are_below, value_of, value_of-at}
-use Rattle.graph_rules.proofs.NodesFit.{Fits, fits, fits-at, apart-at}
+use Rattle.graph_rules.proofs.NodesFit.{Fits, fits, fits-at, literal, apart-at}
+use Rattle.graph_rules.proofs.Mentions.{mentioned-range}
 use Rattle.conditioner.specs.Words.{known_of, known}
 use Rattle.conditioner.specs.Models.{has_model, fits_words, models}
+use Rattle.conditioner.proofs.FittingWords.{known-at, fits_words-at, fits_words-from, fits_words-front}
 use Rattle.nnf_text.proofs.ReadingBack.{IsList, graph_text-read, graph_text-is_neat}
 use Rattle.projector.specs.Projecting.{projected_kind, projected_node, held_literals, root_with, projection, projected_text, IsGraphOf}
-use Rattle.projector.proofs.Bits.{same_bit-equal, same_bit-refl, both_directions, Bits-from, Bits-any, passing-has, agrees-at, agrees-from, known-at, agrees-front}
 use Rattle.projector.proofs.Kids.{each_below, any_more, at_most_one-from, at_most_one-less}
-use Rattle.projector.proofs.Literals.{literal, wanted_of, literal-truth, literal-mentions, literal-fits}
+use Rattle.projector.proofs.Literals.{wanted_of, literal-truth, literal-mentions, literal-fits}
 use Rattle.projector.proofs.Meeting.{Agrees, Meets, Meets-same, can_by, node_is}
 use Rattle.projector.proofs.HeldLiterals.{length-held, held-alone, held-apart, held-fit, values-alone, held-agrees, held-once, held-known}
+
+-- a state is among those that pass where it passes
+pub passing-has : (h : List Bool) (test : Test) → list_any (pointwise same_bit h) (passing (length h) test) ≡ test h
+passing-has h test =
+    any-filter_same (pointwise same_bit h) test (test h) (λ k e. ap test (sym (pointwise-equal h k e))) (lists_of_bits (length h))
+    ∙ ap (λ b. test h && b) (any_in (pointwise same_bit h) h (lists_of_bits (length h)) (bits_in h) (pointwise-refl h))
+    ∙ and-true (test h)
 
 -- ---- what is wanted of a variable
 
@@ -41,8 +56,8 @@ known_allowed None part bit b e = refl
 
 -- a part's bit is the wanted one
 part_bit : (k : Option Bool) (bit b : Bool) → agrees_at (wanted_of k true bit) b ≡ true → agrees_at k bit ≡ true → bit ≡ b
-part_bit (Some c) bit b e f = same_bit-equal c bit f ∙ sym (same_bit-equal c b e)
-part_bit None bit b e f = sym (same_bit-equal bit b e)
+part_bit (Some c) bit b e f = sym (same_bit-equal c bit f) ∙ same_bit-equal c b e
+part_bit None bit b e f = same_bit-equal bit b e
 
 -- ---- a node, by its kids
 
@@ -120,10 +135,6 @@ nodes_fit-append vars own (x ∷ xs) ys first second =
     let both = and_parts (node_fits vars own x) (nodes_fit vars (own + 1) xs) first in
     let e : own + suc (length xs) ≡ (own + 1) + length xs = omega arith in
     and_from _ _ both.0 (nodes_fit-append vars (own + 1) xs ys both.1 (subst (λ n. nodes_fit vars n ys ≡ true) e second))
-
-AllByRecursion-append : {A : Type 0} (P : A → Type 0) (xs ys : List A) → AllByRecursion P xs → AllByRecursion P ys → AllByRecursion P (xs ++ ys)
-AllByRecursion-append P [] ys h g = g
-AllByRecursion-append P (x ∷ xs) ys h g = (h.0, AllByRecursion-append P xs ys h.1 g)
 
 range-below : (start len end : ℕ) → start + len ≤ end → are_below end (range_with_len start len) ≡ true
 range-below start zero end few = refl
@@ -205,21 +216,6 @@ module _ (graph : Graph) (words : List ℕ) (parts : ℕ) (is : IsGraph graph) (
   -- ---- variables that are mentioned
 
   module _ (v : ℕ) where
-    in_range : (i : ℕ) → i < length graph.nodes → mentions graph.nodes v i ≡ true → (1 ≤ v) × (v ≤ graph.vars)
-    in_range i lt = each_below (λ k. mentions graph.nodes v k ≡ true → (1 ≤ v) × (v ≤ graph.vars)) (length graph.nodes) step (length graph.nodes) (omega arith) i lt where
-      kind-range : (own : ℕ) (f : ℕ → Bool) (kind : NodeKind) (kids : List ℕ) → kind_fits graph.vars kind kids ≡ true → are_below own kids ≡ true
-          → ((k : ℕ) → k < own → f k ≡ true → (1 ≤ v) × (v ≤ graph.vars)) → mention_by v kind (map f kids) ≡ true → (1 ≤ v) × (v ≤ graph.vars)
-      kind-range own f (Literal var positive) kids fits below earlier e =
-          let r = literal graph.vars var positive kids fits in
-          let same = eqb-true var v e in (omega (arith, r.low, same), omega (arith, r.high, same))
-      kind-range own f And kids fits below earlier e = (any_more ((1 ≤ v) × (v ≤ graph.vars)) f f own kids below (λ k h t. (t, earlier k h t)) e).1
-      kind-range own f Or kids fits below earlier e = (any_more ((1 ≤ v) × (v ≤ graph.vars)) f f own kids below (λ k h t. (t, earlier k h t)) e).1
-
-      step : (i : ℕ) → i < length graph.nodes → ((k : ℕ) → k < i → mentions graph.nodes v k ≡ true → (1 ≤ v) × (v ≤ graph.vars)) → mentions graph.nodes v i ≡ true → (1 ≤ v) × (v ≤ graph.vars)
-      step i lt earlier e =
-          let node : Node = node_at graph.nodes i in
-          kind-range i (mentions graph.nodes v) node.what node.kids (fits_at i lt).kind (fits_at i lt).below earlier (sym (value_of-at (mention_by v) graph.nodes i lt (fits_at i lt).below) ∙ e)
-
     -- a node mentions what it did, but nothing that is known
     mentioned : (i : ℕ) → i < length graph.nodes → mentions all v i ≡ true → (mentions graph.nodes v i ≡ true) × (known_of_var words v ≡ None)
     mentioned i lt = each_below (λ k. mentions all v k ≡ true → (mentions graph.nodes v k ≡ true) × (known_of_var words v ≡ None)) (length graph.nodes) step (length graph.nodes) (omega arith) i lt where
@@ -281,8 +277,7 @@ module _ (graph : Graph) (words : List ℕ) (parts : ℕ) (is : IsGraph graph) (
     model-agrees : (others : List Bool) → length others ≡ graph.vars - parts → fits_words words (h ++ others) ≡ true → Agrees (wanted words parts a) (assignment (h ++ others))
     model-agrees others rest fit v =
         allowed (known_of_var words v) (nat_lt (v - 1) parts) (a v) (bit_in (h ++ others) (v - 1))
-        (subst (λ k. agrees_at k (bit_in (h ++ others) (v - 1)) ≡ true) (known-at words (v - 1))
-        (agrees-at (known words) (h ++ others) (omega (arith, length-map words known_of, as_long, length-append h others, long, rest)) fit (v - 1)))
+        (fits_words-at words (h ++ others) (omega (arith, as_long, length-append h others, long, rest)) fit (v - 1))
         (λ part. let lt = ltb-true (v - 1) parts part in get_or_append_left h others false (v - 1) (omega arith))
 
     abbrev is_model : List Bool → Bool
@@ -290,10 +285,10 @@ module _ (graph : Graph) (words : List ℕ) (parts : ℕ) (is : IsGraph graph) (
 
     sound : has_model graph (fits_words words) parts h ≡ true → (can_be old_root && agrees known_parts h) ≡ true
     sound some_bits =
-        let r = Bits-from (graph.vars - parts) is_model some_bits in
-        let both = and_parts (fits_words words (h ++ r.bits)) (holds graph (h ++ r.bits)) r.pass in
-        and_from _ _ (root-meets.sound (assignment (h ++ r.bits)) (model-agrees r.bits r.long both.0) both.1)
-        (subst (λ n. agrees (known (take n words)) h ≡ true) long (agrees-front words h r.bits both.0))
+        let r = any_from is_model (lists_of_bits (graph.vars - parts)) some_bits in
+        let both = and_parts (fits_words words (h ++ r.item)) (holds graph (h ++ r.item)) r.passes in
+        and_from _ _ (root-meets.sound (assignment (h ++ r.item)) (model-agrees r.item (bits_length (graph.vars - parts) r.item r.is_in) both.0) both.1)
+        (subst (λ n. agrees (known (take n words)) h ≡ true) long (fits_words-front words h r.item both.0))
 
     module _ (b : Assignment) (ag : Agrees (wanted words parts a) b) (agree : agrees known_parts h ≡ true) where
       -- the bits of the other variables
@@ -322,22 +317,21 @@ module _ (graph : Graph) (words : List ℕ) (parts : ℕ) (is : IsGraph graph) (
       var-is : (v : ℕ) → 1 ≤ v → v ≤ graph.vars → assignment (h ++ others) v ≡ b v
       var-is v low high = let e : (v - 1) + 1 ≡ v = omega arith in bit-is (v - 1) (omega arith) ∙ ap b e
 
-      known-bit : (i : ℕ) → i < length (h ++ others) → agrees_at (get_or (known words) i None) (bit_in (h ++ others) i) ≡ true
+      known-bit : (i : ℕ) → i < length (h ++ others) → agrees_at (known_of (get_or words i 0)) (bit_in (h ++ others) i) ≡ true
       known-bit i lt =
           let inside : i < graph.vars = omega (arith, length-append h others, length-others) in
           let place : (i + 1) - 1 ≡ i = omega arith in
           let is_known : agrees_at (known_of (get_or words ((i + 1) - 1) 0)) (b (i + 1)) ≡ true = known_allowed (known_of_var words (i + 1)) (nat_lt ((i + 1) - 1) parts) (a (i + 1)) (b (i + 1)) (ag (i + 1)) in
-          subst (λ k. agrees_at k (bit_in (h ++ others) i) ≡ true) (sym (known-at words i))
-          (subst (λ x. agrees_at (known_of (get_or words i 0)) x ≡ true) (sym (bit-is i inside))
-          (subst (λ j. agrees_at (known_of (get_or words j 0)) (b (i + 1)) ≡ true) place is_known))
+          subst (λ x. agrees_at (known_of (get_or words i 0)) x ≡ true) (sym (bit-is i inside))
+          (subst (λ j. agrees_at (known_of (get_or words j 0)) (b (i + 1)) ≡ true) place is_known)
 
       same-truth : is_true graph.nodes old_root (assignment (h ++ others)) ≡ is_true graph.nodes old_root b
-      same-truth = root-meets.local (assignment (h ++ others)) b (λ v m. let r = in_range v old_root (omega (arith, is.some)) m in var-is v r.0 r.1)
+      same-truth = root-meets.local (assignment (h ++ others)) b (λ v m. let r = mentioned-range graph.vars graph.nodes v old_root is.nodes.fit m in var-is v r.low r.high)
 
       found : is_true graph.nodes old_root b ≡ true → has_model graph (fits_words words) parts h ≡ true
       found true_there =
           ap (λ n. list_any is_model (lists_of_bits n)) (sym length-others)
-          ∙ Bits-any others is_model (and_from _ _ (agrees-from (known words) (h ++ others) known-bit) (same-truth ∙ true_there))
+          ∙ any_in is_model others (lists_of_bits (length others)) (bits_in others) (and_from _ _ (fits_words-from words (h ++ others) known-bit) (same-truth ∙ true_there))
 
     reached : (can_be old_root && agrees known_parts h) ≡ true → has_model graph (fits_words words) parts h ≡ true
     reached both =
@@ -346,7 +340,7 @@ module _ (graph : Graph) (words : List ℕ) (parts : ℕ) (is : IsGraph graph) (
         found r.by r.agrees parts_of.1 r.holds
 
     pub projected-holds : holds (projection graph words parts) h ≡ has_model graph (fits_words words) parts h
-    projected-holds = holds-projected ∙ both_directions (can_be old_root && agrees known_parts h) (has_model graph (fits_words words) parts h) reached sound
+    projected-holds = holds-projected ∙ both_ways (can_be old_root && agrees known_parts h) (has_model graph (fits_words words) parts h) reached sound
 
     -- a state is one of the models where it is true
     pub projected-models : holds (projection graph words parts) h ≡ list_any (pointwise same_bit h) (models graph words parts)

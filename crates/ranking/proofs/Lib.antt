@@ -1,3 +1,7 @@
 pub mod Drops
 mod Examples
 pub mod Values
+pub mod Lists
+pub mod Bits
+pub mod Cases
+pub mod Members

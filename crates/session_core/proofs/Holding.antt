@@ -1,6 +1,6 @@
 -- What a service shows of what it holds, and what its changes are.
 use Rattle.std.proofs.Common.{◌≡◌, ◌∙◌, ◌∷◌, ◌++◌, [], ◌<◌, ◌-◌, ℕ, Bool, true, false, List, Option, Some, None, IsNone, IsSome, Result, length, replicate, take, drop, refl, ap, sym, subst, codes, arith, length-append}
-use Rattle.std.specs.Prelude.{Contains, if◌then◌else◌}
+use Rattle.std.specs.Prelude.{Contains, IfSome, if◌then◌else◌}
 use Rattle.std.proofs.Math.Seq.{take-append_seam}
 use Rattle.std.proofs.lemmas.List.{nil_from_length}
 use Rattle.std.proofs.lemmas.List.Quantifiers.{position-Some}
@@ -114,6 +114,13 @@ carve_some {R} scratch n None empty long none =
   where
     minus_none : (m : ℕ) → m - words_used [] ≡ m
     minus_none m = omega arith
+
+-- what is known of a run that was found
+pub carved_so : (old new : Carved) (n : ℕ) (found : Option Span) (run : Span) → found ≡ Some run
+    → IfSome found (λ (run : Span). (run ≡ record { start = words_used old.runs; len = n }) × (new ≡ carved old run))
+    → (run ≡ record { start = words_used old.runs; len = n }) × (new ≡ carved old run)
+carved_so old new n found run is =
+    subst (λ (o : Option Span). IfSome o (λ (run : Span). (run ≡ record { start = words_used old.runs; len = n }) × (new ≡ carved old run))) is
 
 module _ (old new : Carved) (run : Span) (n : ℕ) (empty : old.runs ≡ []) (long : length old.words ≡ n) (is : new ≡ carved old run) where
   one_run : new.runs ≡ run ∷ []

@@ -11,3 +11,4 @@ pub mod Stepping
 pub mod Naming
 pub mod Asked
 pub mod Moving
+pub mod OneText

@@ -17,7 +17,7 @@ use Rattle.script_lang.specs.Script.{Ask, Next, Several}
 use Rattle.session_rules.specs.GraphSystems.{Subject, system_of}
 use Rattle.session_rules.specs.declared.refusal.Refusal.TheVariants.{NoSession}
 use Rattle.session_rules.specs.Items.{Item, line}
-use Rattle.session_rules.specs.Replies.{Found as Next1, next_of, diagnosis_line, inconsistent, end_line}
+use Rattle.session_rules.specs.Replies.{Found as Reply, next_of, diagnosis_line, inconsistent, end_line}
 use Rattle.session_rules.specs.Sessions.{Table, Entry, Step, Declined, entry_of, with_entry, carried, moved}
 use Rattle.session_rules.specs.Moves.{moves, listing, goes_on, listing_moves}
 use Rattle.session_rules.specs.Spelling.{WritesPart, Replies}
@@ -77,7 +77,7 @@ module _ (subject : Subject) (old new : Table) (place : ℕ) (session : Name) (e
 
   -- the point is then the diagnosis that is shown
   pub found_state : found ≡ Found → (state : List Bool) × ((the_next subject session entry).point ≡ Some state) × ((the_next subject session entry).item ≡ diagnosis_line (system_of subject) session state) × ((the_next subject session entry).more ≡ true)
-  found_state e = (slice_index_or later 0 [], ap (λ (f : Next1). f.point) (next_found e), ap (λ (f : Next1). f.item) (next_found e), ap (λ (f : Next1). f.more) (next_found e))
+  found_state e = (slice_index_or later 0 [], ap (λ (f : Reply). f.point) (next_found e), ap (λ (f : Reply). f.item) (next_found e), ap (λ (f : Reply). f.more) (next_found e))
 
 pub moves_on : {E : Type 0} (old new : Shown) (place : ℕ) (session : Name) (entry : Entry) (answer : Answer) (before after : Option (List ℕ)) (result : Result Bool E)
     → PointMoves old.subject old.table new.table place session entry answer → ChangesTable old new
@@ -104,7 +104,7 @@ obeys_next old new session entry before after result there reply moves =
 -- Some diagnoses of a listing were shown, and so many more are left.
 pub record Lists (old now : Shown) (place : ℕ) (session : Name) (entry : Entry) (count left : ℕ) (before after : Option (List ℕ)) : Type 0 where
   pub point : Option (List Bool)
-  pub done : List Next1
+  pub done : List Reply
   pub both : done ++ listing (next_of (system_of old.subject) session (all_diagnoses (system_of old.subject) entry.known)) left point
       ≡ listing (next_of (system_of old.subject) session (all_diagnoses (system_of old.subject) entry.known)) count entry.point
   pub made : Makes old.table now.table (map (goes_on old.table session entry) done) before after
@@ -123,24 +123,24 @@ lists_none old place session entry count before stands = record {
 }
 
 module _ (old : Shown) (place : ℕ) (session : Name) (entry : Entry) (count : ℕ) where
-  abbrev next : Option (List Bool) → Next1
+  abbrev next : Option (List Bool) → Reply
   next = next_of (system_of old.subject) session (all_diagnoses (system_of old.subject) entry.known)
 
-  abbrev move : Next1 → Step
+  abbrev move : Reply → Step
   move = goes_on old.table session entry
 
   abbrev at_point : Option (List Bool) → Entry
   at_point point = record entry { point = point }
 
   -- what comes behind the next one
-  abbrev later_of : ℕ → Option (List Bool) → List Next1
-  later_of left point = elim (next point).more as (λ _. List Next1) [ true ↦ listing next left (next point).point | false ↦ [] ]
+  abbrev later_of : ℕ → Option (List Bool) → List Reply
+  later_of left point = elim (next point).more as (λ _. List Reply) [ true ↦ listing next left (next point).point | false ↦ [] ]
 
   more_left : (left : ℕ) (point : Option (List Bool)) → (next point).more ≡ true → listing next (suc left) point ≡ next point ∷ listing next left (next point).point
-  more_left left point e = ap (λ (b : Bool). next point ∷ (elim b as (λ _. List Next1) [ true ↦ listing next left (next point).point | false ↦ [] ])) e
+  more_left left point e = ap (λ (b : Bool). next point ∷ (elim b as (λ _. List Reply) [ true ↦ listing next left (next point).point | false ↦ [] ])) e
 
   none_left : (left : ℕ) (point : Option (List Bool)) → (next point).more ≡ false → listing next (suc left) point ≡ next point ∷ []
-  none_left left point e = ap (λ (b : Bool). next point ∷ (elim b as (λ _. List Next1) [ true ↦ listing next left (next point).point | false ↦ [] ])) e
+  none_left left point e = ap (λ (b : Bool). next point ∷ (elim b as (λ _. List Reply) [ true ↦ listing next left (next point).point | false ↦ [] ])) e
 
   -- the move that was made, or broke off
   module _ {E : Type 0} (now new : Shown) (left : ℕ) (a b c : Option (List ℕ)) (lists : Lists old now place session entry count left a b) (result : Result Bool E)
@@ -151,7 +151,7 @@ module _ (old : Shown) (place : ℕ) (session : Name) (entry : Entry) (count : �
     new_table : new.table ≡ with_entry session (at_point (next lists.point).point) old.table
     new_table =
         ap (λ (v : Shown). v.table) m.moved
-        ∙ (ap (λ (f : Next1). with_entry session (at_point f.point) now.table) same_next
+        ∙ (ap (λ (f : Reply). with_entry session (at_point f.point) now.table) same_next
         ∙ (ap (λ (v : Shown). with_entry session (at_point (next lists.point).point) v.table) lists.moved
         ∙ put_twice session (at_point lists.point) (at_point (next lists.point).point) old.table))
 
@@ -161,13 +161,13 @@ module _ (old : Shown) (place : ℕ) (session : Name) (entry : Entry) (count : �
         ∙ ap (λ (t : Table). record old { table = t }) (sym (ap (λ (v : Shown). v.table) m.moved) ∙ new_table))
 
     says_next : Replies b c result ((next lists.point).item ∷ [])
-    says_next = subst (λ (f : Next1). Replies b c result (f.item ∷ [])) same_next m.reply
+    says_next = subst (λ (f : Reply). Replies b c result (f.item ∷ [])) same_next m.reply
 
     is_more : IfOk result (λ more. more ≡ (next lists.point).more)
-    is_more = subst (λ (f : Next1). IfOk result (λ more. more ≡ f.more)) same_next m.more
+    is_more = subst (λ (f : Reply). IfOk result (λ more. more ≡ f.more)) same_next m.more
 
     stands_next : StandsAt new.table place session (at_point (next lists.point).point)
-    stands_next = subst (λ (f : Next1). StandsAt new.table place session (at_point f.point)) same_next m.stands
+    stands_next = subst (λ (f : Reply). StandsAt new.table place session (at_point f.point)) same_next m.stands
 
   -- the same for each result
   module _ {E : Type 0} (now new : Shown) (left : ℕ) (a b c : Option (List ℕ)) (lists : Lists old now place session entry count (suc left) a b) where
@@ -191,13 +191,13 @@ module _ (old : Shown) (place : ℕ) (session : Name) (entry : Entry) (count : �
     -- nothing was found any more
     pub lists_end : MovesOn now new place session (at_point lists.point) b c (ok_of E false) → Makes old.table new.table (map move (listing next count entry.point)) a c
     lists_end m =
-        subst (λ (fs : List Next1). Makes old.table new.table (map move fs) a c)
+        subst (λ (fs : List Reply). Makes old.table new.table (map move fs) a c)
         (ap (λ fs. lists.done ++ fs) (sym (none_left left lists.point (sym (is_more now new (suc left) a b c lists (ok_of E false) m)))) ∙ lists.both) (made_one false m)
 
     -- a write failed
     pub lists_broken : (e : E) → MovesOn now new place session (at_point lists.point) b c (Err e) → BreaksOff new.table (map move (listing next count entry.point)) a c
     lists_broken e m =
-        subst (λ (fs : List Next1). BreaksOff new.table (map move fs) a c) lists.both
+        subst (λ (fs : List Reply). BreaksOff new.table (map move fs) a c) lists.both
         (subst (λ (ms : List Step). BreaksOff new.table ms a c) (sym (map-append move lists.done (next lists.point ∷ (later_of left lists.point))))
         (breaks_after lists.made (record {
           made = [];
@@ -212,7 +212,7 @@ module _ (old : Shown) (place : ℕ) (session : Name) (entry : Entry) (count : �
 
   -- all were shown
   pub lists_all : (now : Shown) (a b : Option (List ℕ)) → Lists old now place session entry count 0 a b → Makes old.table now.table (map move (listing next count entry.point)) a b
-  lists_all now a b lists = subst (λ (fs : List Next1). Makes old.table now.table (map move fs) a b) (sym (append-nil lists.done) ∙ lists.both) lists.made
+  lists_all now a b lists = subst (λ (fs : List Reply). Makes old.table now.table (map move fs) a b) (sym (append-nil lists.done) ∙ lists.both) lists.made
 
   -- these are the moves of the request
   pub several_moves : (n : ℕ) → count ≡ suc n → entry_of session old.table ≡ Some entry

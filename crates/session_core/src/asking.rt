@@ -1,19 +1,25 @@
 //! Requests that leave every session as it is.
-ghost use Rattle.std.specs.Prelude.{◌≡◌, ◌<◌, length};
-ghost use Rattle.diag_edge.specs.Edge.{HasCause};
-ghost use Rattle.script_lang.specs.Script.{Probe};
+ghost use Rattle.std.specs.Prelude.{◌≡◌, ◌<◌, ◌++◌, ◌∷◌, [], length, codes};
+ghost use Rattle.text_rules.specs.Tokens.{spaced};
+ghost use Rattle.diag_edge.specs.Edge.{HasCause, Puts};
+ghost use Rattle.script_lang.specs.Script.{Ask, Probe, Dnnf};
 ghost use Rattle.session_rules.specs.GraphSystems.{system_of};
+ghost use Rattle.session_rules.specs.Items.{Projected, line};
 ghost use Rattle.session_rules.specs.Sessions.{Entry};
 ghost use Rattle.session_rules.specs.Spelling.{Replies};
 ghost use Rattle.session_table.specs.Tables.{StandsAt};
+ghost use Rattle.session_core.specs.Services.{TellsGraph, case_text};
+ghost use Rattle.session_core.specs.inner.Bases.{AreKnown, case_in};
 ghost use Rattle.session_core.specs.inner.Obeying.{Obeys, asked_request, NamesNoWire};
 ghost use Rattle.session_core.specs.inner.Telling.{told_of, HasPlace};
 
+use crate::basis::Basis;
 use crate::replies::put_refusal;
 use crate::sessions::Sessions;
 use crate::telling::{Question, tell};
-use diag_edge::{Sink, WriteFailed};
+use diag_edge::{Sink, WriteFailed, put_line};
 use minimiser::Steps;
+use projector::write_projected;
 use session_rules::Refusal;
 use std::marker::Brand;
 use std::sync::ledger::{Blank, Ledger};
@@ -59,6 +65,18 @@ impl Sessions {
         }
     }
 
+    // Tells the graph of the states that agree with a session's case.
+    pub(crate) fn ask_graph<O: Sink>(&self, session: &[u8], out: &mut O) -> Result<(), WriteFailed>
+        ensures obeys { Obeys self.now self.now session.now Dnnf (O.got out.old) (O.got out.new) result }
+        ensures text { TellsGraph self.now (Ask session.now Dnnf) (O.got out.old) (O.got out.new) result }
+        ensures cause { HasCause (O.faults out.old) (O.faults out.new) result }
+    {
+        match self.open.find(session) {
+            None => put_refusal(out, session, Refusal::NoSession),
+            Some(place) => tell_graph(&self.basis, self.open.words(place), session, out),
+        }
+    }
+
     // Tells what is asked of the case of the session at a place, by passes that are counted from 0.
     fn tell_at<O: Sink, L: Ledger>(
         &mut self,
@@ -93,4 +111,24 @@ impl Sessions {
         self.scratch.release(run);
         told
     }
+}
+
+// The graph of the states that agree with a case.
+fn tell_graph<O: Sink>(
+    basis: &Basis,
+    known: &[u32],
+    session: &[u8],
+    out: &mut O,
+) -> Result<(), WriteFailed>
+    requires { AreKnown basis.now known.now }
+    ensures text { Puts (O.got out.old) (O.got out.new) result
+        (spaced (session.now ∷ codes "dnnf" ∷ []) ++ case_text basis.now (case_in basis.now known.now)) }
+    ensures reply { let system = system_of basis.now in
+        Replies (O.got out.old) (O.got out.new) result
+        (line (session.now ∷ codes "dnnf" ∷ []) ∷ Projected (length system.parts) (system.consistent (case_in basis.now known.now)) ∷ []) }
+    ensures cause { HasCause (O.faults out.old) (O.faults out.new) result }
+{
+    let graph = basis.graph();
+    put_line(out, &[session, b"dnnf"])?;
+    write_projected(graph, known, basis.parts().len() as u32, out)
 }

@@ -14,5 +14,6 @@ mod sessions;
 mod telling;
 
 pub use limits::{SERVED_NODES, SERVED_VARIABLES, SESSION_LIMIT};
+pub use replies::put_faulty;
 pub use service::Service;
 pub use serving::ServeEnd;

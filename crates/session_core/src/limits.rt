@@ -3,8 +3,10 @@
 /// At most so many sessions may be open at a time.
 pub const SESSION_LIMIT: u32 = 1024;
 
-/// The graph of a service has at most so many variables.
+/// The graph of a service has at most so many variables: a word for each in every session are fewer than a pool may have. No
+/// device within the limits has more.
 pub const SERVED_VARIABLES: u32 = 110_000;
 
-/// And fewer nodes than this.
+/// The graph of a service has fewer nodes than this, so that they can be numbered. One that was compiled within the greatest
+/// budget has fewer than 26,000,000.
 pub const SERVED_NODES: u32 = 536_870_912;

@@ -166,7 +166,6 @@ impl Sessions {
               table = with_entry session
                   (record entry { point = Some (state_of (words names.now) self.old.subject.parts) }) self.old.table;
             } else self.old) }
-        ensures stays { ChangesTable self.old self.new }
     {
         let run = self.scratch.carve(self.basis.room()).unwrap();
         let are_parts = name_point(
@@ -185,32 +184,32 @@ impl Sessions {
 // and the nodes.
 fn move_point<L: Ledger>(
     basis: &Basis,
-    open: &mut OpenSessions,
+    sessions: &mut OpenSessions,
     place: usize,
     scratch: &mut [u32],
     steps: &mut Steps<L>,
 ) -> Step
-    requires parts { open.old.parts ≡ length basis.now.parts }
-    requires wires { open.old.wires ≡ length basis.now.wires }
-    requires vars { open.old.vars ≡ basis.now.graph.vars }
-    requires place { place < length open.old.table }
+    requires parts { sessions.old.parts ≡ length basis.now.parts }
+    requires wires { sessions.old.wires ≡ length basis.now.wires }
+    requires vars { sessions.old.vars ≡ basis.now.graph.vars }
+    requires place { place < length sessions.old.table }
     requires scratch { length scratch.old ≡ basis.now.graph.vars + (length basis.now.graph.nodes + length basis.now.parts) }
-    ensures moves { (session : Name) (entry : Entry) → StandsAt open.old.table place session entry
-        → PointMoves basis.now open.old.table open.new.table place session entry result }
-    ensures stays { open.new ≡ record open.old { table = open.new.table } }
-    ensures still { place < length open.new.table }
+    ensures moves { (session : Name) (entry : Entry) → StandsAt sessions.old.table place session entry
+        → PointMoves basis.now sessions.old.table sessions.new.table place session entry result }
+    ensures stays { sessions.new ≡ record sessions.old { table = sessions.new.table } }
+    ensures still { place < length sessions.new.table }
 {
     let (state, work) = scratch.split_at_mut(basis.parts().len());
     match advance(
         basis,
-        open.words(place),
-        open.point(place),
+        sessions.words(place),
+        sessions.point(place),
         state,
         work,
         steps,
     ) {
         Step::Found => {
-            open.set_point(place, state);
+            sessions.set_point(place, state);
             Step::Found
         }
         step => step,
@@ -220,27 +219,27 @@ fn move_point<L: Ledger>(
 // Moves the point of the session at a place to the state whose faulty parts are those named, if all of these are parts.
 fn name_point(
     basis: &Basis,
-    open: &mut OpenSessions,
+    sessions: &mut OpenSessions,
     place: usize,
     names: &[u8],
     scratch: &mut [u32],
 ) -> bool
-    requires parts { open.old.parts ≡ length basis.now.parts }
-    requires place { place < length open.old.table }
+    requires parts { sessions.old.parts ≡ length basis.now.parts }
+    requires place { place < length sessions.old.table }
     requires scratch { length basis.now.parts ≤ length scratch.old }
     ensures named { result ≡ list_all (is_among basis.now.parts) (words names.now) }
-    ensures point { (session : Name) (entry : Entry) → StandsAt open.old.table place session entry
-        → open.new ≡ (if result then record open.old {
+    ensures point { (session : Name) (entry : Entry) → StandsAt sessions.old.table place session entry
+        → sessions.new ≡ (if result then record sessions.old {
           table = with_entry session
-              (record entry { point = Some (state_of (words names.now) basis.now.parts) }) open.old.table;
-        } else open.old) }
-    ensures stays { open.new ≡ record open.old { table = open.new.table } }
+              (record entry { point = Some (state_of (words names.now) basis.now.parts) }) sessions.old.table;
+        } else sessions.old) }
+    ensures stays { sessions.new ≡ record sessions.old { table = sessions.new.table } }
 {
     let (state, _) = scratch.split_at_mut(basis.parts().len());
     if !mark_named(basis, names, state) {
         return false;
     }
-    open.set_point(place, state);
+    sessions.set_point(place, state);
     true
 }
 

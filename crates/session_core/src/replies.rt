@@ -90,8 +90,9 @@ pub(crate) fn put_min<O: Sink>(
     }
 }
 
-// The session, some words, and the names of the faulty parts.
-pub(crate) fn put_faulty<O: Sink>(
+/// Puts the line of a first word, as the name of a session, of some more, and of the names of the faulty parts: those whose
+/// word of the state is not 0.
+pub fn put_faulty<O: Sink>(
     out: &mut O,
     session: &[u8],
     words: &[&[u8]],

@@ -2,9 +2,11 @@ ghost use Rattle.std.specs.Prelude.{◌≡◌, ◌≤◌, ◌<◌, ◌+◌, [], 
 ghost use Rattle.text_rules.specs.Names.{names_rise};
 ghost use Rattle.conditioner.specs.Models.{total_cost};
 ghost use Rattle.diag_edge.specs.Edge.{HasCause};
+ghost use Rattle.script_lang.specs.Script.{line_of};
 ghost use Rattle.session_rules.specs.Carrying.{CarriesOut};
-ghost use Rattle.session_core.specs.Services.{moves_of, ChangesTable};
+ghost use Rattle.session_core.specs.Services.{moves_of, ChangesTable, TellsGraph};
 
+use crate::basis::Basis;
 use crate::limits::{SERVED_NODES, SERVED_VARIABLES, SESSION_LIMIT};
 use crate::line_buffer::LineBuffer;
 use crate::sessions::Sessions;
@@ -62,7 +64,10 @@ impl Service {
         let Ok(gathered) = LineBuffer::new(alloc) else {
             return Err(Memory);
         };
-        match Sessions::new(alloc, parts, wires, costs, graph, sessions) {
+        let Ok(basis) = Basis::of(alloc, parts, wires, costs, graph) else {
+            return Err(Memory);
+        };
+        match Sessions::new(alloc, basis, sessions) {
             Ok(sessions) => Ok(Service { sessions, gathered }),
             Err(_) => Err(Memory),
         }
@@ -98,6 +103,7 @@ impl Service {
         ensures carried { CarriesOut self.old.table self.new.table
             (moves_of self.old self.old.table line.now)
             (O.got out.old) (O.got out.new) result }
+        ensures graph { TellsGraph self.old (line_of line.now) (O.got out.old) (O.got out.new) result }
         ensures stays { ChangesTable self.old self.new }
         ensures cause { HasCause (O.faults out.old) (O.faults out.new) result }
     {

@@ -4,9 +4,9 @@ ghost use Rattle.diag_edge.specs.Edge.{HasCause};
 ghost use Rattle.device_model.specs.declared.limits.TheConstants.{PART_LIMIT, WIRE_LIMIT};
 ghost use Rattle.conditioner.specs.Models.{total_cost};
 ghost use Rattle.minimiser.specs.declared.pass.TheConstants.{TOTAL_LIMIT};
-ghost use Rattle.script_lang.specs.Script.{Start, Stop};
+ghost use Rattle.script_lang.specs.Script.{Start, Stop, line_of};
 ghost use Rattle.session_rules.specs.Carrying.{CarriesOut};
-ghost use Rattle.session_core.specs.Services.{moves_of, ChangesTable};
+ghost use Rattle.session_core.specs.Services.{moves_of, ChangesTable, TellsGraph};
 ghost use Rattle.session_core.specs.inner.Obeying.{Obeys, seen_request, held_request};
 
 use crate::basis::Basis;
@@ -46,40 +46,16 @@ impl Model for Sessions {
 
 impl Sessions {
     /// No session is open, and at most so many may be. `Err` means that memory ran out.
-    pub(crate) fn new(
-        alloc: Global,
-        parts: Vec<Name>,
-        wires: Vec<Name>,
-        costs: Vec<u32>,
-        graph: Graph,
-        sessions: u32,
-    ) -> Result<Self, AllocError>
-        requires parts_rise { names_rise parts.items ≡ true }
-        requires wires_rise { names_rise wires.items ≡ true }
-        requires few_parts { length parts.items ≤ PART_LIMIT }
-        requires few_wires { length wires.items ≤ WIRE_LIMIT }
-        requires costs { length costs.items ≡ length parts.items }
-        requires dear { All (λ c. 0 < c) costs.items }
-        requires total { total_cost costs.items < TOTAL_LIMIT }
-        requires vars { length parts.items + length wires.items ≤ graph.vars }
-        requires few_vars { graph.vars ≤ SERVED_VARIABLES }
-        requires few_nodes { length graph.nodes < SERVED_NODES }
-        requires sessions { sessions ≤ SESSION_LIMIT }
-        ensures { IfOk result (λ made. made
-            ≡ record {
-              subject = record { parts = parts.items; wires = wires.items; costs = costs.items; graph = graph };
-              limit = sessions;
-              table = [];
-            }) }
+    pub(crate) fn new(alloc: Global, basis: Basis, sessions: u32) -> Result<Self, AllocError>
+        requires { sessions ≤ SESSION_LIMIT }
+        ensures { IfOk result (λ made. made ≡ record { subject = basis; limit = sessions; table = [] }) }
     {
-        let part_count = parts.len();
-        let wire_count = wires.len() as u32;
-        let vars = graph.vars();
-        let room = vars as usize + graph.len() as usize + part_count;
-        let verdicts = vec![in alloc; Blame::Never; part_count]?;
-        let scratch = Region::new(alloc, room)?;
-        let basis = Basis::of(alloc, parts, wires, costs, graph)?;
-        let open = OpenSessions::new(alloc, part_count as u32, wire_count, vars, sessions)?;
+        let parts = basis.parts().len();
+        let wires = basis.wires().len() as u32;
+        let vars = basis.vars() as u32;
+        let verdicts = vec![in alloc; Blame::Never; parts]?;
+        let scratch = Region::new(alloc, basis.room())?;
+        let open = OpenSessions::new(alloc, parts as u32, wires, vars, sessions)?;
         Ok(Sessions {
             basis,
             open,
@@ -119,6 +95,7 @@ impl Sessions {
         ensures carried { CarriesOut self.old.table self.new.table
             (moves_of self.old self.old.table line.now)
             (O.got out.old) (O.got out.new) result }
+        ensures graph { TellsGraph self.old (line_of line.now) (O.got out.old) (O.got out.new) result }
         ensures stays { ChangesTable self.old self.new }
         ensures cause { HasCause (O.faults out.old) (O.faults out.new) result }
     {
@@ -138,7 +115,7 @@ impl Sessions {
             Line::Probe { session, name } => self.ask_wire(session, name, out),
             Line::Probes { session } => self.ask(session, Question::Probes, out),
             Line::Blame { session } => self.ask(session, Question::Blame, out),
-            Line::Dnnf { session } => self.ask(session, Question::Graph, out),
+            Line::Dnnf { session } => self.ask_graph(session, out),
         }
     }
 

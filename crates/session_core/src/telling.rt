@@ -5,7 +5,6 @@ ghost use Rattle.ranking.specs.Systems.{least_cost, all_diagnoses};
 ghost use Rattle.conditioner.specs.Models.{least_under};
 ghost use Rattle.probe_report.specs.Verdicts.{blame_of};
 ghost use Rattle.session_rules.specs.GraphSystems.{system_of};
-ghost use Rattle.session_rules.specs.Items.{Projected, line};
 ghost use Rattle.session_rules.specs.Replies.{end_line, min_line, probe_line, probe_lines, blame_lines, if_any};
 ghost use Rattle.session_rules.specs.Spelling.{Replies};
 ghost use Rattle.session_core.specs.inner.Bases.{AreKnown, case_in, HasRoom};
@@ -17,7 +16,6 @@ use diag_edge::{Sink, WriteFailed, put_line};
 use diagnosis_lister::first;
 use minimiser::{Steps, least};
 use probe_report::{Blame, blame_all, probe};
-use projector::write_projected;
 use std::sync::ledger::Ledger;
 
 /// What is asked of a session's case.
@@ -31,8 +29,6 @@ pub(crate) enum Question<'a> {
     Probes,
     /// Of each part whether it is faulty in all diagnoses, in some, or in none.
     Blame,
-    /// The graph of the states that agree with the case.
-    Graph,
 }
 
 /// Tells what is asked of a case. The scratch has words for the variables, the nodes and the parts.
@@ -67,7 +63,6 @@ pub(crate) fn tell<O: Sink, L: Ledger>(
         Question::Blame => {
             tell_blame(basis, words, values, state, verdicts, session, out, steps)
         }
-        Question::Graph => tell_graph(basis, known, session, out),
     }
 }
 
@@ -286,22 +281,4 @@ fn put_blames<O: Sink>(
         put_blame(out, session, name.as_slice(), verdicts[part])?;
     }
     Ok(())
-}
-
-// The graph of the states that agree with a case.
-fn tell_graph<O: Sink>(
-    basis: &Basis,
-    known: &[u32],
-    session: &[u8],
-    out: &mut O,
-) -> Result<(), WriteFailed>
-    requires { AreKnown basis.now known.now }
-    ensures reply { let system = system_of basis.now in
-        Replies (O.got out.old) (O.got out.new) result
-        (line (session.now ∷ codes "dnnf" ∷ []) ∷ Projected (length system.parts) (system.consistent (case_in basis.now known.now)) ∷ []) }
-    ensures cause { HasCause (O.faults out.old) (O.faults out.new) result }
-{
-    let graph = basis.graph();
-    put_line(out, &[session, b"dnnf"])?;
-    write_projected(graph, known, basis.parts().len() as u32, out)
 }

@@ -129,7 +129,7 @@ no_part = refl
 -- ---- one part with a table: ok allows 00 and 11, bad allows 00 and 10
 
 abbrev tabled : Device
-tabled = record { parts = gate (codes "u") (Table 0) (0 ∷ 1 ∷ []) ∷ []; wires = codes "a" ∷ codes "y" ∷ []; tables = record { ports = 2; ok = 9; bad = 3 } ∷ [] }
+tabled = record { parts = gate (codes "u") (Table 0) (0 ∷ 1 ∷ []) ∷ []; wires = codes "a" ∷ codes "y" ∷ []; tables = record { ports = 2; ok = 9; bad = 3; cost = 1 } ∷ [] }
 
 -- a row that neither allows leaves no state
 projected_none : replies (device_system tabled) 16 [] (map codes ("open S" ∷ "see S a=0" ∷ "see S y=1" ∷ "dnnf S" ∷ []))
@@ -144,7 +144,7 @@ none_is_inconsistent = refl
 -- ---- one part that allows every bit, and a wire that no part has
 
 abbrev free : Device
-free = record { parts = gate (codes "u") (Table 0) (0 ∷ []) ∷ []; wires = codes "a" ∷ codes "d" ∷ []; tables = record { ports = 1; ok = 3; bad = 3 } ∷ [] }
+free = record { parts = gate (codes "u") (Table 0) (0 ∷ []) ∷ []; wires = codes "a" ∷ codes "d" ∷ []; tables = record { ports = 1; ok = 3; bad = 3; cost = 1 } ∷ [] }
 
 nothing_is_against_it : replied 16 free (map codes ("open S" ∷ "see S d=1" ∷ "hold S u=bad" ∷ "min S" ∷ "next S" ∷ "next S" ∷ "hold S u=ok" ∷ "min S" ∷ []))
     ≡ text (map codes ("S open" ∷ "S ok" ∷ "S ok" ∷ "S min 1 u" ∷ "S diag u" ∷ "S end" ∷ "S ok" ∷ "S min 0" ∷ []))

@@ -1,6 +1,8 @@
 //! What sessions are answered: definitions, their laws, and the refusals.
 #![tactic(auto)]
 
+mod laws;
 mod refusal;
 
+pub use laws::{answered_alone, graph_replies, is_its_own};
 pub use refusal::Refusal;

@@ -14,7 +14,7 @@ pub record IsServable (device : Device) (graph : Graph) : Type 0 where
   pub few_vars : graph.vars ≤ SERVED_VARIABLES
   pub few_nodes : length graph.nodes < SERVED_NODES
 
--- Every reply over it has a text.
+-- what is such that every reply over it has a text
 pub record IsSound (subject : Subject) : Type 0 where
   pub valid : IsGraph subject.graph
   pub room : length subject.parts + length subject.wires ≤ subject.graph.vars

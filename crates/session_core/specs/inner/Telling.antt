@@ -5,12 +5,12 @@ use Rattle.ranking.specs.Cases.{Case}
 use Rattle.ranking.specs.Systems.{System, least_cost, all_diagnoses}
 use Rattle.probe_report.specs.declared.verdicts.Blame.{Blame as Verdict}
 use Rattle.session_rules.specs.GraphSystems.{Subject}
-use Rattle.session_rules.specs.Items.{Item, Projected, line}
+use Rattle.session_rules.specs.Items.{Item, line}
 use Rattle.session_rules.specs.Replies.{end_line, min_line, probe_line, probe_lines, blame_lines, if_any, seen_at}
 use Rattle.session_rules.specs.Spelling.{Writes}
 use Rattle.session_core.specs.inner.Texts.{blame_text}
 use Rattle.session_core.specs.declared.telling.Question.{Question}
-use Rattle.session_core.specs.declared.telling.Question.TheVariants.{Minimum, Probe, Probes, Blame, Graph}
+use Rattle.session_core.specs.declared.telling.Question.TheVariants.{Minimum, Probe, Probes, Blame}
 
 abbrev pub told_of : System → Name → Case → Question → List Item
 told_of system session known Minimum = min_line system session (least_cost system known) (all_diagnoses system known) ∷ []
@@ -20,8 +20,6 @@ told_of system session known Probes =
     if_any session (system.consistent known) (probe_lines system session known 0 system.wires ++ end_line session ∷ [])
 told_of system session known Blame =
     let ds = all_diagnoses system known in if_any session ds (blame_lines session ds 0 system.parts ++ end_line session ∷ [])
-told_of system session known Graph =
-    line (session ∷ codes "dnnf" ∷ []) ∷ Projected (length system.parts) (system.consistent known) ∷ []
 
 -- a wire that is asked about is there
 abbrev pub HasPlace : Subject → Question → Type 0

@@ -1,18 +1,15 @@
 use Rattle.std.proofs.Common.{◌≡◌, ◌++◌, true, length, ap, sym, ◌∙◌, subst}
 use Rattle.std.specs.Prelude.{slice_get}
-use Rattle.std.proofs.lemmas.Result.{on_ok_weaker}
 use Rattle.device_model.specs.Devices.{takes_ports, rows_take}
 use Rattle.clause_encoder.specs.Encoding.{tidy, raw_clauses, table_clauses}
 use Rattle.clause_encoder.proofs.Writing.{taken}
 use Rattle.clause_encoder.proofs.gates.push_part.Goals as goal
 
-pub returns-in-Table : goal.returns-in-Table
-returns-in-Table c =
+pub returns-in_ok-push_table-in-Table-clause-clauses : goal.returns-in_ok-push_table-in-Table-clause-clauses
+returns-in_ok-push_table-in-Table-clause-clauses c =
     let tables = c.args.tables.now in
     let ports = c.args.ports.now in
     let arity : rows_take (slice_get tables c.in-Table.table) (length ports) ≡ true = subst (λ kind. takes_ports tables kind (length ports) ≡ true) c.in-Table.is c.requires.arity in
     let table = taken tables c.in-Table.table (length ports) c.index-tables-table.result arity c.index-tables-table.is in
-    on_ok_weaker c.push_table.result
-    (λ e. e ∙ ap (λ rows. c.args.writer.now ++ tidy (table_clauses rows c.args.health ports)) (sym table.0)
-    ∙ ap (λ kind. c.args.writer.now ++ tidy (raw_clauses tables kind c.args.health ports)) (sym c.in-Table.is))
-    c.push_table.ensures
+    c.in_ok-push_table-in-Table.ensures ∙ ap (λ rows. c.args.writer.now ++ tidy (table_clauses rows c.args.health ports)) (sym table.0)
+    ∙ ap (λ kind. c.args.writer.now ++ tidy (raw_clauses tables kind c.args.health c.args.inner ports)) (sym c.in-Table.is)

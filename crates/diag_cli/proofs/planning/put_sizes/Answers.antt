@@ -1,7 +1,7 @@
 use Rattle.std.proofs.Common.{◌∷◌, [], codes, refl}
 use Rattle.session_rules.specs.Items.{Item}
 use Rattle.diag_cli.specs.declared.planning.Sizes.{Sizes}
-use Rattle.diag_cli.specs.Courses.{count_line}
+use Rattle.diag_cli.specs.Planning.{count_line}
 use Rattle.diag_cli.proofs.Failing.{replies_then, replies_cut}
 use Rattle.diag_cli.proofs.planning.put_sizes.Goals as goal
 

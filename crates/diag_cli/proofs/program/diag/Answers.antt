@@ -1,5 +1,8 @@
+use Rattle.std.proofs.Common.{◌≡◌, ◌∙◌, Some, ap, map, string_bytes, sym}
+use Rattle.diag_cli.specs.Words.{Load, form_of}
+use Rattle.diag_cli.specs.inner.Forms.{meant}
 use Rattle.diag_cli.specs.Runs.{Reading}
-use Rattle.diag_cli.proofs.Headline.{run_usage}
+use Rattle.diag_cli.proofs.Headline.{run_usage, run_load}
 use Rattle.diag_cli.proofs.program.diag.Goals as goal
 
 pub returns-in-None : goal.returns-in-None
@@ -7,3 +10,12 @@ returns-in-None g c =
     let old = c.args.shelf.now in
     let shelf : Reading = record { left = g.H.Source.left old; taken = g.H.Source.taken old; faults = g.H.Source.faults old } in
     rw (← c.in-None.ensures.form) (run_usage _ shelf shelf _ _ _ _ c.say.ensures.write_fault c.say.ensures.said)
+
+pub returns-in-Some-Load : goal.returns-in-Some-Load
+returns-in-Some-Load g c =
+    let old = c.args.shelf.now in
+    let shelf : Reading = record { left = g.H.Source.left old; taken = g.H.Source.taken old; faults = g.H.Source.faults old } in
+    let places = c.in-Some-Load.places in
+    let is : Some (Load places) ≡ form_of (map string_bytes c.args.words.now) = ap (λ form. Some (meant form)) (sym c.in-Some-Load.field-0-is) ∙ c.in-Some-Load.ensures.form in
+    let done = c.load_adder.ensures in
+    rw (← is) (run_load _ shelf shelf _ _ _ _ places done.write_fault done.not_usage done.not_read done.not_cut done.said)

@@ -49,7 +49,7 @@ returns-in_default-clause-moves g c = λ session entry stands.
     let known : case_of_words (length subject.parts) (length subject.wires) c.words.result.now ≡ entry.known =
     (λ i. case_of_words (sym c.requires.parts i) (sym c.requires.wires i) c.words.result.now) ∙ sym (c.words.ensures.known session entry stands) in
     let point = sym (c.point.ensures.point session entry stands) in
-    stays subject session entry c.args.open.now.table c.args.place c.advance.result stands
+    stays subject session entry c.args.sessions.now.table c.args.place c.advance.result stands
     (c.advance.ensures.step ∙ (λ i. step_of ((system_of subject).consistent (known i)) (rest (all_diagnoses (system_of subject) (known i)) (point i))))
     c.in_default.not-Found
 
@@ -61,5 +61,5 @@ returns-in-Found-clause-moves g c = λ session entry stands.
     let point = sym (c.point.ensures.point session entry stands) in
     let is = sym c.in-Found.is ∙ (c.advance.ensures.step ∙ (λ i. step_of ((system_of subject).consistent (known i)) (rest (all_diagnoses (system_of subject) (known i)) (point i)))) in
     let first = c.advance.ensures.state c.in-Found.is ∙ (λ i. get_or (rest (all_diagnoses (system_of subject) (known i)) (point i)) 0 []) in
-    goes_on subject session entry c.args.open.now.table c.set_point.new.self.table c.args.place (bits_of c.advance.new.state) is first
+    goes_on subject session entry c.args.sessions.now.table c.set_point.new.self.table c.args.place (bits_of c.advance.new.state) is first
     (ap (λ (o : Opened). o.table) (c.set_point.ensures.point session entry stands)) (c.set_point.ensures.stands session entry stands)

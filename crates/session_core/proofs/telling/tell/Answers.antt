@@ -38,10 +38,3 @@ returns-in-Blame-clause-reply g c =
     let s = c.args.session.now in
     subst (λ (q : Question). Replies (g.O.Sink.got c.args.out.now) (g.O.Sink.got c.tell_blame.new.out) c.tell_blame.result (told_of system s (case_in basis c.args.known.now) q)) (sym c.in-Blame.is)
     (subst (λ (words : List ℕ). Replies (g.O.Sink.got c.args.out.now) (g.O.Sink.got c.tell_blame.new.out) c.tell_blame.result (told_of system s (case_in basis words) (question.Blame))) c.copy_from_slice.ensures.after c.tell_blame.ensures.reply)
-
-pub returns-in-Graph-clause-reply : goal.returns-in-Graph-clause-reply
-returns-in-Graph-clause-reply g c =
-    let basis = c.args.basis.now in
-    let system = system_of basis in
-    let s = c.args.session.now in
-    subst (λ (q : Question). Replies (g.O.Sink.got c.args.out.now) (g.O.Sink.got c.tell_graph.new.out) c.tell_graph.result (told_of system s (case_in basis c.args.known.now) q)) (sym c.in-Graph.is) c.tell_graph.ensures.reply

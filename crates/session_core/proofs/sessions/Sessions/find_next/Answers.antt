@@ -1,25 +1,22 @@
-use Rattle.std.proofs.Common.{◌≡◌, ◌∙◌, length, ap, sym, subst, Some}
-use Rattle.std.specs.Prelude.{IfSome, Option}
+use Rattle.std.proofs.Common.{◌∙◌, length, ap, sym, subst}
 use Rattle.scratch_pool.specs.declared.region.Span.{Span}
-use Rattle.scratch_pool.specs.Regions.{carved, words_used}
 use Rattle.scratch_pool.proofs.Laws.{length-run}
 use Rattle.session_table.specs.Tables.{Opened, StandsAt}
 use Rattle.session_core.specs.Services.{Shown}
 use Rattle.session_core.specs.inner.Obeying.{PointMoves}
-use Rattle.session_core.proofs.Holding.{shown_of, carve_some, is_last, is_held, released_runs, released_words}
+use Rattle.session_core.proofs.Holding.{shown_of, carve_some, carved_so, is_last, is_held, released_runs, released_words}
 use Rattle.session_core.proofs.sessions.Sessions.find_next.Goals as goal
 
 pub move_point-step-requires-clause-scratch : goal.move_point-step-requires-clause-scratch
 move_point-step-requires-clause-scratch g c =
-    let at : IfSome (Some c.unwrap-run.result) (λ (run : Span). (run ≡ record { start = words_used c.self.inside.scratch.runs; len = c.room.result }) × (c.carve.new.self ≡ carved c.self.inside.scratch run)) =
-    subst (λ (o : Option Span). IfSome o (λ (run : Span). (run ≡ record { start = words_used c.self.inside.scratch.runs; len = c.room.result }) × (c.carve.new.self ≡ carved c.self.inside.scratch run))) c.unwrap-run.ensures c.carve.ensures.run in
+    let at = carved_so c.self.inside.scratch c.carve.new.self c.room.result c.carve.result c.unwrap-run.result c.unwrap-run.ensures c.carve.ensures.run in
     let held = is_held c.self.inside.scratch c.carve.new.self c.unwrap-run.result c.room.result c.self.invariant.unused (c.self.invariant.room ∙ sym c.room.ensures.room) at.1 in
     ap length c.run_mut.ensures.value ∙ (length-run c.carve.new.self c.run_mut.ensures.sound c.unwrap-run.result held ∙ (ap (λ (run : Span). run.len) at.0 ∙ c.room.ensures.room))
 
 pub returns-clause-moves : goal.returns-clause-moves
 returns-clause-moves g c = λ session entry stands.
     let here = subst (λ (v : Shown). StandsAt v.table c.args.place session entry) (sym c.self.view_is) stands in
-    subst (λ (v : Shown). PointMoves v.subject v.table c.move_point-step.new.open.table c.args.place session entry c.move_point-step.result) c.self.view_is
+    subst (λ (v : Shown). PointMoves v.subject v.table c.move_point-step.new.sessions.table c.args.place session entry c.move_point-step.result) c.self.view_is
     (c.move_point-step.ensures.moves session entry here)
 
 pub unwrap-run-requires : goal.unwrap-run-requires
@@ -28,18 +25,16 @@ unwrap-run-requires g c =
 
 pub release-requires : goal.release-requires
 release-requires g c =
-    let at : IfSome (Some c.unwrap-run.result) (λ (run : Span). (run ≡ record { start = words_used c.self.inside.scratch.runs; len = c.room.result }) × (c.carve.new.self ≡ carved c.self.inside.scratch run)) =
-    subst (λ (o : Option Span). IfSome o (λ (run : Span). (run ≡ record { start = words_used c.self.inside.scratch.runs; len = c.room.result }) × (c.carve.new.self ≡ carved c.self.inside.scratch run))) c.unwrap-run.ensures c.carve.ensures.run in
+    let at = carved_so c.self.inside.scratch c.carve.new.self c.room.result c.carve.result c.unwrap-run.result c.unwrap-run.ensures c.carve.ensures.run in
     record { last = is_last c.self.inside.scratch c.carve.new.self c.unwrap-run.result c.room.result c.self.invariant.unused (c.self.invariant.room ∙ sym c.room.ensures.room) at.1 }
 
 pub returns-clause-stays : goal.returns-clause-stays
 returns-clause-stays g c =
-    ap (shown_of c.self.inside.basis) c.move_point-step.ensures.stays ∙ ap (λ (v : Shown). record v { table = c.move_point-step.new.open.table }) c.self.view_is
+    ap (shown_of c.self.inside.basis) c.move_point-step.ensures.stays ∙ ap (λ (v : Shown). record v { table = c.move_point-step.new.sessions.table }) c.self.view_is
 
 pub invariant_of-self : goal.invariant_of-self
 invariant_of-self g c =
-    let at : IfSome (Some c.unwrap-run.result) (λ (run : Span). (run ≡ record { start = words_used c.self.inside.scratch.runs; len = c.room.result }) × (c.carve.new.self ≡ carved c.self.inside.scratch run)) =
-    subst (λ (o : Option Span). IfSome o (λ (run : Span). (run ≡ record { start = words_used c.self.inside.scratch.runs; len = c.room.result }) × (c.carve.new.self ≡ carved c.self.inside.scratch run))) c.unwrap-run.ensures c.carve.ensures.run in
+    let at = carved_so c.self.inside.scratch c.carve.new.self c.room.result c.carve.result c.unwrap-run.result c.unwrap-run.ensures c.carve.ensures.run in
     let room = c.self.invariant.room ∙ sym c.room.ensures.room in
     record {
       parts = ap (λ (o : Opened). o.parts) c.move_point-step.ensures.stays ∙ c.self.invariant.parts;

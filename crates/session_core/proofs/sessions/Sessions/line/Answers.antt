@@ -6,6 +6,7 @@ use Rattle.script_lang.specs.declared.limits.TheConstants.{COUNT_LIMIT}
 use Rattle.script_lang.specs.Asked.{is_well_asked}
 use Rattle.script_lang.proofs.AskedLemmas.{well_asked}
 use Rattle.script_lang.specs.Script.{Line}
+use Rattle.session_core.specs.Services.{TellsGraph}
 use Rattle.session_rules.specs.GraphSystems.{system_of}
 use Rattle.session_rules.specs.Moves.{moves}
 use Rattle.session_rules.specs.Carrying.{Makes, CarriesOut}
@@ -77,4 +78,7 @@ pub returns-in-Blame-clause-carried : goal.returns-in-Blame-clause-carried
 returns-in-Blame-clause-carried g c = line_carried c.args.self.now c.ask-in-Blame.new.self _ _ c.args.line.now _ _ _ c.in-Blame.ensures c.ask-in-Blame.ensures.obeys
 
 pub returns-in-Dnnf-clause-carried : goal.returns-in-Dnnf-clause-carried
-returns-in-Dnnf-clause-carried g c = line_carried c.args.self.now c.ask-in-Dnnf.new.self _ _ c.args.line.now _ _ _ c.in-Dnnf.ensures c.ask-in-Dnnf.ensures.obeys
+returns-in-Dnnf-clause-carried g c = line_carried c.args.self.now c.args.self.now _ _ c.args.line.now _ _ _ c.in-Dnnf.ensures c.ask_graph.ensures.obeys
+
+pub returns-in-Dnnf-clause-graph : goal.returns-in-Dnnf-clause-graph
+returns-in-Dnnf-clause-graph g c = subst (λ (l : Line). TellsGraph c.args.self.now l (g.O.Sink.got c.args.out.now) (g.O.Sink.got c.ask_graph.new.out) c.ask_graph.result) c.in-Dnnf.ensures c.ask_graph.ensures.text

@@ -1,8 +1,6 @@
 use Rattle.std.proofs.Common.{◌≡◌, ◌∙◌, ℕ, length, ap, sym, subst}
-use Rattle.std.specs.Prelude.{IfSome, Option, Some}
 use Rattle.ranking.specs.Cases.{Case}
 use Rattle.scratch_pool.specs.declared.region.Span.{Span}
-use Rattle.scratch_pool.specs.Regions.{carved, words_used}
 use Rattle.scratch_pool.proofs.Laws.{length-run}
 use Rattle.session_rules.specs.CaseWords.{case_of_words, AreWords}
 use Rattle.session_rules.specs.GraphSystems.{system_of}
@@ -12,7 +10,7 @@ use Rattle.session_table.specs.Tables.{StandsAt}
 use Rattle.session_core.specs.Services.{Shown}
 use Rattle.session_core.specs.inner.Bases.{case_in}
 use Rattle.session_core.specs.inner.Telling.{told_of}
-use Rattle.session_core.proofs.Holding.{carve_some, is_last, is_held, released_runs, released_words, written_back}
+use Rattle.session_core.proofs.Holding.{carve_some, carved_so, is_last, is_held, released_runs, released_words, written_back}
 use Rattle.session_core.proofs.sessions.Sessions.tell_at.Goals as goal
 
 pub unwrap-run-requires : goal.unwrap-run-requires
@@ -27,8 +25,7 @@ tell-told-requires-clause-known g c =
 
 pub tell-told-requires-clause-scratch : goal.tell-told-requires-clause-scratch
 tell-told-requires-clause-scratch g c =
-    let at : IfSome (Some c.unwrap-run.result) (λ (run : Span). (run ≡ record { start = words_used c.self.inside.scratch.runs; len = c.room.result }) × (c.carve.new.self ≡ carved c.self.inside.scratch run)) =
-    subst (λ (o : Option Span). IfSome o (λ (run : Span). (run ≡ record { start = words_used c.self.inside.scratch.runs; len = c.room.result }) × (c.carve.new.self ≡ carved c.self.inside.scratch run))) c.unwrap-run.ensures c.carve.ensures.run in
+    let at = carved_so c.self.inside.scratch c.carve.new.self c.room.result c.carve.result c.unwrap-run.result c.unwrap-run.ensures c.carve.ensures.run in
     let held = is_held c.self.inside.scratch c.carve.new.self c.unwrap-run.result c.room.result c.self.invariant.unused (c.self.invariant.room ∙ sym c.room.ensures.room) at.1 in
     ap length c.run_mut.ensures.value ∙ (length-run c.carve.new.self c.run_mut.ensures.sound c.unwrap-run.result held ∙ (ap (λ (run : Span). run.len) at.0 ∙ c.room.ensures.room))
 
@@ -47,14 +44,12 @@ returns-clause-same g c = c.self.view_is
 
 pub release-requires : goal.release-requires
 release-requires g c =
-    let at : IfSome (Some c.unwrap-run.result) (λ (run : Span). (run ≡ record { start = words_used c.self.inside.scratch.runs; len = c.room.result }) × (c.carve.new.self ≡ carved c.self.inside.scratch run)) =
-    subst (λ (o : Option Span). IfSome o (λ (run : Span). (run ≡ record { start = words_used c.self.inside.scratch.runs; len = c.room.result }) × (c.carve.new.self ≡ carved c.self.inside.scratch run))) c.unwrap-run.ensures c.carve.ensures.run in
+    let at = carved_so c.self.inside.scratch c.carve.new.self c.room.result c.carve.result c.unwrap-run.result c.unwrap-run.ensures c.carve.ensures.run in
     record { last = is_last c.self.inside.scratch c.carve.new.self c.unwrap-run.result c.room.result c.self.invariant.unused (c.self.invariant.room ∙ sym c.room.ensures.room) at.1 }
 
 pub invariant_of-self : goal.invariant_of-self
 invariant_of-self g c =
-    let at : IfSome (Some c.unwrap-run.result) (λ (run : Span). (run ≡ record { start = words_used c.self.inside.scratch.runs; len = c.room.result }) × (c.carve.new.self ≡ carved c.self.inside.scratch run)) =
-    subst (λ (o : Option Span). IfSome o (λ (run : Span). (run ≡ record { start = words_used c.self.inside.scratch.runs; len = c.room.result }) × (c.carve.new.self ≡ carved c.self.inside.scratch run))) c.unwrap-run.ensures c.carve.ensures.run in
+    let at = carved_so c.self.inside.scratch c.carve.new.self c.room.result c.carve.result c.unwrap-run.result c.unwrap-run.ensures c.carve.ensures.run in
     let room = c.self.invariant.room ∙ sym c.room.ensures.room in
     let same : length c.tell-told.new.verdicts ≡ length c.self.inside.verdicts.items = c.tell-told.auto.verdicts ∙ ap length c.deref_mut.ensures.value in
     record {

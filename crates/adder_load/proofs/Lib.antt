@@ -1,0 +1,4 @@
+pub mod Texts
+pub mod Noting
+pub mod Listing
+pub mod Cases

@@ -1,0 +1,69 @@
+-- What readings say, one after the other.
+use Rattle.std.proofs.Common.{◌≡◌, ℕ, ◌+◌, ◌-◌, ◌<◌, ◌≤◌, Bool, List, [], ◌∷◌, ◌++◌, length, replicate, set, refl, ap, sym, ◌∙◌, subst, Option, Some, arith}
+use Rattle.std.specs.Prelude.{◌↔◌, ◌==◌, true, false, slice_set, IsTrue}
+use Rattle.std.specs.Option.{option_map_or}
+use Rattle.std.proofs.lemmas.Bool.{ne_eqb, eq-eqb}
+use Rattle.std.proofs.lemmas.List.Quantifiers.{position-Some}
+use Rattle.text_rules.specs.Names.{Name, same_name}
+use Rattle.device_model.specs.Devices.{Device, place_of}
+use Rattle.conditioner.specs.Words.{word_of}
+use Rattle.session_rules.specs.CaseWords.{AreWords}
+use Rattle.session_rules.specs.GraphSystems.{case_words}
+use Rattle.session_rules.proofs.CaseWords.{wire-says, wire-are, zeros-say, zeros-are, words-of_case, room-in_words}
+use Rattle.adder_load.specs.Readings.{Reading, readings, with_reading, with_readings, adder_case}
+use Rattle.adder_load.specs.inner.Noting.{case_in, Notes}
+
+-- a test for 0
+pub is_zero : (test : Bool) (n : ℕ) → (IsTrue test ↔ (n ≡ 0)) → test ≡ (n == 0)
+is_zero true n decides = sym (eq-eqb n 0 (decides.0 refl))
+is_zero false n decides = sym (ne_eqb n 0 (λ zero. let never = decides.1 zero in cc))
+
+append : (wires : List Name) (seen : List (Option Bool)) (xs ys : List Reading) → with_readings wires (with_readings wires seen xs) ys ≡ with_readings wires seen (xs ++ ys)
+append wires seen [] ys = refl
+append wires seen (x ∷ xs) ys = append wires (with_reading wires seen x) xs ys
+
+-- one after the other
+pub notes-append : (device : Device) (old between new : List ℕ) (xs ys : List Reading) → Notes device old between xs → Notes device between new ys → Notes device old new (xs ++ ys)
+notes-append device old between new xs ys first then = record {
+  words = subst (λ n. AreWords (length device.parts) (length device.wires) n new) first.words.long then.words;
+  seen = then.seen ∙ ap (λ seen. with_readings device.wires seen ys) first.seen ∙ append device.wires (case_in device old).seen xs ys;
+  held = then.held ∙ first.held;
+}
+
+pub wire_within : (device : Device) (name : Name) (wire : ℕ) → Some wire ≡ place_of name device.wires → wire < length device.wires
+wire_within device name wire at = (position-Some (same_name name) device.wires wire [] (sym at)).0
+
+module _ (device : Device) (words : List ℕ) (are : AreWords (length device.parts) (length device.wires) (length words) words) where
+  pub wire_room : (name : Name) (wire : ℕ) → Some wire ≡ place_of name device.wires → length device.parts + wire < length words
+  wire_room name wire at =
+      let within = wire_within device name wire at in
+      let room = room-in_words (length device.parts) (length device.wires) (length words) words are in
+      omega (arith, within, room)
+
+  pub noted : (name : Name) (bit : Bool) (wire var : ℕ) (new : List ℕ) → Some wire ≡ place_of name device.wires → var ≡ length device.parts + wire + 1 → new ≡ slice_set words (var - 1) (word_of bit)
+      → Notes device words new ((name, bit) ∷ [])
+  noted name bit wire var new at is written =
+      let within = wire_within device name wire at in
+      let place : var - 1 ≡ length device.parts + wire = omega (arith, is) in
+      let same : new ≡ set words (length device.parts + wire) (word_of bit) = written ∙ ap (λ n. set words n (word_of bit)) place in
+      let says = wire-says (length device.parts) (length device.wires) (length words) words are wire within (Some bit) in
+      let what = ap (case_in device) same ∙ says in
+      record {
+        words = subst (AreWords (length device.parts) (length device.wires) (length words)) (sym same) (wire-are (length device.parts) (length device.wires) (length words) words are wire within (Some bit));
+        seen = ap (λ known. known.seen) what ∙ ap (λ o. option_map_or (λ w. set (case_in device words).seen w (Some bit)) o (case_in device words).seen) at;
+        held = ap (λ known. known.held) what;
+      }
+
+-- ---- all readings, in words that are all 0
+
+module _ (device : Device) (words : List ℕ) (none : words ≡ replicate (length words) 0) (room : length device.parts + length device.wires ≤ length words) where
+  pub zeros : AreWords (length device.parts) (length device.wires) (length words) words
+  zeros = subst (AreWords (length device.parts) (length device.wires) (length words)) (sym none) (zeros-are (length device.parts) (length device.wires) (length words) room)
+
+  pub all_noted : (places : ℕ) (new : List ℕ) (what : List Reading) → what ≡ readings places → Notes device words new what → new ≡ case_words (length words) (adder_case device places)
+  all_noted places new what all notes =
+      let nothing = ap (case_in device) none ∙ zeros-say (length device.parts) (length device.wires) (length words) room in
+      let seen = notes.seen ∙ (λ i. with_readings device.wires (nothing i).seen (all i)) in
+      let held = notes.held ∙ ap (λ known. known.held) nothing in
+      sym (words-of_case (length device.parts) (length device.wires) (length words) new notes.words)
+      ∙ (λ i. case_words (length words) (record { seen = seen i; held = held i }))

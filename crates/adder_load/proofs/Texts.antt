@@ -1,0 +1,38 @@
+-- Texts that grow piece by piece, and how long that of an adder is.
+use Rattle.std.proofs.Common.{◌≡◌, ℕ, zero, suc, ◌+◌, ◌*◌, ◌-◌, ◌<◌, List, [], ◌++◌, length, refl, ◌∙◌, ap, arith, append_assoc, length-append, if◌then◌else◌}
+use Rattle.std.specs.Prelude.{Result, Ok, Err, OnOk, is_ok}
+use Rattle.std.specs.List.{flat_map, range_with_len}
+use Rattle.adder_load.specs.Adders.{place_lines, adder_text}
+
+-- what is behind one piece is behind the text that the piece was added to
+pub behind : (before between after piece more : List ℕ) → between ≡ before ++ piece → after ≡ between ++ more → after ≡ before ++ (piece ++ more)
+behind before between after piece more one rest = rest ∙ ap (λ text. text ++ more) one ∙ append_assoc before piece more
+
+-- what is left of so many things that are numbered, after the first of them
+pub left_more : {A : Type 0} (f : ℕ → List A) (all place : ℕ) → place < all
+    → flat_map f (range_with_len place (all - place)) ≡ f place ++ flat_map f (range_with_len (place + 1) (all - (place + 1)))
+left_more f all place below =
+    let more : all - place ≡ suc (all - (place + 1)) = omega (arith, below) in
+    ap (λ n. flat_map f (range_with_len place n)) more
+
+pub left_none : {A : Type 0} (f : ℕ → List A) (all : ℕ) → flat_map f (range_with_len all (all - all)) ≡ []
+left_none f all = let none : all - all ≡ 0 = omega arith in ap (λ n. flat_map f (range_with_len all n)) none
+
+place_long : (place : ℕ) → length (place_lines place) ≡ 155
+place_long place = refl
+
+places_long : (from places : ℕ) → length (flat_map place_lines (range_with_len from places)) ≡ 155 * places
+places_long from zero = refl
+places_long from (suc places) =
+    let both = length-append (place_lines from) (flat_map place_lines (range_with_len (from + 1) places)) in
+    let one = place_long from in
+    let more = places_long (from + 1) places in
+    both ∙ omega (arith, one, more)
+
+pub adder_long : (places : ℕ) → length (adder_text places) ≡ 13 + 155 * places
+adder_long places = let long = places_long 0 places in omega (arith, long)
+
+-- the last piece, if there was room for it
+pub last_piece : {A E : Type 0} (result : Result A E) (between after more all : List ℕ) → after ≡ (if is_ok result then between ++ more else between) → (after ≡ between ++ more → after ≡ all) → OnOk result (after ≡ all)
+last_piece (Ok a) between after more all is so = so is
+last_piece (Err e) between after more all is so = tt

@@ -1,0 +1,8 @@
+use Rattle.std.proofs.Common.{◌+◌, length, ap}
+use Rattle.adder_load.proofs.Noting.{noted}
+use Rattle.adder_load.proofs.readings.note.Goals as goal
+
+pub returns-in-Some : goal.returns-in-Some
+returns-in-Some c =
+    noted c.args.device.now c.args.words.now c.requires.words c.args.name.now c.args.bit c.in-Some.wire (length c.parts.result.now + c.in-Some.wire + 1) c.fix.new.words
+    c.in-Some.ensures (ap (λ parts. length parts + c.in-Some.wire + 1) c.parts.ensures.parts) c.fix.ensures.fixed

@@ -1,0 +1,3 @@
+pub mod Adders
+pub mod Readings
+pub mod inner

@@ -1,0 +1,38 @@
+-- What was seen of the adder of a load.
+use Rattle.std.specs.Prelude.{ℕ, ◌%◌, ◌==◌, Bool, false, List, [], ◌∷◌, length, replicate, set, Option, Some, None, codes}
+use Rattle.std.specs.List.{flat_map, range_with_len}
+use Rattle.std.specs.Option.{option_map_or}
+use Rattle.text_rules.specs.Names.{Name}
+use Rattle.ranking.specs.Cases.{Case}
+use Rattle.device_model.specs.Devices.{Device, place_of}
+use Rattle.adder_load.specs.Adders.{signal}
+
+-- a wire and the bit that was seen of it
+abbrev pub Reading : Type 0
+Reading = Name × Bool
+
+-- The bits that are added are 0, and so is each sum, but at every sixteenth place.
+abbrev pub readings_at : ℕ → List Reading
+readings_at place =
+    (signal place (codes "a"), false) ∷ (signal place (codes "b"), false) ∷ (signal place (codes "s"), place % 16 == 0) ∷ []
+
+-- and so are the first carry and the last
+abbrev pub readings : ℕ → List Reading
+readings places =
+    (signal 0 (codes "c"), false) ∷ (signal places (codes "c"), false) ∷ flat_map readings_at (range_with_len 0 places)
+
+-- one more is seen, if there is such a wire
+abbrev pub with_reading : List Name → List (Option Bool) → Reading → List (Option Bool)
+with_reading wires seen reading = option_map_or (λ wire. set seen wire (Some reading.1)) (place_of reading.0 wires) seen
+
+-- one after the other
+abbrev pub with_readings : List Name → List (Option Bool) → List Reading → List (Option Bool)
+with_readings wires seen [] = seen
+with_readings wires seen (reading ∷ more) = with_readings wires (with_reading wires seen reading) more
+
+-- the case of a device of which this was seen, and nothing is held
+abbrev pub adder_case : Device → ℕ → Case
+adder_case device places = record {
+  seen = with_readings device.wires (replicate (length device.wires) None) (readings places);
+  held = replicate (length device.parts) None;
+}

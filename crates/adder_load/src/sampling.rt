@@ -1,0 +1,94 @@
+ghost use Rattle.std.specs.Prelude.{◌≡◌, ◌-◌, ◌<◌, ◌≤◌, [], length, take, All, slice_index_or, IfSome};
+ghost use Rattle.std.specs.Option.{option_map};
+ghost use Rattle.conditioner.specs.Models.{least_under, diagnoses_under, total_cost};
+ghost use Rattle.diagnosis_lister.specs.Listing.{bits_of};
+
+use diagnosis_lister::{Step, first, next};
+use minimiser::{Steps, TOTAL_LIMIT};
+use node_store::Graph;
+use std::sync::ledger::Ledger;
+
+/// What the first diagnoses of a graph are like.
+#[derive(Clone, Copy, Debug, PartialEq, Eq)]
+pub struct Found {
+    /// The cost of each of them.
+    pub fewest: u32,
+    /// How many were listed.
+    pub listed: u32,
+}
+
+// Lists the diagnoses behind the first one, up to so many in all, and tells how many there are then. The last one is in the state.
+fn list_on<L: Ledger>(
+    graph: &Graph,
+    words: &mut [u32],
+    costs: &[u32],
+    values: &mut [u32],
+    state: &mut [u32],
+    most: u32,
+    steps: &mut Steps<L>,
+) -> u32
+    requires long { length words.old ≡ graph.now.vars }
+    requires words { All (λ w. w < 3) words.old }
+    requires parts { length costs.now ≤ graph.now.vars }
+    requires total { total_cost costs.now < TOTAL_LIMIT }
+    requires dear { All (λ c. 0 < c) costs.now }
+    requires room { length values.old ≡ length graph.now.nodes }
+    requires state { length state.old ≡ length costs.now }
+    requires state_words { All (λ s. s < 2) state.old }
+    requires some { 1 ≤ most }
+    requires there { 0 < length (diagnoses_under graph.now words.old costs.now) }
+    requires first { bits_of state.old ≡ slice_index_or (diagnoses_under graph.now words.old costs.now) 0 [] }
+    ensures listed { result ≡ length (take most (diagnoses_under graph.now words.old costs.now)) }
+    ensures last { bits_of state.new ≡ slice_index_or (diagnoses_under graph.now words.old costs.now) (result - 1) [] }
+    ensures state { All (λ s. s < 2) state.new }
+    ensures words { words.new ≡ words.old }
+{
+    for count in 1..most {
+        match next(graph, words, costs, values, state, steps) {
+            Step::Found => {}
+            Step::End | Step::Inconsistent => return count,
+        }
+    }
+    most
+}
+
+/// The least cost over a graph, and how many diagnoses there are, up to `most`, of which the first one and the last one are written
+/// into the states: 0 where a part is ok, and 1 where it is faulty. `None` where the graph allows no state.
+///
+/// The words are the same afterwards.
+pub fn sample<L: Ledger>(
+    graph: &Graph,
+    words: &mut [u32],
+    costs: &[u32],
+    values: &mut [u32],
+    first_state: &mut [u32],
+    last_state: &mut [u32],
+    most: u32,
+    steps: &mut Steps<L>,
+) -> Option<Found>
+    requires long { length words.old ≡ graph.now.vars }
+    requires words { All (λ w. w < 3) words.old }
+    requires parts { length costs.now ≤ graph.now.vars }
+    requires total { total_cost costs.now < TOTAL_LIMIT }
+    requires dear { All (λ c. 0 < c) costs.now }
+    requires room { length values.old ≡ length graph.now.nodes }
+    requires first_state { length first_state.old ≡ length costs.now }
+    requires first_words { All (λ s. s < 2) first_state.old }
+    requires last_state { length last_state.old ≡ length costs.now }
+    requires some { 1 ≤ most }
+    ensures least { option_map (λ found. found.fewest) result ≡ least_under graph.now words.old costs.now }
+    ensures listed { IfSome result (λ found.
+        found.listed ≡ length (take most (diagnoses_under graph.now words.old costs.now))) }
+    ensures first { IfSome result (λ found.
+        bits_of first_state.new ≡ slice_index_or (diagnoses_under graph.now words.old costs.now) 0 []) }
+    ensures last { IfSome result (λ found.
+        bits_of last_state.new ≡ slice_index_or (diagnoses_under graph.now words.old costs.now) (found.listed - 1) []) }
+    ensures first_state { All (λ s. s < 2) first_state.new }
+    ensures last_state { IfSome result (λ _. All (λ s. s < 2) last_state.new) }
+    ensures words { words.new ≡ words.old }
+{
+    let fewest = first(graph, words, costs, values, first_state, steps)?;
+    last_state.copy_from_slice(first_state);
+    let listed = list_on(graph, words, costs, values, last_state, most, steps);
+    Some(Found { fewest, listed })
+}

@@ -1,0 +1,302 @@
+-- Gates of more than four inputs: each inner variable of the chain is settled, and what is left is the gate.
+use Rattle.std.proofs.Common.{◌≡◌, ℕ, zero, suc, ◌+◌, ◌-◌, ◌%◌, ◌<◌, ◌≤◌, Bool, true, false, not, ◌&&◌, ◌||◌, cond, count_by, List, [], ◌∷◌, ◌++◌, map, length, take, drop, get_or, refl, ap, sym, ◌∙◌, arith}
+use Rattle.std.specs.Prelude.{◌==◌, Option, Some, None, slice_get, if◌then◌else◌}
+use Rattle.std.specs.List.{list_all, list_any}
+use Rattle.std.proofs.lemmas.Bool.{ltb-true, false≢true}
+use Rattle.std.proofs.lemmas.List.{length-map, map-append, take-map, drop-map, get_or-map, take_all, take_more, length-take-le, length-drop}
+use Rattle.std.proofs.lemmas.List.Folds.{list_all-append}
+use Rattle.ranking.specs.Bits.{same_bit, bit_in, has_odd_ones}
+use Rattle.ranking.specs.Assignments.{Assignment}
+use Rattle.device_model.specs.declared.component.Kind.{Kind}
+use Rattle.device_model.specs.declared.component.Kind.TheVariants.{And, Or, Nand, Nor, Xor, Xnor, Not, Buff, Table}
+use Rattle.device_model.specs.TruthTable.{TruthTable}
+use Rattle.device_model.specs.Devices.{gate_value, gate_allows, any_table_allows, allows, takes, takes_ports, rows_take}
+use Rattle.clause_encoder.specs.Clauses.{is_true_clause, all_hold}
+use Rattle.clause_encoder.specs.Encoding.{gate_clauses, and_step, xor_step, step_clauses, chain_clauses, wide_clauses, is_wide, any_gate_clauses, inner_count, table_clauses, raw_clauses}
+use Rattle.clause_encoder.proofs.Literals.{lit-literal}
+use Rattle.clause_encoder.proofs.RowBits.{AllPositive, count-cons}
+use Rattle.clause_encoder.proofs.Meaning.{gate-holds, table-holds, takes-some, not_wide, gate_allows-says, AllPositive-take, AllPositive-at}
+use Rattle.clause_encoder.proofs.Settled.{has_bits, Settles, and_assoc}
+
+-- ---- one step
+
+-- what an inner variable is
+abbrev pub step_value : Kind → Bool → Bool → Bool
+step_value And b c = b && c
+step_value Nand b c = b && c
+step_value Or b c = b || c
+step_value Nor b c = b || c
+step_value Xor b c = not (same_bit b c)
+step_value Xnor b c = not (same_bit b c)
+step_value Not b c = false
+step_value Buff b c = false
+step_value (Table t) b c = false
+
+module _ (a : Assignment) (z before x : ℕ) (hz : 1 ≤ z) (hb : 1 ≤ before) (hx : 1 ≤ x) where
+  and_step-holds : all_hold a (and_step true z before x) ≡ same_bit (a before && a x) (a z)
+  and_step-holds =
+      (λ i. (lit-literal a false z hz i || (lit-literal a true before hb i || false))
+      && ((lit-literal a false z hz i || (lit-literal a true x hx i || false))
+      && ((lit-literal a true z hz i || (lit-literal a false before hb i || (lit-literal a false x hx i || false))) && true)))
+      ∙ by_bits (a z) (a before) (a x) where
+        by_bits : (c b d : Bool) → ((not c || (b || false)) && ((not c || (d || false)) && ((c || (not b || (not d || false))) && true))) ≡ same_bit (b && d) c
+        by_bits true true true = refl
+        by_bits true true false = refl
+        by_bits true false d = refl
+        by_bits false true true = refl
+        by_bits false true false = refl
+        by_bits false false d = refl
+
+  or_step-holds : all_hold a (and_step false z before x) ≡ same_bit (a before || a x) (a z)
+  or_step-holds =
+      (λ i. (lit-literal a true z hz i || (lit-literal a false before hb i || false))
+      && ((lit-literal a true z hz i || (lit-literal a false x hx i || false))
+      && ((lit-literal a false z hz i || (lit-literal a true before hb i || (lit-literal a true x hx i || false))) && true)))
+      ∙ by_bits (a z) (a before) (a x) where
+        by_bits : (c b d : Bool) → ((c || (not b || false)) && ((c || (not d || false)) && ((not c || (b || (d || false))) && true))) ≡ same_bit (b || d) c
+        by_bits true true d = refl
+        by_bits true false true = refl
+        by_bits true false false = refl
+        by_bits false true d = refl
+        by_bits false false true = refl
+        by_bits false false false = refl
+
+  xor_step-holds : all_hold a (xor_step z before x) ≡ same_bit (not (same_bit (a before) (a x))) (a z)
+  xor_step-holds =
+      (λ i. (lit-literal a false z hz i || (lit-literal a true before hb i || (lit-literal a true x hx i || false)))
+      && ((lit-literal a false z hz i || (lit-literal a false before hb i || (lit-literal a false x hx i || false)))
+      && ((lit-literal a true z hz i || (lit-literal a true before hb i || (lit-literal a false x hx i || false)))
+      && ((lit-literal a true z hz i || (lit-literal a false before hb i || (lit-literal a true x hx i || false))) && true))))
+      ∙ by_bits (a z) (a before) (a x) where
+        by_bits : (c b d : Bool) → ((not c || (b || (d || false))) && ((not c || (not b || (not d || false))) && ((c || (b || (not d || false))) && ((c || (not b || (d || false))) && true)))) ≡ same_bit (not (same_bit b d)) c
+        by_bits true true true = refl
+        by_bits true true false = refl
+        by_bits true false true = refl
+        by_bits true false false = refl
+        by_bits false true true = refl
+        by_bits false true false = refl
+        by_bits false false true = refl
+        by_bits false false false = refl
+
+-- the value of two inputs stands for both
+odd-two : (b c : Bool) (rest : List Bool) → has_odd_ones (not (same_bit b c) ∷ rest) ≡ has_odd_ones (b ∷ c ∷ rest)
+odd-two b c rest = ap (λ n. n % 2 == 1) (count-cons (not (same_bit b c)) rest)
+    ∙ ap (λ n. n == 1) (by_bits b c (count_by (λ b. b) rest))
+    ∙ ap (λ n. n % 2 == 1) (sym (count-cons b (c ∷ rest) ∙ ap (λ n. cond b 1 0 + n) (count-cons c rest))) where
+      by_bits : (b c : Bool) (n : ℕ) → (cond (not (same_bit b c)) 1 0 + n) % 2 ≡ (cond b 1 0 + (cond c 1 0 + n)) % 2
+      by_bits true true n = omega arith
+      by_bits true false n = omega arith
+      by_bits false true n = omega arith
+      by_bits false false n = omega arith
+
+or_assoc : (b c d : Bool) → ((b || c) || d) ≡ (b || (c || d))
+or_assoc true c d = refl
+or_assoc false c d = refl
+
+-- What a kind needs of its steps.
+pub record IsStep (a : Assignment) (kind : Kind) : Type 0 where
+  pub two : takes kind 2 ≡ true
+  pub holds : (z before x : ℕ) → 1 ≤ z → 1 ≤ before → 1 ≤ x → all_hold a (step_clauses kind z before x) ≡ same_bit (step_value kind (a before) (a x)) (a z)
+  pub stands : (b c : Bool) (rest : List Bool) → gate_value kind (step_value kind b c ∷ rest) ≡ gate_value kind (b ∷ c ∷ rest)
+
+IsStep-of : (a : Assignment) (kind : Kind) (inputs : ℕ) → 5 ≤ inputs → takes kind inputs ≡ true → IsStep a kind
+IsStep-of a And inputs wide e = record { two = refl; holds = and_step-holds a; stands = λ b c rest. sym (and_assoc b c (list_all (λ b. b) rest)) }
+IsStep-of a Nand inputs wide e = record { two = refl; holds = and_step-holds a; stands = λ b c rest. ap not (sym (and_assoc b c (list_all (λ b. b) rest))) }
+IsStep-of a Or inputs wide e = record { two = refl; holds = or_step-holds a; stands = λ b c rest. or_assoc b c (list_any (λ b. b) rest) }
+IsStep-of a Nor inputs wide e = record { two = refl; holds = or_step-holds a; stands = λ b c rest. ap not (or_assoc b c (list_any (λ b. b) rest)) }
+IsStep-of a Xor inputs wide e = record { two = refl; holds = xor_step-holds a; stands = odd-two }
+IsStep-of a Xnor inputs wide e = record { two = refl; holds = xor_step-holds a; stands = λ b c rest. ap not (odd-two b c rest) }
+IsStep-of a Not inputs wide e = absurd (not_wide Not inputs (omega arith) wide e)
+IsStep-of a Buff inputs wide e = absurd (not_wide Buff inputs (omega arith) wide e)
+IsStep-of a (Table t) inputs wide e = absurd (not_wide (Table t) inputs (omega arith) wide e)
+
+-- ---- the chain
+
+-- the bits of the inner variables, from the bit before them and those of the inputs
+abbrev pub chain_bits : Kind → Bool → List Bool → List Bool
+chain_bits kind b [] = []
+chain_bits kind b (c ∷ bits) = step_value kind b c ∷ chain_bits kind (step_value kind b c) bits
+
+-- the last of them
+abbrev pub chain_end : Kind → Bool → List Bool → Bool
+chain_end kind b [] = b
+chain_end kind b (c ∷ bits) = chain_end kind (step_value kind b c) bits
+
+pub length-chain_bits : (kind : Kind) (b : Bool) (bits : List Bool) → length (chain_bits kind b bits) ≡ length bits
+length-chain_bits kind b [] = refl
+length-chain_bits kind b (c ∷ bits) = ap suc (length-chain_bits kind (step_value kind b c) bits)
+
+-- a bit that is settled may be put for the variable
+settled : (b c : Bool) (f : Bool → Bool) → (same_bit b c && f c) ≡ (same_bit b c && f b)
+settled true true f = refl
+settled true false f = refl
+settled false true f = refl
+settled false false f = refl
+
+-- what a gate that is ok says of its output
+abbrev output_is : Assignment → ℕ → ℕ → Bool → Bool
+output_is a h y value = not (a h) || same_bit (a y) value
+
+module _ (a : Assignment) (kind : Kind) (h last y : ℕ) (hh : 1 ≤ h) (hl : 1 ≤ last) (hy : 1 ≤ y) (step : IsStep a kind) where
+  chain-settles : (xs : List ℕ) (z before : ℕ) → 1 ≤ z → 1 ≤ before → AllPositive xs
+      → Settles a z (chain_clauses kind h last y z before xs) (chain_bits kind (a before) (map a xs))
+      (output_is a h y (gate_value kind (chain_end kind (a before) (map a xs) ∷ a last ∷ [])))
+  chain-settles [] z before hz hb hs = gate-holds a h (before ∷ last ∷ []) y hh hy (hb, (hl, tt)) kind step.two
+  chain-settles (x ∷ xs) z before hz hb hs =
+      list_all-append (is_true_clause a) (step_clauses kind z before x) (chain_clauses kind h last y (z + 1) z xs)
+      ∙ (λ i. step.holds z before x hz hb hs.0 i && chain-settles xs (z + 1) z (omega arith) hz hs.1 i)
+      ∙ settled (step_value kind (a before) (a x)) (a z)
+      (λ b. has_bits a (z + 1) (chain_bits kind b (map a xs)) && output_is a h y (gate_value kind (chain_end kind b (map a xs) ∷ a last ∷ [])))
+      ∙ and_assoc (same_bit (step_value kind (a before) (a x)) (a z))
+      (has_bits a (z + 1) (chain_bits kind (step_value kind (a before) (a x)) (map a xs)))
+      (output_is a h y (gate_value kind (chain_end kind (step_value kind (a before) (a x)) (map a xs) ∷ a last ∷ [])))
+
+-- the end of the chain and the last input give what all inputs give
+chain_end-value : (a : Assignment) (kind : Kind) → IsStep a kind → (bits : List Bool) (b c : Bool)
+    → gate_value kind (chain_end kind b bits ∷ c ∷ []) ≡ gate_value kind (b ∷ (bits ++ c ∷ []))
+chain_end-value a kind step [] b c = refl
+chain_end-value a kind step (d ∷ bits) b c = chain_end-value a kind step bits (step_value kind b d) c ∙ step.stands b d (bits ++ c ∷ [])
+
+-- a list by its first item, those between, and its last
+ends : (xs : List ℕ) → 2 ≤ length xs → get_or xs 0 0 ∷ (take (length xs - 1 - 1) (drop 1 xs) ++ get_or xs (length xs - 1) 0 ∷ []) ≡ xs
+ends [] long = absurd (omega arith)
+ends (x ∷ xs) long = (λ i. x ∷ (take (between i) xs ++ get_or (x ∷ xs) (behind i) 0 ∷ []))
+    ∙ ap (λ ys. x ∷ ys) (sym (take_more xs (length xs - 1) 0 (omega arith)) ∙ take_all (length xs - 1 + 1) xs (omega arith)) where
+      between : length (x ∷ xs) - 1 - 1 ≡ length xs - 1
+      between = omega arith
+
+      behind : length (x ∷ xs) - 1 ≡ suc (length xs - 1)
+      behind = omega arith
+
+-- the bits of the inner variables of a gate of more than four inputs
+abbrev pub wide_bits : Kind → List Bool → List Bool
+wide_bits kind bits = chain_bits kind (bit_in bits 0) (take (length bits - 1 - 1) (drop 1 bits))
+
+AllPositive-drop : (n : ℕ) (vs : List ℕ) → AllPositive vs → AllPositive (drop n vs)
+AllPositive-drop zero vs h = h
+AllPositive-drop (suc n) [] h = tt
+AllPositive-drop (suc n) (v ∷ vs) h = AllPositive-drop n vs h.1
+
+module _ (a : Assignment) (kind : Kind) (h z : ℕ) (xs : List ℕ) (y : ℕ) (hh : 1 ≤ h) (hz : 1 ≤ z) (hy : 1 ≤ y) (hs : AllPositive xs) where
+  wide-settles : 5 ≤ length xs → takes kind (length xs) ≡ true
+      → Settles a z (wide_clauses kind h z xs y) (wide_bits kind (map a xs)) (output_is a h y (gate_value kind (map a xs)))
+  wide-settles wide e =
+      chain-settles a kind h last y hh (AllPositive-at xs (length xs - 1) hs (omega arith)) hy step middle z first hz (AllPositive-at xs 0 hs (omega arith))
+      (AllPositive-take (length xs - 1 - 1) (drop 1 xs) (AllPositive-drop 1 xs hs))
+      ∙ (λ i. has_bits a z (chain_bits kind (first_is i) (middle_is i)) && output_is a h y (value i)) where
+        first : ℕ
+        first = get_or xs 0 0
+
+        last : ℕ
+        last = get_or xs (length xs - 1) 0
+
+        middle : List ℕ
+        middle = take (length xs - 1 - 1) (drop 1 xs)
+
+        step : IsStep a kind
+        step = IsStep-of a kind (length xs) wide e
+
+        first_is : a first ≡ bit_in (map a xs) 0
+        first_is = sym (get_or-map a xs 0 0 false (omega arith))
+
+        middle_is : map a middle ≡ take (length (map a xs) - 1 - 1) (drop 1 (map a xs))
+        middle_is = sym (take-map a (length xs - 1 - 1) (drop 1 xs))
+            ∙ (λ i. take (sym (length-map xs a) i - 1 - 1) (sym (drop-map a 1 xs) i))
+
+        value : gate_value kind (chain_end kind (a first) (map a middle) ∷ a last ∷ []) ≡ gate_value kind (map a xs)
+        value = chain_end-value a kind step (map a middle) (a first) (a last)
+            ∙ ap (λ bits. gate_value kind (a first ∷ bits)) (sym (map-append a middle (last ∷ [])))
+            ∙ ap (λ vs. gate_value kind (map a vs)) (ends xs (omega arith))
+
+-- ---- a gate of any width
+
+-- the bits of the inner variables of a gate
+abbrev pub gate_bits : Kind → List Bool → List Bool
+gate_bits kind bits = if is_wide (length bits) then wide_bits kind bits else []
+
+pub any_gate-settles : (a : Assignment) (kind : Kind) (h z : ℕ) (xs : List ℕ) (y : ℕ) → 1 ≤ h → 1 ≤ z → 1 ≤ y → AllPositive xs → takes kind (length xs) ≡ true
+    → Settles a z (any_gate_clauses kind h z xs y) (gate_bits kind (map a xs)) (output_is a h y (gate_value kind (map a xs)))
+any_gate-settles a kind h z xs y hh hz hy hs e =
+    by_width (is_wide (length xs)) refl
+    ∙ ap (λ n. has_bits a z (if is_wide n then wide_bits kind (map a xs) else []) && output_is a h y (gate_value kind (map a xs))) (sym (length-map xs a)) where
+      by_width : (w : Bool) → is_wide (length xs) ≡ w
+          → all_hold a (if w then wide_clauses kind h z xs y else gate_clauses kind h xs y)
+          ≡ (has_bits a z (if w then wide_bits kind (map a xs) else []) && output_is a h y (gate_value kind (map a xs)))
+      by_width true wide = wide-settles a kind h z xs y hh hz hy hs (omega (arith, ltb-true 4 (length xs) wide)) e
+      by_width false narrow = gate-holds a h xs y hh hy hs kind e
+
+-- ---- how many
+
+length-gate_bits : (kind : Kind) (bits : List Bool) (ports : ℕ) → length bits ≡ ports - 1
+    → length (gate_bits kind bits) ≡ (if is_wide (ports - 1) then ports - 3 else 0)
+length-gate_bits kind bits ports long = by_width (is_wide (length bits)) refl ∙ ap (λ n. if is_wide n then ports - 3 else 0) long where
+  by_width : (w : Bool) → is_wide (length bits) ≡ w → length (if w then wide_bits kind bits else []) ≡ (if w then ports - 3 else 0)
+  by_width true wide =
+      let at_least : 4 < length bits = ltb-true 4 (length bits) wide in
+      length-chain_bits kind (bit_in bits 0) (take (length bits - 1 - 1) (drop 1 bits))
+      ∙ length-take-le (length bits - 1 - 1) (drop 1 bits) (omega (arith, length-drop 1 bits))
+      ∙ count (length bits) ports at_least long where
+        count : (n ports : ℕ) → 4 < n → n ≡ ports - 1 → n - 1 - 1 ≡ ports - 3
+        count n ports lt e = omega arith
+  by_width false narrow = refl
+
+-- the bits of the inner variables of a part, by those of its ports
+abbrev pub inner_bits : Kind → List Bool → List Bool
+inner_bits (Table t) row = []
+inner_bits kind row = gate_bits kind (take (length row - 1) row)
+
+pub length-inner_bits : (kind : Kind) (row : List Bool) → length (inner_bits kind row) ≡ inner_count kind (length row)
+length-inner_bits kind row = by_kind kind (length-take-le (length row - 1) row (omega arith)) where
+  by_kind : (kind : Kind) → length (take (length row - 1) row) ≡ length row - 1 → length (inner_bits kind row) ≡ inner_count kind (length row)
+  by_kind (Table t) long = refl
+  by_kind And long = length-gate_bits And (take (length row - 1) row) (length row) long
+  by_kind Or long = length-gate_bits Or (take (length row - 1) row) (length row) long
+  by_kind Nand long = length-gate_bits Nand (take (length row - 1) row) (length row) long
+  by_kind Nor long = length-gate_bits Nor (take (length row - 1) row) (length row) long
+  by_kind Xor long = length-gate_bits Xor (take (length row - 1) row) (length row) long
+  by_kind Xnor long = length-gate_bits Xnor (take (length row - 1) row) (length row) long
+  by_kind Not long = length-gate_bits Not (take (length row - 1) row) (length row) long
+  by_kind Buff long = length-gate_bits Buff (take (length row - 1) row) (length row) long
+
+-- ---- a part of any kind
+
+-- the last port of a gate is its output
+ports-settle : (a : Assignment) (kind : Kind) (h z : ℕ) (ports : List ℕ) → 1 ≤ h → 1 ≤ z → AllPositive ports → takes kind (length ports - 1) ≡ true
+    → Settles a z (any_gate_clauses kind h z (take (length ports - 1) ports) (get_or ports (length ports - 1) 0))
+    (gate_bits kind (take (length (map a ports) - 1) (map a ports))) (gate_allows kind (a h) (map a ports))
+ports-settle a kind h z ports hh hz hs e =
+    any_gate-settles a kind h z (take inputs ports) (get_or ports inputs 0) hh hz (AllPositive-at ports inputs hs within) (AllPositive-take inputs ports hs) (ap (takes kind) long ∙ e)
+    ∙ (λ i. says (output i) (sym (take-map a inputs ports) i))
+    ∙ (λ i. says (bit_in (map a ports) (sym (length-map ports a) i - 1)) (take (sym (length-map ports a) i - 1) (map a ports)))
+    ∙ ap (λ b. has_bits a z (gate_bits kind (take (length (map a ports) - 1) (map a ports))) && b) (gate_allows-says kind (a h) (map a ports)) where
+      inputs : ℕ
+      inputs = length ports - 1
+
+      says : Bool → List Bool → Bool
+      says out bits = has_bits a z (gate_bits kind bits) && (not (a h) || same_bit out (gate_value kind bits))
+
+      within : inputs < length ports
+      within = omega (arith, takes-some kind (length ports - 1) e)
+
+      long : length (take inputs ports) ≡ inputs
+      long = length-take-le inputs ports (omega arith)
+
+      output : a (get_or ports inputs 0) ≡ bit_in (map a ports) inputs
+      output = sym (get_or-map a ports inputs 0 false within)
+
+-- The clauses of a part settle its inner variables, and are true besides exactly where the part allows the bits of its ports.
+pub raw-settles : (a : Assignment) (tables : List TruthTable) (kind : Kind) (h z : ℕ) (ports : List ℕ) → 1 ≤ h → 1 ≤ z → AllPositive ports
+    → takes_ports tables kind (length ports) ≡ true
+    → Settles a z (raw_clauses tables kind h z ports) (inner_bits kind (map a ports)) (allows tables kind (a h) (map a ports))
+raw-settles a tables (Table t) h z ports hh hz hs e = by_rows (slice_get tables t) e where
+  by_rows : (rows : Option TruthTable) → rows_take rows (length ports) ≡ true → all_hold a (table_clauses rows h ports) ≡ any_table_allows rows (a h) (map a ports)
+  by_rows None e = absurd (false≢true e)
+  by_rows (Some rows) e = table-holds a rows h ports hh hs
+raw-settles a tables And h z ports hh hz hs e = ports-settle a And h z ports hh hz hs e
+raw-settles a tables Or h z ports hh hz hs e = ports-settle a Or h z ports hh hz hs e
+raw-settles a tables Nand h z ports hh hz hs e = ports-settle a Nand h z ports hh hz hs e
+raw-settles a tables Nor h z ports hh hz hs e = ports-settle a Nor h z ports hh hz hs e
+raw-settles a tables Xor h z ports hh hz hs e = ports-settle a Xor h z ports hh hz hs e
+raw-settles a tables Xnor h z ports hh hz hs e = ports-settle a Xnor h z ports hh hz hs e
+raw-settles a tables Not h z ports hh hz hs e = ports-settle a Not h z ports hh hz hs e
+raw-settles a tables Buff h z ports hh hz hs e = ports-settle a Buff h z ports hh hz hs e

@@ -1,0 +1,122 @@
+-- Inner variables whose bits are settled by the others: some bits of them make all clauses true exactly where what is
+-- left of the clauses is true.
+use Rattle.std.proofs.Common.{◌≡◌, ℕ, suc, ◌+◌, ◌-◌, Bool, true, false, ◌&&◌, ◌||◌, List, [], ◌∷◌, ◌++◌, map, length, refl, ap, sym, ◌∙◌, arith, append_assoc}
+use Rattle.std.specs.List.{list_any}
+use Rattle.std.proofs.lemmas.List.{get_or-append_right, length-append}
+use Rattle.std.proofs.lemmas.List.Folds.{list_all-append, list_any-append}
+use Rattle.ranking.specs.Bits.{bit_in, same_bit, lists_of_bits}
+use Rattle.ranking.specs.Assignments.{Assignment, assignment}
+use Rattle.clause_encoder.specs.Clauses.{Clause, is_true_clause, all_hold}
+
+-- the variables from one on have these bits
+abbrev pub has_bits : Assignment → ℕ → List Bool → Bool
+has_bits a z [] = true
+has_bits a z (b ∷ bits) = same_bit b (a z) && has_bits a (z + 1) bits
+
+-- The clauses settle the bits of the variables from z on, and leave a condition on others.
+abbrev pub Settles : Assignment → ℕ → List Clause → List Bool → Bool → Type 0
+Settles a z clauses bits rest = all_hold a clauses ≡ (has_bits a z bits && rest)
+
+pub and_assoc : (b c d : Bool) → (b && (c && d)) ≡ ((b && c) && d)
+and_assoc true c d = refl
+and_assoc false c d = refl
+
+and_swap_inner : (b c d e : Bool) → ((b && c) && (d && e)) ≡ ((b && d) && (c && e))
+and_swap_inner true true d e = refl
+and_swap_inner true false true e = refl
+and_swap_inner true false false e = refl
+and_swap_inner false c d e = refl
+
+pub has_bits-append : (a : Assignment) (z : ℕ) (bits more : List Bool) → has_bits a z (bits ++ more) ≡ (has_bits a z bits && has_bits a (z + length bits) more)
+has_bits-append a z [] more = ap (λ v. has_bits a v more) (at z) where
+  at : (z : ℕ) → z ≡ z + 0
+  at z = omega arith
+has_bits-append a z (b ∷ bits) more =
+    ap (λ t. same_bit b (a z) && t) (has_bits-append a (z + 1) bits more ∙ ap (λ v. has_bits a (z + 1) bits && has_bits a v more) (at z (length bits)))
+    ∙ and_assoc (same_bit b (a z)) (has_bits a (z + 1) bits) (has_bits a (z + suc (length bits)) more) where
+      at : (z n : ℕ) → z + 1 + n ≡ z + suc n
+      at z n = omega arith
+
+-- the inner variables of the second clauses come behind those of the first
+pub Settles-append : (a : Assignment) (z y : ℕ) (cs ds : List Clause) (bits more : List Bool) (rest others : Bool) → y ≡ z + length bits
+    → Settles a z cs bits rest → Settles a y ds more others → Settles a z (cs ++ ds) (bits ++ more) (rest && others)
+Settles-append a z y cs ds bits more rest others at first second =
+    list_all-append (is_true_clause a) cs ds
+    ∙ (λ i. first i && second i)
+    ∙ (λ i. (has_bits a z bits && rest) && (has_bits a (at i) more && others))
+    ∙ and_swap_inner (has_bits a z bits) rest (has_bits a (z + length bits) more) others
+    ∙ ap (λ b. b && (rest && others)) (sym (has_bits-append a z bits more))
+
+-- ---- some bits of the inner variables
+
+pub any-same : {A : Type 0} (p q : A → Bool) (xs : List A) → ((x : A) → p x ≡ q x) → list_any p xs ≡ list_any q xs
+any-same p q [] h = refl
+any-same p q (x ∷ xs) h = λ i. h x i || any-same p q xs h i
+
+any-mapped : {A B : Type 0} (p : B → Bool) (f : A → B) (xs : List A) → list_any p (map f xs) ≡ list_any (λ x. p (f x)) xs
+any-mapped p f [] = refl
+any-mapped p f (x ∷ xs) = ap (λ b. p (f x) || b) (any-mapped p f xs)
+
+none : {A : Type 0} (xs : List A) → list_any (λ x. false) xs ≡ false
+none [] = refl
+none (x ∷ xs) = none xs
+
+or_false : (b : Bool) → (b || false) ≡ b
+or_false true = refl
+or_false false = refl
+
+one_of_both : (b rest : Bool) → ((same_bit b false && rest) || (same_bit b true && rest)) ≡ rest
+one_of_both true rest = refl
+one_of_both false rest = or_false rest
+
+-- the bits behind a list, as variables
+front-bits : (front : List Bool) (c : Bool) (inner bits : List Bool) (b : Bool)
+    → has_bits (assignment (front ++ c ∷ inner)) (length front + 1) (b ∷ bits)
+    ≡ (same_bit b c && has_bits (assignment ((front ++ c ∷ []) ++ inner)) (length (front ++ c ∷ []) + 1) bits)
+front-bits front c inner bits b =
+    (λ i. same_bit b (here i) && has_bits (assignment (moved i)) (longer i) bits) where
+      less : (n : ℕ) → n + 1 - 1 - n ≡ 0
+      less n = omega arith
+
+      here : assignment (front ++ c ∷ inner) (length front + 1) ≡ c
+      here = get_or-append_right front (c ∷ inner) (length front) (length front + 1 - 1) false refl (omega arith)
+          ∙ ap (bit_in (c ∷ inner)) (less (length front))
+
+      moved : front ++ c ∷ inner ≡ (front ++ c ∷ []) ++ inner
+      moved = sym (append_assoc front (c ∷ []) inner)
+
+      longer : length front + 1 + 1 ≡ length (front ++ c ∷ []) + 1
+      longer = omega (arith, length-append front (c ∷ []))
+
+pub some-settled : (bits front : List Bool) (rest : Bool)
+    → list_any (λ inner. has_bits (assignment (front ++ inner)) (length front + 1) bits && rest) (lists_of_bits (length bits)) ≡ rest
+some-settled [] front rest = or_false rest
+some-settled (b ∷ bits) front rest =
+    list_any-append test (map (λ bs. false ∷ bs) tails) (map (λ bs. true ∷ bs) tails)
+    ∙ (λ i. any-mapped test (λ bs. false ∷ bs) tails i || any-mapped test (λ bs. true ∷ bs) tails i)
+    ∙ (λ i. half (λ c. some-settled bits (front ++ c ∷ []) rest) false i || half (λ c. some-settled bits (front ++ c ∷ []) rest) true i)
+    ∙ one_of_both b rest where
+      tails : List (List Bool)
+      tails = lists_of_bits (length bits)
+
+      test : List Bool → Bool
+      test inner = has_bits (assignment (front ++ inner)) (length front + 1) (b ∷ bits) && rest
+
+      below : Bool → List Bool → Bool
+      below c inner = has_bits (assignment ((front ++ c ∷ []) ++ inner)) (length (front ++ c ∷ []) + 1) bits
+
+      by_bit : (same c : Bool) → list_any (λ inner. below c inner && rest) tails ≡ rest → list_any (λ inner. (same && below c inner) && rest) tails ≡ (same && rest)
+      by_bit true c h = h
+      by_bit false c h = none tails
+
+      half : ((c : Bool) → list_any (λ inner. below c inner && rest) tails ≡ rest) → (c : Bool) → list_any (λ inner. test (c ∷ inner)) tails ≡ (same_bit b c && rest)
+      half shorter c = any-same (λ inner. test (c ∷ inner)) (λ inner. (same_bit b c && below c inner) && rest) tails (λ inner. ap (λ t. t && rest) (front-bits front c inner bits b))
+          ∙ by_bit (same_bit b c) c (shorter c)
+
+-- What clauses settle, some bits of their inner variables give.
+pub some-hold : (clauses : List Clause) (bits front : List Bool) (rest : Bool)
+    → ((inner : List Bool) → Settles (assignment (front ++ inner)) (length front + 1) clauses bits rest)
+    → list_any (λ inner. all_hold (assignment (front ++ inner)) clauses) (lists_of_bits (length bits)) ≡ rest
+some-hold clauses bits front rest h =
+    any-same (λ inner. all_hold (assignment (front ++ inner)) clauses) (λ inner. has_bits (assignment (front ++ inner)) (length front + 1) bits && rest) (lists_of_bits (length bits)) h
+    ∙ some-settled bits front rest

@@ -1,0 +1,86 @@
+-- How many variables a device that is encoded has: each inner one comes with three clauses or more, of which there are few.
+use Rattle.std.proofs.Common.{◌≡◌, ℕ, ◌+◌, ◌-◌, ◌*◌, ◌<◌, ◌≤◌, Bool, true, false, List, [], ◌∷◌, map, length, take, get_or, Ok, Err, refl, ap, sym, ◌∙◌, arith}
+use Rattle.std.specs.Prelude.{nat_lt, if◌then◌else◌}
+use Rattle.std.specs.List.{list_all}
+use Rattle.std.proofs.lemmas.Bool.{ltb-true, ltb-false, and_parts}
+use Rattle.std.proofs.lemmas.List.{length-append, length-map, length-take-le}
+use Rattle.device_model.specs.declared.component.Kind.{Kind}
+use Rattle.device_model.specs.declared.component.Kind.TheVariants.{And, Or, Nand, Nor, Xor, Xnor, Not, Buff, Table}
+use Rattle.device_model.specs.declared.component.Component.{Component}
+use Rattle.device_model.specs.TruthTable.{TruthTable}
+use Rattle.device_model.specs.Devices.{Device, IsDevice, takes, takes_ports, has_arity}
+use Rattle.clause_encoder.specs.declared.limits.TheConstants.{CLAUSE_LIMIT, NARROW_LIMIT}
+use Rattle.clause_encoder.specs.declared.encoding.EncodeError.TheVariants.{TooManyClauses}
+use Rattle.clause_encoder.specs.Clauses.{ClauseList}
+use Rattle.clause_encoder.specs.Encoding.{any_gate_clauses, is_wide, raw_clauses, inner_count, inner_vars, wire_variable, clauses_from, first_inner, raw_count, clause_list, encoded}
+use Rattle.clause_encoder.proofs.Meaning.{not_wide}
+use Rattle.clause_encoder.proofs.Counting.{length-any_gate}
+
+-- ---- inner variables and clauses
+
+module _ (h z y inputs : ℕ) (xs : List ℕ) (wide : 5 ≤ inputs) (long : length xs ≡ inputs) where
+  wide-inner : (kind : Kind) → takes kind inputs ≡ true → 3 * (inputs - 2) ≤ length (any_gate_clauses kind h z xs y)
+  wide-inner And e = omega (arith, length-any_gate And inputs 3 (λ z b x. refl) wide e h z y xs long)
+  wide-inner Nand e = omega (arith, length-any_gate Nand inputs 3 (λ z b x. refl) wide e h z y xs long)
+  wide-inner Or e = omega (arith, length-any_gate Or inputs 3 (λ z b x. refl) wide e h z y xs long)
+  wide-inner Nor e = omega (arith, length-any_gate Nor inputs 3 (λ z b x. refl) wide e h z y xs long)
+  wide-inner Xor e = omega (arith, length-any_gate Xor inputs 4 (λ z b x. refl) wide e h z y xs long)
+  wide-inner Xnor e = omega (arith, length-any_gate Xnor inputs 4 (λ z b x. refl) wide e h z y xs long)
+  wide-inner Not e = absurd (not_wide Not inputs (omega arith) wide e)
+  wide-inner Buff e = absurd (not_wide Buff inputs (omega arith) wide e)
+  wide-inner (Table t) e = absurd (not_wide (Table t) inputs (omega arith) wide e)
+
+gate-inner : (kind : Kind) (h z : ℕ) (ports : List ℕ) → takes kind (length ports - 1) ≡ true
+    → 3 * (if is_wide (length ports - 1) then length ports - 3 else 0)
+    ≤ length (any_gate_clauses kind h z (take (length ports - 1) ports) (get_or ports (length ports - 1) 0))
+gate-inner kind h z ports e = by_width (is_wide (length ports - 1)) refl where
+  by_width : (w : Bool) → is_wide (length ports - 1) ≡ w
+      → 3 * (if w then length ports - 3 else 0) ≤ length (any_gate_clauses kind h z (take (length ports - 1) ports) (get_or ports (length ports - 1) 0))
+  by_width true wide =
+      let inputs = length ports - 1 in
+      let many : NARROW_LIMIT < inputs = ltb-true NARROW_LIMIT inputs wide in
+      let at_least = wide-inner h z (get_or ports inputs 0) inputs (take inputs ports) (omega (arith, many)) (length-take-le inputs ports (omega arith)) kind e in
+      omega (arith, at_least)
+  by_width false narrow = omega arith
+
+part-inner : (tables : List TruthTable) (kind : Kind) (h z : ℕ) (ports : List ℕ) → takes_ports tables kind (length ports) ≡ true
+    → 3 * inner_count kind (length ports) ≤ length (raw_clauses tables kind h z ports)
+part-inner tables (Table t) h z ports e = omega arith
+part-inner tables gate h z ports e = gate-inner gate h z ports e
+
+parts-inner : (device : Device) (h z : ℕ) (parts : List Component) → list_all (has_arity device.tables) parts ≡ true
+    → 3 * inner_vars parts ≤ length (clauses_from device h z parts)
+parts-inner device h z [] arities = omega arith
+parts-inner device h z (part ∷ parts) arities =
+    let fit = and_parts (has_arity device.tables part) (list_all (has_arity device.tables) parts) arities in
+    let ports = map (wire_variable device) part.ports in
+    let long : length ports ≡ length part.ports = length-map part.ports (wire_variable device) in
+    let inner = inner_count part.kind (length part.ports) in
+    let one : 3 * inner_count part.kind (length ports) ≤ length (raw_clauses device.tables part.kind h z ports) =
+    part-inner device.tables part.kind h z ports (ap (takes_ports device.tables part.kind) long ∙ fit.0) in
+    let same : inner_count part.kind (length ports) ≡ inner = ap (inner_count part.kind) long in
+    let rest = parts-inner device (h + 1) (z + inner) parts fit.1 in
+    omega (arith, length-append (raw_clauses device.tables part.kind h z ports) (clauses_from device (h + 1) (z + inner) parts), one, same, rest)
+
+-- ---- what is encoded
+
+-- the device's clauses, of which there are not too many
+pub record IsEncoded (device : Device) (cnf : ClauseList) : Type 0 where
+  pub vars : cnf.vars ≡ length device.parts + length device.wires + inner_vars device.parts
+  pub few : raw_count device ≤ CLAUSE_LIMIT
+
+pub encoded-is : (device : Device) (cnf : ClauseList) → encoded device ≡ Ok cnf → IsEncoded device cnf
+encoded-is device cnf is = by_count (nat_lt CLAUSE_LIMIT (raw_count device)) refl is where
+  by_count : (too_many : Bool) → nat_lt CLAUSE_LIMIT (raw_count device) ≡ too_many
+      → (if too_many then Err (TooManyClauses (raw_count device)) else Ok (clause_list device)) ≡ Ok cnf → IsEncoded device cnf
+  by_count true many e = let f : Err (TooManyClauses (raw_count device)) ≡ Ok cnf = e in absurd (cc)
+  by_count false few e =
+      let same : clause_list device ≡ cnf = cc in
+      record { vars = sym (ap (λ (l : ClauseList). l.vars) same); few = ltb-false CLAUSE_LIMIT (raw_count device) few }
+
+few_inner : (device : Device) (cnf : ClauseList) → IsDevice device → encoded device ≡ Ok cnf → 3 * inner_vars device.parts ≤ CLAUSE_LIMIT
+few_inner device cnf valid is = omega (arith, parts-inner device 1 (first_inner device) device.parts valid.arities, (encoded-is device cnf is).few)
+
+-- 4,096 parts, 16,384 wires and 87,381 inner variables at most
+pub encoded-few_vars : (device : Device) (cnf : ClauseList) → IsDevice device → encoded device ≡ Ok cnf → cnf.vars ≤ 107861
+encoded-few_vars device cnf valid is = omega (arith, (encoded-is device cnf is).vars, few_inner device cnf valid is, valid.few_parts, valid.few_wires)

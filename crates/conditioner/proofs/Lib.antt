@@ -1,0 +1,2 @@
+pub mod FittingWords
+pub mod ModelsWith

@@ -1,0 +1,66 @@
+-- The states that a graph allows under words where a variable has a bit too.
+use Rattle.std.proofs.Common.{◌≡◌, ℕ, ◌-◌, ◌<◌, ◌≤◌, Bool, true, false, not, ◌&&◌, List, [], ◌∷◌, ◌++◌, length, get_or, set, Some, None, refl, ap, sym, ◌∙◌, arith, length-append}
+use Rattle.std.specs.List.{list_any, filter}
+use Rattle.std.proofs.Math.Bool.{and_assoc, and-false}
+use Rattle.std.proofs.lemmas.List.{length-map, map-set}
+use Rattle.ranking.specs.Bits.{bit_in, same_bit, lists_of_bits}
+use Rattle.ranking.specs.Cases.{agrees_at, agrees}
+use Rattle.ranking.specs.Ranking.{Test, states, passing}
+use Rattle.ranking.proofs.Cases.{agrees-place, agrees-set}
+use Rattle.ranking.proofs.Members.{bits_length, filter_same, any_same}
+use Rattle.graph_rules.specs.Graphs.{Graph, holds}
+use Rattle.conditioner.specs.Words.{known_of, known}
+use Rattle.conditioner.specs.Models.{has_model, fits_words, models}
+
+-- tests that agree on all bits of the variables allow the same states
+allowed-same : (graph : Graph) (parts : ℕ) (p q : Test) → parts ≤ graph.vars → ((bits : List Bool) → length bits ≡ graph.vars → p bits ≡ q bits)
+    → passing parts (has_model graph p parts) ≡ passing parts (has_model graph q parts)
+allowed-same graph parts p q room agree = filter_same (has_model graph p parts) (has_model graph q parts) (states parts) (λ state m.
+    any_same (λ others. p (state ++ others) && holds graph (state ++ others)) (λ others. q (state ++ others) && holds graph (state ++ others)) (lists_of_bits (graph.vars - parts)) (λ others n.
+    ap (λ b. b && holds graph (state ++ others)) (agree (state ++ others) (omega (arith, room, length-append state others, bits_length parts state m, bits_length (graph.vars - parts) others n)))))
+
+any-never : {A : Type 0} (xs : List A) → list_any (λ _. false) xs ≡ false
+any-never [] = refl
+any-never (x ∷ xs) = any-never xs
+
+filter-never : {A : Type 0} (xs : List A) → filter (λ _. false) xs ≡ []
+filter-never [] = refl
+filter-never (x ∷ xs) = filter-never xs
+
+-- a test that nothing passes allows none
+allowed-none : (graph : Graph) (parts : ℕ) → passing parts (has_model graph (λ _. false) parts) ≡ []
+allowed-none graph parts =
+    filter_same (has_model graph (λ _. false) parts) (λ _. false) (states parts) (λ state m. any-never (lists_of_bits (graph.vars - parts))) ∙ filter-never (states parts)
+
+-- two bits are not both there
+never_both : (bit b : Bool) → (same_bit (not bit) b && same_bit bit b) ≡ false
+never_both true true = refl
+never_both true false = refl
+never_both false true = refl
+never_both false false = refl
+
+module _ (graph : Graph) (words : List ℕ) (parts place : ℕ) (bit : Bool) (long : length words ≡ graph.vars) (room : parts ≤ graph.vars) (within : place < graph.vars) where
+  -- bits fit the words, and one of them is the bit
+  abbrev pub has_bit : Test
+  has_bit bits = fits_words words bits && same_bit bit (bit_in bits place)
+
+  inside : (bits : List Bool) → length bits ≡ graph.vars → place < length bits
+  inside bits e = omega (arith, e, within)
+
+  -- of a variable of which nothing is known, those under words that say the bit
+  pub with_bit-open : (word : ℕ) → known_of word ≡ Some bit → get_or (known words) place None ≡ None → passing parts (has_model graph has_bit parts) ≡ models graph (set words place word) parts
+  with_bit-open word says e = allowed-same graph parts has_bit (fits_words (set words place word)) room (λ bits l.
+      agrees-set (known words) bits place bit (omega (arith, length-map words known_of, long, within)) (inside bits l) e
+      ∙ ap (λ ks. agrees ks bits) (sym (map-set known_of words place word ∙ ap (set (known words) place) says)))
+
+  -- all, where the bit is known
+  pub with_bit-known : get_or (known words) place None ≡ Some bit → passing parts (has_model graph has_bit parts) ≡ models graph words parts
+  with_bit-known e = allowed-same graph parts has_bit (fits_words words) room (λ bits l.
+      sym (agrees-place (known words) bits place (inside bits l) ∙ ap (λ k. agrees (known words) bits && agrees_at k (bit_in bits place)) e))
+
+  -- and none, where the other is
+  pub with_bit-other : get_or (known words) place None ≡ Some (not bit) → passing parts (has_model graph has_bit parts) ≡ []
+  with_bit-other e = allowed-same graph parts has_bit (λ _. false) room (λ bits l.
+      ap (λ b. b && same_bit bit (bit_in bits place)) (agrees-place (known words) bits place (inside bits l) ∙ ap (λ k. agrees (known words) bits && agrees_at k (bit_in bits place)) e)
+      ∙ (and_assoc (agrees (known words) bits) (same_bit (not bit) (bit_in bits place)) (same_bit bit (bit_in bits place))
+      ∙ (ap (λ b. agrees (known words) bits && b) (never_both bit (bit_in bits place)) ∙ and-false (agrees (known words) bits)))) ∙ allowed-none graph parts

@@ -1,0 +1,122 @@
+-- What is found of an adder's graph is what is told of its device.
+use Rattle.std.proofs.Common.{◌≡◌, ℕ, ◌-◌, ◌<◌, Bool, List, [], ◌∷◌, ◌++◌, length, get_or, take, Option, Some, None, IfSome, Result, Ok, refl, ap, ap₂, sym, ◌∙◌, subst, arith, inl, inr, codes}
+use Rattle.std.specs.Option.{option_map}
+use Rattle.std.proofs.Math.Seq.{get_or-take, take-append_seam}
+use Rattle.std.proofs.lemmas.List.{length-map, length-take}
+use Rattle.text_rules.specs.Names.{Name}
+use Rattle.text_rules.specs.Expected.{IsExpectedFault}
+use Rattle.ranking.specs.Cases.{Case}
+use Rattle.ranking.specs.Ranking.{least, diagnoses}
+use Rattle.ranking.specs.Systems.{least_cost, all_diagnoses}
+use Rattle.graph_rules.specs.Graphs.{Graph}
+use Rattle.device_model.specs.Devices.{Device, part_names, part_costs}
+use Rattle.device_model.specs.declared.component.Component.{Component}
+use Rattle.device_model.specs.Diagnosis.{device_system}
+use Rattle.clause_encoder.specs.Clauses.{ClauseList}
+use Rattle.conditioner.specs.Models.{models, least_under, diagnoses_under}
+use Rattle.diagnosis_lister.specs.Listing.{bits_of}
+use Rattle.adder_load.specs.declared.sampling.Found.{Found}
+use Rattle.adder_load.specs.Readings.{adder_case}
+use Rattle.adder_load.proofs.Cases.{case_seen, case_held}
+use Rattle.session_rules.specs.GraphSystems.{case_words, IsCaseOf}
+use Rattle.session_rules.specs.Items.{Item}
+use Rattle.session_rules.proofs.Begun.{HaveSpellings}
+use Rattle.session_rules.proofs.Meaning.{same_consistent}
+use Rattle.diag_cli.specs.declared.loading.TheConstants.{LISTED_LIMIT}
+use Rattle.diag_cli.specs.declared.loading.Summary.{Summary}
+use Rattle.diag_cli.specs.Output.{Output, Gives, GivesUnlessMemory}
+use Rattle.diag_cli.specs.Planning.{count_line}
+use Rattle.diag_cli.specs.Loads.{names_line, listed_lines, summary_lines, summary_by, summary_of}
+use Rattle.diag_cli.specs.Refusals.{or_memory}
+use Rattle.diag_cli.specs.inner.Loading.{if_found, summary_output, IsSummaryOf}
+use Rattle.diag_cli.specs.inner.Serving.{IsServable}
+
+-- what is written over all of a vector
+pub whole : {A : Type 0} (n : ℕ) (xs more : List A) → length xs ≡ n → take n (xs ++ more) ≡ xs
+whole n xs more long = ap (λ m. take m (xs ++ more)) (sym long) ∙ take-append_seam xs more
+
+named : (device : Device) → length (part_names device.parts) ≡ length device.parts
+named device = length-map device.parts (λ (part : Component). part.name)
+
+is_case : (device : Device) (places : ℕ) → IsCaseOf (device_system device) (adder_case device places)
+is_case device places = (case_seen device places, case_held device places ∙ sym (named device))
+
+within_limit : {A : Type 0} (limit : ℕ) (xs : List A) → 0 < limit → length (take limit xs) - 1 < limit
+within_limit limit xs some = let long = length-take limit xs in grind (arith, long, some)
+
+module _ (device : Device) (graph : Graph) (places : ℕ) (words costs : List ℕ) (is : IsServable device graph) (priced : costs ≡ part_costs device) (many : length costs ≡ length device.parts)
+    (noted : words ≡ case_words graph.vars (adder_case device places)) where
+  abbrev known : Case
+  known = adder_case device places
+
+  abbrev ds : List (List Bool)
+  ds = all_diagnoses (device_system device) known
+
+  states_are : models graph words (length costs) ≡ (device_system device).consistent known
+  states_are = ap₂ (λ ws n. models graph ws n) noted (many ∙ sym (named device)) ∙ same_consistent device graph is.meaning known (is_case device places)
+
+  least_is : least_under graph words costs ≡ least_cost (device_system device) known
+  least_is = ap₂ least priced states_are
+
+  all_are : diagnoses_under graph words costs ≡ all_diagnoses (device_system device) known
+  all_are = ap₂ diagnoses priced states_are
+
+  listed_are : (parts : List Name) (found : Option Found) (first last : List ℕ) → option_map (λ f. f.fewest) found ≡ least_under graph words costs
+      → IfSome found (λ f. f.listed ≡ length (take LISTED_LIMIT (diagnoses_under graph words costs)))
+      → IfSome found (λ f. bits_of first ≡ get_or (diagnoses_under graph words costs) 0 [])
+      → IfSome found (λ f. bits_of last ≡ get_or (diagnoses_under graph words costs) (f.listed - 1) [])
+      → listed_lines parts (least_cost (device_system device) known) (take LISTED_LIMIT (all_diagnoses (device_system device) known)) ≡ if_found parts found first last
+  listed_are parts None first last fewest listed one end = ap (λ o. listed_lines parts o (take LISTED_LIMIT ds)) (sym least_is ∙ sym fewest)
+  listed_are parts (Some f) first last fewest listed one end =
+      let count : length (take LISTED_LIMIT ds) ≡ f.listed = ap (λ all. length (take LISTED_LIMIT all)) (sym all_are) ∙ sym listed in
+      let the_first : get_or (take LISTED_LIMIT ds) 0 [] ≡ bits_of first = get_or-take LISTED_LIMIT ds 0 [] (omega arith) ∙ (ap (λ all. get_or all 0 []) (sym all_are) ∙ sym one) in
+      let the_last : get_or (take LISTED_LIMIT ds) (length (take LISTED_LIMIT ds) - 1) [] ≡ bits_of last =
+      get_or-take LISTED_LIMIT ds (length (take LISTED_LIMIT ds) - 1) [] (within_limit LISTED_LIMIT ds (omega arith)) ∙ (ap₂ (λ all n. get_or all (n - 1) []) (sym all_are) count ∙ sym end) in
+      ap (λ o. listed_lines parts o (take LISTED_LIMIT ds)) (sym least_is ∙ sym fewest)
+      ∙ (λ i. count_line (codes "minimum") f.fewest ∷ names_line (codes "first") parts (the_first i) ∷ count_line (codes "listed") (count i) ∷ names_line (codes "last") parts (the_last i) ∷ [])
+
+  -- so a summary of what was found is that of the device
+  pub summary_is : (clauses : ℕ) (summary : Summary) (wires : List Name) → summary.parts.items ≡ part_names device.parts → wires ≡ device.wires → summary.wires ≡ length wires → summary.clauses ≡ clauses
+      → option_map (λ f. f.fewest) summary.found ≡ least_under graph words costs
+      → IfSome summary.found (λ f. f.listed ≡ length (take LISTED_LIMIT (diagnoses_under graph words costs)))
+      → IfSome summary.found (λ f. bits_of summary.first.items ≡ get_or (diagnoses_under graph words costs) 0 [])
+      → IfSome summary.found (λ f. bits_of summary.last.items ≡ get_or (diagnoses_under graph words costs) (f.listed - 1) [])
+      → IsSummaryOf device clauses places summary
+  summary_is clauses summary wires parts same counted said fewest listed one end =
+      let lines = listed_are (part_names device.parts) summary.found summary.first.items summary.last.items fewest listed one end in
+      let all_wires : length device.wires ≡ summary.wires = ap length (sym same) ∙ sym counted in
+      (λ i. count_line (codes "parts") (length (part_names device.parts)) ∷ count_line (codes "wires") (all_wires i) ∷ count_line (codes "clauses") (sym said i) ∷ lines i)
+      ∙ (λ i. count_line (codes "parts") (length (sym parts i)) ∷ count_line (codes "wires") summary.wires ∷ count_line (codes "clauses") summary.clauses ∷ if_found (sym parts i) summary.found summary.first.items summary.last.items)
+
+-- each line behind the sizes has a text
+pub have_found : (parts : List Name) (found : Option Found) (first last : List ℕ) → HaveSpellings (if_found parts found first last)
+have_found parts None first last = ((_, refl), tt)
+have_found parts (Some f) first last = ((_, refl), ((_, refl), ((_, refl), ((_, refl), tt))))
+
+-- ---- what is told of a device, or of none
+
+-- the clauses of the device were counted
+pub told_by_clauses : (places : ℕ) (device : Device) (expected : Result ClauseList Output) (cnf : ClauseList) (clauses : ℕ) (summary : Summary) → expected ≡ Ok cnf → clauses ≡ length cnf.clauses
+    → IsSummaryOf device clauses places summary → summary_by places device expected ≡ summary_output summary
+told_by_clauses places device expected cnf clauses summary is counted sums =
+    ap (summary_by places device) is
+    ∙ ((λ i. record { items = summary_lines (device_system device) (sym counted i) (adder_case device places); status = 0 })
+    ∙ ap (λ (items : List Item). record { items = items; status = 0 }) sums)
+
+-- or refused
+pub told_refused : (fault : Option Output) (places : ℕ) (device : Device) (expected : Result ClauseList Output) → IsExpectedFault fault expected → IfSome fault (λ said. summary_by places device expected ≡ said)
+told_refused None places device expected is = tt
+told_refused (Some output) places device expected is = ap (summary_by places device) is
+
+-- and so is the device
+pub device_refused : (fault : Option Output) (places : ℕ) (expected : Result Device Output) → IsExpectedFault fault expected → IfSome fault (λ said. summary_of places expected ≡ said)
+device_refused None places expected is = tt
+device_refused (Some output) places expected is = ap (summary_of places) is
+
+-- a refusal of an output that is told
+pub gives_told : (fault : Option Output) (output : Output) (status : ℕ) (a b : Option (List ℕ)) → IfSome fault (λ said. output ≡ said) → Gives (or_memory fault) status a b → GivesUnlessMemory output status a b
+gives_told None output status a b is said = inl said
+gives_told (Some other) output status a b is said = inr (subst (λ (o : Output). Gives o status a b) (sym is) said)
+
+pub gives_summary : (output expected : Output) (status : ℕ) (a b : Option (List ℕ)) → expected ≡ output → Gives output status a b → GivesUnlessMemory expected status a b
+gives_summary output expected status a b is said = inr (subst (λ (o : Output). Gives o status a b) (sym is) said)

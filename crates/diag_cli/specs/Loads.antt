@@ -1,0 +1,51 @@
+-- What is told of an adder whose readings disagree with its design.
+use Rattle.std.specs.Prelude.{ℕ, ◌-◌, Bool, List, [], ◌∷◌, length, take, Option, Some, None, Result, Ok, Err, codes, slice_index_or}
+use Rattle.text_rules.specs.Names.{Name}
+use Rattle.ranking.specs.Cases.{Case}
+use Rattle.ranking.specs.Systems.{System, least_cost, all_diagnoses}
+use Rattle.device_model.specs.Devices.{Device}
+use Rattle.device_model.specs.Diagnosis.{device_system}
+use Rattle.clause_encoder.specs.Clauses.{ClauseList}
+use Rattle.clause_encoder.specs.Encoding.{encoded}
+use Rattle.bench_reader.specs.Netlists.{netlist}
+use Rattle.adder_load.specs.Adders.{adder_text}
+use Rattle.adder_load.specs.Readings.{adder_case}
+use Rattle.session_rules.specs.Items.{Item, line}
+use Rattle.session_rules.specs.Replies.{faulty_names}
+use Rattle.diag_cli.specs.declared.words.TheConstants.{DEFAULT_BUDGET}
+use Rattle.diag_cli.specs.declared.loading.TheConstants.{LISTED_LIMIT}
+use Rattle.diag_cli.specs.Output.{Output}
+use Rattle.diag_cli.specs.Describing.{or_line, netlist_line}
+use Rattle.diag_cli.specs.Planning.{count_line, within}
+
+-- a word and the names of the faulty parts
+abbrev pub names_line : List ℕ → List Name → List Bool → Item
+names_line what parts state = line (what ∷ faulty_names parts state)
+
+-- Of some first diagnoses: their cost, the first, how many they are, and the last. Where nothing agrees, that is told.
+abbrev pub listed_lines : List Name → Option ℕ → List (List Bool) → List Item
+listed_lines parts None listed = line (codes "inconsistent" ∷ []) ∷ []
+listed_lines parts (Some fewest) listed =
+    count_line (codes "minimum") fewest ∷ names_line (codes "first") parts (slice_index_or listed 0 [])
+    ∷ count_line (codes "listed") (length listed) ∷ names_line (codes "last") parts (slice_index_or listed (length listed - 1) []) ∷ []
+
+-- the sizes, and what a case comes to
+abbrev pub summary_lines : System → ℕ → Case → List Item
+summary_lines system clauses known =
+    count_line (codes "parts") (length system.parts) ∷ count_line (codes "wires") (length system.wires)
+    ∷ count_line (codes "clauses") clauses
+    ∷ listed_lines system.parts (least_cost system known) (take LISTED_LIMIT (all_diagnoses system known))
+
+-- by the clauses of the device, whose sum is within the budget
+abbrev pub summary_by : ℕ → Device → Result ClauseList Output → Output
+summary_by places device (Ok cnf) =
+    record { items = summary_lines (device_system device) (length cnf.clauses) (adder_case device places); status = 0 }
+summary_by places device (Err output) = output
+
+abbrev pub summary_of : ℕ → Result Device Output → Output
+summary_of places (Ok device) = summary_by places device (within DEFAULT_BUDGET (encoded device))
+summary_of places (Err output) = output
+
+-- the adder of so many places, and what was seen of it
+abbrev pub loaded : ℕ → Output
+loaded places = summary_of places (or_line netlist_line (netlist (adder_text places)))

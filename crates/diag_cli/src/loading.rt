@@ -1,0 +1,224 @@
+//! An adder that is made in memory, and what its readings come to.
+ghost use Rattle.std.specs.Prelude.{◌≡◌, ◌≢◌, ◌⊎◌, [], ◌∷◌, ◌-◌, ◌^◌, ◌<◌, ◌≤◌, Ok, length, IfOk};
+ghost use Rattle.bench_reader.specs.Netlists.{netlist};
+ghost use Rattle.clause_encoder.specs.Encoding.{encoded};
+ghost use Rattle.diag_edge.specs.Edge.{HasCause, RoseExactly};
+ghost use Rattle.diagnosis_lister.specs.Listing.{bits_of};
+ghost use Rattle.adder_load.specs.Adders.{adder_text};
+ghost use Rattle.session_rules.specs.Spelling.{Replies};
+ghost use Rattle.diag_cli.specs.Describing.{or_line, netlist_line};
+ghost use Rattle.diag_cli.specs.Loads.{names_line, summary_of, loaded};
+ghost use Rattle.diag_cli.specs.Output.{Gives, GivesUnlessMemory};
+ghost use Rattle.diag_cli.specs.Refusals.{Finds};
+ghost use Rattle.diag_cli.specs.inner.Loading.{IsSummaryOf, IsInStep, Loads, listed_items, inconsistent_items, found_items, summary_items, summary_output};
+ghost use Rattle.diag_cli.specs.inner.Serving.{IsServable};
+
+use crate::describing::netlist_device;
+use crate::planning::put_count;
+use crate::refusal::{Refusal, tell};
+use crate::serving::{costs_of, graph_of};
+use crate::weighing::clauses_within;
+use crate::words::DEFAULT_BUDGET;
+use adder_load::{Found, PLACE_LIMIT, adder_text, note_readings, sample};
+use device_model::{Device, Name};
+use diag_edge::{Sink, WriteFailed, put_line};
+use minimiser::Steps;
+use node_store::Graph;
+use session_core::put_faulty;
+use std::alloc::{AllocError, Global};
+use std::marker::Brand;
+use std::sync::ledger::{Blank, Ledger};
+
+/// So many diagnoses are listed at most.
+pub const LISTED_LIMIT: u32 = 20;
+
+// What is told of an adder: its sizes, and the first and the last diagnosis of those that were listed, if there are any.
+#[derive(Drop)]
+struct Summary {
+    parts: Vec<Name>,
+    wires: u64,
+    clauses: u64,
+    found: Option<Found>,
+    first: Vec<u32>,
+    last: Vec<u32>,
+}
+
+// The device of an adder.
+fn adder_device(alloc: Global, places: u32) -> Result<Device, Refusal>
+    requires { places ≤ PLACE_LIMIT }
+    ensures { Finds (or_line netlist_line (netlist (adder_text places))) result }
+{
+    match adder_text(alloc, places) {
+        Ok(text) => netlist_device(alloc, &text),
+        Err(_) => Err(Refusal::Memory),
+    }
+}
+
+// The summary of an adder by its graph. All memory that it needs is taken here.
+fn summary_by<L: Ledger>(
+    alloc: Global,
+    blank: Blank,
+    device: Device,
+    graph: &Graph,
+    clauses: u64,
+    places: u32,
+) -> Result<Summary, AllocError>
+    requires name { blank.name ≡ L.name }
+    requires shares { blank.parts ≡ L.parts }
+    requires some { 0 < blank.parts }
+    requires graph { IsServable device graph.now }
+    requires places { places ≤ PLACE_LIMIT }
+    ensures summary { IfOk result (IsSummaryOf device clauses places) }
+    ensures in_step { IfOk result IsInStep }
+{
+    let costs = costs_of(alloc, &device)?;
+    let mut words = vec![in alloc; 0; graph.vars() as usize]?;
+    let mut values = vec![in alloc; 0; graph.len() as usize]?;
+    let mut first = vec![in alloc; 0; costs.len()]?;
+    let mut last = vec![in alloc; 0; costs.len()]?;
+    note_readings(&mut words, &device, places);
+    let (parts, wires) = device.take_names(alloc)?;
+    let found = sample(
+        graph,
+        &mut words,
+        &costs,
+        &mut values,
+        &mut first,
+        &mut last,
+        LISTED_LIMIT,
+        &mut Steps::<L>::new(blank),
+    );
+    Ok(Summary {
+        parts,
+        wires: wires.len() as u64,
+        clauses,
+        found,
+        first,
+        last,
+    })
+}
+
+// The summary of an adder, if the sum of its device is within the budget.
+fn summary_within(alloc: Global, device: Device, places: u32) -> Result<Summary, Refusal>
+    requires { places ≤ PLACE_LIMIT }
+    ensures summary { Loads (summary_of places (Ok device)) result }
+    ensures in_step { IfOk result IsInStep }
+{
+    let (cnf, _) = clauses_within(alloc, &device, DEFAULT_BUDGET)?;
+    let Ok(graph) = graph_of(alloc, &device, &cnf) else {
+        return Err(Refusal::Memory);
+    };
+    let clauses = u64::from(cnf.len());
+    match summary_by::<Brand>(alloc, Blank::new(1), device, &graph, clauses, places) {
+        Ok(summary) => Ok(summary),
+        Err(_) => Err(Refusal::Memory),
+    }
+}
+
+// The summary of the adder of so many places.
+fn summary_at(alloc: Global, places: u32) -> Result<Summary, Refusal>
+    requires { places ≤ PLACE_LIMIT }
+    ensures summary { Loads (loaded places) result }
+    ensures in_step { IfOk result IsInStep }
+{
+    let device = adder_device(alloc, places)?;
+    summary_within(alloc, device, places)
+}
+
+// Puts a line of a word and the names of the faulty parts.
+#[tactic(auto, using(crate::proofs::Failing::line_replies))]
+fn put_names<O: Sink>(
+    out: &mut O,
+    what: &[u8],
+    parts: &[Name],
+    state: &[u32],
+) -> Result<(), WriteFailed>
+    requires { length state.now ≡ length parts.now }
+    ensures text { Replies (O.got out.old) (O.got out.new) result (names_line what.now parts.now (bits_of state.now) ∷ []) }
+    ensures cause { HasCause (O.faults out.old) (O.faults out.new) result }
+{
+    put_faulty(out, what, &[], parts, state)
+}
+
+// The lines that tell of some diagnoses.
+fn put_listed<O: Sink>(
+    out: &mut O,
+    parts: &[Name],
+    found: Found,
+    first: &[u32],
+    last: &[u32],
+) -> Result<(), WriteFailed>
+    requires first { length first.now ≡ length parts.now }
+    requires last { length last.now ≡ length parts.now }
+    ensures text { Replies (O.got out.old) (O.got out.new) result (listed_items parts.now found first.now last.now) }
+    ensures cause { HasCause (O.faults out.old) (O.faults out.new) result }
+{
+    put_count(out, b"minimum", u64::from(found.fewest))?;
+    put_names(out, b"first", parts, first)?;
+    put_count(out, b"listed", u64::from(found.listed))?;
+    put_names(out, b"last", parts, last)
+}
+
+// That no state agrees with what was seen.
+#[tactic(auto, using(crate::proofs::Failing::line_replies))]
+fn put_inconsistent<O: Sink>(out: &mut O) -> Result<(), WriteFailed>
+    ensures text { Replies (O.got out.old) (O.got out.new) result inconsistent_items }
+    ensures cause { HasCause (O.faults out.old) (O.faults out.new) result }
+{
+    put_line(out, &[b"inconsistent"])
+}
+
+// The lines behind those of the sizes.
+fn put_found<O: Sink>(out: &mut O, summary: &Summary) -> Result<(), WriteFailed>
+    requires { IsInStep summary.now }
+    ensures text { Replies (O.got out.old) (O.got out.new) result (found_items summary.now) }
+    ensures cause { HasCause (O.faults out.old) (O.faults out.new) result }
+{
+    match summary.found {
+        None => put_inconsistent(out),
+        Some(found) => put_listed(out, &summary.parts, found, &summary.first, &summary.last),
+    }
+}
+
+// The lines that tell a summary.
+fn put_summary<O: Sink>(out: &mut O, summary: &Summary) -> Result<(), WriteFailed>
+    requires { IsInStep summary.now }
+    ensures text { Replies (O.got out.old) (O.got out.new) result (summary_items summary.now) }
+    ensures cause { HasCause (O.faults out.old) (O.faults out.new) result }
+{
+    put_count(out, b"parts", summary.parts.len() as u64)?;
+    put_count(out, b"wires", summary.wires)?;
+    put_count(out, b"clauses", summary.clauses)?;
+    put_found(out, summary)
+}
+
+// Tells a summary and answers 0, or 5 where a write failed.
+#[tactic(auto, using(crate::proofs::Failing::gives_items))]
+fn tell_summary<O: Sink>(out: &mut O, summary: &Summary) -> u8
+    requires in_step { IsInStep summary.now }
+    requires faults { O.faults out.old < 2 ^ 64 - 1 }
+    ensures write_fault { RoseExactly (O.faults out.old) (O.faults out.new) (result ≡ 5) }
+    ensures either { (result ≡ 0) ⊎ (result ≡ 5) }
+    ensures said { Gives (summary_output summary.now) result (O.got out.old) (O.got out.new) }
+{
+    match put_summary(out, summary) {
+        Ok(()) => 0,
+        Err(_) => 5,
+    }
+}
+
+/// Tells what the adder of so many places comes to, or why that cannot be told, and answers the status.
+pub(crate) fn load_adder<O: Sink>(alloc: Global, places: u32, out: &mut O) -> u8
+    requires places { places ≤ PLACE_LIMIT }
+    requires faults { O.faults out.old < 2 ^ 64 - 1 }
+    ensures write_fault { RoseExactly (O.faults out.old) (O.faults out.new) (result ≡ 5) }
+    ensures not_usage { result ≢ 2 }
+    ensures not_read { result ≢ 4 }
+    ensures not_cut { result ≢ 7 }
+    ensures said { GivesUnlessMemory (loaded places) result (O.got out.old) (O.got out.new) }
+{
+    match summary_at(alloc, places) {
+        Ok(summary) => tell_summary(out, &summary),
+        Err(refusal) => tell(out, refusal),
+    }
+}

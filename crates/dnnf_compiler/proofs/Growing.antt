@@ -1,0 +1,55 @@
+-- What stays while nodes come.
+use Rattle.std.proofs.Common.{◌≡◌, ℕ, zero, suc, ◌<◌, Bool, true, false, ◌&&◌, ◌||◌, List, [], ◌∷◌, length, All, refl, ap, ◌∙◌, arith, inl, inr, length-append}
+use Rattle.std.proofs.lemmas.Option.{slice_get_within}
+use Rattle.graph_rules.specs.declared.NodeKind.TheVariants.{And}
+use Rattle.graph_rules.specs.declared.NodeKind.{NodeKind}
+use Rattle.graph_rules.specs.Graphs.{Node, is_true}
+use Rattle.clause_encoder.specs.Clauses.{Clause}
+use Rattle.node_store.specs.Stores.{Stored, Makes, Means, AddsAtMost}
+use Rattle.dnnf_compiler.specs.inner.Joining.{Grows, IsConstant, IsBoth}
+use Rattle.dnnf_compiler.specs.inner.Meaning.{IsNodeOf}
+
+pub grows_not : (nodes : List Node) → Grows nodes nodes
+grows_not nodes = record { longer = omega arith; truth = λ k a h. refl; variables = λ k v h. refl }
+
+pub grows_then : (old mid new : List Node) → Grows old mid → Grows mid new → Grows old new
+grows_then old mid new g h = record {
+  longer = omega (arith, g.longer, h.longer);
+  truth = λ k a lt. h.truth k a (omega (arith, g.longer)) ∙ g.truth k a lt;
+  variables = λ k v lt. h.variables k v (omega (arith, g.longer)) ∙ g.variables k v lt;
+}
+
+pub node_grows : (clauses : List Clause) (i : ℕ) (state : List ℕ) (old new : List Node) (node : ℕ) → Grows old new → IsNodeOf clauses i state old node → IsNodeOf clauses i state new node
+node_grows clauses i state old new node g is = record {
+  within = omega (arith, is.within, g.longer);
+  truth = λ list has a. g.truth node a is.within ∙ is.truth list has a;
+  variables = λ v h. g.variables node v is.within ∙ is.variables v h;
+}
+
+pub constant_grows : (old new : List Node) (value : Bool) (node : ℕ) → Grows old new → IsConstant old value node → IsConstant new value node
+constant_grows old new value node g is = record {
+  within = omega (arith, is.within, g.longer);
+  truth = λ a. g.truth node a is.within ∙ is.truth a;
+  variables = λ v. g.variables node v is.within ∙ is.variables v;
+}
+
+pub grows_by : (old new : List Node) (kind : NodeKind) (kids : List ℕ) (number : ℕ) → AddsAtMost old (record { what = kind; kids = kids }) new → Means old new kind kids number → Grows old new
+grows_by old new kind kids number (inl e) means = record { longer = omega (arith, ap length e); truth = λ k a h. means.true_before k a h; variables = λ k v h. means.variables_before k v h }
+grows_by old new kind kids number (inr e) means = record { longer = omega (arith, ap length e, length-append old (record { what = kind; kids = kids } ∷ [])); truth = λ k a h. means.true_before k a h; variables = λ k v h. means.variables_before k v h }
+
+-- an and of the literal and the node
+pub made_both : (old new : Stored) (literal node both : ℕ) → Makes old new And (literal ∷ node ∷ []) both → Means old.nodes new.nodes And (literal ∷ node ∷ []) both → IsBoth old.nodes new.nodes literal node both
+made_both old new literal node both makes means = record {
+  grows = grows_by old.nodes new.nodes And (literal ∷ node ∷ []) both makes.nodes means;
+  within = slice_get_within new.nodes both (record { what = And; kids = literal ∷ node ∷ [] }) makes.there;
+  truth = λ a. means.truth a ∙ ap (λ b. is_true old.nodes literal a && b) (and_true (is_true old.nodes node a));
+  variables = λ v lit no. means.variables v ∙ (λ j. lit j || (no j || false));
+} where
+  and_true : (b : Bool) → (b && true) ≡ b
+  and_true true = refl
+  and_true false = refl
+
+pub two_in : (nodes : List Node) (a b : ℕ) → a < length nodes → b < length nodes → All (λ k. k < length nodes) (a ∷ b ∷ [])
+two_in nodes a b h k zero d lt = h
+two_in nodes a b h k (suc zero) d lt = k
+two_in nodes a b h k (suc (suc i)) d lt = absurd (omega arith)

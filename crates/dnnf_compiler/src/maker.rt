@@ -1,0 +1,133 @@
+ghost use Rattle.std.specs.Prelude.{◌≡◌, ℕ, ◌+◌, ◌*◌, ◌<◌, ◌≤◌, Bool, true, false, List, Option, [], ◌∷◌, All, map, length, IfOk, OnOk, IfSome};
+ghost use Rattle.graph_rules.specs.Graphs.{at_most_one, mentions};
+ghost use Rattle.node_store.specs.declared.store.TheConstants.{MADE_LIMIT, VARIABLE_LIMIT};
+ghost use Rattle.node_store.specs.Stores.{IsStore};
+ghost use Rattle.dnnf_compiler.specs.inner.Joining.{IsConstant, AddsBoth};
+ghost use Rattle.dnnf_compiler.specs.inner.Making.{IsMaker, IsVariable, AreFree, AreWithin, IsBranch, IsJoin, IsMade, AreMade};
+
+use crate::forks::Fork;
+use node_store::Store;
+use std::alloc::{AllocError, Global};
+
+/// Makes nodes, of which one is everywhere true and one is nowhere.
+#[derive(Drop)]
+pub(crate) struct Maker {
+    pub(crate) store: Store,
+    pub(crate) yes: u32,
+    pub(crate) no: u32,
+}
+
+impl Maker {
+    pub(crate) fn new(alloc: Global, vars: u32) -> Result<Maker, AllocError>
+        requires { vars < VARIABLE_LIMIT }
+        ensures maker { IfOk result IsMaker }
+        ensures vars { IfOk result (λ maker. maker.store.vars ≡ vars) }
+        ensures counts { IfOk result (λ maker. (maker.store.made ≡ 2) × (maker.store.handed ≡ 0)) }
+    {
+        let mut store = Store::new(alloc, vars)?;
+        let yes = store.and(&[])?;
+        let no = store.or(&[])?;
+        Ok(Maker { store, yes, no })
+    }
+
+    /// For each fork a node that is true where the bit of a variable leads to a node below that is.
+    pub(crate) fn make_level(
+        &mut self,
+        alloc: Global,
+        var: u32,
+        forks: &[Fork],
+        below: &[u32],
+    ) -> Result<Vec<u32>, AllocError>
+        requires maker { IsMaker self.old }
+        requires var { IsVariable self.old var }
+        requires below { AreFree self.old.store.nodes var below.now }
+        requires forks { All (AreWithin (length below.now)) forks.now }
+        requires few { self.old.store.made + 3 * length forks.now ≤ MADE_LIMIT }
+        ensures { IfOk result (λ nodes. AreMade self.old self.new var below.now forks.now nodes.items) }
+    {
+        let mut nodes = Vec::with_capacity(alloc, forks.len())?;
+        for fork in forks {
+            let node = self.make(var, *fork, below)?;
+            nodes.push(node)?;
+        }
+        Ok(nodes)
+    }
+
+    // The node for one fork.
+    fn make(&mut self, var: u32, fork: Fork, below: &[u32]) -> Result<u32, AllocError>
+        requires maker { IsMaker self.old }
+        requires var { IsVariable self.old var }
+        requires below { AreFree self.old.store.nodes var below.now }
+        requires fork { AreWithin (length below.now) fork }
+        requires few { self.old.store.made + 3 ≤ MADE_LIMIT }
+        ensures { IfOk result (IsMade self.old self.new var below.now fork) }
+    {
+        let zero = self.branch(var, false, fork.zero, below)?;
+        let one = self.branch(var, true, fork.one, below)?;
+        let node = self.join(zero, one)?;
+        Ok(node)
+    }
+
+    // The node that is true where the variable has the bit, and the bit leads to a node that is true. For what is nowhere true
+    // there is none.
+    fn branch(
+        &mut self,
+        var: u32,
+        bit: bool,
+        way: Option<u32>,
+        below: &[u32],
+    ) -> Result<Option<u32>, AllocError>
+        requires maker { IsMaker self.old }
+        requires var { IsVariable self.old var }
+        requires below { AreFree self.old.store.nodes var below.now }
+        requires way { IfSome way (λ place. place < length below.now) }
+        requires few { self.old.store.made < MADE_LIMIT }
+        ensures { IfOk result (IsBranch self.old self.new var bit below.now way) }
+    {
+        let Some(place) = way else {
+            return Ok(None);
+        };
+        let node = below[place as usize];
+        if node == self.no {
+            return Ok(None);
+        }
+        let literal = self.store.literal(var, bit);
+        let both = conjoin(&mut self.store, literal, node, self.yes)?;
+        Ok(Some(both))
+    }
+
+    // The node that is true where one of two is.
+    fn join(&mut self, zero: Option<u32>, one: Option<u32>) -> Result<u32, AllocError>
+        requires maker { IsMaker self.old }
+        requires zero { IfSome zero (λ node. node < length self.old.store.nodes) }
+        requires one { IfSome one (λ node. node < length self.old.store.nodes) }
+        requires few { self.old.store.made < MADE_LIMIT }
+        ensures { IfOk result (IsJoin self.old self.new zero one) }
+    {
+        match (zero, one) {
+            (None, None) => Ok(self.no),
+            (Some(node), None) => Ok(node),
+            (None, Some(node)) => Ok(node),
+            (Some(first), Some(second)) => {
+                let node = self.store.or(&[first, second])?;
+                Ok(node)
+            }
+        }
+    }
+}
+
+// The node that is true where the literal and the node are. For what is everywhere true none is made.
+fn conjoin(store: &mut Store, literal: u32, node: u32, yes: u32) -> Result<u32, AllocError>
+    requires valid { IsStore store.old }
+    requires kids { All (λ k. k < length store.old.nodes) (literal ∷ node ∷ []) }
+    requires apart { (v : ℕ) → at_most_one (map (mentions store.old.nodes v) (literal ∷ node ∷ [])) ≡ true }
+    requires few { store.old.made < MADE_LIMIT }
+    requires yes { IsConstant store.old.nodes true yes }
+    ensures { IfOk result (λ both. AddsBoth store.old store.new literal node both) }
+{
+    if node == yes {
+        return Ok(literal);
+    }
+    let both = store.and(&[literal, node])?;
+    Ok(both)
+}

@@ -1,0 +1,53 @@
+-- Bits and lists of bits.
+use Rattle.std.proofs.Common.{◌≡◌, ℕ, suc, Bool, true, false, ◌&&◌, ◌||◌, List, [], ◌∷◌, map, refl, sym, ◌∙◌}
+use Rattle.std.specs.List.{list_any}
+use Rattle.std.specs.Cmp.Lexicographic.{pointwise}
+use Rattle.std.proofs.lemmas.Bool.{false≢true, and_parts, and_from}
+use Rattle.std.proofs.lemmas.List.Folds.{list_any-append}
+use Rattle.ranking.specs.Bits.{same_bit, lists_of_bits}
+use Rattle.ranking.proofs.Lists.{list_any-map}
+
+-- ---- one bit
+
+pub same_bit-swap : (x y : Bool) → same_bit x y ≡ same_bit y x
+same_bit-swap true true = refl
+same_bit-swap true false = refl
+same_bit-swap false true = refl
+same_bit-swap false false = refl
+
+pub same_bit-refl : (x : Bool) → same_bit x x ≡ true
+same_bit-refl true = refl
+same_bit-refl false = refl
+
+pub same_bit-equal : (x y : Bool) → same_bit x y ≡ true → x ≡ y
+same_bit-equal true true e = refl
+same_bit-equal true false e = sym e
+same_bit-equal false true e = e
+same_bit-equal false false e = refl
+
+-- where not both are 1 and the second is, the first is not
+pub not_left : (x y : Bool) → (x && y) ≡ false → y ≡ true → x ≡ false
+not_left true y e f = sym f ∙ e
+not_left false y e f = refl
+
+-- ---- a list of bits
+
+pub pointwise-refl : (bits : List Bool) → pointwise same_bit bits bits ≡ true
+pointwise-refl [] = refl
+pointwise-refl (b ∷ bits) = and_from _ _ (same_bit-refl b) (pointwise-refl bits)
+
+pub pointwise-equal : (bits others : List Bool) → pointwise same_bit bits others ≡ true → bits ≡ others
+pointwise-equal [] [] e = refl
+pointwise-equal [] (c ∷ others) e = absurd (false≢true e)
+pointwise-equal (b ∷ bits) [] e = absurd (false≢true e)
+pointwise-equal (b ∷ bits) (c ∷ others) e =
+    let parts = and_parts (same_bit b c) (pointwise same_bit bits others) e in
+    λ i. same_bit-equal b c parts.0 i ∷ pointwise-equal bits others parts.1 i
+
+-- ---- all lists of so many bits
+
+-- a test of lists of one bit more, by their first bit
+pub any-suc : (p : List Bool → Bool) (n : ℕ) → list_any p (lists_of_bits (suc n)) ≡ (list_any (λ bits. p (false ∷ bits)) (lists_of_bits n) || list_any (λ bits. p (true ∷ bits)) (lists_of_bits n))
+any-suc p n =
+    list_any-append p (map (λ bits. false ∷ bits) (lists_of_bits n)) (map (λ bits. true ∷ bits) (lists_of_bits n))
+    ∙ (λ i. list_any-map p (λ bits. false ∷ bits) (lists_of_bits n) i || list_any-map p (λ bits. true ∷ bits) (lists_of_bits n) i)

@@ -1,0 +1,35 @@
+//! Laws about the definitions of this crate. Each is the contract of a function that does nothing.
+ghost use Rattle.std.specs.Prelude.{◌≡◌, ℕ, List, []};
+ghost use Rattle.ranking.specs.Systems.{System};
+ghost use Rattle.graph_rules.specs.Graphs.{Graph};
+ghost use Rattle.device_model.specs.Devices.{Device};
+ghost use Rattle.device_model.specs.Diagnosis.{device_system};
+ghost use Rattle.dnnf_compiler.specs.Compiled.{IsGraphOf};
+ghost use Rattle.script_lang.specs.Script.{Line};
+ghost use Rattle.session_rules.specs.Alone.{AreAnsweredAlone, IsItsOwn};
+ghost use Rattle.session_rules.specs.GraphSystems.{compiled_system};
+ghost use Rattle.session_rules.specs.Moves.{line_moves, script_moves};
+ghost use Rattle.session_rules.specs.Sessions.{Table, replies};
+
+/// Each session is answered as if it were alone: wherever it opens among some lines, its own lines from there to its end have
+/// the answers that they have with no other line before, between or behind them.
+pub fn answered_alone()
+    ensures { (system : System) (limit : ℕ) (table : Table) (lines : List (List ℕ))
+        → AreAnsweredAlone system limit table lines }
+{}
+
+/// What a line is answered, and what becomes of the session that it names, hangs on that session's entry, and where the line
+/// opens it on whether there is room. It changes no other session.
+pub fn is_its_own()
+    ensures { (system : System) (limit : ℕ) (line : Line) → IsItsOwn system limit line }
+{}
+
+/// Over a graph that is true exactly where a device fits every script has the replies that it has over the device, move by
+/// move.
+pub fn graph_replies()
+    ensures replies { (device : Device) (graph : Graph) → IsGraphOf device graph → (limit : ℕ) (lines : List (List ℕ))
+        → replies (compiled_system device graph) limit [] lines ≡ replies (device_system device) limit [] lines }
+    ensures moves { (device : Device) (graph : Graph) → IsGraphOf device graph → (limit : ℕ) (lines : List (List ℕ))
+        → script_moves (line_moves (compiled_system device graph) limit) [] lines
+        ≡ script_moves (line_moves (device_system device) limit) [] lines }
+{}

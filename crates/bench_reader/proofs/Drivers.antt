@@ -8,13 +8,14 @@ use Rattle.std.proofs.lemmas.Map.Made.{is_some-lookup}
 use Rattle.indexmap.specs.IndexMap.{insert_entry}
 use Rattle.text_rules.specs.Names.{Name, same_name, is_among}
 use Rattle.device_model.specs.Building.{repeated}
-use Rattle.device_model.proofs.Naming.{same_name-same, same_name-other, same_from_test}
+use Rattle.device_model.proofs.Naming.{same_name-other}
 use Rattle.bench_reader.specs.declared.signals.Driver.{Driver}
 use Rattle.bench_reader.specs.declared.signals.Driver.TheVariants.{Outside, Gate as ByGate}
 use Rattle.bench_reader.specs.declared.kinds.NamedKind.{NamedKind}
 use Rattle.bench_reader.specs.Statements.{Statement, Input, Output, Gate}
 use Rattle.bench_reader.specs.Signals.{driven_by_gate, driven}
 use Rattle.bench_reader.specs.inner.Steps.{Signals}
+use Rattle.text_rules.proofs.NameLemmas.{same_if_equal, equal_if_same}
 
 abbrev pub is_gate : Option Driver → Bool
 is_gate None = false
@@ -46,13 +47,13 @@ lookup-insert m n driver (d ∷ ds) = by (same_name n d.0) refl (lookup-insert m
     by : (b : Bool) → same_name n d.0 ≡ b → driver_of (insert_entry same_name ds n driver) m ≡ cond (same_name m n) (Some driver) (driver_of ds m)
         → driver_of (if b then (d.0, driver) ∷ ds else d ∷ insert_entry same_name ds n driver) m ≡ cond (same_name m n) (Some driver) (cond (same_name m d.0) (Some d.1) (driver_of ds m))
     by true e h =
-        let same = same_from_test n d.0 e in
+        let same = equal_if_same n d.0 e in
         ap (λ (k : Name). cond (same_name m k) (Some driver) (driver_of ds m)) (sym same)
         ∙ both (same_name m n)
         ∙ ap (λ (k : Name). cond (same_name m n) (Some driver) (cond (same_name m k) (Some d.1) (driver_of ds m))) same
     by false e h =
         ap (cond (same_name m d.0) (Some d.1)) h
-        ∙ other (same_name m d.0) (same_name m n) (λ a b. same_name-same n d.0 (sym (same_from_test m n b) ∙ same_from_test m d.0 a)) e
+        ∙ other (same_name m d.0) (same_name m n) (λ a b. same_if_equal n d.0 (sym (equal_if_same m n b) ∙ equal_if_same m d.0 a)) e
 
 -- no name is inserted twice
 pub repeated-insert : (n : Name) (driver : Driver) (ds : Signals) → repeated (keys_of ds) ≡ [] → repeated (keys_of (insert_entry same_name ds n driver)) ≡ []
@@ -74,7 +75,7 @@ repeated-insert n driver (d ∷ ds) h = by (same_name n d.0) refl (is_among (key
     by false e true f h later = let g = sym (ap (λ (c : Bool). if c then d.0 ∷ repeated (keys_of ds) else repeated (keys_of ds)) f) ∙ h in cc
     by false e false f h later =
         let g = sym (ap (λ (c : Bool). if c then d.0 ∷ repeated (keys_of ds) else repeated (keys_of ds)) f) ∙ h in
-        let other : same_name d.0 n ≡ false = same_name-other d.0 n (λ s. true≢false (sym (same_name-same n d.0 (sym s)) ∙ e)) in
+        let other : same_name d.0 n ≡ false = same_name-other d.0 n (λ s. true≢false (sym (same_if_equal n d.0 (sym s)) ∙ e)) in
         let alone = added true (no_driver (driver_of ds d.0) (sym (among_keys d.0 ds) ∙ f)) other in
         ap (λ (c : Bool). if c then d.0 ∷ repeated (keys_of (insert_entry same_name ds n driver)) else repeated (keys_of (insert_entry same_name ds n driver))) alone ∙ later g
 
@@ -110,7 +111,7 @@ Drives-input ds above s free h = record {
 }
   where
     by : (m : Name) (b : Bool) → same_name m s ≡ b → is_gate (driver_of ds m) ≡ is_gate (cond b (Some Outside) (driver_of ds m))
-    by m true e = ap (λ (k : Name). is_gate (driver_of ds k)) (same_from_test m s e) ∙ free
+    by m true e = ap (λ (k : Name). is_gate (driver_of ds k)) (equal_if_same m s e) ∙ free
     by m false e = refl
 
 pub Drives-output : (ds : Signals) (above : List Statement) (s : Name) → Drives ds above → Drives ds (Output s ∷ above)

@@ -9,7 +9,6 @@ use Rattle.std.proofs.Math.Bool.{or-false}
 use Rattle.indexmap.specs.IndexMap.{insert_entry}
 use Rattle.text_rules.specs.Names.{Name, same_name, is_among}
 use Rattle.device_model.specs.Building.{repeated}
-use Rattle.device_model.proofs.Naming.{same_name-same, same_from_test}
 use Rattle.bench_reader.specs.declared.signals.Driver.{Driver}
 use Rattle.bench_reader.specs.declared.signals.Driver.TheVariants.{Outside, Gate as ByGate}
 use Rattle.bench_reader.specs.declared.fault.BenchFault.TheVariants.{DrivenTwice}
@@ -19,6 +18,7 @@ use Rattle.bench_reader.specs.Signals.{driven_by_gate, driven, is_driven_twice, 
 use Rattle.bench_reader.specs.inner.Steps.{Signals, and_then, if_free, unless_gate, driven_more, signals_from}
 use Rattle.bench_reader.proofs.Drivers.{is_gate, driver_of, Drives, Drives-gate, Drives-input, Drives-output}
 use Rattle.bench_reader.proofs.Lines.{said}
+use Rattle.text_rules.proofs.NameLemmas.{same_if_equal, equal_if_same}
 
 -- the drivers are those of the statements above and below
 pub record Ends (ds : Signals) (above below : List Statement) : Type 0 where
@@ -113,7 +113,7 @@ gates_apart ((line, Gate o k is) ∷ statements) above m h e =
   where
     by : (b : Bool) → same_name m o ≡ b → is_among (flat_map driven_by_gate (map said statements)) m ≡ false → (b || is_among (flat_map driven_by_gate (map said statements)) m) ≡ false
     by false g rest = rest
-    by true g rest = absurd (true≢false (sym e ∙ ap (λ (n : Name). is_among (flat_map driven above) n) (same_from_test m o g) ∙ (twice_parts (line, Gate o k is) statements above h).0))
+    by true g rest = absurd (true≢false (sym e ∙ ap (λ (n : Name). is_among (flat_map driven above) n) (equal_if_same m o g) ∙ (twice_parts (line, Gate o k is) statements above h).0))
 
 itself_among : (o : Name) (ns : List Name) → same_name o o ≡ true → is_among (o ∷ ns) o ≡ true
 itself_among o ns e = ap (λ (b : Bool). b || is_among ns o) e
@@ -125,5 +125,5 @@ gates_once ((line, Output s) ∷ statements) above h = gates_once statements (Ou
 gates_once ((line, Gate o k is) ∷ statements) above h =
     let later = (twice_parts (line, Gate o k is) statements above h).1 in
     let rest = flat_map driven_by_gate (map said statements) in
-    let apart : is_among rest o ≡ false = gates_apart statements (Gate o k is ∷ above) o later (itself_among o (flat_map driven above) (same_name-same o o refl)) in
+    let apart : is_among rest o ≡ false = gates_apart statements (Gate o k is ∷ above) o later (itself_among o (flat_map driven above) (same_if_equal o o refl)) in
     ap (λ (b : Bool). if b then o ∷ repeated rest else repeated rest) apart ∙ gates_once statements (Gate o k is ∷ above) later

@@ -40,6 +40,7 @@ use Rattle.bench_reader.proofs.Drivers.{among_keys, Drives-none}
 use Rattle.bench_reader.proofs.Lines.{said, read_are_faultless}
 use Rattle.bench_reader.proofs.Twice.{Ends, Splits, splits, gates_once}
 use Rattle.bench_reader.proofs.Parts.{faultless_gate, names-parts, names-joined, statements_fit, arities-joined, wired-joined, named_back}
+use Rattle.device_model.proofs.CallerLemmas.{only_memory as only_memory_of}
 
 -- ---- names that differ are as many in order
 
@@ -136,12 +137,7 @@ module _ (statements : List Statement) (signals : List Name) (fine : AreFaultles
 
     -- Nothing else can be wanting than memory.
     pub only_memory : (error : BuildError) → IsExpectedFault (reason error) (built parts wires tables) → error ≡ NoMemory
-    only_memory NoMemory h = refl
-    only_memory (TooManyParts count) h = let both = sym built-of_these ∙ h in cc
-    only_memory (TwoParts name) h = let both = sym built-of_these ∙ h in cc
-    only_memory (TwoWires name) h = let both = sym built-of_these ∙ h in cc
-    only_memory (Arity part) h = let both = sym built-of_these ∙ h in cc
-    only_memory (NoWire part) h = let both = sym built-of_these ∙ h in cc
+    only_memory = only_memory_of parts wires tables _ built-of_these
 
 -- ---- what is used
 

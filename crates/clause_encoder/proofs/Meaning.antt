@@ -15,18 +15,7 @@ use Rattle.clause_encoder.specs.Clauses.{Clause, literal, is_true_clause, all_ho
 use Rattle.clause_encoder.specs.Encoding.{parity_clauses, and_clauses, row_bits, rows_of, blocking_literals, row_clause, blocked_rows, table_clauses, gate_clauses}
 use Rattle.clause_encoder.proofs.Literals.{lit, lit-literal, neg-literal}
 use Rattle.clause_encoder.proofs.RowBits.{AllPositive, row_bits-number, row_number-below, blocking_literals-row, all-rows, all-filtered}
-
-or_false : (b : Bool) → (b || false) ≡ b
-or_false true = refl
-or_false false = refl
-
-or_true : (b : Bool) → (b || true) ≡ true
-or_true true = refl
-or_true false = refl
-
-and_true : (b : Bool) → (b && true) ≡ b
-and_true true = refl
-and_true false = refl
+use Rattle.std.proofs.Math.Bool.{or-false, or-true, and-true}
 
 same_bit_comm : (b c : Bool) → same_bit b c ≡ same_bit c b
 same_bit_comm true true = refl
@@ -118,8 +107,8 @@ same_bit-twice false false = refl
 -- ---- the rows of an exclusive or
 
 later : (ok differs y : Bool) → (not ok || (differs || (y || false))) ≡ (differs || (not ok || y))
-later ok true y = or_true (not ok)
-later true false y = or_false y
+later ok true y = or-true (not ok)
+later true false y = or-false y
 later false false y = refl
 
 parity-holds : (a : Assignment) (odd : Bool) (h : ℕ) (xs : List ℕ) (y : ℕ) → 1 ≤ h → 1 ≤ y → AllPositive xs
@@ -150,7 +139,7 @@ allowed-later true ok true = refl
 allowed-later true ok false = refl
 allowed-later false true true = refl
 allowed-later false true false = refl
-allowed-later false false differs = sym (or_false differs)
+allowed-later false false differs = sym (or-false differs)
 
 side-holds : (a : Assignment) (ok : Bool) (allowed h : ℕ) (ports : List ℕ) → 1 ≤ h → AllPositive ports
     → all_hold a (blocked_rows ok allowed h ports) ≡ (is_set allowed (row_number (map a ports)) || same_bit (not ok) (a h))
@@ -173,14 +162,14 @@ table-holds a rows h ports hh hs = list_all-append (is_true_clause a) (blocked_r
     ∙ (λ i. side-holds a true rows.ok h ports hh hs i && side-holds a false rows.bad h ports hh hs i)
     ∙ by_mode (a h) where
       by_mode : (ok : Bool) → ((is_set rows.ok (row_number (map a ports)) || not ok) && (is_set rows.bad (row_number (map a ports)) || ok)) ≡ table_allows rows ok (map a ports)
-      by_mode true = (λ i. or_false (is_set rows.ok (row_number (map a ports))) i && or_true (is_set rows.bad (row_number (map a ports))) i) ∙ and_true (is_set rows.ok (row_number (map a ports)))
-      by_mode false = (λ i. or_true (is_set rows.ok (row_number (map a ports))) i && or_false (is_set rows.bad (row_number (map a ports))) i)
+      by_mode true = (λ i. or-false (is_set rows.ok (row_number (map a ports))) i && or-true (is_set rows.bad (row_number (map a ports))) i) ∙ and-true (is_set rows.ok (row_number (map a ports)))
+      by_mode false = (λ i. or-true (is_set rows.ok (row_number (map a ports))) i && or-false (is_set rows.bad (row_number (map a ports))) i)
 
 -- ---- gates
 
 one_input : (a : Assignment) (xs : List ℕ) → (nat_le 1 (length xs) && nat_le (length xs) 1) ≡ true → list_all (λ b. b) (map a xs) ≡ first_bit (map a xs)
 one_input a [] e = absurd (false≢true e)
-one_input a (x ∷ []) e = and_true (a x)
+one_input a (x ∷ []) e = and-true (a x)
 one_input a (x ∷ y ∷ xs) e =
     absurd (omega (arith, leb-true (length (x ∷ y ∷ xs)) 1 (and_parts (nat_le 1 (length (x ∷ y ∷ xs))) (nat_le (length (x ∷ y ∷ xs)) 1) e).1))
 

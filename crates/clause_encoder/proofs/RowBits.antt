@@ -15,6 +15,8 @@ use Rattle.ranking.specs.Assignments.{Assignment}
 use Rattle.device_model.specs.Devices.{is_set}
 use Rattle.clause_encoder.specs.Encoding.{row_bits, rows_of, blocking_literals}
 use Rattle.clause_encoder.proofs.Literals.{lit, lit-literal}
+use Rattle.ranking.proofs.Bits.{row_number-half}
+use Rattle.std.proofs.Math.Bool.{and-true}
 
 -- each variable is above 0
 abbrev pub AllPositive : List ℕ → Type 0
@@ -43,16 +45,12 @@ bit-of : (b : Bool) (n : ℕ) → is_set (number_of_bit b + 2 * n) 0 ≡ b
 bit-of true n = is_set-zero (1 + 2 * n) ∙ grind (arith, nat_tests)
 bit-of false n = is_set-zero (0 + 2 * n) ∙ grind (arith, nat_tests)
 
-half-of : (b : Bool) (n : ℕ) → (number_of_bit b + 2 * n) / 2 ≡ n
-half-of true n = omega arith
-half-of false n = omega arith
-
 pub row_bits-number : (bits : List Bool) (vs : List ℕ) → length bits ≡ length vs → row_bits (row_number bits) vs ≡ bits
 row_bits-number [] [] h = refl
 row_bits-number [] (v ∷ vs) h = absurd (omega arith)
 row_bits-number (b ∷ bits) [] h = absurd (omega arith)
 row_bits-number (b ∷ bits) (v ∷ vs) h = row_bits-cons (row_number (b ∷ bits)) v vs
-    ∙ (λ i. bit-of b (row_number bits) i ∷ row_bits (half-of b (row_number bits) i) vs)
+    ∙ (λ i. bit-of b (row_number bits) i ∷ row_bits (row_number-half b (row_number bits) i) vs)
     ∙ (λ i. b ∷ row_bits-number bits vs (omega arith) i)
 
 pub row_number-below : (bits : List Bool) (n : ℕ) → length bits ≡ n → row_number bits < 2 ^ n
@@ -94,13 +92,9 @@ all-past q (suc n) k row h = (λ i. (not (other i) || q k) && all-past q n (k + 
 all-at : (q : ℕ → Bool) (n k row : ℕ) → k ≤ row → row < k + n → list_all (λ r. not (r == row) || q r) (range_with_len k n) ≡ q row
 all-at q zero k row h lt = absurd (omega arith)
 all-at q (suc n) k row h lt = by_case (cases_eq k row) (λ le. all-at q n (k + 1) row le (omega arith)) where
-  and_true : (b : Bool) → (b && true) ≡ b
-  and_true true = refl
-  and_true false = refl
-
   by_case : (k ≡ row) ⊎ (k ≡ row → ⊥) → (k + 1 ≤ row → list_all (λ r. not (r == row) || q r) (range_with_len (k + 1) n) ≡ q row)
       → ((not (k == row) || q k) && list_all (λ r. not (r == row) || q r) (range_with_len (k + 1) n)) ≡ q row
-  by_case (inl e) rest = (λ i. (not (eq-eqb k row e i) || q k) && all-past q n (k + 1) row (omega (arith, e)) i) ∙ and_true (q k) ∙ ap q e
+  by_case (inl e) rest = (λ i. (not (eq-eqb k row e i) || q k) && all-past q n (k + 1) row (omega (arith, e)) i) ∙ and-true (q k) ∙ ap q e
   by_case (inr ne) rest = (λ i. (not (ne_eqb k row ne i) || q k) && rest (omega (arith, ne)) i)
 
 all-same : (p q : ℕ → Bool) (n k : ℕ) → ((r : ℕ) → r < k + n → p r ≡ q r) → list_all p (range_with_len k n) ≡ list_all q (range_with_len k n)

@@ -7,6 +7,8 @@ use Rattle.std.proofs.lemmas.List.Folds.{list_all-append, list_any-append}
 use Rattle.ranking.specs.Bits.{bit_in, same_bit, lists_of_bits}
 use Rattle.ranking.specs.Assignments.{Assignment, assignment}
 use Rattle.clause_encoder.specs.Clauses.{Clause, is_true_clause, all_hold}
+use Rattle.ranking.proofs.Lists.{list_any-map}
+use Rattle.std.proofs.Math.Bool.{or-false}
 
 -- the variables from one on have these bits
 abbrev pub has_bits : Assignment → ℕ → List Bool → Bool
@@ -53,21 +55,13 @@ pub any-same : {A : Type 0} (p q : A → Bool) (xs : List A) → ((x : A) → p 
 any-same p q [] h = refl
 any-same p q (x ∷ xs) h = λ i. h x i || any-same p q xs h i
 
-any-mapped : {A B : Type 0} (p : B → Bool) (f : A → B) (xs : List A) → list_any p (map f xs) ≡ list_any (λ x. p (f x)) xs
-any-mapped p f [] = refl
-any-mapped p f (x ∷ xs) = ap (λ b. p (f x) || b) (any-mapped p f xs)
-
 none : {A : Type 0} (xs : List A) → list_any (λ x. false) xs ≡ false
 none [] = refl
 none (x ∷ xs) = none xs
 
-or_false : (b : Bool) → (b || false) ≡ b
-or_false true = refl
-or_false false = refl
-
 one_of_both : (b rest : Bool) → ((same_bit b false && rest) || (same_bit b true && rest)) ≡ rest
 one_of_both true rest = refl
-one_of_both false rest = or_false rest
+one_of_both false rest = or-false rest
 
 -- the bits behind a list, as variables
 front-bits : (front : List Bool) (c : Bool) (inner bits : List Bool) (b : Bool)
@@ -90,10 +84,10 @@ front-bits front c inner bits b =
 
 pub some-settled : (bits front : List Bool) (rest : Bool)
     → list_any (λ inner. has_bits (assignment (front ++ inner)) (length front + 1) bits && rest) (lists_of_bits (length bits)) ≡ rest
-some-settled [] front rest = or_false rest
+some-settled [] front rest = or-false rest
 some-settled (b ∷ bits) front rest =
     list_any-append test (map (λ bs. false ∷ bs) tails) (map (λ bs. true ∷ bs) tails)
-    ∙ (λ i. any-mapped test (λ bs. false ∷ bs) tails i || any-mapped test (λ bs. true ∷ bs) tails i)
+    ∙ (λ i. list_any-map test (λ bs. false ∷ bs) tails i || list_any-map test (λ bs. true ∷ bs) tails i)
     ∙ (λ i. half (λ c. some-settled bits (front ++ c ∷ []) rest) false i || half (λ c. some-settled bits (front ++ c ∷ []) rest) true i)
     ∙ one_of_both b rest where
       tails : List (List Bool)

@@ -17,6 +17,7 @@ use Rattle.clause_encoder.specs.Encoding.{tidy, and_clauses, row_bits, row_claus
 use Rattle.clause_encoder.proofs.Literals.{tidy-append}
 use Rattle.clause_encoder.proofs.RowBits.{row_bits-cons, is_set-zero, odd-row}
 use Rattle.clause_encoder.proofs.Meaning.{and_clauses-literals}
+use Rattle.ranking.proofs.Lists.{list_all-at}
 
 module _ (now next start : List Clause) where
   -- some were written, and some are left
@@ -242,11 +243,6 @@ pub small : (parts : ℕ) (wires ports items : List ℕ) → ports ≡ items →
 small parts wires ports items e f few low k d lt =
     let long : length ports ≡ length wires = ap length (e ∙ f) ∙ length-map wires (λ wire. parts + wire + 1) in
     omega (arith, ap (λ ps. get_or ps k d) (e ∙ f), get_or-map (λ wire. parts + wire + 1) wires k d d (omega arith), low k d (omega arith))
-
-list_all-at : {A : Type 0} (p : A → Bool) (xs : List A) (i : ℕ) (d : A) → list_all p xs ≡ true → i < length xs → p (get_or xs i d) ≡ true
-list_all-at p [] i d all lt = absurd (omega arith)
-list_all-at p (x ∷ xs) zero d all lt = (and_parts (p x) (list_all p xs) all).0
-list_all-at p (x ∷ xs) (suc i) d all lt = list_all-at p xs i d (and_parts (p x) (list_all p xs) all).1 (omega arith)
 
 -- the wires at the ports of a part
 pub low : (device : Device) (parts : List Component) (place : ℕ) (part : Component) (wires : List ℕ) → IsDevice device → parts ≡ device.parts → place < length parts → part ≡ get_or parts place part → wires ≡ part.ports

@@ -14,7 +14,7 @@ use Rattle.device_model.specs.Building.{place_in}
 use Rattle.component_lang.specs.declared.fault.LangFault.{LangFault}
 use Rattle.component_lang.specs.declared.fault.LangFault.TheVariants.{Name as NoName, Twice}
 use Rattle.device_model.specs.Building.{repeated}
-use Rattle.device_model.proofs.Tables.{list_any-map}
+use Rattle.ranking.proofs.Lists.{list_any-map}
 use Rattle.component_lang.specs.Designs.{is_plain_name, is_empty, are_distinct}
 use Rattle.component_lang.specs.DesignLines.{are_new, places_in}
 use Rattle.component_lang.specs.inner.Words.{with_name, places_among}
@@ -28,7 +28,7 @@ same_key a b = same_name a.now b.now
 -- ---- keys and their bytes
 
 pub keys-insert : (ks : List (Bor Name)) (k : Bor Name) → map bytes (insert_key same_key ks k) ≡ insert_key same_name (map bytes ks) k.now
-keys-insert ks k = by (list_any (same_key k) ks) ∙ ap (λ b. if b then map bytes ks else map bytes ks ++ k.now ∷ []) (list_any-map bytes (same_name k.now) ks)
+keys-insert ks k = by (list_any (same_key k) ks) ∙ ap (λ b. if b then map bytes ks else map bytes ks ++ k.now ∷ []) (sym (list_any-map (same_name k.now) bytes ks))
   where
     by : (b : Bool) → map bytes (if b then ks else ks ++ k ∷ []) ≡ (if b then map bytes ks else map bytes ks ++ k.now ∷ [])
     by true = refl
@@ -243,7 +243,7 @@ places_among-ok words wires names found h = by (list_all is_plain_name words) h
 
 pub inserted-among : (ks : List (Bor Name)) (k : Bor Name) (names : List Name) {new old : Bool} → map bytes ks ≡ names → new ≡ not (list_any (same_key k) ks) → new ≡ not old → is_among names k.now ≡ old
 inserted-among ks k names {new} {old} same is e =
-    ap (λ ns. is_among ns k.now) (sym same) ∙ sym (list_any-map bytes (same_name k.now) ks) ∙ by (list_any (same_key k) ks) old (sym is ∙ e)
+    ap (λ ns. is_among ns k.now) (sym same) ∙ list_any-map (same_name k.now) bytes ks ∙ by (list_any (same_key k) ks) old (sym is ∙ e)
   where
     by : (a b : Bool) → not a ≡ not b → a ≡ b
     by true true g = refl

@@ -13,6 +13,7 @@ use Rattle.std.proofs.lemmas.Bool.{and_parts, and_from, eqb-true}
 use Rattle.std.proofs.lemmas.Grind.{pow_more}
 use Rattle.ranking.specs.Bits.{row_number, number_of_bit}
 use Rattle.component_lang.specs.TypeRows.{is_row, row_in, with_row}
+use Rattle.ranking.proofs.Bits.{row_number-push}
 
 or_of_bit : (rows row b : ℕ) → bit_at rows row ≡ b → bit_or rows (2 ^ row) + b * 2 ^ row ≡ rows + 2 ^ row
 or_of_bit rows row b e = ap (λ n. bit_or rows (2 ^ row) + n) (sym (and_pow rows row ∙ ap (λ n. n * 2 ^ row) e)) ∙ or_add_and rows (2 ^ row)
@@ -29,10 +30,6 @@ pub with_row-fits : (k rows row : ℕ) → rows < 2 ^ k → row < k → with_row
 with_row-fits k rows row h l =
     let below = or_lt k rows (2 ^ row) h (pow_below row k l) in
     omega (arith, with_row-or rows row, below)
-
-pub row_number-push : (bits : List Bool) (b : Bool) → row_number (bits ++ b ∷ []) ≡ row_number bits + number_of_bit b * 2 ^ length bits
-row_number-push [] b = omega arith
-row_number-push (c ∷ bits) b = grind (arith, row_number-push bits b, pow_more 2 (length bits))
 
 pub row_number-fits : (bits : List Bool) → row_number bits < 2 ^ length bits
 row_number-fits [] = omega arith

@@ -6,20 +6,21 @@ use Rattle.std.proofs.lemmas.Bool.{ltb-false}
 use Rattle.std.proofs.lemmas.List.Sums.{passes_at_first}
 use Rattle.std.proofs.lemmas.List.Sorted.{IsPermutation-sym}
 use Rattle.indexmap.specs.IndexSet.{insert_key}
+use Rattle.text_rules.specs.Expected.{IsExpectedFault}
 use Rattle.text_rules.specs.Names.{Name, same_name, is_among, names_rise}
 use Rattle.device_model.specs.declared.component.Component.{Component}
 use Rattle.device_model.specs.declared.building.BuildError.{BuildError}
-use Rattle.device_model.specs.declared.building.BuildError.TheVariants.{TooMany, TwoParts, TwoWires, Arity, NoWire}
+use Rattle.device_model.specs.declared.building.BuildError.TheVariants.{TooMany, TwoParts, TwoWires, Arity, NoWire, Memory}
 use Rattle.device_model.specs.TruthTable.{TruthTable}
 use Rattle.device_model.specs.Order.{sorted_distinct}
 use Rattle.device_model.specs.Devices.{Device, IsDevice, part_names, has_arity, has_wires}
-use Rattle.device_model.specs.Building.{repeated, place_in, unless_name, unless_place, device_of, built}
-use Rattle.device_model.proofs.Naming.{same_from_test}
+use Rattle.device_model.specs.Building.{repeated, place_in, unless_name, unless_place, device_of, built, reason}
 use Rattle.device_model.proofs.Ordered.{Among, Rises-sorted_distinct, among_sorted_distinct, sorted_distinct-has, sorted_distinct-is}
 use Rattle.device_model.proofs.Sorting.{itself, among_permutation, names_rise-Rises, Rises-from_names_rise, Rises-map}
 use Rattle.device_model.proofs.Repeats.{is_among-among, among_from_test, count, twice_from_repeated, once_in_rising, none_among}
 use Rattle.device_model.proofs.Making.{position_or_len-among, IsDevice-device_of, list_all-from_position}
 use Rattle.device_model.proofs.Placing.{place_in-rising}
+use Rattle.text_rules.proofs.NameLemmas.{equal_if_same}
 
 -- items in order rise by name
 pub names_rise-sorted_distinct : {A : Type 0} (name : A → Name) (xs : List A) → names_rise (map name (sorted_distinct name xs)) ≡ true
@@ -135,7 +136,7 @@ place_in-names_rise names k h l = place_in-rising names k (Rises-from_names_rise
 -- a name of the list stands at its place
 pub get_or-place_in : (names : List Name) (n : Name) → Among n names → get_or names (place_in names n) [] ≡ n
 get_or-place_in names n m =
-    sym (same_from_test n (get_or names (place_in names n) []) (passes_at_first (same_name n) names [] (position_or_len-among names n m)))
+    sym (equal_if_same n (get_or names (place_in names n) []) (passes_at_first (same_name n) names [] (position_or_len-among names n m)))
 
 -- Ports that are places of names in a list become the places of the same names in order.
 pub ports-named : (wires names : List Name) → ((n : Name) → Among n names → Among n wires)
@@ -180,3 +181,13 @@ IsBuilt-from_built parts wires tables d h =
           (ltb-false 4096 (length parts) one.0) (ltb-false 16384 (length wires) two.0)
           (list_all-from_position (has_arity tables) parts five.0) (list_all-from_position (has_wires (length wires)) parts six.0));
     }
+
+-- Where parts and wires make a device, nothing else can be wanting than memory.
+pub only_memory : (parts : List Component) (wires : List Name) (tables : List TruthTable) (device : Device) → built parts wires tables ≡ Ok device
+    → (error : BuildError) → IsExpectedFault (reason error) (built parts wires tables) → error ≡ Memory
+only_memory parts wires tables device made Memory h = refl
+only_memory parts wires tables device made (TooMany count) h = let both = sym made ∙ h in cc
+only_memory parts wires tables device made (TwoParts name) h = let both = sym made ∙ h in cc
+only_memory parts wires tables device made (TwoWires name) h = let both = sym made ∙ h in cc
+only_memory parts wires tables device made (Arity part) h = let both = sym made ∙ h in cc
+only_memory parts wires tables device made (NoWire part) h = let both = sym made ∙ h in cc

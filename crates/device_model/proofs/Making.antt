@@ -1,8 +1,8 @@
 -- The device that sorted parts and wires make: that it is one, and that it is the one of the parts and wires as they were given.
 use Rattle.std.proofs.Common.{◌≡◌, ℕ, ◌+◌, ◌<◌, ◌≤◌, inl, inr, Bool, true, false, cond, not, nat_lt, List, [], ◌∷◌, map, length, get_or, Some, None, refl, sym, ap, subst, ◌∙◌, arith}
-use Rattle.std.specs.Prelude.{◌&&◌, position}
+use Rattle.std.specs.Prelude.{position}
 use Rattle.std.specs.List.{list_all, position_or_len}
-use Rattle.std.proofs.lemmas.Bool.{ltb-false, ltb-true, lt-ltb}
+use Rattle.std.proofs.lemmas.Bool.{ltb-false, ltb-true, lt-ltb, and_parts, and_from}
 use Rattle.std.proofs.lemmas.List.{length-map}
 use Rattle.std.proofs.lemmas.List.Sums.{fails_before_first}
 use Rattle.text_rules.specs.Names.{Name, same_name}
@@ -11,28 +11,22 @@ use Rattle.device_model.specs.TruthTable.{TruthTable}
 use Rattle.device_model.specs.Order.{placed, sorted_distinct}
 use Rattle.device_model.specs.Devices.{IsDevice, part_names, takes_ports, has_arity, has_wires}
 use Rattle.device_model.specs.Building.{place_in, renumbered, device_of}
-use Rattle.device_model.proofs.Naming.{same, below, above, compared, same_name-same}
+use Rattle.device_model.proofs.Naming.{same, below, above, compared}
 use Rattle.device_model.proofs.Ordered.{Among, Rises-sorted_distinct, among_sorted_distinct, sorted_distinct-has, placed-same, placed-below, placed-above}
 use Rattle.device_model.proofs.Sorting.{itself, Contains-from_among, Rises-map, names_rise-Rises}
 use Rattle.device_model.proofs.Tables.{among_get_or}
+use Rattle.text_rules.proofs.NameLemmas.{same_if_equal}
 
 -- ---- tests of each item
 
-both : (a b : Bool) → a ≡ true → b ≡ true → (a && b) ≡ true
-both a b h g = rw (h, g) refl
-
-parts_of : (a b : Bool) → (a && b) ≡ true → (a ≡ true) × (b ≡ true)
-parts_of true b h = (refl, h)
-parts_of false b h = cc
-
 pub list_all-among : {A : Type 0} (p : A → Bool) (xs : List A) → list_all p xs ≡ true → (x : A) → Among x xs → p x ≡ true
 list_all-among p [] h x m = absurd m
-list_all-among p (y ∷ ys) h x (inl e) = ap p e ∙ (parts_of (p y) (list_all p ys) h).0
-list_all-among p (y ∷ ys) h x (inr m) = list_all-among p ys (parts_of (p y) (list_all p ys) h).1 x m
+list_all-among p (y ∷ ys) h x (inl e) = ap p e ∙ (and_parts (p y) (list_all p ys) h).0
+list_all-among p (y ∷ ys) h x (inr m) = list_all-among p ys (and_parts (p y) (list_all p ys) h).1 x m
 
 pub list_all-from_among : {A : Type 0} (p : A → Bool) (xs : List A) → ((x : A) → Among x xs → p x ≡ true) → list_all p xs ≡ true
 list_all-from_among p [] h = refl
-list_all-from_among p (x ∷ xs) h = both (p x) (list_all p xs) (h x (inl refl)) (list_all-from_among p xs (λ y m. h y (inr m)))
+list_all-from_among p (x ∷ xs) h = and_from (p x) (list_all p xs) (h x (inl refl)) (list_all-from_among p xs (λ y m. h y (inr m)))
 
 none_given : (b : Bool) (i : ℕ) → cond b (Some i) None ≡ None → b ≡ false
 none_given true i h = cc
@@ -90,7 +84,7 @@ module _ {A : Type 0} (name : A → Name) where
 
 pub position_or_len-among : (ns : List Name) (n : Name) → Among n ns → position_or_len (same_name n) ns < length ns
 position_or_len-among [] n m = absurd m
-position_or_len-among (x ∷ ns) n (inl e) = rw (same_name-same n x e) (omega arith)
+position_or_len-among (x ∷ ns) n (inl e) = rw (same_if_equal n x e) (omega arith)
 position_or_len-among (x ∷ ns) n (inr m) = by (same_name n x) (position_or_len-among ns n m)
   where
     by : (b : Bool) → position_or_len (same_name n) ns < length ns → cond (not b) (1 + position_or_len (same_name n) ns) 0 < length (x ∷ ns)
@@ -116,15 +110,15 @@ renumbered-has_wires wires part h = over part.ports h
         → list_all (λ port. nat_lt port (length (sorted_distinct itself wires))) (map (λ port. place_in (sorted_distinct itself wires) (get_or wires port [])) ports) ≡ true
     over [] g = refl
     over (p ∷ ps) g =
-        let two = parts_of (nat_lt p (length wires)) (list_all (λ port. nat_lt port (length wires)) ps) g in
-        both _ _ (less_test _ _ (place_in-fits wires p (test_less p (length wires) two.0))) (over ps two.1)
+        let two = and_parts (nat_lt p (length wires)) (list_all (λ port. nat_lt port (length wires)) ps) g in
+        and_from _ _ (less_test _ _ (place_in-fits wires p (test_less p (length wires) two.0))) (over ps two.1)
 
 renumbered-has_arity : (tables : List TruthTable) (wires : List Name) (part : Component) → has_arity tables (renumbered wires part) ≡ has_arity tables part
 renumbered-has_arity tables wires part = ap (takes_ports tables part.kind) (length-map part.ports (λ port. place_in (sorted_distinct itself wires) (get_or wires port [])))
 
 list_all-mapped : {A B : Type 0} (p : B → Bool) (f : A → B) (xs : List A) → list_all (λ x. p (f x)) xs ≡ true → list_all p (map f xs) ≡ true
 list_all-mapped p f [] h = refl
-list_all-mapped p f (x ∷ xs) h = let two = parts_of (p (f x)) (list_all (λ y. p (f y)) xs) h in both _ _ two.0 (list_all-mapped p f xs two.1)
+list_all-mapped p f (x ∷ xs) h = let two = and_parts (p (f x)) (list_all (λ y. p (f y)) xs) h in and_from _ _ two.0 (list_all-mapped p f xs two.1)
 
 abbrev pub component_name : Component → Name
 component_name part = part.name

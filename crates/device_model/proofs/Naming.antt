@@ -8,6 +8,7 @@ use Rattle.std.proofs.lemmas.Cmp.{nat_list_cmp_total, tied_itself}
 use Rattle.std.proofs.lemmas.Map.Text.{is_eq-slice_cmp}
 use Rattle.std.proofs.lemmas.Slice.Eq.{bytes_eq-Decides}
 use Rattle.text_rules.specs.Names.{Name, name_below, same_name}
+use Rattle.text_rules.proofs.NameLemmas.{equal_if_same}
 
 -- a name stands before another
 abbrev pub Below : Name → Name → Type 0
@@ -53,18 +54,12 @@ name_below-above a b h = ap is_lt (nat_list_cmp_total.antisymm a b ∙ ap orderi
 pub name_below-itself : (a : Name) → name_below a a ≡ false
 name_below-itself a = ap is_lt (tied_itself nat_list_cmp_total a)
 
-pub same_name-same : (a b : Name) → a ≡ b → same_name a b ≡ true
-same_name-same a b e = (bytes_eq-Decides a b).1 e
-
-pub same_from_test : (a b : Name) → same_name a b ≡ true → a ≡ b
-same_from_test a b e = (bytes_eq-Decides a b).0 e
-
 not_true : (b : Bool) → (b ≡ true → ⊥) → b ≡ false
 not_true true h = absurd (h refl)
 not_true false h = refl
 
 pub same_name-other : (a b : Name) → (a ≡ b → ⊥) → same_name a b ≡ false
-same_name-other a b h = not_true (same_name a b) (λ e. h (same_from_test a b e))
+same_name-other a b h = not_true (same_name a b) (λ e. h (equal_if_same a b e))
 
 pub same_name-below : (a b : Name) → Below a b → same_name a b ≡ false
 same_name-below a b h = same_name-other a b (λ e. Below-irreflexive b (let P : Name → Type 0 = λ n. Below n b in subst P e h))

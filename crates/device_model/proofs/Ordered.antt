@@ -2,7 +2,8 @@
 use Rattle.std.proofs.Common.{◌≡◌, ◌⊎◌, inl, inr, List, [], ◌∷◌, refl, sym, ap, subst, ◌∙◌}
 use Rattle.text_rules.specs.Names.{Name}
 use Rattle.device_model.specs.Order.{placed, sorted_distinct}
-use Rattle.device_model.proofs.Naming.{Below, Below-trans, Below-irreflexive, Below-asymmetric, same, below, above, compared, same_name-same, same_name-below, same_name-above, name_below-Below, name_below-above}
+use Rattle.device_model.proofs.Naming.{Below, Below-trans, Below-irreflexive, Below-asymmetric, same, below, above, compared, same_name-below, same_name-above, name_below-Below, name_below-above}
+use Rattle.text_rules.proofs.NameLemmas.{same_if_equal}
 
 abbrev pub Among : {A : Type 0} → A → List A → Type 0
 Among x [] = ⊥
@@ -33,7 +34,7 @@ module _ {A : Type 0} (name : A → Name) where
   BelowAll-trans m n (y ∷ ys) b h = (Below-trans m n (name y) b h.0, BelowAll-trans m n ys b h.1)
 
   pub placed-same : (x y : A) (ys : List A) → name x ≡ name y → placed name x (y ∷ ys) ≡ y ∷ ys
-  placed-same x y ys e = rw (same_name-same (name x) (name y) e) refl
+  placed-same x y ys e = rw (same_if_equal (name x) (name y) e) refl
 
   pub placed-below : (x y : A) (ys : List A) → Below (name x) (name y) → placed name x (y ∷ ys) ≡ x ∷ y ∷ ys
   placed-below x y ys h = rw (same_name-below (name x) (name y) h, name_below-Below (name x) (name y) h) refl

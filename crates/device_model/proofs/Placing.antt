@@ -14,11 +14,12 @@ use Rattle.device_model.specs.TruthTable.{TruthTable}
 use Rattle.device_model.specs.Devices.{Device, has_wires}
 use Rattle.device_model.specs.Building.{place_in, renumbered, device_of}
 use Rattle.device_model.specs.Sorting.{numbered_from, with_places}
-use Rattle.device_model.proofs.Naming.{Below, Below-irreflexive, same_name-same, same_name-above}
+use Rattle.device_model.proofs.Naming.{Below, Below-irreflexive, same_name-above}
 use Rattle.device_model.proofs.Ordered.{Among, Below-among, Rises, Rises-sorted_distinct}
 use Rattle.device_model.proofs.Sorting.{itself, Contains-from_among, among_permutation, Rises-unmap}
 use Rattle.device_model.proofs.Tables.{among_get_or}
 use Rattle.device_model.proofs.Making.{list_all-among, component_name, sorted_distinct-map, list_all-sorted_distinct}
+use Rattle.text_rules.proofs.NameLemmas.{same_if_equal}
 
 -- a numbered name stands at its number
 numbered-tells : (p : ℕ) (ns : List Name) (w : Name × ℕ) → Among w (numbered_from p ns) → (i : ℕ) × (i < length ns) × (w.1 ≡ p + i) × (w.0 ≡ get_or ns i [])
@@ -45,7 +46,7 @@ Rises-get_or name (x ∷ xs) (suc i) (suc j) d h l k = Rises-get_or name xs i j 
 -- a name of a rising list has no earlier place
 pub place_in-rising : (ns : List Name) (k : ℕ) → Rises itself ns → k < length ns → position_or_len (same_name (get_or ns k [])) ns ≡ k
 place_in-rising [] k h l = absurd (omega arith)
-place_in-rising (n ∷ ns) zero h l = rw (same_name-same n n refl) refl
+place_in-rising (n ∷ ns) zero h l = rw (same_if_equal n n refl) refl
 place_in-rising (n ∷ ns) (suc k) h l =
     let m = get_or ns k [] in
     let other = same_name-above m n (Below-among itself n ns m h.0 (among_get_or ns k [] (omega arith))) in

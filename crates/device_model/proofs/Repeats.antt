@@ -10,9 +10,10 @@ use Rattle.device_model.specs.declared.building.BuildError.{BuildError}
 use Rattle.device_model.specs.Order.{sorted_distinct}
 use Rattle.device_model.specs.Devices.{Device}
 use Rattle.device_model.specs.Building.{repeated, unless_name}
-use Rattle.device_model.proofs.Naming.{Below, Below-trans, Below-irreflexive, same, below, above, compared, same_name-same, same_name-other, same_from_test}
+use Rattle.device_model.proofs.Naming.{Below, Below-trans, Below-irreflexive, same, below, above, compared, same_name-other}
 use Rattle.device_model.proofs.Ordered.{Among, BelowAll, Below-among, Rises, Rises-sorted_distinct, among_sorted_distinct, sorted_distinct-has}
 use Rattle.device_model.proofs.Sorting.{itself, AtMost, AtMostAll, AtMost-among, Ascends}
+use Rattle.text_rules.proofs.NameLemmas.{same_if_equal, equal_if_same}
 
 -- how often a name stands in a list
 abbrev pub one_if : Bool → ℕ
@@ -31,7 +32,7 @@ pub count-permutation : (m : Name) (xs ys : List Name) → IsPermutation xs ys �
 count-permutation m xs ys h = sym (count-sum m ys) ∙ sum_by-IsPermutation (λ n. one_if (same_name m n)) xs ys h ∙ count-sum m xs
 
 count-same : (m n : Name) (ns : List Name) → m ≡ n → count m (n ∷ ns) ≡ 1 + count m ns
-count-same m n ns e = rw (same_name-same m n e) refl
+count-same m n ns e = rw (same_if_equal m n e) refl
 
 count-other : (m n : Name) (ns : List Name) → (m ≡ n → ⊥) → count m (n ∷ ns) ≡ count m ns
 count-other m n ns h = rw (same_name-other m n h) (omega arith)
@@ -62,9 +63,9 @@ among_from_count m (n ∷ ns) h = elim (same_or_other m n) [
 -- the test of `is_among` and the fact
 pub is_among-among : (n : Name) (ns : List Name) → Among n ns → is_among ns n ≡ true
 is_among-among n [] h = absurd h
-is_among-among n (m ∷ ms) (inl e) = rw (same_name-same n m e) refl
+is_among-among n (m ∷ ms) (inl e) = rw (same_if_equal n m e) refl
 is_among-among n (m ∷ ms) (inr h) = elim (same_or_other n m) [
-  | inl e ↦ rw (same_name-same n m e) refl
+  | inl e ↦ rw (same_if_equal n m e) refl
   | inr o ↦ rw (same_name-other n m o) (is_among-among n ms h)
 ]
 
@@ -75,7 +76,7 @@ either_true false b h = inr h
 pub among_from_test : (n : Name) (ns : List Name) → is_among ns n ≡ true → Among n ns
 among_from_test n [] h = cc
 among_from_test n (m ∷ ms) h = elim (either_true (same_name n m) (is_among ms n) h) [
-  | inl e ↦ inl (same_from_test n m e)
+  | inl e ↦ inl (equal_if_same n m e)
   | inr e ↦ inr (among_from_test n ms e)
 ]
 

@@ -1,11 +1,11 @@
 -- Lists that a sort by name left: neighbours, and what permutations keep.
-use Rattle.std.proofs.Common.{◌≡◌, ℕ, zero, suc, ◌+◌, ◌<◌, ◌≤◌, ◌⊎◌, inl, inr, Bool, true, false, List, [], ◌∷◌, map, length, get_or, Contains, add-one, refl, sym, subst, arith}
-use Rattle.std.specs.Prelude.{◌&&◌}
+use Rattle.std.proofs.Common.{◌≡◌, ℕ, zero, suc, ◌+◌, ◌<◌, ◌≤◌, ◌⊎◌, inl, inr, true, false, List, [], ◌∷◌, map, length, get_or, Contains, add-one, refl, sym, subst, arith}
 use Rattle.std.specs.List.Sorted.{IsPermutation}
 use Rattle.std.proofs.lemmas.List.Sorted.{Contains-permutation}
 use Rattle.text_rules.specs.Names.{Name, name_below, names_rise}
 use Rattle.device_model.proofs.Naming.{Below, Below-trans, Below-irreflexive, same, below, above, compared, name_below-Below, Below-from_test}
 use Rattle.device_model.proofs.Ordered.{Among, BelowAll, BelowAll-trans, Rises}
+use Rattle.std.proofs.lemmas.Bool.{and_parts}
 
 pub Contains-from_among : {A : Type 0} (xs : List A) (x : A) → Among x xs → Contains xs x
 Contains-from_among [] x m = absurd m
@@ -107,15 +107,11 @@ names_rise-Rises [] h = refl
 names_rise-Rises (a ∷ []) h = refl
 names_rise-Rises (a ∷ b ∷ ns) h = rw (name_below-Below a b h.0.0) (names_rise-Rises (b ∷ ns) h.1)
 
-both_true : (a b : Bool) → (a && b) ≡ true → (a ≡ true) × (b ≡ true)
-both_true true b h = (refl, h)
-both_true false b h = cc
-
 pub Rises-from_names_rise : (ns : List Name) → names_rise ns ≡ true → Rises itself ns
 Rises-from_names_rise [] h = tt
 Rises-from_names_rise (a ∷ []) h = (tt, tt)
 Rises-from_names_rise (a ∷ b ∷ ns) h =
-    let p = both_true (name_below a b) (names_rise (b ∷ ns)) h in
+    let p = and_parts (name_below a b) (names_rise (b ∷ ns)) h in
     let rest : Rises itself (b ∷ ns) = Rises-from_names_rise (b ∷ ns) p.1 in
     let first = Below-from_test a b p.0 in
     ((first, BelowAll-trans itself a b ns first rest.0), rest)

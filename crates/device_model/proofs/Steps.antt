@@ -10,10 +10,10 @@ use Rattle.device_model.specs.declared.building.BuildError.{BuildError}
 use Rattle.device_model.specs.Order.{sorted_distinct}
 use Rattle.device_model.specs.Building.{repeated}
 use Rattle.device_model.specs.Sorting.{numbered_from, NeighboursDiffer, IsFirstRepeat, IsTwice}
-use Rattle.device_model.proofs.Naming.{same_from_test, same_name-same}
 use Rattle.device_model.proofs.Ordered.{Rises, sorted_distinct-is}
 use Rattle.device_model.proofs.Sorting.{itself, Ascends, among_permutation}
 use Rattle.device_model.proofs.Repeats.{first_repeat_is_least, unless_name-repeated, Rises-from_neighbours, repeated-rising}
+use Rattle.text_rules.proofs.NameLemmas.{same_if_equal, equal_if_same}
 
 pub numbered_from-push : (p : ℕ) (ns : List Name) (n : Name) → numbered_from p (ns ++ n ∷ []) ≡ numbered_from p ns ++ (n, p + length ns) ∷ []
 numbered_from-push p [] n = ap (λ (q : ℕ). (n, q) ∷ []) (omega arith)
@@ -34,7 +34,7 @@ module _ {A : Type 0} (name : A → Name) (xs : List A) (place : ℕ) (d e : A) 
     λ k g.
         let same_place : place - 1 ≡ k = omega arith in
         get_or-map name xs k d [] (omega arith)
-        ∙ subst (λ (j : ℕ). name (get_or xs j d) ≡ name (get_or xs place e)) same_place (same_from_test _ _ h)
+        ∙ subst (λ (j : ℕ). name (get_or xs j d) ≡ name (get_or xs place e)) same_place (equal_if_same _ _ h)
         ∙ sym (get_or-map name xs place e [] to),
   )
 
@@ -46,7 +46,7 @@ module _ {A : Type 0} (name : A → Name) (xs : List A) (place : ℕ) (d e : A) 
         let here : name (get_or xs (place - 1) d) ≡ name (get_or xs place e) =
         subst (λ (j : ℕ). name (get_or xs j d) ≡ name (get_or xs place e)) same_place
         (subst (λ (j : ℕ). name (get_or xs k d) ≡ name (get_or xs j e)) g there) in
-        let test = same_name-same _ _ here in
+        let test = same_if_equal _ _ here in
         cc)
     | inr n ↦ before k (omega arith) same_names
   ]

@@ -1,6 +1,6 @@
 -- The tables of names of a device: their keys are the names, and a look-up gives a name's place.
 use Rattle.std.proofs.Common.{◌≡◌, ℕ, zero, suc, ◌+◌, ◌<◌, inl, inr, Bool, false, cond, not, nat_lt, List, [], ◌∷◌, ◌++◌, map, length, get_or, take, Some, None, refl, sym, ap, ◌∙◌, arith}
-use Rattle.std.specs.Prelude.{if◌then◌else◌, ◌||◌, position}
+use Rattle.std.specs.Prelude.{if◌then◌else◌, position}
 use Rattle.std.specs.List.{list_any, position_or_len}
 use Rattle.std.proofs.lemmas.List.{length-map, get_or-map, take-map, take_more}
 use Rattle.text_rules.specs.Names.{Name, same_name, is_among}
@@ -8,6 +8,7 @@ use Rattle.indexmap.specs.IndexSet.{insert_key}
 use Rattle.device_model.proofs.Naming.{same_name-above}
 use Rattle.device_model.proofs.Ordered.{Among, Rises, Below-among}
 use Rattle.device_model.proofs.Sorting.{itself}
+use Rattle.ranking.proofs.Lists.{list_any-map}
 
 pub among_get_or : {A : Type 0} (xs : List A) (i : ℕ) (d : A) → i < length xs → Among (get_or xs i d) xs
 among_get_or [] i d l = absurd (omega arith)
@@ -27,10 +28,6 @@ take-next : (ns : List Name) (i : ℕ) → i < length ns → take (i + 1) ns ≡
 take-next ns i l = take_more ns i [] l
 
 module _ {K : Type 0} (bytes : K → Name) where
-  pub list_any-map : (p : Name → Bool) (ks : List K) → list_any (λ k. p (bytes k)) ks ≡ list_any p (map bytes ks)
-  list_any-map p [] = refl
-  list_any-map p (k ∷ ks) = ap (λ b. p (bytes k) || b) (list_any-map p ks)
-
   map-push : (ks : List K) (k : K) → map bytes (ks ++ k ∷ []) ≡ map bytes ks ++ bytes k ∷ []
   map-push [] k = refl
   map-push (x ∷ ks) k = ap (λ ns. bytes x ∷ ns) (map-push ks k)
@@ -40,7 +37,7 @@ module _ {K : Type 0} (bytes : K → Name) where
       → map bytes (insert_key (λ a b. same_name (bytes a) (bytes b)) ks k) ≡ take (i + 1) ns
   keys_more ns ks i k h l is before =
       let absent : list_any (λ b. same_name (bytes k) (bytes b)) ks ≡ false =
-      list_any-map (same_name (bytes k)) ks ∙ ap (list_any (same_name (bytes k))) before ∙ ap (λ n. list_any (same_name n) (take i ns)) is ∙ is_among-front ns i h l in
+      sym (list_any-map (same_name (bytes k)) bytes ks) ∙ ap (list_any (same_name (bytes k))) before ∙ ap (λ n. list_any (same_name n) (take i ns)) is ∙ is_among-front ns i h l in
       ap (λ b. map bytes (if b then ks else ks ++ k ∷ [])) absent ∙ map-push ks k ∙ ap (λ ms. ms ++ bytes k ∷ []) before ∙ ap (λ n. take i ns ++ n ∷ []) is ∙ sym (take-next ns i l)
 
   pub position_or_len-map : (p : Name → Bool) (ks : List K) → position_or_len (λ k. p (bytes k)) ks ≡ position_or_len p (map bytes ks)

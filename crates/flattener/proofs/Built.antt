@@ -29,6 +29,7 @@ use Rattle.flattener.proofs.Differing.{instances-differ, all-wires}
 use Rattle.flattener.proofs.Arities.{tables_of, is_fed, instances-fed}
 use Rattle.flattener.proofs.Growing.{no_block, good_blocks, top_within}
 use Rattle.flattener.proofs.Totals.{top_good, top_ports-are, top-shows, wires_are, few_parts, few_wires, unless_refused, flattened-by_counts}
+use Rattle.device_model.proofs.CallerLemmas.{only_memory as only_memory_of}
 
 ports_fed : (tables : List TruthTable) (wires : List Name) (parts : List Component) → list_all (is_fed tables) (map (shown wires) parts) ≡ true → list_all (has_arity tables) parts ≡ true
 ports_fed tables wires [] h = refl
@@ -90,12 +91,7 @@ module _ (design : Design) (valid : is_design design ≡ true) (passed : refusal
 
     -- Nothing else can be wanting than memory.
     pub only_memory : (error : BuildError) → IsExpectedFault (reason error) (built parts wires tables) → error ≡ NoMemory
-    only_memory NoMemory h = refl
-    only_memory (TooMany count) h = let both = sym built-here ∙ h in cc
-    only_memory (TwoParts name) h = let both = sym built-here ∙ h in cc
-    only_memory (TwoWires name) h = let both = sym built-here ∙ h in cc
-    only_memory (Arity part) h = let both = sym built-here ∙ h in cc
-    only_memory (NoWire part) h = let both = sym built-here ∙ h in cc
+    only_memory = only_memory_of parts wires tables _ built-here
 
 -- a reason of the design's is told
 pub told-refusal : (design : Design) (error : FlattenError) → flattened design ≡ Err error → IsExpectedFault (told error) (flattened design)

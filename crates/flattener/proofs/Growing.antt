@@ -24,7 +24,8 @@ use Rattle.component_lang.specs.declared.design.Block.{Block}
 use Rattle.component_lang.specs.Designs.{Design, is_design, are_blocks, block_takes, is_used, takes_args}
 use Rattle.flattener.specs.Flat.{Content, Instance, nothing, below, one_part, kind_content, used_content, instance}
 use Rattle.flattener.specs.inner.Expanding.{CanExpand, Grows, wire_at, shown, are_joined, are_within, position_of, instance_at, are_short, paths_of, prefix_of, behind}
-use Rattle.flattener.proofs.Lists.{all_at, all_parts, all_both, map_same}
+use Rattle.ranking.proofs.Lists.{list_all-at}
+use Rattle.flattener.proofs.Lists.{all_parts, all_both, map_same}
 use Rattle.flattener.proofs.Naming.{map-behind}
 use Rattle.flattener.proofs.Values.{block_among}
 use Rattle.flattener.proofs.Relative.{Which, Parts, Wires, Instances, own_names, names_of, names-instance, GoodUsed, GoodUsed-from_test, GoodBlock, GoodBlock-from_test}
@@ -90,7 +91,7 @@ module _ (old own more : List Name) (passed : List ℕ) (within : are_within (le
   Named-first wire l =
       let at : position_of passed (length old) wire ≡ get_or passed wire 0 =
       ap (λ (t : Bool). if t then slice_index passed wire else length old + (wire - length passed)) (lt-ltb wire (length passed) l) in
-      let inside : get_or passed wire 0 < length old = ltb-true (get_or passed wire 0) (length old) (all_at (λ p. nat_lt p (length old)) passed wire 0 l within) in
+      let inside : get_or passed wire 0 < length old = ltb-true (get_or passed wire 0) (length old) (list_all-at (λ p. nat_lt p (length old)) passed wire 0 within l) in
       record {
         inside = omega (arith, many);
         named =
@@ -398,7 +399,7 @@ module _ {design : Design} {place : ℕ} {path : Name} {passed : List ℕ} {old 
     good_used : GoodUsed design.types (take place design.blocks) (length (block_at design place).wires) used
     good_used = GoodUsed-from_test design.types (take place design.blocks) (length (block_at design place).wires) used
         (ap (is_used design.types (take place design.blocks) (length (block_at design place).wires)) part.is
-        ∙ all_at (is_used design.types (take place design.blocks) (length (block_at design place).wires)) (block_at design place).parts i used part.inside good_here.used)
+        ∙ list_all-at (is_used design.types (take place design.blocks) (length (block_at design place).wires)) (block_at design place).parts i used good_here.used part.inside)
 
     args_good : are_within (length passed + length own) used.args ≡ true
     args_good = ap (λ n. are_within n used.args) own_many ∙ good_used.within

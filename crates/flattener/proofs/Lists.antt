@@ -8,12 +8,7 @@ use Rattle.std.proofs.lemmas.List.Folds.{list_all-append}
 use Rattle.text_rules.specs.Names.{Name}
 use Rattle.device_model.specs.declared.limits.TheConstants.{NAME_LIMIT}
 use Rattle.flattener.specs.inner.Expanding.{are_short}
-
--- a test of each item, at a place
-pub all_at : {A : Type 0} (p : A → Bool) (xs : List A) (k : ℕ) (d : A) → k < length xs → list_all p xs ≡ true → p (get_or xs k d) ≡ true
-all_at p [] k d l h = absurd (omega arith)
-all_at p (x ∷ xs) zero d l h = (and_parts (p x) (list_all p xs) h).0
-all_at p (x ∷ xs) (suc k) d l h = all_at p xs k d (omega arith) (and_parts (p x) (list_all p xs) h).1
+use Rattle.ranking.proofs.Lists.{list_all-at}
 
 pub all_parts : {A : Type 0} (p : A → Bool) (xs ys : List A) → list_all p (xs ++ ys) ≡ true → (list_all p xs ≡ true) × (list_all p ys ≡ true)
 all_parts p xs ys h = and_parts (list_all p xs) (list_all p ys) (sym (list_all-append p xs ys) ∙ h)
@@ -26,10 +21,6 @@ pub map_same : {A B : Type 0} (p : A → Bool) (f g : A → B) → ((x : A) → 
 map_same p f g h [] a = refl
 map_same p f g h (x ∷ xs) a = let two = and_parts (p x) (list_all p xs) a in λ i. h x two.0 i ∷ map_same p f g h xs two.1 i
 
-pub map-flat_map : {A B C : Type 0} (f : B → C) (g : A → List B) (xs : List A) → map f (flat_map g xs) ≡ flat_map (λ x. map f (g x)) xs
-map-flat_map f g [] = refl
-map-flat_map f g (x ∷ xs) = map-append f (g x) (flat_map g xs) ∙ ap (λ ys. map f (g x) ++ ys) (map-flat_map f g xs)
-
 pub flat_map_same : {A B : Type 0} (p : A → Bool) (f g : A → List B) → ((x : A) → p x ≡ true → f x ≡ g x) → (xs : List A) → list_all p xs ≡ true → flat_map f xs ≡ flat_map g xs
 flat_map_same p f g h [] a = refl
 flat_map_same p f g h (x ∷ xs) a = let two = and_parts (p x) (list_all p xs) a in λ i. h x two.0 i ++ flat_map_same p f g h xs two.1 i
@@ -37,6 +28,6 @@ flat_map_same p f g h (x ∷ xs) a = let two = and_parts (p x) (list_all p xs) a
 -- a name among short ones is short
 pub short_at : (f : Name → Name) (names : List Name) (k : ℕ) (d n : Name) → k < length names → are_short (map f names) ≡ true → d ≡ get_or names k d → n ≡ d → length (f n) ≤ NAME_LIMIT
 short_at f names k d n l h e g =
-    let t = all_at (λ (name : Name). nat_le (length name) NAME_LIMIT) (map f names) k (f d) (omega (arith, length-map names f)) h in
+    let t = list_all-at (λ (name : Name). nat_le (length name) NAME_LIMIT) (map f names) k (f d) h (omega (arith, length-map names f)) in
     let there : get_or (map f names) k (f d) ≡ f n = get_or-map f names k d (f d) l ∙ ap f (sym e ∙ sym g) in
     leb-true (length (f n)) NAME_LIMIT (ap (λ (name : Name). nat_le (length name) NAME_LIMIT) (sym there) ∙ t)

@@ -23,6 +23,7 @@ use Rattle.minimiser.proofs.Whole.{AddHeld, least_is, state_of, assignment_of}
 use Rattle.minimiser.proofs.Passes.{value_small, length-least_costs, kids_below, literal_at}
 use Rattle.minimiser.proofs.Derivations.{cheapest-kid, Useful, useful-root, useful-and, useful-or, useful-literal, on-root, descend, costs-at, below, all-below}
 use Rattle.minimiser.proofs.Models.{LeastIs, same_or_not}
+use Rattle.std.proofs.Math.Bool.{or-true}
 
 pub some-least : (o : Option ℕ) → IsSome o → (m : ℕ) × (o ≡ Some m)
 some-least None h = absurd (cc)
@@ -65,10 +66,7 @@ kid-out (k ∷ kids) j e = by_test (kid-out kids j) (eqb k j) refl e where
 kid-in : (kids : List ℕ) (j : ℕ) → In j kids → is_kid kids j ≡ true
 kid-in [] j m = absurd m
 kid-in (k ∷ kids) j (inl q) = ap (λ b. b || is_kid kids j) (eq-eqb k j (sym q))
-kid-in (k ∷ kids) j (inr r) = ap (λ b. eqb k j || b) (kid-in kids j r) ∙ or_true (eqb k j) where
-  or_true : (b : Bool) → (b || true) ≡ true
-  or_true true = refl
-  or_true false = refl
+kid-in (k ∷ kids) j (inr r) = ap (λ b. eqb k j || b) (kid-in kids j r) ∙ or-true (eqb k j)
 
 -- a value that spreads from a marked node: it stays, or it was low and is marked
 data Spread (kids : List ℕ) (cost j v : ℕ) : ℕ → Type 0 where

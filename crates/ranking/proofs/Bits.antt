@@ -1,10 +1,11 @@
 -- Bits and lists of bits.
-use Rattle.std.proofs.Common.{◌≡◌, ℕ, suc, Bool, true, false, ◌&&◌, ◌||◌, List, [], ◌∷◌, map, refl, sym, ◌∙◌}
+use Rattle.std.proofs.Common.{◌≡◌, ℕ, suc, ◌+◌, ◌*◌, ◌/◌, ◌^◌, Bool, true, false, ◌&&◌, ◌||◌, List, [], ◌∷◌, ◌++◌, map, length, refl, sym, ◌∙◌, arith}
 use Rattle.std.specs.List.{list_any}
 use Rattle.std.specs.Cmp.Lexicographic.{pointwise}
 use Rattle.std.proofs.lemmas.Bool.{false≢true, and_parts, and_from}
 use Rattle.std.proofs.lemmas.List.Folds.{list_any-append}
-use Rattle.ranking.specs.Bits.{same_bit, lists_of_bits}
+use Rattle.std.proofs.lemmas.Grind.{pow_more}
+use Rattle.ranking.specs.Bits.{same_bit, number_of_bit, row_number, lists_of_bits}
 use Rattle.ranking.proofs.Lists.{list_any-map}
 
 -- ---- one bit
@@ -43,6 +44,16 @@ pointwise-equal (b ∷ bits) [] e = absurd (false≢true e)
 pointwise-equal (b ∷ bits) (c ∷ others) e =
     let parts = and_parts (same_bit b c) (pointwise same_bit bits others) e in
     λ i. same_bit-equal b c parts.0 i ∷ pointwise-equal bits others parts.1 i
+
+-- ---- a list of bits as a number
+
+pub row_number-half : (b : Bool) (n : ℕ) → (number_of_bit b + 2 * n) / 2 ≡ n
+row_number-half true n = omega arith
+row_number-half false n = omega arith
+
+pub row_number-push : (bits : List Bool) (b : Bool) → row_number (bits ++ b ∷ []) ≡ row_number bits + number_of_bit b * 2 ^ length bits
+row_number-push [] b = omega arith
+row_number-push (c ∷ bits) b = grind (arith, row_number-push bits b, pow_more 2 (length bits))
 
 -- ---- all lists of so many bits
 

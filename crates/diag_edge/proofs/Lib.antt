@@ -1,3 +1,4 @@
 pub mod Added
 pub mod Growing
 pub mod Holding
+pub mod ErrorLines

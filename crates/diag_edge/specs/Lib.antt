@@ -2,3 +2,4 @@ pub mod Edge
 pub mod InMemory
 pub mod Adding
 pub mod Sure
+pub mod ErrorLines

@@ -1,7 +1,8 @@
 //! What a program meets outside: a source of bytes, a shelf of named files, and a sink.
 //!
 //! The traits are `Source`, `Shelf` and `Sink`. `load` reads a whole file from a shelf, and
-//! `put_line` writes a line of words; longer texts are gathered in a `Chunk`. `MemSource`,
+//! `put_line` writes a line of words; longer texts are gathered in a `Chunk`. `put_fault` and
+//! `put_above` write the lines that tell why a file is refused. `MemSource`,
 //! `MemShelf` and `MemSink` are ends in memory, whose bytes and failures the caller chooses; the
 //! calls of `SureSource`, `SureShelf` and `TallySink` never fail.
 //!
@@ -11,6 +12,7 @@
 mod calls;
 mod chunk;
 mod copying;
+mod error_lines;
 mod loading;
 mod mem_shelf;
 mod mem_sink;
@@ -21,6 +23,7 @@ mod sure;
 mod tests;
 
 pub use chunk::{Chunk, put_line};
+pub use error_lines::{put_above, put_fault};
 pub use loading::{LoadError, load};
 pub use mem_shelf::MemShelf;
 pub use mem_sink::MemSink;

@@ -36,10 +36,10 @@ without-map : (f g test : Clause → Bool) → ((c : Clause) → f c ≡ (g c &&
 without-map f g test h [] = refl
 without-map f g test h (c ∷ cs) = λ i. h c i ∷ without-map f g test h cs i
 
--- With one more bit, what is left is what was left without the clauses that the next variable makes true.
-pub left-more : (clauses : List Clause) (bits : List Bool) (bit : Bool) → length bits < length (order clauses)
+-- What is left under one further bit is what was left, without the clauses in which the next variable's literal is true.
+pub left-next : (clauses : List Clause) (bits : List Bool) (bit : Bool) → length bits < length (order clauses)
     → left clauses (bits ++ bit ∷ []) ≡ branch clauses (length bits) (left clauses bits) bit
-left-more clauses bits bit h = without-map _ (is_left (order clauses) bits) (has_true (get_or (order clauses) (length bits) 0) bit) (λ c. is_left-more (order clauses) bits bit c h) clauses
+left-next clauses bits bit h = without-map _ (is_left (order clauses) bits) (has_true (get_or (order clauses) (length bits) 0) bit) (λ c. is_left-more (order clauses) bits bit c h) clauses
 
 pub order-once : (clauses : List Clause) → AllOnce (order clauses)
 order-once clauses = first_met-once _
@@ -58,8 +58,8 @@ some-stays p q test h (c ∷ cs) (b ∷ list) e = elim (or_cases (b && p c) (som
 ]
 
 -- What a bit leaves of a dead list is dead.
-pub dead-stays : (clauses : List Clause) (i : ℕ) (list : List Bool) (bit : Bool) → i < length (order clauses) → is_dead clauses i list ≡ true → is_dead clauses (i + 1) (branch clauses i list bit) ≡ true
-dead-stays clauses i list bit h e = some-stays (is_covered (order clauses) i) (is_covered (order clauses) (i + 1)) (has_true (get_or (order clauses) i 0) bit)
+pub dead-next : (clauses : List Clause) (i : ℕ) (list : List Bool) (bit : Bool) → i < length (order clauses) → is_dead clauses i list ≡ true → is_dead clauses (i + 1) (branch clauses i list bit) ≡ true
+dead-next clauses i list bit h e = some-stays (is_covered (order clauses) i) (is_covered (order clauses) (i + 1)) (has_true (get_or (order clauses) i 0) bit)
     (λ c covered. (covered-without (order clauses) i bit c (order-once clauses) h covered, covered-more (order clauses) i c covered)) clauses list e
 
 -- ---- the living lists of the next level
@@ -74,7 +74,7 @@ left-lists clauses i h = ap (map (left clauses)) (lists_of_bits-more i) ∙ map-
     ∙ flat_map_same (λ bits. length bits ≡ i) (λ bits. map (left clauses) (longer bits)) (λ bits. both clauses i (left clauses bits)) next (lists_of_bits i) (each-long i)
     ∙ sym (flat_map-map (both clauses i) (left clauses) (lists_of_bits i)) where
       one : (bits : List Bool) (bit : Bool) → length bits ≡ i → left clauses (bits ++ bit ∷ []) ≡ branch clauses i (left clauses bits) bit
-      one bits bit e = left-more clauses bits bit (omega arith) ∙ ap (λ n. branch clauses n (left clauses bits) bit) e
+      one bits bit e = left-next clauses bits bit (omega arith) ∙ ap (λ n. branch clauses n (left clauses bits) bit) e
 
       next : (bits : List Bool) → length bits ≡ i → map (left clauses) (longer bits) ≡ both clauses i (left clauses bits)
       next bits e = λ j. one bits false e j ∷ one bits true e j ∷ []
@@ -86,8 +86,8 @@ abbrev is_alive : List Clause → ℕ → List Bool → Bool
 is_alive clauses i list = not (is_dead clauses i list)
 
 -- The living lists of the next level are the different living lists that one further bit leaves of those of this one.
-pub living-next : (clauses : List Clause) (i : ℕ) → i < length (order clauses) → living clauses (i + 1) ≡ different (flat_map (branches clauses i) (living clauses i))
-living-next clauses i h =
+pub living_lists-next : (clauses : List Clause) (i : ℕ) → i < length (order clauses) → living clauses (i + 1) ≡ different (flat_map (branches clauses i) (living clauses i))
+living_lists-next clauses i h =
     let lists = map (left clauses) (lists_of_bits i) in
     ap (λ n. different (filter (is_alive clauses (i + 1)) (map (left clauses) (lists_of_bits n)))) (add-one i)
     ∙ ap (λ ls. different (filter (is_alive clauses (i + 1)) ls)) (left-lists clauses i h)
@@ -95,7 +95,7 @@ living-next clauses i h =
     ∙ sym (flat_map-filter (is_alive clauses i) (branches clauses i) dead lists))
     ∙ sym (different-flat_map (branches clauses i) (filter (is_alive clauses i) lists)) where
       gone : (list : List Bool) (bit : Bool) → is_dead clauses i list ≡ true → is_alive clauses (i + 1) (branch clauses i list bit) ≡ false
-      gone list bit e = not_from_true (is_dead clauses (i + 1) (branch clauses i list bit)) (dead-stays clauses i list bit h e)
+      gone list bit e = not_from_true (is_dead clauses (i + 1) (branch clauses i list bit)) (dead-next clauses i list bit h e)
 
       dead : (list : List Bool) → is_alive clauses i list ≡ false → branches clauses i list ≡ []
       dead list e =
@@ -108,8 +108,9 @@ pub record WasLeft (clauses : List Clause) (i : ℕ) (list : List Bool) : Type 0
   pub many : length bits ≡ i
   pub left : list ≡ left clauses bits
 
-pub each-living : (clauses : List Clause) (i : ℕ) → AllByRecursion (IsLiving clauses i) (living clauses i)
-each-living clauses i = each-different (IsLiving clauses i) (filter (is_alive clauses i) lists)
+-- What is among the living lists of a level is a living list of it.
+pub living_are_living : (clauses : List Clause) (i : ℕ) → AllByRecursion (IsLiving clauses i) (living clauses i)
+living_are_living clauses i = each-different (IsLiving clauses i) (filter (is_alive clauses i) lists)
     (each-filter (WasLeft clauses i) (IsLiving clauses i) (is_alive clauses i)
     (λ list was e. record { bits = was.bits; many = was.many; left = was.left; alive = not-true (is_dead clauses i list) e })
     lists (each-map (λ bits. length bits ≡ i) (WasLeft clauses i) (left clauses) (λ bits e. record { bits = bits; many = e; left = refl }) (lists_of_bits i) (each-long i))) where
@@ -192,8 +193,8 @@ pub length-state_bits : (clauses : List Clause) (i : ℕ) (list : List Bool) →
 length-state_bits clauses i list h = length-bits_of (is_open (order clauses) i) clauses list (length-known (order clauses) i clauses list (known clauses i list h))
 
 -- Two living lists of a level with the same state are equal.
-pub same-state : (clauses : List Clause) (i : ℕ) (ks ls : List Bool) → IsLiving clauses i ks → IsLiving clauses i ls → state_of clauses i ks ≡ state_of clauses i ls → ks ≡ ls
-same-state clauses i ks ls h k e =
+pub equal_states-equal_lists : (clauses : List Clause) (i : ℕ) (ks ls : List Bool) → IsLiving clauses i ks → IsLiving clauses i ls → state_of clauses i ks ≡ state_of clauses i ls → ks ≡ ls
+equal_states-equal_lists clauses i ks ls h k e =
     let a = length-state_bits clauses i ks h in
     let b = length-state_bits clauses i ls k in
     same-known (order clauses) i clauses ks ls (known clauses i ks h) (known clauses i ls k)

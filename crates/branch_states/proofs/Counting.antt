@@ -16,7 +16,7 @@ use Rattle.clause_encoder.specs.Clauses.{Clause, ClauseList, var_of, is_clause, 
 use Rattle.branch_states.specs.Branches.{order, place, left, is_touched, is_covered, is_open, some_passes, is_dead, same_list, different, living, size, bits_of, words_of, state_of, weight, sum_of, branch, branches, IsLiving}
 use Rattle.branch_states.specs.inner.Steps.{with_state, followed, AreFound, AreStates}
 use Rattle.branch_states.proofs.Lists.{each-different, is_among, different-append}
-use Rattle.branch_states.proofs.Branching.{left-more, living-next, each-living, same-state}
+use Rattle.branch_states.proofs.Branching.{left-next, living_lists-next, living_are_living, equal_states-equal_lists}
 use Rattle.branch_states.proofs.Ordering.{clauses-valid}
 
 -- a state as a set keeps it
@@ -61,7 +61,7 @@ among-different (a ∷ ls) x = by_test (same_list a x) refl (among-different ls 
 same-test : (clauses : List Clause) (i : ℕ) (x d : List Bool) → IsLiving clauses i x → IsLiving clauses i d → bytes_eq (state_of clauses i x) (state_of clauses i d) ≡ same_list d x
 same-test clauses i x d h k = elim (cases_Bool (bytes_eq (state_of clauses i x) (state_of clauses i d))) [
   | inl same ↦
-      let e : x ≡ d = same-state clauses i x d h k ((bytes_eq-Decides (state_of clauses i x) (state_of clauses i d)).0 same) in
+      let e : x ≡ d = equal_states-equal_lists clauses i x d h k ((bytes_eq-Decides (state_of clauses i x) (state_of clauses i d)).0 same) in
       same ∙ sym (ap (λ l. same_list l x) (sym e) ∙ pointwise-refl x)
   | inr other ↦
       other ∙ sym (false_from_ne_true (same_list d x) (λ e.
@@ -98,7 +98,7 @@ pub next-living : (clauses : List Clause) (i : ℕ) (list : List Bool) (bit : Bo
 next-living clauses i list bit h low alive = record {
   bits = h.bits ++ bit ∷ [];
   many = length-append h.bits (bit ∷ []) ∙ ap (λ n. n + 1) h.many;
-  left = (λ j. branch clauses (sym h.many j) (h.left j) bit) ∙ sym (left-more clauses h.bits bit (omega (arith, h.many)));
+  left = (λ j. branch clauses (sym h.many j) (h.left j) bit) ∙ sym (left-next clauses h.bits bit (omega (arith, h.many)));
   alive = alive;
 }
 
@@ -141,7 +141,7 @@ reached-more clauses i k h =
     ∙ ap (flat_map (branches clauses i)) (sym (take_more (living clauses i) k [] h))
 
 pub reached-all : (clauses : List Clause) (i k : ℕ) → i < length (order clauses) → length (living clauses i) ≤ k → different (reached clauses i k) ≡ living clauses (i + 1)
-reached-all clauses i k low h = ap (λ ls. different (flat_map (branches clauses i) ls)) (take_all k (living clauses i) h) ∙ sym (living-next clauses i low)
+reached-all clauses i k low h = ap (λ ls. different (flat_map (branches clauses i) ls)) (take_all k (living clauses i) h) ∙ sym (living_lists-next clauses i low)
 
 fewer : (ks ls : List (List Bool)) → length (different ks) ≤ length (different (ks ++ ls))
 fewer ks ls = omega (arith, length-append (different ks) (filter (λ list. not (is_among ks list)) (different ls)), ap length (different-append ks ls))
@@ -152,7 +152,7 @@ reached-fewer clauses i k low =
     let parts = flat_map-append (branches clauses i) (take k (living clauses i)) (drop k (living clauses i)) in
     let all : flat_map (branches clauses i) (living clauses i) ≡ reached clauses i k ++ flat_map (branches clauses i) (drop k (living clauses i)) =
     ap (flat_map (branches clauses i)) (sym (take-append-drop k (living clauses i))) ∙ parts in
-    omega (arith, fewer (reached clauses i k) (flat_map (branches clauses i) (drop k (living clauses i))), ap (λ ls. length (different ls)) all, ap length (living-next clauses i low))
+    omega (arith, fewer (reached clauses i k) (flat_map (branches clauses i) (drop k (living clauses i))), ap (λ ls. length (different ls)) all, ap length (living_lists-next clauses i low))
 
 pub length-found : (clauses : List Clause) (i : ℕ) (states : List (List ℕ)) (ls : List (List Bool)) → AreFound clauses i states ls → length states ≡ length (different ls)
 length-found clauses i states ls f = ap length f.counted ∙ length-map (different ls) (state_of clauses i)
@@ -164,7 +164,7 @@ each-at P (x ∷ xs) zero d h l = h.0
 each-at P (x ∷ xs) (suc k) d h l = each-at P xs k d h.1 (omega arith)
 
 pub living-at : (clauses : List Clause) (i k : ℕ) → k < length (living clauses i) → IsLiving clauses i (get_or (living clauses i) k [])
-living-at clauses i k h = each-at (IsLiving clauses i) (living clauses i) k [] (each-living clauses i) h
+living-at clauses i k h = each-at (IsLiving clauses i) (living clauses i) k [] (living_are_living clauses i) h
 
 pub length-words : (n : ℕ) (bits : List Bool) → length (words_of n bits) ≡ n
 length-words zero bits = refl

@@ -4,6 +4,8 @@ pub mod Branching
 pub mod WordBits
 pub mod Walking
 pub mod Ordering
+pub mod Filling
+pub mod Adding
 pub mod Spanning
 pub mod Turning
 pub mod Counting

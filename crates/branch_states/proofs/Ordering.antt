@@ -10,6 +10,7 @@ use Rattle.std.proofs.lemmas.List.Sums.{sum_by-set}
 use Rattle.clause_encoder.specs.Clauses.{Clause, ClauseList, var_of, vars_rise, is_clause, is_clause_list}
 use Rattle.branch_states.specs.Branches.{first_met, same_variable, order, place}
 use Rattle.branch_states.specs.inner.Steps.{IsWithin, IsPlaced, IsIndex}
+use Rattle.ranking.proofs.Lists.{list_all-at}
 
 abbrev pub among : List ℕ → ℕ → Bool
 among vs v = list_any (same_variable v) vs
@@ -154,11 +155,6 @@ met-again old vs v there e = e ∙ sym (append-nil (first_met same_variable vs))
 
 -- ---- the literals of a clause list
 
-pub all-at : {X : Type 0} (p : X → Bool) (xs : List X) (k : ℕ) (d : X) → list_all p xs ≡ true → k < length xs → p (get_or xs k d) ≡ true
-all-at p [] k d e h = absurd (omega arith)
-all-at p (x ∷ xs) zero d e h = (and_parts (p x) (list_all p xs) e).0
-all-at p (x ∷ xs) (suc k) d e h = all-at p xs k d (and_parts (p x) (list_all p xs) e).1 (omega arith)
-
 pub any-at : {X : Type 0} (p : X → Bool) (xs : List X) (k : ℕ) (d : X) → p (get_or xs k d) ≡ true → k < length xs → list_any p xs ≡ true
 any-at p [] k d e h = absurd (omega arith)
 any-at p (x ∷ xs) zero d e h = or_left (p x) (list_any p xs) e
@@ -198,7 +194,7 @@ within-clause vars (k ∷ c) j l e h =
     let parts = and_parts (vars_rise 0 (k ∷ c)) (list_all (λ k. nat_le (var_of k) vars) (k ∷ c)) e in
     record {
       above = omega (arith, rise-above 0 (k ∷ c) j l parts.0 h);
-      below = leb-true (var_of (get_or (k ∷ c) j l)) vars (all-at (λ k. nat_le (var_of k) vars) (k ∷ c) j l parts.1 h);
+      below = leb-true (var_of (get_or (k ∷ c) j l)) vars (list_all-at (λ k. nat_le (var_of k) vars) (k ∷ c) j l parts.1 h);
     }
 
 pub clauses-valid : (cnf : ClauseList) → is_clause_list cnf ≡ true → (cnf.vars < 2 ^ 29) × (length cnf.clauses ≤ 262144) × (list_all (is_clause cnf.vars) cnf.clauses ≡ true)
@@ -208,7 +204,7 @@ clauses-valid cnf e =
     (ltb-true cnf.vars (2 ^ 29) bounds.0, leb-true (length cnf.clauses) 262144 bounds.1, parts.1)
 
 pub within : (cnf : ClauseList) (k : ℕ) (d : Clause) → is_clause_list cnf ≡ true → k < length cnf.clauses → (j : ℕ) (l : ℤ) → j < length (get_or cnf.clauses k d) → IsWithin cnf.vars (get_or (get_or cnf.clauses k d) j l)
-within cnf k d e h j l i = within-clause cnf.vars (get_or cnf.clauses k d) j l (all-at (is_clause cnf.vars) cnf.clauses k d (clauses-valid cnf e).2 h) i
+within cnf k d e h j l i = within-clause cnf.vars (get_or cnf.clauses k d) j l (list_all-at (is_clause cnf.vars) cnf.clauses k d (clauses-valid cnf e).2 h) i
 
 pub placed : (cnf : ClauseList) (places : List ℕ) → is_clause_list cnf ≡ true → length places ≡ cnf.vars → IsIndex (order cnf.clauses) places
     → (k : ℕ) (d : Clause) → k < length cnf.clauses → (j : ℕ) (l : ℤ) → j < length (get_or cnf.clauses k d) → IsPlaced (order cnf.clauses) places (get_or (get_or cnf.clauses k d) j l)

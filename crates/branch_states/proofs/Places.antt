@@ -1,8 +1,8 @@
 -- The order of the variables, and which of them have bits at a level.
-use Rattle.std.proofs.Common.{◌≡◌, ℕ, zero, suc, ◌+◌, ◌<◌, Bool, true, false, not, cond, List, [], ◌∷◌, length, get_or, refl, ap, sym, ◌∙◌, arith, add-one}
-use Rattle.std.specs.Prelude.{◌==◌, nat_lt, if◌then◌else◌}
+use Rattle.std.proofs.Common.{◌≡◌, ℕ, zero, suc, ◌+◌, ◌<◌, Bool, true, false, not, cond, List, [], ◌∷◌, length, get_or, refl, ap, sym, ◌∙◌, arith}
+use Rattle.std.specs.Prelude.{◌==◌, nat_lt}
 use Rattle.std.specs.List.{list_any, filter}
-use Rattle.std.proofs.lemmas.Bool.{and_parts, or_parts, or_from, and_from, and_left, not_from_false, ltb-true, ltb-false, lt-ltb, le-ltb, eq-eqb, ne_eqb, eqb-false, cond-true, cond-false}
+use Rattle.std.proofs.lemmas.Bool.{and_parts, or_parts, or_from, and_from, and_left, not_from_false, ltb-true, ltb-false, lt-ltb, le-ltb, eq-eqb, ne_eqb, eqb-false}
 use Rattle.ranking.specs.Bits.{same_bit}
 use Rattle.clause_encoder.specs.Clauses.{Clause, var_of, is_positive}
 use Rattle.branch_states.specs.inner.Steps.{AllOnce}

@@ -1,14 +1,14 @@
 -- Where clauses begin and end, and what a walk over them has.
-use Rattle.std.proofs.Common.{◌≡◌, ℕ, ◌+◌, ◌-◌, ◌<◌, ◌≤◌, ◌^◌, ◌⊎◌, inl, inr, min, max, true, false, not, ◌&&◌, ◌||◌, List, [], ◌∷◌, ◌++◌, map, length, take, drop, get_or, set, replicate, ◌≢◌, subst, ℤ, pos, negsuc, refl, ap, sym, ◌∙◌, arith, add-one, All}
+use Rattle.std.proofs.Common.{◌≡◌, ℕ, ◌+◌, ◌-◌, ◌<◌, ◌≤◌, ◌^◌, inl, inr, min, max, true, false, not, ◌&&◌, ◌||◌, List, [], ◌∷◌, ◌++◌, map, length, take, drop, get_or, replicate, subst, ℤ, pos, negsuc, refl, ap, sym, ◌∙◌, arith, add-one, All}
 use lib.IntN.{nat_abs}
 use Rattle.std.specs.Prelude.{nat_lt, nat_le}
 use Rattle.std.specs.List.{filter}
-use Rattle.std.proofs.lemmas.Bool.{le-ltb, lt-ltb, le-leb, lt-leb, cases_lt, cases_eq}
-use Rattle.std.proofs.lemmas.List.{map-append, drop_more, take_more, take_all, length-take, length-replicate, get_or-replicate, get_or-set_same, get_or-set_other}
+use Rattle.std.proofs.lemmas.Bool.{le-ltb, lt-ltb, le-leb, lt-leb, cases_lt}
+use Rattle.std.proofs.lemmas.List.{map-append, drop_more, take_more, take_all, length-take, length-replicate, get_or-replicate}
 use Rattle.std.proofs.lemmas.List.Elements.{All-head, All-tail, filter-append}
 use Rattle.clause_encoder.specs.Clauses.{Clause, var_of}
 use Rattle.branch_states.specs.Branches.{place, has_true, is_touched, is_covered}
-use Rattle.branch_states.specs.inner.Steps.{IsPlaced, first_place, end_place, first_by, end_by, span_of, is_walked, entry_of, walk_of, plain, AreWalks}
+use Rattle.branch_states.specs.inner.Steps.{IsPlaced, first_place, end_place, first_by, end_by, span_of, is_walked, entry_of, walk_of, AreWalks}
 use Rattle.branch_states.specs.declared.walk.Span.{Span}
 use Rattle.branch_states.specs.declared.walk.Entry.{Entry}
 use Rattle.branch_states.proofs.Walking.{walk-few}
@@ -78,28 +78,6 @@ walk-append vs cs ds i = ap (map (entry_of vs i)) (filter-append (is_walked vs i
 
 pub walk-more : (vs : List ℕ) (cs : List Clause) (k i : ℕ) (d : Clause) → k < length cs → walk_of vs (take (k + 1) cs) i ≡ walk_of vs (take k cs) i ++ walk_of vs (get_or cs k d ∷ []) i
 walk-more vs cs k i d h = ap (λ ds. walk_of vs ds i) (take_more cs k d h) ∙ walk-append vs (take k cs) (get_or cs k d ∷ []) i
-
--- ---- a clause is kept level by level
-
--- where it was added below a level, and all others as before
-pub record IsKeeping (span : Span) (level : ℕ) (before after : List (List Entry)) : Type 0 where
-  pub near : level ≤ max span.first span.end
-  pub done : (i : ℕ) → span.first ≤ i → i < level → get_or after i [] ≡ get_or before i [] ++ plain ∷ []
-  pub same : (i : ℕ) → (i < span.first) ⊎ (level ≤ i) → get_or after i [] ≡ get_or before i []
-
-pub keeping-more : (span : Span) (k : ℕ) (before after : List (List Entry)) (walk : List Entry) → span.first ≤ k → k < span.end → k < length after → IsKeeping span k before after
-    → walk ≡ get_or after k [] ++ plain ∷ [] → IsKeeping span (k + 1) before (set after k walk)
-keeping-more span k before after walk first end low a w = record {
-  near = omega arith;
-  done = λ i h lower. elim (cases_eq i k) [
-    | inl here ↦ subst (λ j. get_or (set after k walk) j [] ≡ get_or before j [] ++ plain ∷ []) (sym here)
-        (get_or-set_same after k walk [] low ∙ w ∙ ap (λ es. es ++ plain ∷ []) (a.same k (inr (omega arith))))
-    | inr other ↦ get_or-set_other after k i walk [] other ∙ a.done i h (omega (arith, other))
-  ];
-  same = λ i out.
-      let other : i ≢ k = elim out [ inl far ↦ omega arith | inr high ↦ omega arith ] in
-      get_or-set_other after k i walk [] other ∙ a.same i (elim out [ inl far ↦ inl far | inr high ↦ inr (omega arith) ]);
-}
 
 pub entry-told : (vs : List ℕ) (i v : ℕ) (c : Clause) (span : Span) → i < 2 ^ 29 → v ≡ get_or vs i 0 → span ≡ span_of vs c
     → record { is_new = nat_le i span.first; ends = nat_le span.end (i + 1); true_at_0 = has_true v false c; true_at_1 = has_true v true c } ≡ entry_of vs i c

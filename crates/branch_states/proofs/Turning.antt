@@ -1,5 +1,5 @@
 -- A clause is added to all walks as one that stays as it is, and then what happens to it is told at each of its variables.
-use Rattle.std.proofs.Common.{◌≡◌, ◌≢◌, ℕ, suc, ◌+◌, ◌-◌, ◌<◌, ◌≤◌, ◌^◌, ◌⊎◌, inl, inr, Bool, true, false, not, ◌&&◌, ◌||◌, cond, List, [], ◌∷◌, ◌++◌, map, length, take, get_or, set, All, ℤ, refl, ap, sym, ◌∙◌, subst, arith}
+use Rattle.std.proofs.Common.{◌≡◌, ◌≢◌, ℕ, suc, ◌+◌, ◌<◌, ◌≤◌, ◌^◌, ◌⊎◌, inl, inr, Bool, true, false, not, ◌&&◌, ◌||◌, cond, List, [], ◌∷◌, ◌++◌, map, length, take, get_or, set, All, ℤ, refl, ap, sym, ◌∙◌, subst, arith}
 use mir.Val.{bool_byte}
 use Rattle.std.specs.Prelude.{◌==◌, nat_lt, nat_le}
 use Rattle.std.specs.List.{list_any}
@@ -16,9 +16,10 @@ use Rattle.branch_states.specs.declared.walk.Entry.{Entry}
 use Rattle.branch_states.specs.declared.walk.Event.{Event}
 use Rattle.branch_states.specs.declared.walk.Span.{Span}
 use Rattle.branch_states.proofs.Places.{place-at}
-use Rattle.branch_states.proofs.Ordering.{any-at, all-at, one_more}
+use Rattle.branch_states.proofs.Ordering.{any-at, one_more}
 use Rattle.branch_states.proofs.Spanning.{walked-span}
 use Rattle.branch_states.proofs.Walking.{true_at-entry, spread-event}
+use Rattle.ranking.proofs.Lists.{list_all-at}
 
 -- ---- places
 
@@ -84,7 +85,7 @@ pub walked-place : (vs : List ℕ) (c : Clause) (k : ℕ) (l : ℤ) → k < leng
 walked-place vs c k l h =
     let p : ℕ = place vs (var_of (get_or c k l)) in
     and_from (is_touched vs (p + 1) c) (not (is_covered vs p c)) (any-at (λ m. nat_lt (place vs (var_of m)) (p + 1)) c k l (lt-ltb p (p + 1) (omega arith)) h)
-    (ap not (false_from_ne_true (is_covered vs p c) (λ e. false≢true (sym (le-ltb p p (omega arith)) ∙ all-at (λ m. nat_lt (place vs (var_of m)) p) c k l e h))))
+    (ap not (false_from_ne_true (is_covered vs p c) (λ e. false≢true (sym (le-ltb p p (omega arith)) ∙ list_all-at (λ m. nat_lt (place vs (var_of m)) p) c k l e h))))
 
 plain-false : (b : Bool) → true_at plain b ≡ false
 plain-false true = refl
@@ -103,12 +104,12 @@ changes vs c k l h low e =
 
 pub turning-first : (vs : List ℕ) (c : Clause) (span : Span) (before after : List (List Entry)) → length before ≡ length vs + 1 → length vs < 2 ^ 29 → span ≡ span_of vs c
     → ((i : ℕ) → span.first ≤ i → i < span.end → get_or after i [] ≡ get_or before i [] ++ plain ∷ [])
-    → ((i : ℕ) → (i < span.first) ⊎ (span.end ≤ i) → get_or after i [] ≡ get_or before i []) → AreTurning vs c 0 before after
+    → ((i : ℕ) → i < length before → (i < span.first) ⊎ (span.end ≤ i) → get_or after i [] ≡ get_or before i []) → AreTurning vs c 0 before after
 turning-first vs c span before after long few s in' out i h = elim (cases_lt i span.first) [
-  | inl far ↦ record { apart = λ _. out i (inl far); within = λ w. absurd (false≢true (sym (not_walked i (omega arith) (inl far)) ∙ w)) }
+  | inl far ↦ record { apart = λ _. out i h (inl far); within = λ w. absurd (false≢true (sym (not_walked i (omega arith) (inl far)) ∙ w)) }
   | inr begun ↦ elim (cases_lt i span.end) [
     | inl low ↦ record { apart = λ w. absurd (false≢true (sym w ∙ walked i (omega arith) begun low)); within = λ _. (plain, (in' i begun low, inl (refl, refl))) }
-    | inr over ↦ record { apart = λ _. out i (inr over); within = λ w. absurd (false≢true (sym (not_walked i (omega arith) (inr over)) ∙ w)) }
+    | inr over ↦ record { apart = λ _. out i h (inr over); within = λ w. absurd (false≢true (sym (not_walked i (omega arith) (inr over)) ∙ w)) }
   ]
 ] where
   walked : (i : ℕ) → i < 2 ^ 29 → span.first ≤ i → i < span.end → is_walked vs i c ≡ true
@@ -126,44 +127,49 @@ any-push : {X : Type 0} (p : X → Bool) (xs : List X) (x : X) → list_any p xs
 any-push p [] x e f = or_from (p x) false f refl
 any-push p (y ∷ xs) x e f = let parts = or_parts (p y) (list_any p xs) e in or_from (p y) (list_any p (xs ++ x ∷ [])) parts.0 (any-push p xs x parts.1 f)
 
-pub turning-more : (vs : List ℕ) (c : Clause) (k : ℕ) (l : ℤ) (before after : List (List Entry)) (entry : Entry) (walk : List Entry)
+pub turning-more : (vs : List ℕ) (c : Clause) (k : ℕ) (l : ℤ) (before after more : List (List Entry)) (entry : Entry)
     → k < length c → place vs (var_of (get_or c k l)) < length after → length before ≡ length after → entry ≡ entry_of vs (place vs (var_of (get_or c k l))) c → AreTurning vs c k before after
-    → ((front : List Entry) (last : Entry) → get_or after (place vs (var_of (get_or c k l))) [] ≡ front ++ last ∷ [] → (last ≡ plain) ⊎ (last ≡ entry) → walk ≡ front ++ entry ∷ [])
-    → AreTurning vs c (k + 1) before (set after (place vs (var_of (get_or c k l))) walk)
-turning-more vs c k l before after entry walk h low same e a turned i within = elim (cases_eq i p) [
-  | inl here ↦ subst (λ n. IsTurning vs c (k + 1) n (get_or before n []) (get_or (set after p walk) n [])) (sym here) at_place
-  | inr other ↦ record {
-    apart = λ w. get_or-set_other after p i walk [] other ∙ (a i within).apart w;
-    within = λ w. (
-      ((a i within).within w).0,
-      (
-        get_or-set_other after p i walk [] other ∙ ((a i within).within w).1.0,
-        elim ((a i within).within w).1.1 [
-          | inl still ↦ inl (still.0, ap (has_place vs i) (take_more c k l h) ∙ any-push (λ m. place vs (var_of m) == i) (take k c) (get_or c k l) still.1 (ne_eqb p i (λ d. other (sym d))))
-          | inr told ↦ inr told
-        ],
-      ),
-    );
-  }
-] where
+    → ((front : List Entry) (last : Entry) → get_or after (place vs (var_of (get_or c k l))) [] ≡ front ++ last ∷ [] → (last ≡ plain) ⊎ (last ≡ entry)
+    → more ≡ set after (place vs (var_of (get_or c k l))) (front ++ entry ∷ []))
+    → AreTurning vs c (k + 1) before more
+turning-more vs c k l before after more entry h low same e a turned = subst (AreTurning vs c (k + 1) before) (sym here) each where
   p : ℕ
   p = place vs (var_of (get_or c k l))
+
+  walk : List Entry
+  walk = get_or before p [] ++ entry ∷ []
+
+  here : more ≡ set after p walk
+  here =
+      let t = (a p (omega arith)).within (walked-place vs c k l h) in
+      turned (get_or before p []) t.0 t.1.0 (elim t.1.1 [
+        | inl still ↦ inl still.0
+        | inr told ↦ inr (told ∙ sym e)
+      ])
 
   at_place : IsTurning vs c (k + 1) p (get_or before p []) (get_or (set after p walk) p [])
   at_place = record {
     apart = λ w. absurd (false≢true (sym w ∙ walked-place vs c k l h));
-    within = λ w.
-        let t = (a p (omega arith)).within w in (
-          entry_of vs p c,
-          (
-            get_or-set_same after p walk [] low ∙ turned (get_or before p []) t.0 t.1.0 (elim t.1.1 [
-              | inl still ↦ inl still.0
-              | inr told ↦ inr (told ∙ sym e)
-            ]) ∙ ap (λ x. get_or before p [] ++ x ∷ []) e,
-            inr refl,
-          ),
-        );
+    within = λ _. (entry_of vs p c, (get_or-set_same after p walk [] low ∙ ap (λ x. get_or before p [] ++ x ∷ []) e, inr refl));
   }
+
+  each : AreTurning vs c (k + 1) before (set after p walk)
+  each i within = elim (cases_eq i p) [
+    | inl at ↦ subst (λ n. IsTurning vs c (k + 1) n (get_or before n []) (get_or (set after p walk) n [])) (sym at) at_place
+    | inr other ↦ record {
+      apart = λ w. get_or-set_other after p i walk [] other ∙ (a i within).apart w;
+      within = λ w. (
+        ((a i within).within w).0,
+        (
+          get_or-set_other after p i walk [] other ∙ ((a i within).within w).1.0,
+          elim ((a i within).within w).1.1 [
+            | inl still ↦ inl (still.0, ap (has_place vs i) (take_more c k l h) ∙ any-push (λ m. place vs (var_of m) == i) (take k c) (get_or c k l) still.1 (ne_eqb p i (λ d. other (sym d))))
+            | inr told ↦ inr told
+          ],
+        ),
+      );
+    }
+  ]
 
 pub turning-all : (vs places : List ℕ) (c : Clause) (before after : List (List Entry)) → AllOnce vs → All (IsPlaced vs places) c → AreTurning vs c (length c) before after
     → (i : ℕ) → i < length before → get_or after i [] ≡ get_or before i [] ++ walk_of vs (c ∷ []) i
@@ -192,6 +198,7 @@ last-changes (x ∷ xs) front h e =
     h (length xs) x (omega arith) (same_from_push (spread (take (length xs) (x ∷ xs)) (get_or (x ∷ xs) (length xs) x).run) front (get_or (x ∷ xs) (length xs) x).entry plain
     (sym (spread-event (take (length xs) (x ∷ xs)) (get_or (x ∷ xs) (length xs) x).run (get_or (x ∷ xs) (length xs) x).entry) ∙ ap (λ ys. spread ys 0) (sym all) ∙ e)).1
 
-pub less-new : (b : Bool) (n opened new : ℕ) → opened ≡ n + 1 → new ≡ bool_byte b → opened - new ≡ n + cond (not b) 1 0
-less-new true n opened new e f = omega (arith, e, f)
-less-new false n opened new e f = omega (arith, e, f)
+-- a clause is new or was open
+pub new_or_open : (b : Bool) → bool_byte b + cond (not b) 1 0 ≡ 1
+new_or_open true = refl
+new_or_open false = refl

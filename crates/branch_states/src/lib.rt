@@ -3,6 +3,8 @@
 
 mod bits;
 mod branches;
+mod counts;
+mod levels;
 mod measuring;
 mod order;
 mod spans;

@@ -3,7 +3,8 @@ ghost use Rattle.branch_states.specs.declared.walk.Entry.{Entry};
 ghost use Rattle.branch_states.specs.Branches.{has_true};
 ghost use Rattle.branch_states.specs.inner.Steps.{IsPlaced, IsLow, first_by, end_by, span_of, walk_of, plain, AllOnce, AreWalks, AreTurning};
 
-use crate::walk::{Entry, Span, Walk, has_true};
+use crate::levels::Levels;
+use crate::walk::{Entry, Span, has_true};
 use crate::walks::Walks;
 use clause_encoder::Cnf;
 use std::alloc::{AllocError, Global};
@@ -21,91 +22,69 @@ pub(crate) fn find_walks(
     requires placed { All (All (IsPlaced variables.now places.now)) cnf.now.clauses }
     ensures { IfOk result (λ walks. AreWalks variables.now cnf.now.clauses walks) }
 {
-    let mut walks = empty_walks(alloc, variables.len() + 1)?;
-    fill(walks.as_mut_slice(), cnf, variables, places)?;
-    Walks::of(alloc, walks.as_slice())
+    let mut levels = Levels::new(alloc, variables.len() + 1)?;
+    fill(&mut levels, cnf, variables, places)?;
+    Walks::of(alloc, &levels)
 }
 
-fn empty_walks(alloc: Global, count: usize) -> Result<Vec<Walk>, AllocError>
-    ensures { IfOk result (λ walks. walks.items ≡ replicate count []) }
-{
-    let mut walks = Vec::with_capacity(alloc, count)?;
-    for _at in 0..count {
-        walks.push(Walk::new(alloc))?;
-    }
-    Ok(walks)
-}
-
-// Adds all clauses to the empty walks of all levels.
-fn fill(walks: &mut [Walk], cnf: &Cnf, variables: &[u32], places: &[u32]) -> Result<(), AllocError>
+// Adds all clauses to the levels, to which none was added.
+fn fill(levels: &mut Levels, cnf: &Cnf, variables: &[u32], places: &[u32]) -> Result<(), AllocError>
     requires once { AllOnce variables.now }
-    requires empty { walks.old ≡ replicate (length variables.now + 1) [] }
+    requires empty { levels.old ≡ replicate (length variables.now + 1) [] }
     requires few { length variables.now < 2 ^ 29 }
     requires most { length cnf.now.clauses ≤ 262144 }
     requires placed { All (All (IsPlaced variables.now places.now)) cnf.now.clauses }
-    ensures { OnOk result (AreWalks variables.now cnf.now.clauses walks.new) }
+    ensures { OnOk result (AreWalks variables.now cnf.now.clauses levels.new) }
 {
     for at in 0..cnf.len() {
-        add_clause(walks, variables, places, cnf.clause(at))?;
+        add_clause(levels, variables, places, cnf.clause(at))?;
     }
     Ok(())
 }
 
 // Adds a clause to the walks of the levels where something may happen to it.
 fn add_clause(
-    walks: &mut [Walk],
+    levels: &mut Levels,
     variables: &[u32],
     places: &[u32],
     clause: &[i32],
 ) -> Result<(), AllocError>
-    requires long { length walks.old ≡ length variables.now + 1 }
-    requires short { (i : ℕ) → i < length walks.old → length (slice_index_or walks.old i []) < 2 ^ 31 }
+    requires long { length levels.old ≡ length variables.now + 1 }
+    requires short { (i : ℕ) → i < length levels.old → length (slice_index_or levels.old i []) < 2 ^ 31 }
     requires few { length variables.now < 2 ^ 29 }
     requires once { AllOnce variables.now }
     requires placed { All (IsPlaced variables.now places.now) clause.now }
-    ensures { OnOk result ((i : ℕ) → i < length walks.old
-        → slice_index_or walks.new i [] ≡ slice_index_or walks.old i [] ++ walk_of variables.now (clause.now ∷ []) i) }
+    ensures long { length levels.new ≡ length levels.old }
+    ensures added { OnOk result ((i : ℕ) → i < length levels.old
+        → slice_index_or levels.new i [] ≡ slice_index_or levels.old i [] ++ walk_of variables.now (clause.now ∷ []) i) }
 {
     let span = find_span(places, clause);
-    keep(walks, span);
-    turn(walks, variables, places, clause, span)?;
+    levels.keep(span);
+    turn(levels, variables, places, clause, span)?;
     Ok(())
-}
-
-// Adds a clause as one that stays as it is, where it begins and ends too.
-fn keep(walks: &mut [Walk], span: Span)
-    requires within { span.end < length walks.old }
-    requires short { (i : ℕ) → i < length walks.old → length (slice_index_or walks.old i []) < 2 ^ 31 }
-    ensures within { (i : ℕ) → span.first ≤ i → i < span.end → slice_index_or walks.new i [] ≡ slice_index_or walks.old i [] ++ plain ∷ [] }
-    ensures apart { (i : ℕ) → (i < span.first) ⊎ (span.end ≤ i) → slice_index_or walks.new i [] ≡ slice_index_or walks.old i [] }
-{
-    for level in span.first..span.end {
-        let walk = &mut walks[level as usize];
-        walk.keep();
-    }
 }
 
 // Tells what happens to a clause that was added, at each of its variables.
 fn turn(
-    walks: &mut [Walk],
+    levels: &mut Levels,
     variables: &[u32],
     places: &[u32],
     clause: &[i32],
     span: Span,
 ) -> Result<(), AllocError>
-    requires long { length walks.old ≡ length variables.now + 1 }
+    requires long { length levels.old ≡ length variables.now + 1 }
     requires few { length variables.now < 2 ^ 29 }
     requires placed { All (IsPlaced variables.now places.now) clause.now }
     requires span { span ≡ span_of variables.now clause.now }
-    ensures { OnOk result ((before : List (List Entry)) → length before ≡ length walks.old
-        → AreTurning variables.now clause.now 0 before walks.old
-        → AreTurning variables.now clause.now (length clause.now) before walks.new) }
+    ensures long { length levels.new ≡ length levels.old }
+    ensures turning { OnOk result ((before : List (List Entry)) → length before ≡ length levels.old
+        → AreTurning variables.now clause.now 0 before levels.old
+        → AreTurning variables.now clause.now (length clause.now) before levels.new) }
 {
     for literal in clause {
         let level = places[literal.unsigned_abs() as usize - 1];
         let entry = entry_at(span, clause, level, variables[level as usize]);
-        let walk = &mut walks[level as usize];
-        walk.turn(entry)?;
+        levels.turn(level, entry)?;
     }
     Ok(())
 }

@@ -36,64 +36,28 @@ fn gates(
     Ok(encode(alloc, &device)?)
 }
 
-// A gate of two inputs, named as the wire that it drives.
-fn gate(
-    rt: &impl Abort,
-    alloc: Global,
-    parts: &mut Vec<Component>,
-    kind: Kind,
-    ports: [u32; 3],
-) -> Result<(), Fail> {
-    let [a, b, output] = ports;
-    parts.push(Component {
-        name: named(rt, alloc, output)?,
-        kind,
-        ports: Wires::new(alloc, &[a, b, output])?,
-    })?;
-    Ok(())
-}
-
 // Full adders, the carry of each of which goes into the next one.
 fn adder(rt: &impl Abort, alloc: Global, bits: u16) -> Result<Cnf, Fail> {
+    // The wires of each gate, counted from the carry that comes in. It is named as the last one, which it drives.
+    let gates: [(Kind, [u8; 3]); 5] = [
+        (Kind::Xor, [1, 2, 3]),
+        (Kind::And, [1, 2, 4]),
+        (Kind::And, [0, 3, 5]),
+        (Kind::Xor, [0, 3, 6]),
+        (Kind::Or, [4, 5, 7]),
+    ];
     let mut wires = vec![in alloc; named(rt, alloc, 0)?]?;
     let mut parts = Vec::new(alloc);
     for bit in 0..u32::from(bits) {
         let carry = 7 * bit;
-        gate(
-            rt,
-            alloc,
-            &mut parts,
-            Kind::Xor,
-            [carry + 1, carry + 2, carry + 3],
-        )?;
-        gate(
-            rt,
-            alloc,
-            &mut parts,
-            Kind::And,
-            [carry + 1, carry + 2, carry + 4],
-        )?;
-        gate(
-            rt,
-            alloc,
-            &mut parts,
-            Kind::And,
-            [carry, carry + 3, carry + 5],
-        )?;
-        gate(
-            rt,
-            alloc,
-            &mut parts,
-            Kind::Xor,
-            [carry, carry + 3, carry + 6],
-        )?;
-        gate(
-            rt,
-            alloc,
-            &mut parts,
-            Kind::Or,
-            [carry + 4, carry + 5, carry + 7],
-        )?;
+        for (kind, [a, b, output]) in gates {
+            let output = carry + u32::from(output);
+            parts.push(Component {
+                name: named(rt, alloc, output)?,
+                kind,
+                ports: Wires::new(alloc, &[carry + u32::from(a), carry + u32::from(b), output])?,
+            })?;
+        }
         for wire in 1..8 {
             wires.push(named(rt, alloc, carry + wire)?)?;
         }
@@ -156,13 +120,17 @@ fn assert_sum(rt: &impl Abort, alloc: Global, cnf: &Cnf, sum: u32) {
 #[test]
 fn measures_gates_of_one_input(rt: HostRuntime) -> Result<(), Fail> {
     let alloc = rt.alloc();
-    // The last one's states have up to four words.
+    // Of n gates that all have the same input, each has two clauses that are open from level 2 on, where the input has a bit, and
+    // up to its output's level. With m of the gates still to come, what the input gave leaves 2 lists, of 2m clauses. The health of
+    // the next gate makes them 4, or 3 where it is the last one. So with s(m) = 2m / 64 + 1 words, the sum is 1 + 2 + 4 s(n), and
+    // 6 s(m) for each m from n - 1 down to 2, and 5 + 1. Of 500 gates the last ones' clauses are open over more than 900 levels.
     let rows = [
         (0, true, 1),
         (1, true, 7),
         (2, true, 12),
         (4096, true, 20482),
         (100, false, 1261),
+        (500, false, 25021),
     ];
     for (count, in_a_row, sum) in rows {
         let cnf = gates(&rt, alloc, Kind::Buff, count, in_a_row)?;

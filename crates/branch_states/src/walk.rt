@@ -3,7 +3,7 @@ ghost use Rattle.std.specs.Bool.{OnTrue};
 ghost use Rattle.std.specs.List.{filter};
 ghost use Rattle.ranking.specs.Bits.{bit_in};
 ghost use Rattle.branch_states.specs.Branches.{words_of, bits_of, some_passes, is_true_by, has_true};
-ghost use Rattle.branch_states.specs.inner.Steps.{true_at, was_open, goes_on, still_left, plain, spread, IsPut};
+ghost use Rattle.branch_states.specs.inner.Steps.{true_at, was_open, goes_on, still_left, plain, spread, filled, IsPut};
 
 use crate::bits::{bit_at, clear, copy_bits, put_bit};
 use std::alloc::{AllocError, Global};
@@ -61,14 +61,14 @@ pub(crate) struct Row {
     pub(crate) opened: u32,
 }
 
-/// What happens to clauses at the next variable, one after the other.
+/// What happens to clauses at the next variable, one after the other, up to the last one that does not stay as it is.
 #[derive(Drop)]
 pub(crate) struct Walk {
     events: Vec<Event>,
-    // how many stay as they are behind the last one that does not
-    rest: u32,
-    // how many were open
-    opened: u32,
+    // how many clauses these are
+    told: u32,
+    // how many of them were not open
+    news: u32,
 }
 
 impl Model for Walk {
@@ -79,9 +79,9 @@ impl Model for Walk {
 
     ghost use Rattle.branch_states.specs.inner.Steps.{spread, IsTold};
 
-    ghost view = { λ w. spread w.events.items w.rest };
+    ghost view = { λ w. spread w.events.items 0 };
 
-    ghost invariant = { λ w. IsTold w.events.items w.rest w.opened };
+    ghost invariant = { λ w. IsTold w.events.items w.told w.news };
 }
 
 impl Walk {
@@ -90,46 +90,41 @@ impl Walk {
     {
         Walk {
             events: Vec::new(alloc),
-            rest: 0,
-            opened: 0,
+            told: 0,
+            news: 0,
         }
     }
 
-    /// Adds a clause that stays as it is.
-    pub(crate) fn keep(&mut self)
-        requires { length self.old < 2 ^ 31 }
-        ensures { self.new ≡ self.old ++ plain ∷ [] }
+    /// Makes of the last one of so many clauses, if it stays as it is, one to which something happens.
+    pub(crate) fn turn(&mut self, count: u32, entry: Entry) -> Result<(), AllocError>
+        requires within { length self.old ≤ count }
+        requires changes { (entry ≡ plain) → ⊥ }
+        ensures within { length self.new ≤ count }
+        ensures turned { OnOk result ((front : List Entry) (last : Entry) → filled count self.old ≡ front ++ last ∷ []
+            → (last ≡ plain) ⊎ (last ≡ entry) → filled count self.new ≡ front ++ entry ∷ []) }
     {
-        self.rest += 1;
-        self.opened += 1;
-    }
-
-    /// Makes of the last clause, if it stays as it is, one to which something happens.
-    pub(crate) fn turn(&mut self, entry: Entry) -> Result<(), AllocError>
-        requires { (entry ≡ plain) → ⊥ }
-        ensures { OnOk result ((front : List Entry) (last : Entry) → self.old ≡ front ++ last ∷ []
-            → (last ≡ plain) ⊎ (last ≡ entry) → self.new ≡ front ++ entry ∷ []) }
-    {
-        let Some(run) = self.rest.checked_sub(1) else {
+        // A clause that has a variable twice was turned at the first of the two.
+        let Some(run) = (count - self.told).checked_sub(1) else {
             return Ok(());
         };
         self.events.push(Event { run, entry })?;
-        self.rest = 0;
-        self.opened -= u32::from(entry.is_new);
+        self.told = count;
+        self.news += u32::from(entry.is_new);
         Ok(())
     }
 
-    /// Puts the events behind those of other levels.
-    pub(crate) fn put(&self, events: &mut Vec<Event>) -> Result<Row, AllocError>
-        ensures { IfOk result (λ row. IsPut events.old.items events.new.items row self.now) }
+    /// Puts the events behind those of other levels, where there are so many clauses in all.
+    pub(crate) fn put(&self, count: u32, events: &mut Vec<Event>) -> Result<Row, AllocError>
+        requires { length self.now ≤ count }
+        ensures { IfOk result (λ row. IsPut events.old.items events.new.items row (filled count self.now)) }
     {
         let start = events.len();
         events.extend_from_slice(self.events.as_slice())?;
         Ok(Row {
             start,
             end: events.len(),
-            rest: self.rest,
-            opened: self.opened,
+            rest: count - self.told,
+            opened: count - self.news,
         })
     }
 }

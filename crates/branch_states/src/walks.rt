@@ -4,7 +4,8 @@ ghost use Rattle.std.specs.List.{filter};
 ghost use Rattle.branch_states.specs.Branches.{words_of, bits_of, some_passes};
 ghost use Rattle.branch_states.specs.inner.Steps.{was_open, goes_on, still_left};
 
-use crate::walk::{Event, Row, Walk, walk_on};
+use crate::levels::Levels;
+use crate::walk::{Event, Row, walk_on};
 use std::alloc::{AllocError, Global};
 use std::marker::Model;
 
@@ -29,14 +30,14 @@ impl Model for Walks {
 }
 
 impl Walks {
-    /// The same walks in one block of memory.
-    pub(crate) fn of(alloc: Global, walks: &[Walk]) -> Result<Walks, AllocError>
-        ensures { IfOk result (λ all. all ≡ walks.now) }
+    /// The walks of all levels, their events in one block of memory.
+    pub(crate) fn of(alloc: Global, levels: &Levels) -> Result<Walks, AllocError>
+        ensures { IfOk result (λ walks. walks ≡ levels.now) }
     {
-        let mut rows = Vec::with_capacity(alloc, walks.len())?;
+        let mut rows = Vec::with_capacity(alloc, levels.len())?;
         let mut events = Vec::new(alloc);
-        for walk in walks {
-            rows.push(walk.put(&mut events)?)?;
+        for level in 0..levels.len() {
+            rows.push(levels.put(level, &mut events)?)?;
         }
         Ok(Walks { rows, events })
     }

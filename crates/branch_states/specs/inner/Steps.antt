@@ -1,6 +1,6 @@
 -- What the steps from one level to the next say to each other. Only private contracts cite it.
-use Rattle.std.specs.Prelude.{◌≡◌, ℕ, ◌+◌, ◌-◌, ◌^◌, ◌<◌, ◌≤◌, Bool, true, false, not, ◌&&◌, ◌||◌, List, [], ◌∷◌, ◌++◌, map, length, drop, replicate, min, max, slice_index, slice_index_or, take, ◌⊎◌, All, ◌==◌, ℤ, count_by, if◌then◌else◌}
-use Rattle.std.specs.List.{filter, list_any, AllByRecursion}
+use Rattle.std.specs.Prelude.{◌≡◌, ℕ, ◌+◌, ◌-◌, ◌/◌, ◌^◌, ◌<◌, ◌≤◌, Bool, true, false, not, ◌&&◌, ◌||◌, List, [], ◌∷◌, ◌++◌, map, length, drop, replicate, min, max, slice_index, slice_index_or, take, ◌⊎◌, All, ◌==◌, ℤ, count_by, if◌then◌else◌}
+use Rattle.std.specs.List.{filter, list_any, range_with_len, AllByRecursion}
 use Rattle.std.specs.Str.{bytes_eq}
 use Rattle.ranking.specs.Bits.{bit_in}
 use Rattle.clause_encoder.specs.Clauses.{Clause, ClauseList, var_of, is_clause_list}
@@ -58,10 +58,39 @@ abbrev pub spread : List Event → ℕ → List Entry
 spread [] rest = replicate rest plain
 spread (e ∷ events) rest = replicate e.run plain ++ (e.entry ∷ spread events rest)
 
--- Something happens to the clause of each event, and it is known how many clauses were open.
-pub record IsTold (events : List Event) (rest opened : ℕ) : Type 0 where
+-- Something happens to the clause of each event. It is known how many clauses there are up to the last one, and how many were not open.
+pub record IsTold (events : List Event) (told news : ℕ) : Type 0 where
   pub changing : All (λ e. (e.entry ≡ plain) → ⊥) events
-  pub counted : opened ≡ length (filter was_open (spread events rest))
+  pub long : told ≡ length (spread events 0)
+  pub counted : news + length (filter was_open (spread events 0)) ≡ told
+
+-- so many clauses in all, of which the others stay as they are
+abbrev pub filled : ℕ → List Entry → List Entry
+filled count front = front ++ replicate (count - length front) plain
+
+-- the walks of all levels, by their fronts and by how many clauses each has
+abbrev pub all_filled : List ℕ → List (List Entry) → List (List Entry)
+all_filled counts fronts = map (λ i. filled (slice_index counts i) (slice_index_or fronts i [])) (range_with_len 0 (length fronts))
+
+-- no front has more clauses than its walk
+pub record AreFronts (counts : List ℕ) (fronts : List (List Entry)) : Type 0 where
+  pub long : length counts ≡ length fronts
+  pub within : (i : ℕ) → i < length fronts → length (slice_index_or fronts i []) ≤ slice_index counts i
+
+-- ---- counts, one for each level, in two parts: one of the level alone, and one of its block of 256 levels
+
+abbrev pub count_at : List ℕ → List ℕ → ℕ → ℕ
+count_at levels blocks i = slice_index levels i + slice_index blocks (i / 256)
+
+abbrev pub counts_of : List ℕ → List ℕ → List ℕ
+counts_of levels blocks = map (count_at levels blocks) (range_with_len 0 (length levels))
+
+-- there is a part for each block, and no count is too large for 32 bits
+pub record AreParts (levels blocks : List ℕ) : Type 0 where
+  pub long : length blocks ≡ length levels / 256 + 1
+  pub few : (i : ℕ) → i < length levels → count_at levels blocks i < 2 ^ 32
+
+-- ---- a clause more
 
 -- each number stands once
 abbrev pub AllOnce : List ℕ → Type 0

@@ -1,8 +1,8 @@
-use Rattle.std.proofs.Common.{◌+◌, ◌<◌, ◌≤◌, ◌*◌, ◌/◌, ◌++◌, ℕ, List, [], map, length, get_or, ap, ◌∙◌, subst, arith, false}
+use Rattle.std.proofs.Common.{◌+◌, ◌<◌, ◌≤◌, ◌*◌, ◌/◌, ◌++◌, [], map, length, get_or, ap, ◌∙◌, subst, arith, false}
 use Rattle.std.proofs.lemmas.List.{length-map}
 use Rattle.branch_states.specs.Branches.{living, size, state_of}
 use Rattle.branch_states.specs.inner.Steps.{AreFound, followed}
-use Rattle.branch_states.proofs.Counting.{State, items, reached, reached-more, reached-all, reached-fewer, living-at, state-at, length-states, length-words, length-found, words-above, words-below}
+use Rattle.branch_states.proofs.Counting.{items, reached, reached-more, reached-all, reached-fewer, living-at, state-at, length-states, length-words, length-found, words-above, words-below}
 use Rattle.branch_states.proofs.measuring.next_states.Goals as goal
 use Rattle.branch_states.proofs.measuring.next_states.Goals.{In_ok-follow-2}
 

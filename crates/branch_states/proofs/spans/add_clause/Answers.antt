@@ -16,11 +16,11 @@ keep-requires-clause-within c =
 pub turn-requires-clause-span : goal.turn-requires-clause-span
 turn-requires-clause-span c = span (goal.at.turn-requires-clause-span c).After-find_span-span
 
-pub returns : goal.returns
-returns c =
+pub returns-clause-added : goal.returns-clause-added
+returns-clause-added c =
     let vs = c.args.variables.now in
     let clause = c.args.clause.now in
-    let before = c.args.walks.now in
-    turning-all vs c.args.places.now clause before c.turn.new.walks c.requires.once c.requires.placed
-    (c.in_ok-turn.ensures before (omega (arith, c.keep.auto.walks))
-    (turning-first vs clause c.find_span-span.result before c.keep.new.walks c.requires.long c.requires.few (span (goal.at.returns c).After-find_span-span) c.keep.ensures.within c.keep.ensures.apart))
+    let before = c.args.levels.now in
+    turning-all vs c.args.places.now clause before c.turn.new.levels c.requires.once c.requires.placed
+    (c.in_ok-turn.ensures.turning before (omega (arith, c.keep.ensures.long))
+    (turning-first vs clause c.find_span-span.result before c.keep.new.self c.requires.long c.requires.few (span (goal.at.returns-clause-added c).After-find_span-span) c.keep.ensures.within c.keep.ensures.apart))

@@ -1,7 +1,6 @@
-use Rattle.std.proofs.Common.{◌≡◌, ℕ, ◌+◌, ◌-◌, ◌<◌, [], length, get_or, set, pos, w32, FitsSigned, refl, rules, ap, sym, ◌∙◌, subst, arith}
+use Rattle.std.proofs.Common.{◌≡◌, ℕ, ◌-◌, ◌<◌, ◌++◌, [], ◌∷◌, length, get_or, set, pos, w32, FitsSigned, refl, rules, ap, sym, ◌∙◌, subst, arith}
 use lib.IntN.{nat_abs}
 use Rattle.std.proofs.lemmas.Int.{to_z-of_z}
-use Rattle.std.proofs.lemmas.List.{get_or_default}
 use Rattle.clause_encoder.specs.Clauses.{var_of}
 use Rattle.branch_states.specs.Branches.{place}
 use Rattle.branch_states.specs.inner.Steps.{entry_of, AreTurning}
@@ -32,27 +31,30 @@ entry c =
     ∙ ap (λ i. entry_of vs i c.args.clause.now) (level c)
 
 pub turn-requires : goal.turn-requires
-turn-requires c e =
-    let after = (goal.at.turn-requires c).After-entry_at-entry in
-    changes c.args.variables.now c.args.clause.now c.loop-literal.literal-index (pos 0) c.loop-literal-test.true (low after) (sym (entry after) ∙ e)
+turn-requires c =
+    let after = (goal.at.turn-requires c).After-entry_at-entry in record {
+      level = omega (arith, level after, low after, c.requires.long, c.loop-literal.invariant.0);
+      changes = λ e. changes c.args.variables.now c.args.clause.now c.loop-literal.literal-index (pos 0) c.loop-literal-test.true (low after) (sym (entry after) ∙ e);
+    }
 
 pub loop-literal-preserved : goal.loop-literal-preserved
-loop-literal-preserved c before long start =
+loop-literal-preserved c =
     let after = (goal.at.loop-literal-preserved c).After-entry_at-entry in
     let vs = c.args.variables.now in
     let clause = c.args.clause.now in
     let k = c.loop-literal.literal-index in
-    let walks = c.loop-literal.walks in
+    let walks = c.loop-literal.levels in
     let at : ℕ = get_or c.args.places.now (c.unsigned_abs.result - 1) 0 in
     let same = level after in
-    let lower = low after in
-    let here : get_or c.args.places.now (c.unsigned_abs.result - 1) 0 < length c.loop-literal.walks = omega (arith, same, lower, c.requires.long, c.loop-literal.auto.walks) in
-    subst (λ (n : ℕ). AreTurning vs clause (k + 1) before (set walks n c.turn.new.self)) (sym same)
-    (turning-more vs clause k (pos 0) before walks c.entry_at-entry.result c.turn.new.self c.loop-literal-test.true (omega (arith, same, here)) (omega (arith, long, c.loop-literal.auto.walks)) (entry after)
-    (c.loop-literal.invariant before long start)
-    (λ front last e alt. c.in_ok-turn.ensures front last (get_or_default walks at c.index-walks-level.result [] here ∙ ap (λ n. get_or walks n []) same ∙ e) alt))
+    let here : get_or c.args.places.now (c.unsigned_abs.result - 1) 0 < length c.loop-literal.levels = omega (arith, same, low after, c.requires.long, c.loop-literal.invariant.0) in (
+      c.in_ok-turn.ensures.long ∙ c.loop-literal.invariant.0,
+      λ before long start.
+          turning-more vs clause k (pos 0) before walks c.turn.new.self c.entry_at-entry.result c.loop-literal-test.true (omega (arith, same, here)) (omega (arith, long, c.loop-literal.invariant.0)) (entry after)
+          (c.loop-literal.invariant.1 before long start)
+          (λ front last e alt. c.in_ok-turn.ensures.turned front last (ap (λ n. get_or walks n []) same ∙ e) alt ∙ ap (λ n. set walks n (front ++ c.entry_at-entry.result ∷ [])) same),
+    )
 
-pub returns : goal.returns
-returns c before long start =
+pub returns-clause-turning : goal.returns-clause-turning
+returns-clause-turning c before long start =
     let all : c.loop-literal.literal-index ≡ length c.args.clause.now = omega arith in
-    subst (λ (k : ℕ). AreTurning c.args.variables.now c.args.clause.now k before c.loop-literal.walks) all (c.loop-literal.invariant before long start)
+    subst (λ (k : ℕ). AreTurning c.args.variables.now c.args.clause.now k before c.loop-literal.levels) all (c.loop-literal.invariant.1 before long start)

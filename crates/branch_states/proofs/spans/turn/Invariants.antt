@@ -4,5 +4,6 @@ use Rattle.branch_states.specs.inner.Steps.{AreTurning}
 use Rattle.branch_states.proofs.spans.turn.Given as goal
 
 abbrev pub invariant-loop-literal : goal.invariant-loop-literal
-invariant-loop-literal l = (before : List (List Entry)) → length before ≡ length l.initial.walks
-    → AreTurning l.variables l.clause 0 before l.initial.walks → AreTurning l.variables l.clause l.literal-index before l.walks
+invariant-loop-literal l = (length l.levels ≡ length l.initial.levels)
+    × ((before : List (List Entry)) → length before ≡ length l.initial.levels
+    → AreTurning l.variables l.clause 0 before l.initial.levels → AreTurning l.variables l.clause l.literal-index before l.levels)

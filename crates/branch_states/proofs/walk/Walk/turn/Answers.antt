@@ -1,49 +1,73 @@
-use Rattle.std.proofs.Common.{◌≡◌, ◌+◌, ◌++◌, [], ◌∷◌, length, inl, inr, ap, sym, ◌∙◌, arith}
+use Rattle.std.proofs.Common.{◌≡◌, ◌+◌, ◌-◌, ◌++◌, [], ◌∷◌, length, inl, inr, ap, sym, ◌∙◌, arith}
 use Rattle.std.specs.List.{filter}
-use Rattle.std.proofs.lemmas.List.{same_from_push}
+use Rattle.std.proofs.lemmas.List.{length-append, same_from_push}
 use Rattle.std.proofs.lemmas.List.Elements.{All-push, All-same}
 use Rattle.branch_states.specs.declared.walk.Event.{Event}
-use Rattle.branch_states.specs.inner.Steps.{was_open, plain, spread}
-use Rattle.branch_states.proofs.Walking.{count-push, spread-plain, spread-event, byte-few}
-use Rattle.branch_states.proofs.Turning.{last-changes, less-new}
+use Rattle.branch_states.specs.inner.Steps.{was_open, plain, spread, filled}
+use Rattle.branch_states.proofs.Walking.{count-push, spread-plain}
+use Rattle.branch_states.proofs.Filling.{told-more, filled-none, filled-spread, length-spread, open-spread}
+use Rattle.branch_states.proofs.Turning.{last-changes, new_or_open}
 use Rattle.branch_states.proofs.walk.Walk.turn.Goals as goal
 use Rattle.branch_states.proofs.walk.Walk.turn.Goals.{In-Some}
 
-pub returns-in_default : goal.returns-in_default
-returns-in_default c front last e alt =
-    let none : c.self.inside.rest ≡ 0 = omega (arith, c.in_default.ensures) in
+-- no clause stays as it is behind the last event
+pub returns-in_default-clause-turned : goal.returns-in_default-clause-turned
+returns-in_default-clause-turned c front last e alt =
+    let es = c.self.inside.events.items in
+    let all : filled c.args.count c.args.self.now ≡ c.args.self.now = filled-none c.args.count c.args.self.now (omega (arith, c.in_default.ensures, c.self.invariant.long, ap length c.self.view_is)) in
     elim alt [
-      | inl still ↦ absurd (last-changes c.self.inside.events.items front c.self.invariant.changing (ap (spread c.self.inside.events.items) (sym none) ∙ c.self.view_is ∙ e ∙ ap (λ x. front ++ x ∷ []) still))
+      | inl still ↦ absurd (last-changes es front c.self.invariant.changing (c.self.view_is ∙ sym all ∙ e ∙ ap (λ x. front ++ x ∷ []) still))
       | inr told ↦ e ∙ ap (λ x. front ++ x ∷ []) told
     ]
 
--- one clause at least stays as it is behind the last event
-rest : (c : In-Some) → c.self.inside.rest ≡ c.in-Some.run' + 1
-rest c = omega (arith, c.in-Some.ensures)
+-- with the run and the clause itself there are so many
+many : (c : In-Some) → c.self.inside.told + c.in-Some.run' + 1 ≡ c.args.count
+many c = omega (arith, c.in-Some.ensures, c.self.invariant.long, ap length c.self.view_is, c.requires.within)
 
-opened : (c : In-Some) → c.self.inside.opened ≡ length (filter was_open (spread c.self.inside.events.items c.in-Some.run')) + 1
-opened c =
-    c.self.invariant.counted ∙ ap (λ r. length (filter was_open (spread c.self.inside.events.items r))) (rest c)
-    ∙ ap (λ w. length (filter was_open w)) (spread-plain c.self.inside.events.items c.in-Some.run') ∙ count-push was_open (spread c.self.inside.events.items c.in-Some.run') plain
-
-pub overflow_sub-self : goal.overflow_sub-self
-overflow_sub-self c = omega (arith, opened (goal.at.overflow_sub-self c).In-Some, c.from.ensures, byte-few c.args.entry.is_new)
+pub overflow_add-self : goal.overflow_add-self
+overflow_add-self c = omega (arith, many (goal.at.overflow_add-self c).In-Some, c.self.invariant.counted, c.from.ensures, new_or_open c.args.entry.is_new)
 
 pub invariant_of-self-2 : goal.invariant_of-self-2
 invariant_of-self-2 c =
     let es = c.self.inside.events.items in
     let run = c.in-Some.run' in
-    let event : Event = record { run = c.in-Some.run'; entry = c.args.entry } in record {
-      changing = All-same (λ e. (e.entry ≡ plain) → ⊥) c.push.new.self.items (es ++ event ∷ []) c.in_ok-push.ensures.items (All-push (λ e. (e.entry ≡ plain) → ⊥) es event c.self.invariant.changing c.requires);
-      counted = less-new c.args.entry.is_new (length (filter was_open (spread es run))) c.self.inside.opened c.from.result (opened (goal.at.invariant_of-self-2 c).In-Some) c.from.ensures
-          ∙ sym (count-push was_open (spread es run) c.args.entry)
-          ∙ ap (λ w. length (filter was_open w)) (sym (ap (λ xs. spread xs 0) c.in_ok-push.ensures.items ∙ spread-event es run c.args.entry));
+    let event : Event = record { run = c.in-Some.run'; entry = c.args.entry } in
+    let told = told-more es c.push.new.self.items run c.args.entry c.in_ok-push.ensures.items in record {
+      changing = All-same (λ e. (e.entry ≡ plain) → ⊥) c.push.new.self.items (es ++ event ∷ []) c.in_ok-push.ensures.items (All-push (λ e. (e.entry ≡ plain) → ⊥) es event c.self.invariant.changing c.requires.changes);
+      long = omega (arith, many (goal.at.invariant_of-self-2 c).In-Some, c.self.invariant.long, ap length told, length-append (spread es run) (c.args.entry ∷ []), length-spread es run);
+      counted = omega (
+        arith,
+        many (goal.at.invariant_of-self-2 c).In-Some,
+        c.self.invariant.counted,
+        c.from.ensures,
+        new_or_open c.args.entry.is_new,
+        ap (λ w. length (filter was_open w)) told,
+        count-push was_open (spread es run) c.args.entry,
+        open-spread es run,
+      );
     }
 
-pub returns : goal.returns
-returns c front last e alt =
+pub returns-clause-within : goal.returns-clause-within
+returns-clause-within c =
     let es = c.self.inside.events.items in
     let run = c.in-Some.run' in
-    ap (λ xs. spread xs 0) c.in_ok-push.ensures.items ∙ spread-event es run c.args.entry
-    ∙ ap (λ w. w ++ c.args.entry ∷ []) (sym (same_from_push front (spread es run) last plain
-    (sym e ∙ sym c.self.view_is ∙ ap (spread es) (rest (goal.at.returns c).In-Some) ∙ spread-plain es run)).0)
+    omega (
+      arith,
+      many (goal.at.returns-clause-within c).In-Some,
+      c.self.invariant.long,
+      ap length (told-more es c.push.new.self.items run c.args.entry c.in_ok-push.ensures.items),
+      length-append (spread es run) (c.args.entry ∷ []),
+      length-spread es run,
+    )
+
+pub returns-clause-turned : goal.returns-clause-turned
+returns-clause-turned c front last e alt =
+    let es = c.self.inside.events.items in
+    let run = c.in-Some.run' in
+    let all = many (goal.at.returns-clause-turned c).In-Some in
+    let told = told-more es c.push.new.self.items run c.args.entry c.in_ok-push.ensures.items in
+    let rest : c.args.count - length (spread c.self.inside.events.items 0) ≡ c.in-Some.run' + 1 = omega (arith, all, c.self.invariant.long) in
+    let old : filled c.args.count c.args.self.now ≡ spread c.self.inside.events.items c.in-Some.run' ++ plain ∷ [] =
+    ap (filled c.args.count) (sym c.self.view_is) ∙ filled-spread es c.args.count ∙ ap (spread es) rest ∙ spread-plain es run in
+    filled-none c.args.count (spread c.push.new.self.items 0) (omega (arith, all, c.self.invariant.long, ap length told, length-append (spread es run) (c.args.entry ∷ []), length-spread es run))
+    ∙ told ∙ ap (λ w. w ++ c.args.entry ∷ []) (sym (same_from_push front (spread es run) last plain (sym e ∙ old)).0)

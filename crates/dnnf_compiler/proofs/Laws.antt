@@ -1,5 +1,5 @@
 -- A graph that was compiled from the clauses of a device means the device.
-use Rattle.std.proofs.Common.{◌≡◌, ◌+◌, ◌-◌, ◌≤◌, List, ◌++◌, length, ◌∙◌, arith, Ok}
+use Rattle.std.proofs.Common.{◌≡◌, ◌+◌, ◌-◌, ◌≤◌, ◌++◌, length, ◌∙◌, arith, Ok}
 use Rattle.std.specs.List.{list_any}
 use Rattle.ranking.specs.Bits.{lists_of_bits}
 use Rattle.ranking.specs.Assignments.{assignment}

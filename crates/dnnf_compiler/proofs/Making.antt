@@ -74,7 +74,7 @@ pub within_grows : (old new : List Node) (o : Option ℕ) → Grows old new → 
 within_grows old new None g h = h
 within_grows old new (Some n) g h = omega (arith, h, g.longer)
 
-read_below : (below : List ℕ) (place : ℕ) → place < length below → slice_get below place ≡ Some (slice_index below place)
+pub read_below : (below : List ℕ) (place : ℕ) → place < length below → slice_get below place ≡ Some (slice_index below place)
 read_below [] place h = absurd (omega arith)
 read_below (n ∷ below) zero h = refl
 read_below (n ∷ below) (suc place) h = read_below below place (omega arith)

@@ -5,21 +5,22 @@ use Rattle.std.specs.Bool.{OnTrue}
 use Rattle.std.specs.List.{filter, list_any, position_or_len, IsDistinct}
 use Rattle.std.specs.Cmp.Lexicographic.{pointwise, same_text}
 use Rattle.std.proofs.lemmas.Cmp.{nat_list_eq_equiv}
+use Rattle.std.proofs.lemmas.List.{length-append}
 use Rattle.std.proofs.lemmas.Map.Keys.{IsDistinct-push}
 use Rattle.std.proofs.lemmas.Map.Made.{length-le_from_is_member}
 use Rattle.std.proofs.Math.ListN.{length-map}
 use Rattle.ranking.specs.Bits.{lists_of_bits}
 use Rattle.indexmap.specs.IndexSet.{insert_key}
 use Rattle.clause_encoder.specs.Clauses.{Clause, ClauseList, is_clause_list}
-use Rattle.branch_states.specs.Branches.{order, left, is_dead, branch, same_list, different, living, size, weight, state_of, sum_of, IsLiving}
-use Rattle.branch_states.proofs.Counting.{sum_to, sum-more, sum-fewer, next-living, length-words, first-living, first-states, living-at}
+use Rattle.branch_states.specs.Branches.{order, left, is_dead, branch, same_list, different, living, size, weight, state_of, IsLiving}
+use Rattle.branch_states.proofs.Counting.{next-living, length-words, first-living, first-states, living-at}
 use Rattle.branch_states.proofs.Ordering.{one_more}
 use Rattle.dnnf_compiler.specs.inner.Meaning.{HasState}
 use Rattle.dnnf_compiler.specs.inner.Forks.{AreReached, Extends, LeadsBy, DiesBy}
 
 -- ---- what stands in a list
 
-abbrev Among : {A : Type 0} → List A → A → Type 0
+abbrev pub Among : {A : Type 0} → List A → A → Type 0
 Among xs x = (j : ℕ) × (slice_get xs j ≡ Some x)
 
 get-left : {A : Type 0} (xs ys : List A) (x : A) (j : ℕ) → slice_get xs j ≡ Some x → slice_get (xs ++ ys) j ≡ Some x
@@ -88,12 +89,12 @@ or_true : (a b : Bool) → b ≡ true → (a || b) ≡ true
 or_true true b e = refl
 or_true false b e = e
 
-among_any : (ks : List (List ℕ)) (q : List ℕ) (j : ℕ) → slice_get ks j ≡ Some q → list_any (pointwise nat_eq q) ks ≡ true
+pub among_any : (ks : List (List ℕ)) (q : List ℕ) (j : ℕ) → slice_get ks j ≡ Some q → list_any (pointwise nat_eq q) ks ≡ true
 among_any [] q j e = absurd (cc)
 among_any (k ∷ ks) q zero e = let s : k ≡ q = cc in ap (λ b. b || list_any (pointwise nat_eq q) ks) (subst (λ x. pointwise nat_eq q x ≡ true) (sym s) (nat_list_eq_equiv.refl q))
 among_any (k ∷ ks) q (suc j) e = or_true (pointwise nat_eq q k) (list_any (pointwise nat_eq q) ks) (among_any ks q j e)
 
-any_among : (ks : List (List ℕ)) (q : List ℕ) → list_any (pointwise nat_eq q) ks ≡ true → Among ks q
+pub any_among : (ks : List (List ℕ)) (q : List ℕ) → list_any (pointwise nat_eq q) ks ≡ true → Among ks q
 any_among [] q e = absurd (cc)
 any_among (k ∷ ks) q e = by (pointwise nat_eq q k) refl (any_among ks q) where
   by : (b : Bool) → pointwise nat_eq q k ≡ b → (list_any (pointwise nat_eq q) ks ≡ true → Among ks q) → Among (k ∷ ks) q
@@ -101,7 +102,7 @@ any_among (k ∷ ks) q e = by (pointwise nat_eq q k) refl (any_among ks q) where
   by false f rest = let r = rest (sym (ap (λ b. b || list_any (pointwise nat_eq q) ks) f) ∙ e) in (suc r.0, r.1)
 
 -- different states of living lists are no more than these
-states_few : (clauses : List Clause) (i : ℕ) (ks : List (List ℕ)) → IsDistinct (pointwise nat_eq) ks → ((q : List ℕ) → Among ks q → (list : List Bool) × HasState clauses i list q) → length ks ≤ length (living clauses i)
+pub states_few : (clauses : List Clause) (i : ℕ) (ks : List (List ℕ)) → IsDistinct (pointwise nat_eq) ks → ((q : List ℕ) → Among ks q → (list : List Bool) × HasState clauses i list q) → length ks ≤ length (living clauses i)
 states_few clauses i ks apart each = omega (
   arith,
   length-map (living clauses i) (state_of clauses i),
@@ -120,13 +121,6 @@ reached_few clauses i states are = omega (
   states_few clauses i states are.apart (λ q a. are.living a.0 q a.1),
   weight_more (length (living clauses i)) (size clauses i - 1),
 )
-
--- one level has no more than the sum
-pub weight_few : (clauses : List Clause) (i : ℕ) → i ≤ length (order clauses) → weight clauses i ≤ sum_of clauses
-weight_few clauses i h =
-    let n : ℕ = length (order clauses) in
-    let all : suc i + (length (order clauses) - i) ≡ length (order clauses) + 1 = omega arith in
-    omega (arith, sum-more clauses i, sum-fewer clauses (suc i) (length (order clauses) - i), ap (sum_to clauses) all)
 
 -- ---- one state more, unless it is there
 
@@ -165,6 +159,13 @@ others_there states s = by (list_any (same s) states) where
   by : (b : Bool) → Extends states (if b then states else states ++ s ∷ [])
   by true j t e = e
   by false j t e = get-left states (s ∷ []) t j e
+
+-- and there is at most one more
+pub one_state_more : (states : List (List ℕ)) (s : List ℕ) → length (with_state states s) ≤ length states + 1
+one_state_more states s = by (list_any (same s) states) where
+  by : (b : Bool) → length (if b then states else states ++ s ∷ []) ≤ length states + 1
+  by true = omega arith
+  by false = omega (arith, length-append states (s ∷ []))
 
 among-push : (ks : List (List ℕ)) (s q : List ℕ) (j : ℕ) → slice_get (ks ++ s ∷ []) j ≡ Some q → (Among ks q) ⊎ (s ≡ q)
 among-push [] s q zero e = let t : s ≡ q = cc in inr t

@@ -3,5 +3,6 @@ pub mod Forks
 pub mod Joining
 pub mod Making
 pub mod Meaning
+pub mod Noting
 pub mod Rooting
 pub mod States

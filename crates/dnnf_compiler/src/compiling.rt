@@ -1,14 +1,15 @@
-ghost use Rattle.std.specs.Prelude.{◌≡◌, ◌+◌, ◌*◌, ◌≤◌, length, IfOk};
+ghost use Rattle.std.specs.Prelude.{◌≡◌, ◌+◌, ◌*◌, ◌<◌, ◌≤◌, length, IfOk};
 ghost use Rattle.graph_rules.specs.Graphs.{IsGraph};
 ghost use Rattle.graph_rules.specs.GraphTexts.{edges};
 ghost use Rattle.branch_states.specs.declared.measuring.TheConstants.{BUDGET_LIMIT};
+ghost use Rattle.branch_states.specs.declared.measuring.MeasureError.TheVariants.{Above};
 ghost use Rattle.branch_states.specs.Branches.{sum_of};
 ghost use Rattle.dnnf_compiler.specs.Compiled.{SaysAll};
 ghost use Rattle.dnnf_compiler.specs.inner.Rooting.{IsRoot};
 
-use crate::forks::find_forks;
+use crate::forks::{count_forks, find_forks};
 use crate::maker::Maker;
-use branch_states::Branches;
+use branch_states::{BUDGET_LIMIT, Branches, MeasureError};
 use clause_encoder::Cnf;
 use node_store::{Graph, Store};
 use std::alloc::{AllocError, Global};
@@ -33,15 +34,37 @@ pub fn compile(alloc: Global, cnf: &Cnf) -> Result<Compiled, AllocError>
     ensures few_nodes { IfOk result (λ c. length c.graph.nodes ≤ c.made + 2 * cnf.now.vars) }
     ensures few_edges { IfOk result (λ c. edges c.graph.nodes ≤ 6 * (sum_of cnf.now.clauses + 1)) }
 {
+    // A sum within the limit is not above it.
+    compile_within(alloc, cnf, BUDGET_LIMIT).map_err(|_| AllocError)
+}
+
+/// The decomposable graph that is true exactly where all clauses are, if the sum of the clause list is within a limit.
+///
+/// Each level's states are found once, and counted as they are. It stops as soon as the sum is above the limit.
+pub fn compile_within(alloc: Global, cnf: &Cnf, top: u32) -> Result<Compiled, MeasureError>
+    requires { top ≤ BUDGET_LIMIT }
+
+    // Where the sum is above the limit the answer is an error, and the error says so only there.
+    ensures within { IfOk result (λ _. sum_of cnf.now.clauses ≤ top) }
+    ensures above { result ≡ Err Above → top < sum_of cnf.now.clauses }
+
+    ensures decomposable { IfOk result (λ c. IsGraph c.graph) }
+    ensures vars { IfOk result (λ c. c.graph.vars ≡ cnf.now.vars) }
+    ensures truth { IfOk result (λ c. SaysAll cnf.now.clauses c.graph) }
+    ensures few_made { IfOk result (λ c. c.made ≤ 3 * sum_of cnf.now.clauses + 2) }
+    ensures few_nodes { IfOk result (λ c. length c.graph.nodes ≤ c.made + 2 * cnf.now.vars) }
+    ensures few_edges { IfOk result (λ c. edges c.graph.nodes ≤ 6 * (sum_of cnf.now.clauses + 1)) }
+{
     let mut branches = Branches::of(alloc, cnf)?;
-    let (levels, last) = find_forks(alloc, &mut branches)?;
-    let mut maker = Maker::new(alloc, cnf.vars())?;
+    let (levels, last) = find_forks(alloc, &mut branches, top)?;
+    // Mostly there are no more nodes than states.
+    let mut maker = Maker::new(alloc, cnf.vars(), count_forks(&levels))?;
     let mut nodes = vec![in alloc; maker.yes; last]?;
     for level in (0..branches.len()).rev() {
         branches.up();
         nodes = maker.make_level(alloc, branches.var(), &levels[level as usize], &nodes)?;
     }
-    frozen(cnf, maker.store, nodes[0])
+    Ok(frozen(cnf, maker.store, nodes[0])?)
 }
 
 // The graph of the node of all clauses.

@@ -3,8 +3,10 @@ ghost use Rattle.graph_rules.specs.Graphs.{at_most_one, mentions};
 ghost use Rattle.node_store.specs.declared.store.TheConstants.{MADE_LIMIT, VARIABLE_LIMIT};
 ghost use Rattle.node_store.specs.Stores.{IsStore};
 ghost use Rattle.dnnf_compiler.specs.inner.Joining.{IsConstant, AddsBoth};
+ghost use Rattle.dnnf_compiler.specs.inner.Noting.{IsNoting};
 ghost use Rattle.dnnf_compiler.specs.inner.Making.{IsMaker, IsVariable, AreFree, AreWithin, IsBranch, IsJoin, IsMade, AreMade};
 
+use crate::ands::Ands;
 use crate::forks::Fork;
 use node_store::Store;
 use std::alloc::{AllocError, Global};
@@ -18,13 +20,15 @@ pub(crate) struct Maker {
 }
 
 impl Maker {
-    pub(crate) fn new(alloc: Global, vars: u32) -> Result<Maker, AllocError>
+    /// Over so many variables, with room for so many nodes.
+    pub(crate) fn new(alloc: Global, vars: u32, room: usize) -> Result<Maker, AllocError>
         requires { vars < VARIABLE_LIMIT }
         ensures maker { IfOk result IsMaker }
         ensures vars { IfOk result (λ maker. maker.store.vars ≡ vars) }
         ensures counts { IfOk result (λ maker. (maker.store.made ≡ 2) × (maker.store.handed ≡ 0)) }
     {
         let mut store = Store::new(alloc, vars)?;
+        store.reserve(room)?;
         let yes = store.and(&[])?;
         let no = store.or(&[])?;
         Ok(Maker { store, yes, no })
@@ -45,25 +49,38 @@ impl Maker {
         requires few { self.old.store.made + 3 * length forks.now ≤ MADE_LIMIT }
         ensures { IfOk result (λ nodes. AreMade self.old self.new var below.now forks.now nodes.items) }
     {
+        let mut zeros = Ands::new(alloc, self.store.literal(var, false), below, self.no)?;
+        let mut ones = Ands::new(alloc, self.store.literal(var, true), below, self.no)?;
         let mut nodes = Vec::with_capacity(alloc, forks.len())?;
         for fork in forks {
-            let node = self.make(var, *fork, below)?;
+            let node = self.make(var, *fork, below, &mut zeros, &mut ones)?;
             nodes.push(node)?;
         }
         Ok(nodes)
     }
 
     // The node for one fork.
-    fn make(&mut self, var: u32, fork: Fork, below: &[u32]) -> Result<u32, AllocError>
+    fn make(
+        &mut self,
+        var: u32,
+        fork: Fork,
+        below: &[u32],
+        zeros: &mut Ands,
+        ones: &mut Ands,
+    ) -> Result<u32, AllocError>
         requires maker { IsMaker self.old }
         requires var { IsVariable self.old var }
         requires below { AreFree self.old.store.nodes var below.now }
         requires fork { AreWithin (length below.now) fork }
+        requires zeros { IsNoting self.old.store.nodes var false zeros.old }
+        requires ones { IsNoting self.old.store.nodes var true ones.old }
         requires few { self.old.store.made + 3 ≤ MADE_LIMIT }
-        ensures { IfOk result (IsMade self.old self.new var below.now fork) }
+        ensures made { IfOk result (IsMade self.old self.new var below.now fork) }
+        ensures zeros { OnOk result (IsNoting self.new.store.nodes var false zeros.new) }
+        ensures ones { OnOk result (IsNoting self.new.store.nodes var true ones.new) }
     {
-        let zero = self.branch(var, false, fork.zero, below)?;
-        let one = self.branch(var, true, fork.one, below)?;
+        let zero = self.branch(var, false, fork.zero, below, zeros)?;
+        let one = self.branch(var, true, fork.one, below, ones)?;
         let node = self.join(zero, one)?;
         Ok(node)
     }
@@ -76,13 +93,16 @@ impl Maker {
         bit: bool,
         way: Option<u32>,
         below: &[u32],
+        ands: &mut Ands,
     ) -> Result<Option<u32>, AllocError>
         requires maker { IsMaker self.old }
         requires var { IsVariable self.old var }
         requires below { AreFree self.old.store.nodes var below.now }
         requires way { IfSome way (λ place. place < length below.now) }
+        requires ands { IsNoting self.old.store.nodes var bit ands.old }
         requires few { self.old.store.made < MADE_LIMIT }
-        ensures { IfOk result (IsBranch self.old self.new var bit below.now way) }
+        ensures branch { IfOk result (IsBranch self.old self.new var bit below.now way) }
+        ensures ands { OnOk result (IsNoting self.new.store.nodes var bit ands.new) }
     {
         let Some(place) = way else {
             return Ok(None);
@@ -91,8 +111,11 @@ impl Maker {
         if node == self.no {
             return Ok(None);
         }
-        let literal = self.store.literal(var, bit);
-        let both = conjoin(&mut self.store, literal, node, self.yes)?;
+        if let Some(both) = ands.of(node) {
+            return Ok(Some(both));
+        }
+        let both = conjoin(&mut self.store, ands.literal, node, self.yes)?;
+        ands.note(node, both);
         Ok(Some(both))
     }
 

@@ -2,10 +2,10 @@ ghost use Rattle.std.specs.Prelude.{◌≡◌, ◌<◌};
 
 use crate::C17;
 use bench_reader::read_bench;
-use branch_states::{BUDGET_LIMIT, measure};
+use branch_states::BUDGET_LIMIT;
 use clause_encoder::encode;
 use diagnosis_lister::{Step, first, next};
-use dnnf_compiler::compile;
+use dnnf_compiler::compile_within;
 use minimiser::Steps;
 use node_store::Graph;
 use probe_report::{Blame, blame_all, probe};
@@ -199,8 +199,7 @@ fn compiled(rt: &impl Abort, alloc: Global) -> Result<Graph, Fail> {
     assert!(rt; C17.len() <= 4096);
     let device = read_bench(alloc, C17.as_bytes())?;
     let cnf = encode(alloc, &device)?;
-    measure(alloc, &cnf, BUDGET_LIMIT)?;
-    Ok(compile(alloc, &cnf)?.graph)
+    Ok(compile_within(alloc, &cnf, BUDGET_LIMIT)?.graph)
 }
 
 fn asks_by<L: Ledger>(rt: &impl Abort, alloc: Global, blank: Blank) -> Result<(), Fail>

@@ -119,6 +119,14 @@ impl Store {
         self.add(NodeKind::Or, kids)
     }
 
+    /// Makes room for so many more nodes, so that the table need not grow while they come. The store is as it was, also after
+    /// want of memory.
+    pub fn reserve(&mut self, room: usize) -> Result<(), AllocError>
+        ensures { self.new ≡ self.old }
+    {
+        self.nodes.reserve(room)
+    }
+
     /// How often a node was made, also where an equal one was there.
     pub fn made(&self) -> u64
         ensures made { result ≡ self.now.made }

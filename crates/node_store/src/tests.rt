@@ -20,6 +20,7 @@ fn builds_a_graph_of_one_node(rt: HostRuntime) -> Result<(), Fail> {
 #[test]
 fn shares_an_equal_node(rt: HostRuntime) -> Result<(), Fail> {
     let mut store = Store::new(rt.alloc(), 2)?;
+    store.reserve(8)?;
     let kids = [store.literal(1, true), store.literal(2, false)];
     let either = store.or(&kids)?;
     let again = store.or(&kids)?;

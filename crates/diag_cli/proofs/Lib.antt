@@ -2,7 +2,6 @@ mod Examples
 pub mod WordLemmas
 pub mod Running
 pub mod ServedDevices
-pub mod Faults
 pub mod Failing
 pub mod Scripts
 pub mod Headline

@@ -4,16 +4,14 @@ use Rattle.std.specs.Prelude.{MatchResult}
 use Rattle.text_rules.specs.declared.text_lines.TheConstants.{TEXT_LIMIT}
 use Rattle.text_rules.specs.Tokens.{is_neat}
 use Rattle.text_rules.specs.Expected.{IsExpectedFault}
-use Rattle.graph_rules.specs.Graphs.{Graph, IsGraph}
+use Rattle.graph_rules.specs.Graphs.{Graph}
 use Rattle.graph_rules.specs.GraphTexts.{parsed}
 use Rattle.graph_rules.specs.WrittenGraphs.{graph_text}
 use Rattle.diag_edge.specs.Edge.{Puts}
 use Rattle.device_model.specs.Devices.{Device}
 use Rattle.clause_encoder.specs.Clauses.{ClauseList}
-use Rattle.clause_encoder.specs.Encoding.{encoded, Describes}
+use Rattle.clause_encoder.specs.Encoding.{encoded}
 use Rattle.branch_states.specs.Branches.{sum_of}
-use Rattle.dnnf_compiler.specs.Compiled.{SaysAll}
-use Rattle.dnnf_compiler.proofs.Laws.{graph_of_device}
 use Rattle.session_rules.specs.Items.{Whole}
 use Rattle.session_rules.specs.Spelling.{IsWholeOf}
 use Rattle.session_rules.proofs.Spellings.{replies_one}
@@ -22,6 +20,7 @@ use Rattle.diag_cli.specs.Describing.{described, device_in}
 use Rattle.diag_cli.specs.Planning.{within}
 use Rattle.diag_cli.specs.Courses.{graph_by, compiled}
 use Rattle.diag_cli.specs.Refusals.{or_memory}
+use Rattle.diag_cli.specs.inner.Serving.{IsServable}
 use Rattle.diag_cli.proofs.Failing.{replies_give}
 
 -- the device of a short text is that of its file
@@ -38,7 +37,7 @@ not_compiled None path file budget device status a b short is fault said = inl s
 not_compiled (Some output) path file budget device status a b short is fault said =
     inr (subst (λ (o : Output). Gives o status a b) (sym (ap (compiled budget) (in_file path file device short is) ∙ ap (graph_by device) fault)) said)
 
-module _ (path file : List ℕ) (budget : ℕ) (device : Device) (cnf : ClauseList) (graph : Graph) (made status : ℕ) (a b : Option (List ℕ)) where
+module _ (path file : List ℕ) (budget : ℕ) (device : Device) (cnf : ClauseList) (graph : Graph) (status : ℕ) (a b : Option (List ℕ)) where
   abbrev most : ℕ
   most = 3 * sum_of cnf.clauses + 2 * cnf.vars + 2
 
@@ -48,22 +47,19 @@ module _ (path file : List ℕ) (budget : ℕ) (device : Device) (cnf : ClauseLi
   output_is : length file ≤ TEXT_LIMIT → described path file ≡ Ok device → within budget (encoded device) ≡ Ok cnf → compiled budget (device_in path file) ≡ output
   output_is short is list = ap (compiled budget) (in_file path file device short is) ∙ ap (graph_by device) list
 
-  is_whole : encoded device ≡ Ok cnf → Describes cnf device → IsGraph graph → graph.vars ≡ cnf.vars → SaysAll cnf.clauses graph
-      → made ≤ 3 * sum_of cnf.clauses + 2 → length graph.nodes ≤ made + 2 * cnf.vars → IsWholeOf device cnf.vars most (Ok graph)
-  is_whole is describes valid vars says few_made few_nodes =
-      (vars, valid.nodes.apart, omega (arith, few_made, few_nodes), graph_of_device device cnf graph is describes vars says)
+  is_whole : IsServable device graph → graph.vars ≡ cnf.vars → length graph.nodes ≤ most → IsWholeOf device cnf.vars most (Ok graph)
+  is_whole is vars few_nodes = (vars, is.valid.nodes.apart, few_nodes, is.meaning)
 
   -- its text, with its own number of variables said again, was written, or a write failed
   pub graph_gives : {T E : Type 0} (result : Result T E) (vars : ℕ) → vars ≡ graph.vars
       → length file ≤ TEXT_LIMIT → described path file ≡ Ok device → within budget (encoded device) ≡ Ok cnf
-      → encoded device ≡ Ok cnf → Describes cnf device → IsGraph graph → graph.vars ≡ cnf.vars → SaysAll cnf.clauses graph
-      → made ≤ 3 * sum_of cnf.clauses + 2 → length graph.nodes ≤ made + 2 * cnf.vars
+      → IsServable device graph → graph.vars ≡ cnf.vars → length graph.nodes ≤ most
       → is_neat (graph_text (record graph { vars = vars })) ≡ true → parsed (graph_text (record graph { vars = vars })) ≡ Ok (record graph { vars = vars })
       → Puts a b result (graph_text (record graph { vars = vars })) → MatchResult result (λ _. status ≡ 0) (λ _. status ≡ 5)
       → GivesUnlessMemory (compiled budget (device_in path file)) status a b
-  graph_gives result vars same short is list encodes describes valid of_cnf says few_made few_nodes neat reads puts ends =
+  graph_gives result vars same short is list servable of_cnf few_nodes neat reads puts ends =
       inr (subst (λ (o : Output). Gives o status a b) (sym (output_is short is list))
       (replies_give output status a b result (λ five. absurd (omega (arith, five))) (replies_one a b result (Whole device cnf.vars most) _ (neat, spelled) puts) ends))
     where
       spelled : IsWholeOf device cnf.vars most (parsed (graph_text (record graph { vars = vars })))
-      spelled = subst (IsWholeOf device cnf.vars most) (sym (reads ∙ ap (λ n. Ok (record graph { vars = n })) same)) (is_whole encodes describes valid of_cnf says few_made few_nodes)
+      spelled = subst (IsWholeOf device cnf.vars most) (sym (reads ∙ ap (λ n. Ok (record graph { vars = n })) same)) (is_whole servable of_cnf few_nodes)

@@ -8,7 +8,8 @@ use Rattle.graph_rules.specs.Graphs.{Graph}
 use Rattle.graph_rules.specs.GraphTexts.{Refusal, NoHeader, AtLine, Counts, TooLarge, Shared, edges, verdict}
 use Rattle.diag_cli.specs.declared.checking.GraphSizes.{GraphSizes}
 use Rattle.diag_cli.specs.Output.{Output, says}
-use Rattle.diag_cli.specs.Describing.{fault_line, long_file_line}
+use Rattle.diag_edge.specs.ErrorLines.{fault_line}
+use Rattle.diag_cli.specs.Describing.{long_file_line}
 
 -- the faults of one line, by their numbers
 abbrev pub line_fault_name : ℕ → List ℕ

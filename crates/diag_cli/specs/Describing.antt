@@ -14,23 +14,15 @@ use Rattle.flattener.specs.declared.flattening.FlattenError.{FlattenError}
 use Rattle.flattener.specs.declared.flattening.FlattenError.TheVariants.{TooManyParts, TooManyWires, TooManyBlocks, PathTooLong, Memory}
 use Rattle.flattener.specs.declared.flattening.TheConstants.{INSTANCE_LIMIT}
 use Rattle.flattener.specs.Flat.{flattened}
+use Rattle.diag_edge.specs.ErrorLines.{fault_line, above_line}
 use Rattle.diag_cli.specs.Words.{is_design_path}
 use Rattle.diag_cli.specs.Output.{Output, says, no_memory_line}
-
--- the line that tells a fault, by its line, its number and its name
-abbrev pub fault_line : ℕ → ℕ → List ℕ → List ℕ
-fault_line line number name =
-    spaced (codes "error: line" ∷ (decimal line ++ codes ":") ∷ codes "fault" ∷ decimal number ∷ name ∷ [])
 
 abbrev pub netlist_line : NetlistFault → List ℕ
 netlist_line fault = fault_line fault.line (netlist_number fault.what) (netlist_name fault.what)
 
 abbrev pub design_line : DesignFault → List ℕ
 design_line fault = fault_line fault.line (design_number fault.what) (design_name fault.what)
-
--- the line that tells a count above its limit
-abbrev pub above_line : List ℕ → ℕ → ℕ → List ℕ
-above_line what count limit = spaced (codes "error:" ∷ what ∷ decimal count ∷ codes "above" ∷ decimal limit ∷ [])
 
 abbrev pub flatten_line : FlattenError → List ℕ
 flatten_line (TooManyParts count) = above_line (codes "parts") count PART_LIMIT

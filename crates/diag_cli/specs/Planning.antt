@@ -13,7 +13,7 @@ use Rattle.branch_states.specs.Branches.{sum_of}
 use Rattle.session_rules.specs.Items.{Item, line}
 use Rattle.diag_cli.specs.declared.planning.Sizes.{Sizes}
 use Rattle.diag_cli.specs.Output.{Output, says, no_memory}
-use Rattle.diag_cli.specs.Describing.{above_line}
+use Rattle.diag_edge.specs.ErrorLines.{above_line}
 
 -- a word and a number
 abbrev pub count_line : List ℕ → ℕ → Item

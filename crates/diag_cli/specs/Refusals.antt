@@ -5,7 +5,7 @@ use Rattle.diag_cli.specs.declared.refusal.Refusal.{Refusal}
 use Rattle.diag_cli.specs.declared.refusal.Refusal.TheVariants.{Fault, Header, Counts, Bits, Shared, Above, Sum, Memory}
 use Rattle.diag_cli.specs.Output.{Output, says, no_memory, no_memory_line}
 use Rattle.graph_rules.specs.GraphTexts as graphs
-use Rattle.diag_cli.specs.Describing.{fault_line, above_line}
+use Rattle.diag_edge.specs.ErrorLines.{fault_line, above_line}
 use Rattle.diag_cli.specs.Checking.{graph_fault_line}
 use Rattle.diag_cli.specs.Planning.{sum_line}
 

@@ -5,12 +5,10 @@ ghost use Rattle.diag_cli.specs.Output.{GivesUnlessMemory};
 ghost use Rattle.diag_cli.specs.Courses.{compiled};
 
 use crate::describing::described;
+use crate::graphs::graph_within;
 use crate::refusal::tell;
-use crate::saying::say;
-use crate::weighing::clauses_within;
 use branch_states::BUDGET_LIMIT;
 use diag_edge::Sink;
-use dnnf_compiler::compile;
 use nnf_text::write_nnf;
 use std::alloc::Global;
 use text_rules::TEXT_LIMIT;
@@ -37,13 +35,9 @@ pub(crate) fn compile_file<O: Sink>(
         Ok(device) => device,
         Err(refusal) => return tell(out, refusal),
     };
-    let (cnf, _) = match clauses_within(alloc, &device, budget) {
-        Ok(found) => found,
+    let graph = match graph_within(alloc, &device, budget) {
+        Ok((_, graph)) => graph,
         Err(refusal) => return tell(out, refusal),
-    };
-    let graph = match compile(alloc, &cnf) {
-        Ok(compiled) => compiled.graph,
-        Err(_) => return say(out, b"error: memory\n", 6),
     };
     match write_nnf(&graph, graph.vars(), out) {
         Ok(()) => 0,

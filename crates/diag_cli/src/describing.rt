@@ -2,7 +2,8 @@ ghost use Rattle.std.specs.Prelude.{◌≡◌, ◌≤◌, length, Some};
 ghost use Rattle.bench_reader.specs.Netlists.{netlist};
 ghost use Rattle.component_lang.specs.Reading.{design};
 ghost use Rattle.flattener.specs.Flat.{flattened};
-ghost use Rattle.diag_cli.specs.Describing.{above_line, netlist_line, flatten_line, or_line, design_device, described};
+ghost use Rattle.diag_edge.specs.ErrorLines.{above_line};
+ghost use Rattle.diag_cli.specs.Describing.{netlist_line, flatten_line, or_line, design_device, described};
 ghost use Rattle.diag_cli.specs.Output.{says};
 ghost use Rattle.diag_cli.specs.Refusals.{Finds, told_by};
 

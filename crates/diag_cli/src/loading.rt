@@ -1,7 +1,6 @@
 //! An adder that is made in memory, and what its readings come to.
 ghost use Rattle.std.specs.Prelude.{◌≡◌, ◌≢◌, ◌⊎◌, [], ◌∷◌, ◌-◌, ◌^◌, ◌<◌, ◌≤◌, Ok, length, IfOk};
 ghost use Rattle.bench_reader.specs.Netlists.{netlist};
-ghost use Rattle.clause_encoder.specs.Encoding.{encoded};
 ghost use Rattle.diag_edge.specs.Edge.{HasCause, RoseExactly};
 ghost use Rattle.diagnosis_lister.specs.Listing.{bits_of};
 ghost use Rattle.adder_load.specs.Adders.{adder_text};
@@ -14,10 +13,9 @@ ghost use Rattle.diag_cli.specs.inner.Loading.{IsSummaryOf, IsInStep, Loads, lis
 ghost use Rattle.diag_cli.specs.inner.Serving.{IsServable};
 
 use crate::describing::netlist_device;
+use crate::graphs::{costs_of, graph_within};
 use crate::planning::put_count;
 use crate::refusal::{Refusal, tell};
-use crate::serving::{costs_of, graph_of};
-use crate::weighing::clauses_within;
 use crate::words::DEFAULT_BUDGET;
 use adder_load::{Found, PLACE_LIMIT, adder_text, note_readings, sample};
 use device_model::{Device, Name};
@@ -104,10 +102,7 @@ fn summary_within(alloc: Global, device: Device, places: u32) -> Result<Summary,
     ensures summary { Loads (summary_of places (Ok device)) result }
     ensures in_step { IfOk result IsInStep }
 {
-    let (cnf, _) = clauses_within(alloc, &device, DEFAULT_BUDGET)?;
-    let Ok(graph) = graph_of(alloc, &device, &cnf) else {
-        return Err(Refusal::Memory);
-    };
+    let (cnf, graph) = graph_within(alloc, &device, DEFAULT_BUDGET)?;
     let clauses = u64::from(cnf.len());
     match summary_by::<Brand>(alloc, Blank::new(1), device, &graph, clauses, places) {
         Ok(summary) => Ok(summary),

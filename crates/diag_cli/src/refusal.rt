@@ -1,13 +1,12 @@
 ghost use Rattle.std.specs.Prelude.{◌≡◌, ◌≢◌, ◌⊎◌, ◌-◌, ◌^◌, ◌<◌};
 ghost use Rattle.diag_edge.specs.Edge.{HasCause, RoseExactly, Puts};
-ghost use Rattle.diag_cli.specs.Describing.{fault_line, above_line};
 ghost use Rattle.graph_rules.specs.GraphTexts.{Counts, TooLarge, Shared};
 ghost use Rattle.diag_cli.specs.Checking.{graph_fault_line};
 ghost use Rattle.diag_cli.specs.Planning.{sum_line};
 ghost use Rattle.diag_cli.specs.Output.{Gives};
 ghost use Rattle.diag_cli.specs.Refusals.{refusal_line, refusal_status, told_by, or_memory};
 
-use diag_edge::{Chunk, Sink, WriteFailed, put_line};
+use diag_edge::{Sink, WriteFailed, put_above, put_fault, put_line};
 use graph_rules::BITS_LIMIT;
 use itoa::Buffer;
 
@@ -64,19 +63,6 @@ impl Refusal {
     }
 }
 
-// The line that tells a fault.
-fn put_fault<O: Sink>(out: &mut O, line: u32, number: u32, name: &[u8]) -> Result<(), WriteFailed>
-    ensures text { Puts (O.got out.old) (O.got out.new) result (fault_line line number name.now) }
-    ensures cause { HasCause (O.faults out.old) (O.faults out.new) result }
-{
-    let mut chunk = Chunk::new();
-    chunk.add(out, b"error: line ")?;
-    chunk.add_number(out, line)?;
-    chunk.add(out, b": fault")?;
-    chunk.end_line(out, &[Buffer::new().format(number).as_bytes(), name])?;
-    chunk.put(out)
-}
-
 // The line that tells numbers that are not those said.
 fn put_counts<O: Sink>(out: &mut O, said: u64, found: u64) -> Result<(), WriteFailed>
     ensures text { Puts (O.got out.old) (O.got out.new) result (graph_fault_line (Counts said found)) }
@@ -130,23 +116,6 @@ fn put_shared<O: Sink>(out: &mut O, node: u32, variable: u32) -> Result<(), Writ
             Buffer::new().format(node).as_bytes(),
             b"variable",
             Buffer::new().format(variable).as_bytes(),
-        ],
-    )
-}
-
-// The line that tells a count above its limit.
-fn put_above<O: Sink>(out: &mut O, what: &[u8], count: u64, limit: u64) -> Result<(), WriteFailed>
-    ensures text { Puts (O.got out.old) (O.got out.new) result (above_line what.now count limit) }
-    ensures cause { HasCause (O.faults out.old) (O.faults out.new) result }
-{
-    put_line(
-        out,
-        &[
-            b"error:",
-            what,
-            Buffer::new().format(count).as_bytes(),
-            b"above",
-            Buffer::new().format(limit).as_bytes(),
         ],
     )
 }

@@ -1,11 +1,7 @@
-ghost use Rattle.std.specs.Prelude.{◌≡◌, ◌≢◌, ◌+◌, ◌-◌, ◌*◌, ◌^◌, ◌<◌, ◌≤◌, [], ◌∷◌, Ok, length, codes, decimal, All, IfOk, IfErr};
-ghost use Rattle.std.specs.List.{sum};
+ghost use Rattle.std.specs.Prelude.{◌≡◌, ◌≢◌, ◌+◌, ◌-◌, ◌^◌, ◌<◌, ◌≤◌, [], ◌∷◌, Ok, length, codes, decimal, IfOk, IfErr};
 ghost use Rattle.text_rules.specs.Tokens.{spaced};
 ghost use Rattle.text_rules.specs.Expected.{Fulfils};
 ghost use Rattle.diag_edge.specs.Edge.{HasCause, Puts, RoseExactly};
-ghost use Rattle.device_model.specs.Devices.{part_costs};
-ghost use Rattle.branch_states.specs.Branches.{sum_of};
-ghost use Rattle.clause_encoder.specs.Encoding.{encoded, Describes};
 ghost use Rattle.session_rules.specs.GraphSystems.{system_of};
 ghost use Rattle.diag_cli.specs.Courses.{answers_of, if_within, served_or_refused};
 ghost use Rattle.diag_cli.specs.Describing.{device_in};
@@ -14,49 +10,20 @@ ghost use Rattle.diag_cli.specs.inner.Courses.{Follows, IsServed};
 ghost use Rattle.diag_cli.specs.inner.Serving.{IsServable, IsServiceOf, IsSound};
 
 use crate::describing::described;
+use crate::graphs::{costs_of, graph_within};
 use crate::refusal::{Refusal, tell};
 use crate::saying::say;
-use crate::weighing::clauses_within;
 use branch_states::BUDGET_LIMIT;
-use clause_encoder::Cnf;
-use device_model::{COST_LIMIT, Device, PART_LIMIT};
+use device_model::Device;
 use diag_edge::{Sink, Source, WriteFailed, put_line};
-use dnnf_compiler::compile;
 use itoa::Buffer;
 use node_store::Graph;
 use session_core::{SESSION_LIMIT, ServeEnd, Service};
-use std::alloc::{AllocError, Global};
+use std::alloc::Global;
 use text_rules::TEXT_LIMIT;
 
 /// A script of so many bytes is cut.
 pub const SCRIPT_LIMIT: u64 = 1_099_511_627_776;
-
-// The graph of a device, by its clauses.
-pub(crate) fn graph_of(alloc: Global, device: &Device, cnf: &Cnf) -> Result<Graph, AllocError>
-    requires sum { sum_of cnf.now.clauses ≤ BUDGET_LIMIT }
-    requires encoded { encoded device.now ≡ Ok cnf.now }
-    requires describes { Describes cnf.now device.now }
-    ensures { IfOk result (IsServable device.now) }
-{
-    // parts and wires of a device are few
-    let _parts = device.parts();
-    Ok(compile(alloc, cnf)?.graph)
-}
-
-/// What a failure of each part costs.
-pub(crate) fn costs_of(alloc: Global, device: &Device) -> Result<Vec<u32>, AllocError>
-    ensures costs { IfOk result (λ costs. costs.items ≡ part_costs device.now) }
-    ensures many { IfOk result (λ costs. length costs.items ≡ length device.now.parts) }
-    ensures dear { IfOk result (λ costs. All (λ c. 0 < c) costs.items) }
-    ensures total { IfOk result (λ costs. sum costs.items ≤ COST_LIMIT * PART_LIMIT) }
-{
-    let parts = device.parts().len();
-    let mut costs = Vec::with_capacity(alloc, parts)?;
-    for part in 0..parts as u32 {
-        costs.push(device.cost(part))?;
-    }
-    Ok(costs)
-}
 
 // A service over a device and its graph, of at most so many sessions. All their memory is taken here.
 fn service_over(
@@ -98,11 +65,8 @@ fn service_within(
     ensures service { IfOk result (IsServiceOf device sessions) }
     ensures within { Fulfils (λ _. device) told_by (if_within budget (Ok device)) result }
 {
-    let (cnf, _) = clauses_within(alloc, &device, budget)?;
-    match graph_of(alloc, &device, &cnf) {
-        Ok(graph) => service_over(alloc, device, graph, sessions),
-        Err(_) => Err(Refusal::Memory),
-    }
+    let (_, graph) = graph_within(alloc, &device, budget)?;
+    service_over(alloc, device, graph, sessions)
 }
 
 // The line `ready` with the numbers of parts and wires.

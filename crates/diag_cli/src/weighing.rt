@@ -1,5 +1,5 @@
-ghost use Rattle.std.specs.Prelude.{◌≡◌, ◌≤◌, Ok, IfOk};
-ghost use Rattle.text_rules.specs.Expected.{Fulfils};
+ghost use Rattle.std.specs.Prelude.{◌≡◌, ◌≤◌, ℕ, Ok, IfOk, IfErr};
+ghost use Rattle.text_rules.specs.Expected.{IsExpectedFault, Fulfils};
 ghost use Rattle.clause_encoder.specs.Encoding.{encoded, Describes};
 ghost use Rattle.branch_states.specs.Branches.{sum_of};
 ghost use Rattle.diag_cli.specs.Planning.{within};
@@ -11,6 +11,22 @@ use branch_states::{BUDGET_LIMIT, MeasureError, measure};
 use clause_encoder::{CLAUSE_LIMIT, Cnf, EncodeError, encode};
 use device_model::Device;
 use std::alloc::Global;
+
+/// The clauses of a device, unless there are too many, whatever the budget.
+pub(crate) fn clauses_of(alloc: Global, device: &Device) -> Result<Cnf, Refusal>
+    ensures encoded { IfOk result (λ cnf. encoded device.now ≡ Ok cnf) }
+    ensures describes { IfOk result (λ cnf. Describes cnf device.now) }
+    ensures fault { IfErr result (λ refusal. (budget : ℕ)
+        → IsExpectedFault (told_by refusal) (within budget (encoded device.now))) }
+{
+    match encode(alloc, device) {
+        Ok(cnf) => Ok(cnf),
+        Err(EncodeError::TooManyClauses { count }) => {
+            Err(above("clauses", count, CLAUSE_LIMIT as usize))
+        }
+        Err(EncodeError::Memory) => Err(Refusal::Memory),
+    }
+}
 
 /// The clauses of a device and their sum, where it is within a budget.
 pub(crate) fn clauses_within(
@@ -25,13 +41,7 @@ pub(crate) fn clauses_within(
     ensures encoded { IfOk result (λ found. encoded device.now ≡ Ok found.0) }
     ensures describes { IfOk result (λ found. Describes found.0 device.now) }
 {
-    let cnf = match encode(alloc, device) {
-        Ok(cnf) => cnf,
-        Err(EncodeError::TooManyClauses { count }) => {
-            return Err(above("clauses", count, CLAUSE_LIMIT as usize));
-        }
-        Err(EncodeError::Memory) => return Err(Refusal::Memory),
-    };
+    let cnf = clauses_of(alloc, device)?;
     match measure(alloc, &cnf, budget) {
         Ok(sum) => Ok((cnf, sum)),
         Err(MeasureError::Above) => Err(Refusal::Sum { budget }),

@@ -2,7 +2,7 @@ use Rattle.std.proofs.Common.{◌≡◌, ◌<◌, ◌≤◌, ◌*◌, take}
 use Rattle.std.specs.List.{All, sum}
 use Rattle.device_model.specs.declared.limits.TheConstants.{COST_LIMIT}
 use Rattle.device_model.specs.Devices.{part_costs}
-use Rattle.diag_cli.proofs.serving.costs_of.Given as goal
+use Rattle.diag_cli.proofs.graphs.costs_of.Given as goal
 
 -- the costs of the parts so far
 abbrev pub invariant-loop-part : goal.invariant-loop-part

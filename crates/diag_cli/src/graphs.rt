@@ -1,0 +1,56 @@
+//! What a device is asked by: its graph, and the costs of its parts.
+ghost use Rattle.std.specs.Prelude.{◌≡◌, ◌+◌, ◌*◌, ◌<◌, ◌≤◌, length, All, IfOk};
+ghost use Rattle.std.specs.List.{sum};
+ghost use Rattle.text_rules.specs.Expected.{Fulfils};
+ghost use Rattle.device_model.specs.Devices.{part_costs};
+ghost use Rattle.clause_encoder.specs.Encoding.{encoded};
+ghost use Rattle.branch_states.specs.Branches.{sum_of};
+ghost use Rattle.diag_cli.specs.Planning.{within};
+ghost use Rattle.diag_cli.specs.Refusals.{told_by};
+ghost use Rattle.diag_cli.specs.inner.Serving.{IsServable};
+
+use crate::refusal::Refusal;
+use crate::weighing::clauses_of;
+use branch_states::{BUDGET_LIMIT, MeasureError};
+use clause_encoder::Cnf;
+use device_model::{COST_LIMIT, Device, PART_LIMIT};
+use dnnf_compiler::compile_within;
+use node_store::Graph;
+use std::alloc::{AllocError, Global};
+
+/// The clauses of a device and their graph, where their sum is within a budget.
+pub(crate) fn graph_within(
+    alloc: Global,
+    device: &Device,
+    budget: u32,
+) -> Result<(Cnf, Graph), Refusal>
+    requires { budget ≤ BUDGET_LIMIT }
+    ensures list { Fulfils (λ found. found.0) told_by (within budget (encoded device.now)) result }
+    ensures servable { IfOk result (λ found. IsServable device.now found.1) }
+    ensures vars { IfOk result (λ found. found.1.vars ≡ found.0.vars) }
+    ensures few_nodes { IfOk result (λ found. length found.1.nodes ≤ 3 * sum_of found.0.clauses + 2 * found.0.vars + 2) }
+{
+    // parts and wires of a device are few
+    let _parts = device.parts();
+    let cnf = clauses_of(alloc, device)?;
+    match compile_within(alloc, &cnf, budget) {
+        Ok(compiled) => Ok((cnf, compiled.graph)),
+        Err(MeasureError::Above) => Err(Refusal::Sum { budget }),
+        Err(MeasureError::Memory) => Err(Refusal::Memory),
+    }
+}
+
+/// What a failure of each part costs.
+pub(crate) fn costs_of(alloc: Global, device: &Device) -> Result<Vec<u32>, AllocError>
+    ensures costs { IfOk result (λ costs. costs.items ≡ part_costs device.now) }
+    ensures many { IfOk result (λ costs. length costs.items ≡ length device.now.parts) }
+    ensures dear { IfOk result (λ costs. All (λ c. 0 < c) costs.items) }
+    ensures total { IfOk result (λ costs. sum costs.items ≤ COST_LIMIT * PART_LIMIT) }
+{
+    let parts = device.parts().len();
+    let mut costs = Vec::with_capacity(alloc, parts)?;
+    for part in 0..parts as u32 {
+        costs.push(device.cost(part))?;
+    }
+    Ok(costs)
+}

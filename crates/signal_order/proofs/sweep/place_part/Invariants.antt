@@ -1,0 +1,9 @@
+use Rattle.std.proofs.Common.{◌≡◌, length}
+use Rattle.signal_order.specs.Sweeping.{AreParted}
+use Rattle.signal_order.proofs.sweep.place_part.Given as goal
+
+abbrev pub invariant-loop-port : goal.invariant-loop-port
+invariant-loop-port l = record {
+  long : length l.unplaced ≡ length l.initial.unplaced;
+  parted : AreParted l.order.items l.unplaced;
+}

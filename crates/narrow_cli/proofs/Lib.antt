@@ -1,0 +1,3 @@
+pub mod Again
+pub mod Narrowed
+pub mod Runs

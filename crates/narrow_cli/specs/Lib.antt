@@ -1,0 +1,4 @@
+pub mod Words
+pub mod Narrowing
+pub mod Runs
+pub mod inner

@@ -1,0 +1,34 @@
+-- What the words of the command line ask for.
+use Rattle.std.specs.Prelude.{ℕ, Bool, ◌&&◌, ◌-◌, nat_lt, List, [], ◌∷◌, length, drop, Option, Some, None, option_and_then, if◌then◌else◌, codes}
+use Rattle.std.specs.Option.{option_map, option_map_or}
+use Rattle.text_rules.specs.Names.{same_name}
+use Rattle.text_rules.specs.Numbers.{plain_number_in}
+use Rattle.diag_edge.specs.Edge.{Holding, told_bytes}
+use Rattle.signal_order.specs.declared.finding.TheConstants.{DEFAULT_MOVES}
+use Rattle.narrow_cli.specs.declared.words.TheConstants.{MOVE_LIMIT}
+
+-- the file of a netlist, and how many moves are tried
+pub record Request : Type 0 where
+  pub path : List ℕ
+  pub moves : ℕ
+
+-- a netlist by its ending, before which something stands
+abbrev pub is_netlist_path : List ℕ → Bool
+is_netlist_path path = nat_lt 6 (length path) && same_name (drop (length path - 6) path) (codes ".bench")
+
+abbrev pub request_over : List ℕ → ℕ → Option Request
+request_over path moves = if is_netlist_path path then Some (record { path = path; moves = moves }) else None
+
+-- a file, and a number of moves where it is not the usual one
+abbrev pub request_of : List (List ℕ) → Option Request
+request_of (path ∷ []) = request_over path DEFAULT_MOVES
+request_of (path ∷ moves ∷ []) = option_and_then (request_over path) (plain_number_in 9 0 MOVE_LIMIT moves)
+request_of words = None
+
+-- the file that is named, if one is
+abbrev pub named_file : Option Request → Option (List ℕ)
+named_file request = option_map (λ (r : Request). r.path) request
+
+-- what is told of that file; where none is named it is as good as empty
+abbrev pub told_file : (List ℕ → Holding) → Option Request → Option (List ℕ)
+told_file held request = option_map_or (λ path. told_bytes (held path)) (named_file request) (Some [])

@@ -1,0 +1,14 @@
+//! The program `narrow`: its words, and the one call that does all of it.
+#![tactic(auto)]
+
+mod candidates;
+mod program;
+mod reading;
+mod refusal;
+mod saying;
+#[cfg(test)]
+mod tests;
+mod words;
+
+pub use program::narrow;
+pub use words::MOVE_LIMIT;

@@ -4,8 +4,6 @@
 mod adders;
 mod readings;
 mod sampling;
-#[cfg(test)]
-mod tests;
 
 pub use adders::{PLACE_LIMIT, adder_text};
 pub use readings::note_readings;

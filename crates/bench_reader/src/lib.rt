@@ -7,8 +7,6 @@ mod kinds;
 mod netlist;
 mod signals;
 mod statement;
-#[cfg(test)]
-mod tests;
 
 pub use fault::{BenchError, BenchFault};
 pub use netlist::read_bench;

@@ -8,8 +8,6 @@ mod levels;
 mod measuring;
 mod order;
 mod spans;
-#[cfg(test)]
-mod tests;
 mod walk;
 mod walks;
 

@@ -6,8 +6,6 @@ mod encoding;
 mod flat;
 mod gates;
 mod limits;
-#[cfg(test)]
-mod tests;
 mod writer;
 
 pub use cnf::{Clause, Cnf};

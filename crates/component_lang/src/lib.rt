@@ -7,8 +7,6 @@ mod fault;
 mod kinds;
 mod line_error;
 mod reading;
-#[cfg(test)]
-mod tests;
 mod types;
 mod words;
 

@@ -6,8 +6,6 @@ mod component;
 mod device;
 mod limits;
 mod names;
-#[cfg(test)]
-mod tests;
 
 pub use building::BuildError;
 pub use component::{Component, Kind, Table, Wires};

@@ -19,8 +19,6 @@ mod mem_sink;
 mod mem_source;
 mod outside;
 mod sure;
-#[cfg(test)]
-mod tests;
 
 pub use chunk::{Chunk, put_line};
 pub use error_lines::{put_above, put_fault};

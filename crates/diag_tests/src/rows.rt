@@ -1,5 +1,5 @@
 use crate::running::{CHAIN, File, Meeting, NOTHING_FAILS, run};
-use graph_tests::C17;
+use device_tests::C17;
 use std::test::Fail;
 
 struct Row {

@@ -4,7 +4,5 @@
 mod counting;
 mod expanding;
 mod flattening;
-#[cfg(test)]
-mod tests;
 
 pub use flattening::{FlattenError, INSTANCE_LIMIT, flatten};

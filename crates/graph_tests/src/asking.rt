@@ -1,9 +1,9 @@
 ghost use Rattle.std.specs.Prelude.{◌≡◌, ◌<◌};
 
-use crate::C17;
 use bench_reader::read_bench;
 use branch_states::BUDGET_LIMIT;
 use clause_encoder::encode;
+use device_tests::C17;
 use diagnosis_lister::{Step, first, next};
 use dnnf_compiler::compile_within;
 use minimiser::Steps;

@@ -5,8 +5,6 @@
 mod pass;
 mod steps;
 mod suspects;
-#[cfg(test)]
-mod tests;
 
 pub use pass::{TOTAL_LIMIT, least};
 pub use steps::Steps;

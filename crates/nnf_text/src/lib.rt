@@ -9,8 +9,6 @@ mod node_lines;
 mod numbers;
 mod reading;
 mod sharing;
-#[cfg(test)]
-mod tests;
 mod writing;
 
 pub use error::NnfError;

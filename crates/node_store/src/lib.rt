@@ -5,8 +5,6 @@ mod flat;
 mod graph;
 mod nearby;
 mod store;
-#[cfg(test)]
-mod tests;
 
 pub use flat::Nodes;
 pub use graph::{Graph, GraphBuilder, NODE_LIMIT};

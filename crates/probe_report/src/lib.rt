@@ -3,8 +3,6 @@
 
 mod asking;
 mod blaming;
-#[cfg(test)]
-mod tests;
 mod verdicts;
 
 pub use asking::probe;

@@ -3,8 +3,6 @@
 
 mod held;
 mod nodes;
-#[cfg(test)]
-mod tests;
 mod writing;
 
 pub use writing::write_projected;

@@ -4,8 +4,6 @@
 mod parts;
 mod pool;
 mod region;
-#[cfg(test)]
-mod tests;
 
 pub use pool::{Block, POOL_LIMIT, Pool};
 pub use region::{REGION_LIMIT, RUN_LIMIT, Region, Run, Span};

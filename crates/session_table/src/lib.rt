@@ -6,7 +6,5 @@ mod in_order;
 mod in_pool;
 mod open_sessions;
 mod short_name;
-#[cfg(test)]
-mod tests;
 
 pub use open_sessions::OpenSessions;

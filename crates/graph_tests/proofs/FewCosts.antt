@@ -1,0 +1,7 @@
+-- Three small costs together are no more than costs may be.
+use Rattle.std.proofs.Common.{◌≡◌, ℕ, ◌<◌, List, All, length, arith}
+use Rattle.std.proofs.lemmas.List.Sums.{sum_by-le}
+use Rattle.conditioner.specs.Models.{total_cost}
+
+pub few_costs : (costs : List ℕ) → length costs ≡ 3 → All (λ n. n < 10) costs → total_cost costs < 2147483647
+few_costs costs three small = omega (arith, sum_by-le (λ n. n) 10 costs (λ k d h. let s = small k d h in omega arith))

@@ -1,0 +1,135 @@
+ghost use Rattle.std.specs.Prelude.{◌<◌, length};
+
+use branch_states::{BUDGET_LIMIT, MeasureError, measure};
+use clause_encoder::{Cnf, encode};
+use device_model::Kind;
+use device_tests::gates;
+use dnnf_compiler::{Compiled, compile, compile_within};
+use graph_rules::NodeKind;
+use node_store::Graph;
+use std::alloc::Global;
+use std::process::Abort;
+use std::test::Fail;
+
+fn compiled(alloc: Global, cnf: &Cnf) -> Result<Compiled, Fail> {
+    let _ = measure(alloc, cnf, BUDGET_LIMIT)?;
+    Ok(compile(alloc, cnf)?)
+}
+
+// Whether a node is an And or an Or without children.
+fn is_constant(graph: &Graph, node: u32) -> bool
+    requires { node < length graph.now.nodes }
+{
+    !matches!(graph.what(node), NodeKind::Literal { .. }) && graph.kids(node).is_empty()
+}
+
+// Whether the root is true under bits for the variables, that of the first being the lowest. No constant stands below
+// another node.
+fn is_true(rt: &impl Abort, alloc: Global, graph: &Graph, bits: u32) -> Result<bool, Fail> {
+    let mut values = Vec::new(alloc);
+    for node in 0..graph.len() {
+        let mut all = true;
+        let mut any = false;
+        for kid in graph.kids(node) {
+            assert!(rt; *kid < graph.len() && !is_constant(graph, *kid));
+            let value = *values
+                .get(*kid as usize)
+                .ok_or("a child that is not there")?;
+            all = all && value;
+            any = any || value;
+        }
+        values.push(match graph.what(node) {
+            NodeKind::Literal { var, positive } => {
+                assert!(rt; 1 <= var && var <= 32);
+                ((bits >> (var - 1)) & 1 == 1) == positive
+            }
+            NodeKind::And => all,
+            NodeKind::Or => any,
+        })?;
+    }
+    Ok(*values.last().ok_or("no node")?)
+}
+
+// Whether the graph of a gate is true where the part is faulty, and where it is ok just in these rows of bits for the inputs and
+// then for the output.
+fn means(
+    rt: &impl Abort,
+    alloc: Global,
+    kind: Kind,
+    inputs: u32,
+    fitting: u32,
+) -> Result<bool, Fail> {
+    assert!(rt; 1 <= inputs && inputs <= 2);
+    let cnf = encode(alloc, &gates(alloc, kind, inputs, 1, true)?)?;
+    let graph = compiled(alloc, &cnf)?.graph;
+    let mut is_right = graph.vars() == inputs + 2;
+    for row in 0..8u32 >> (2 - inputs) {
+        let fits = (fitting >> row) & 1 == 1;
+        is_right = is_right
+            && is_true(rt, alloc, &graph, 2 * row)?
+            && is_true(rt, alloc, &graph, 2 * row + 1)? == fits;
+    }
+    Ok(is_right)
+}
+
+#[test]
+fn means_a_gate(rt: HostRuntime) -> Result<(), Fail> {
+    let rows: [(Kind, u32, u32); 5] = [
+        (Kind::Buff, 1, 0b1001),
+        (Kind::Not, 1, 0b0110),
+        (Kind::And, 2, 0b1000_0111),
+        (Kind::Nor, 2, 0b0001_1110),
+        (Kind::Xor, 2, 0b0110_1001),
+    ];
+    for (kind, inputs, fitting) in rows {
+        assert!(&rt; means(&rt, rt.alloc(), kind, inputs, fitting)?);
+    }
+    Ok(())
+}
+
+#[test]
+fn says_true_of_no_clause(rt: HostRuntime) -> Result<(), Fail> {
+    let alloc = rt.alloc();
+    let cnf = Cnf::of(alloc, 3, Vec::new(alloc))?;
+    let compiled = compiled(alloc, &cnf)?;
+    assert_eq!(&rt; compiled.graph.vars(), 3);
+    assert_eq!(&rt; compiled.graph.len(), 1);
+    assert_eq!(&rt; compiled.graph.what(0), NodeKind::And);
+    Ok(())
+}
+
+#[test]
+fn compiles_chains(rt: HostRuntime) -> Result<(), Fail> {
+    let alloc = rt.alloc();
+    // Buffers in a row. The sum is five for each, and two.
+    for (count, made, nodes) in [(40, 608, 770), (1000, 15_008, 19_010)] {
+        let cnf = encode(alloc, &gates(alloc, Kind::Buff, 1, count, true)?)?;
+        let compiled = compiled(alloc, &cnf)?;
+        assert!(&rt; compiled.made <= made);
+        assert!(&rt; compiled.graph.len() <= nodes);
+    }
+    Ok(())
+}
+
+// Whether so many gates in a row are compiled within a sum, and not within less.
+fn stops(rt: &impl Abort, alloc: Global, kind: Kind, count: u32, sum: u32) -> Result<bool, Fail> {
+    assert!(rt; 1 <= sum && sum <= BUDGET_LIMIT);
+    let cnf = encode(alloc, &gates(alloc, kind, 1, count, true)?)?;
+    let within = compile_within(alloc, &cnf, sum)?.graph.vars();
+    let none = compile_within(alloc, &cnf, 0).err();
+    let less = compile_within(alloc, &cnf, sum - 1).err();
+    Ok(
+        within == cnf.vars()
+            && none == Some(MeasureError::Above)
+            && less == Some(MeasureError::Above),
+    )
+}
+
+#[test]
+fn stops_above_a_limit(rt: HostRuntime) -> Result<(), Fail> {
+    // The sums of an inverter and of buffers in a row.
+    for (kind, count, sum) in [(Kind::Not, 1, 7), (Kind::Buff, 40, 202)] {
+        assert!(&rt; stops(&rt, rt.alloc(), kind, count, sum)?);
+    }
+    Ok(())
+}

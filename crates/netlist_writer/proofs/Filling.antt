@@ -9,7 +9,7 @@ use Rattle.std.proofs.lemmas.Option.{slice_get-get_or}
 use Rattle.device_model.specs.declared.component.Component.{Component}
 use Rattle.renaming.specs.Renaming.{IsOrder, place_in, output}
 use Rattle.netlist_writer.specs.inner.Tables.{ArePlaces, part_at, AreDrivers}
-use Rattle.netlist_writer.proofs.Orders.{at_below, place_in-at, place_in-below, at-place_in}
+use Rattle.netlist_writer.proofs.Orders.{at_below, place_in-at, place_in-below, get_or-place_in}
 use Rattle.netlist_writer.proofs.Driving.{driving}
 
 -- ---- places
@@ -40,7 +40,7 @@ module _ (order : List ℕ) (is : IsOrder (length order) order) where
   pub all_places_set : (n : ℕ) (places : List ℕ) → length order ≤ n → ArePlacesTo n order places → ArePlaces order places
   all_places_set n places all h signal l =
       let within : signal < length order = omega (arith, h.long) in
-      ap (λ s. get_or places s 0) (sym (at-place_in (length order) order is signal within))
+      ap (λ s. get_or places s 0) (sym (get_or-place_in (length order) order is signal 0 within))
       ∙ h.each (place_in order signal) (omega (arith, place_in-below (length order) order is signal within))
 
   pub places_few : (places : List ℕ) → length order ≤ 16384 → length places ≡ length order → ArePlaces order places → All (λ place. place < 100000) places

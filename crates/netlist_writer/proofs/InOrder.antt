@@ -14,7 +14,7 @@ use Rattle.renaming.specs.Renaming.{IsOrder, IsNetlist, place_in, new_name, new_
 use Rattle.netlist_writer.specs.Writing.{input_line, gate_line, input_names, line_by, netlist_text}
 use Rattle.netlist_writer.specs.inner.Tables.{name_by, line_under, ArePlaces, AreDrivers, line_by_tables}
 use Rattle.netlist_writer.proofs.Ranges.{in_range, all_places, map_alike, flat_map_alike, list_all-take}
-use Rattle.netlist_writer.proofs.Orders.{length-order, at_below, among_below, place_in-at, place_in-below, at-place_in}
+use Rattle.netlist_writer.proofs.Orders.{length-order, at_below, order_below, place_in-at, place_in-below, get_or-place_in}
 use Rattle.netlist_writer.proofs.NewNames.{length-new_names, new_names-at}
 use Rattle.netlist_writer.proofs.Driving.{driving, driving-is}
 use Rattle.netlist_writer.proofs.Writable.{places}
@@ -35,10 +35,10 @@ module _ (order : List ℕ) (device : Device) (is_device : IsDevice device) (net
   name-at_place : (signal : ℕ) → signal < count → get_or new_wires (place_in order signal) [] ≡ name signal
   name-at_place signal below =
       let place = place_in order signal in
-      let within : place < length order = omega (arith, place_in-below count order is_order signal below, length-order count order is_order) in
+      let within : place < length order = place_in-below count order is_order signal below in
       let known : get_or places_of signal 0 ≡ place = are_places signal (omega (arith, so_many, length-order count order is_order)) in
       new_names-at device.wires order place within
-      ∙ ap (λ s. new_name place (get_or device.wires s [])) (at-place_in count order is_order signal below)
+      ∙ ap (λ s. new_name place (get_or device.wires s [])) (get_or-place_in count order is_order signal 0 below)
       ∙ ap (λ p. new_name p (get_or device.wires signal [])) (sym known)
 
   name-at : (k : ℕ) → k < count → get_or new_wires k [] ≡ name (get_or order k 0)
@@ -81,5 +81,5 @@ module _ (order : List ℕ) (device : Device) (is_device : IsDevice device) (net
       → flat_map (line_by_tables device.parts device.wires places_of drivers) order ≡ netlist_text (renamed order device)
   text-by_tables drivers many are_drivers =
       flat_map_alike (line_by_tables device.parts device.wires places_of drivers) (λ wire. line_under name wire (driving device.parts wire)) order
-      (λ wire m. ap (line_under name wire) (are_drivers wire (omega (arith, among_below count order is_order wire m, many))))
+      (λ wire m. ap (line_under name wire) (are_drivers wire (omega (arith, order_below count order is_order wire m, many))))
       ∙ text-in_order

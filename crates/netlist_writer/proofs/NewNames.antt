@@ -22,7 +22,7 @@ use Rattle.netlist_writer.proofs.Ranges.{list_all-take}
 digit_in_name : (d : ℕ) → d < 10 → is_name_byte (48 + d) ≡ true
 digit_in_name d small = grind (arith, nat_tests)
 
-digits_in_name : (place : ℕ) → place < 100000 → list_all is_name_byte (five_digits place) ≡ true
+pub digits_in_name : (place : ℕ) → place < 100000 → list_all is_name_byte (five_digits place) ≡ true
 digits_in_name place small =
     and_from _ _ (digit_in_name (place / 10000) (omega arith)) (and_from _ _ (digit_in_name (place / 1000 % 10) (omega arith))
     (and_from _ _ (digit_in_name (place / 100 % 10) (omega arith)) (and_from _ _ (digit_in_name (place / 10 % 10) (omega arith))
@@ -85,7 +85,7 @@ digits_rise m n a b c d e f g h i j xs ys p q l =
     (λ u. next_digit d i xs-5 ys-5 (λ k. omega arith)
     (λ v. next_digit e j xs ys (λ k. omega arith) (λ w. absurd (omega arith))))))
 
-new_names_rise : (m n : ℕ) (x y : Name) → m < n → Below (new_name m x) (new_name n y)
+pub new_names_rise : (m n : ℕ) (x y : Name) → m < n → Below (new_name m x) (new_name n y)
 new_names_rise m n x y l =
     digits_rise m n (m / 10000) (m / 1000 % 10) (m / 100 % 10) (m / 10 % 10) (m % 10) (n / 10000) (n / 1000 % 10) (n / 100 % 10) (n / 10 % 10) (n % 10)
     (95 ∷ take 58 x) (95 ∷ take 58 y) (spells m) (spells n) l

@@ -19,7 +19,7 @@ use Rattle.bench_reader.specs.Netlists.{netlist}
 use Rattle.netlist_writer.specs.Reading.{IsReadAsRenamed}
 use Rattle.netlist_writer.proofs.LineTexts.{gate_takes, sums_read}
 use Rattle.netlist_writer.proofs.Ranges.{in_range, all_places, flat_map_alike, list_all-of_map}
-use Rattle.netlist_writer.proofs.Orders.{length-order, order-sum, among_below, place_in-at, place_in-below}
+use Rattle.netlist_writer.proofs.Orders.{length-order, order-sum, order_below, place_in-at, place_in-below}
 use Rattle.netlist_writer.proofs.NewNames.{new_names-rise, length-new_names, new_names-at, new_names-short}
 use Rattle.netlist_writer.proofs.Driving.{driving, driving-is, picked_parts, filter_map-of_map, found_at, length-filter_map, driven_few}
 use Rattle.netlist_writer.proofs.Writable.{IsGateAt, IsWritable, places, device_at, text_at}
@@ -79,7 +79,7 @@ module _ (order : List ℕ) (device : Device) where
     joined-renamed part joined =
         list_all-of_map (λ port. nat_lt port (length wires)) (place_in order) part.ports (λ port m.
         let below = ltb-true port (length device.wires) (list_all-among (λ port. nat_lt port (length device.wires)) part.ports joined port m) in
-        lt-ltb (place_in order port) (length wires) (omega (arith, place_in-below (length device.wires) order is_order port below, long)))
+        lt-ltb (place_in order port) (length wires) (omega (arith, place_in-below (length device.wires) order is_order port below, length-order (length device.wires) order is_order, long)))
 
     pub gate_is : (k : ℕ) (gate : Component) → k < length wires → gate_at k ≡ Some gate → IsGateAt wires k gate
     gate_is k gate below e =
@@ -106,7 +106,7 @@ module _ (order : List ℕ) (device : Device) where
         omega (arith, count, driven_few (renamed_part order) device.parts (length device.wires), is_device.few_parts)
 
     short_wire : (w : ℕ) → Among w order → is_short_name (get_or device.wires w []) ≡ true
-    short_wire w m = net.short w [] (among_below (length device.wires) order is_order w m)
+    short_wire w m = net.short w [] (order_below (length device.wires) order is_order w m)
 
     pub is_writable : IsWritable wires gate_at
     is_writable = record {

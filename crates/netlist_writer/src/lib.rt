@@ -5,10 +5,9 @@ mod laws;
 mod names;
 mod sums;
 mod tables;
-#[cfg(test)]
-mod tests;
 mod writing;
 
 pub use laws::{are_netlists, reads_back};
 pub use sums::sums_line;
-pub use writing::renamed_text;
+pub use tables::places_of;
+pub use writing::{kind_word, renamed_text};

@@ -1,25 +1,11 @@
 ghost use Rattle.std.specs.Prelude.{◌≡◌, ◌<◌, ◌++◌, length, map, All, OnOk};
-ghost use Rattle.renaming.specs.Renaming.{five_digits};
 ghost use Rattle.netlist_writer.specs.Writing.{listed};
 ghost use Rattle.netlist_writer.specs.inner.Tables.{name_by};
 
 use device_model::Name;
+use renaming::five_digits;
 use std::alloc::AllocError;
 use text_rules::SHORT_NAME_LIMIT;
-
-// A place in five digits.
-fn five_digits(place: u32) -> [u8; 5]
-    requires { place < 100000 }
-    ensures { result ≡ five_digits place }
-{
-    [
-        b'0' + (place / 10_000) as u8,
-        b'0' + (place / 1000 % 10) as u8,
-        b'0' + (place / 100 % 10) as u8,
-        b'0' + (place / 10 % 10) as u8,
-        b'0' + (place % 10) as u8,
-    ]
-}
 
 // Adds the new name of a wire: its place, and what fits of its old name.
 pub(crate) fn add_name(

@@ -1,16 +1,17 @@
-ghost use Rattle.std.specs.Prelude.{◌≡◌, ◌<◌, ◌≤◌, length, All, IfOk, IfSome};
+ghost use Rattle.std.specs.Prelude.{◌≡◌, ℕ, ◌<◌, ◌≤◌, length, slice_index, All, IfOk, IfSome};
 ghost use Rattle.device_model.specs.declared.limits.TheConstants.{PART_LIMIT, WIRE_LIMIT};
-ghost use Rattle.renaming.specs.Renaming.{IsOrder};
-ghost use Rattle.netlist_writer.specs.inner.Tables.{ArePlaces, AreDrivers};
+ghost use Rattle.renaming.specs.Renaming.{IsOrder, place_in};
+ghost use Rattle.netlist_writer.specs.inner.Tables.{AreDrivers};
 
 use device_model::Component;
 use std::alloc::{AllocError, Global};
 
-// Where each signal stands in an order.
-pub(crate) fn places_of(alloc: Global, order: &[u32]) -> Result<Vec<u32>, AllocError>
+/// Where each signal stands in an order. The only error is that there is no memory.
+pub fn places_of(alloc: Global, order: &[u32]) -> Result<Vec<u32>, AllocError>
     requires order { IsOrder (length order.now) order.now }
     requires few { length order.now ≤ WIRE_LIMIT }
-    ensures places { IfOk result (λ places. ArePlaces order.now places.items) }
+    ensures places { IfOk result (λ places. (signal : ℕ) → signal < length places.items
+        → slice_index places.items signal ≡ place_in order.now signal) }
     ensures long { IfOk result (λ places. length places.items ≡ length order.now) }
     ensures few { IfOk result (λ places. All (λ place. place < 100000) places.items) }
 {

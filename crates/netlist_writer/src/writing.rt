@@ -1,7 +1,7 @@
 ghost use Rattle.std.specs.Prelude.{◌≡◌, ◌<◌, ◌++◌, Option, Some, None, length, All, IfOk, IfSome, OnOk};
 ghost use Rattle.std.specs.List.{flat_map};
 ghost use Rattle.renaming.specs.Renaming.{IsOrder, IsNetlist, renamed};
-ghost use Rattle.netlist_writer.specs.Writing.{input_line, kind_word, netlist_text};
+ghost use Rattle.netlist_writer.specs.Writing.{kind_word, netlist_text};
 ghost use Rattle.netlist_writer.specs.inner.Tables.{name_by, line_under, part_at, line_by_tables};
 
 use crate::names::{add_name, add_names};
@@ -9,8 +9,8 @@ use crate::tables::{drivers_of, places_of};
 use device_model::{Component, Device, Kind, Name};
 use std::alloc::{AllocError, Global};
 
-// The word for a kind of gate.
-fn kind_word<'a>(kind: Kind) -> &'a [u8]
+/// The word for a kind of gate. A part of a type has none.
+pub fn kind_word<'a>(kind: Kind) -> &'a [u8]
     ensures { result.now ≡ kind_word kind }
 {
     match kind {

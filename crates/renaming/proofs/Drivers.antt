@@ -27,12 +27,15 @@ part_at parts k = get_or parts k no_part
 pub parts-all : (parts : List Component) → parts ≡ map (part_at parts) (range_with_len 0 (length parts))
 parts-all parts = fill_by_all (part_at parts) parts (length parts) no_part refl (λ k l. refl)
 
--- the parts at these places
+-- the items at these places
+pub items-picked : {A : Type 0} (d : A) (items : List A) (places : List ℕ) → ((k : ℕ) → Among k places → k < length items) → filter_map (slice_get items) places ≡ map (λ k. get_or items k d) places
+items-picked d items [] below = refl
+items-picked d items (k ∷ places) below =
+    ap (λ o. cons_option o (filter_map (slice_get items) places)) (slice_get-get_or items k d (below k (inl refl)))
+    ∙ ap (λ rest. get_or items k d ∷ rest) (items-picked d items places (λ j m. below j (inr m)))
+
 pub parts-picked : (parts : List Component) (places : List ℕ) → ((k : ℕ) → Among k places → k < length parts) → filter_map (slice_get parts) places ≡ map (part_at parts) places
-parts-picked parts [] below = refl
-parts-picked parts (k ∷ places) below =
-    ap (λ o. cons_option o (filter_map (slice_get parts) places)) (slice_get-get_or parts k no_part (below k (inl refl)))
-    ∙ ap (λ rest. part_at parts k ∷ rest) (parts-picked parts places (λ j m. below j (inr m)))
+parts-picked parts places below = items-picked no_part parts places below
 
 module _ (parts : List Component) (wires : List Name) (rise : names_rise (part_names parts) ≡ true) (named : All (λ (part : Component). slice_get wires (output part) ≡ Some part.name) parts) where
   driver-is : (w k : ℕ) → driver parts w ≡ Some k → (k < length parts) × (output (part_at parts k) ≡ w)

@@ -1,4 +1,4 @@
--- New names keep the diagnoses.
+-- The same parts in other orders keep the diagnoses.
 use Rattle.std.proofs.Common.{◌≡◌, ℕ, ◌↔◌, Bool, true, List, length, Contains, sym, subst, ◌∙◌}
 use Rattle.ranking.specs.Bits.{lists_of_bits}
 use Rattle.ranking.specs.Cases.{Case}
@@ -8,11 +8,12 @@ use Rattle.ranking.proofs.Members.{In, In-filter, In-filtered, bits_in, bits_len
 use Rattle.device_model.specs.Devices.{Device, part_costs}
 use Rattle.device_model.specs.Diagnosis.{is_consistent, device_system}
 use Rattle.device_model.proofs.Sorting.{Contains-from_among, among_from_Contains}
-use Rattle.renaming.specs.Renaming.{part_order, renamed, renamed_state, renamed_case}
+use Rattle.renaming.specs.Renaming.{reordered_state, reordered_case}
 use Rattle.renaming.specs.Keeping.{KeepsDiagnoses}
 use Rattle.renaming.proofs.Picking.{unpicked, length-unpicked, picked-unpicked, length-picked}
-use Rattle.renaming.proofs.Fitting.{IsRenaming, places-order, length-parts, is_consistent-renamed}
-use Rattle.renaming.proofs.Costs.{cost-renamed, least_cost-renamed}
+use Rattle.renaming.proofs.Same.{IsSame}
+use Rattle.renaming.proofs.Fitting.{length-parts, same_consistent}
+use Rattle.renaming.proofs.Costs.{same_cost, same_least}
 
 -- no state that agrees with the case costs less
 abbrev is_cheap : Device → Case → List Bool → Bool
@@ -40,42 +41,37 @@ module _ (device : Device) (known : Case) (state : List Bool) where
       let consistent = In-filtered (is_consistent device known) state (lists_of_bits (length device.parts)) there is.consistent in
       Contains-from_among (all_diagnoses (device_system device) known) state (In-filtered (is_cheap device known) state consistent_states consistent is.cheap)
 
-module _ (order : List ℕ) (device : Device) (is : IsRenaming order device) where
-  abbrev parts : ℕ
-  parts = length device.parts
+module _ (parts wires : List ℕ) (old new : Device) (is : IsSame parts wires old new) where
+  module _ (known : Case) (state : List Bool) (long : length state ≡ length old.parts) where
+    same_test : is_consistent new (reordered_case parts wires known) (reordered_state parts state) ≡ is_consistent old known state
+    same_test = same_consistent parts wires old new is known state long
 
-  abbrev places : List ℕ
-  places = part_order device.parts order
+    same_cheap : is_cheap new (reordered_case parts wires known) (reordered_state parts state) ≡ is_cheap old known state
+    same_cheap = λ i. is_at_most (same_cost parts wires old new is state long i) (same_least parts wires old new is known i)
 
-  module _ (known : Case) (state : List Bool) (long : length state ≡ parts) where
-    same_test : is_consistent (renamed order device) (renamed_case order device known) (renamed_state order device state) ≡ is_consistent device known state
-    same_test = is_consistent-renamed order device is known state long
-
-    same_cheap : is_cheap (renamed order device) (renamed_case order device known) (renamed_state order device state) ≡ is_cheap device known state
-    same_cheap = λ i. is_at_most (cost-renamed order device is state long i) (least_cost-renamed order device is known i)
-
-    same_diagnosis : Contains (all_diagnoses (device_system (renamed order device)) (renamed_case order device known)) (renamed_state order device state)
-        ↔ Contains (all_diagnoses (device_system device) known) state
+    same_diagnosis : Contains (all_diagnoses (device_system new) (reordered_case parts wires known)) (reordered_state parts state)
+        ↔ Contains (all_diagnoses (device_system old) known) state
     same_diagnosis = (
       (λ h.
-          let new = from_diagnoses (renamed order device) (renamed_case order device known) (renamed_state order device state) h in
-          in_diagnoses device known state (record { long = long; consistent = sym same_test ∙ new.consistent; cheap = sym same_cheap ∙ new.cheap })),
+          let later = from_diagnoses new (reordered_case parts wires known) (reordered_state parts state) h in
+          in_diagnoses old known state (record { long = long; consistent = sym same_test ∙ later.consistent; cheap = sym same_cheap ∙ later.cheap })),
       (λ h.
-          let old = from_diagnoses device known state h in
-          in_diagnoses (renamed order device) (renamed_case order device known) (renamed_state order device state) (record {
-            long = length-picked parts places (places-order order device is) state ∙ sym (length-parts order device is);
-            consistent = same_test ∙ old.consistent;
-            cheap = same_cheap ∙ old.cheap;
+          let earlier = from_diagnoses old known state h in
+          in_diagnoses new (reordered_case parts wires known) (reordered_state parts state) (record {
+            long = length-picked (length old.parts) parts is.each_part state ∙ sym (length-parts parts wires old new is);
+            consistent = same_test ∙ earlier.consistent;
+            cheap = same_cheap ∙ earlier.cheap;
           })),
     )
 
-  pub keeps : KeepsDiagnoses order device
+  pub keeps : KeepsDiagnoses parts wires old new
   keeps = record {
-    parts = places-order order device is;
+    each_part = is.each_part;
+    each_wire = is.each_wire;
     onto = λ state long.
-        let each_once = places-order order device is in
-        (unpicked parts places each_once state, length-unpicked parts places each_once state, picked-unpicked parts places each_once state long);
+        let n = length old.parts in
+        (unpicked n parts is.each_part state, length-unpicked n parts is.each_part state, picked-unpicked n parts is.each_part state long);
     agreement = same_test;
-    least = least_cost-renamed order device is;
+    least = same_least parts wires old new is;
     diagnoses = same_diagnosis;
   }

@@ -1,7 +1,10 @@
 pub mod Orders
 pub mod Drivers
 pub mod Picking
+pub mod Same
 pub mod Fitting
 pub mod Costs
 pub mod Law
+pub mod Netlists
+pub mod Designs
 mod Examples

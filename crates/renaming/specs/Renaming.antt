@@ -1,10 +1,11 @@
--- The signals of a netlist in another order and under other names, and what becomes of its device, its states and its cases.
-use Rattle.std.specs.Prelude.{◌≡◌, ℕ, ◌+◌, ◌-◌, ◌/◌, ◌%◌, ◌==◌, Bool, true, false, List, [], ◌∷◌, ◌++◌, map, length, take, Option, Some, None, slice_get, slice_index_or, position, All, IsPermutation}
-use Rattle.std.specs.List.{filter_map, enumerate_from, position_or_len, range_with_len}
+-- The signals of a device in another order and under other names: what becomes of it, of its states and of its cases.
+use Rattle.std.specs.Prelude.{◌≡◌, ℕ, ◌<◌, ◌+◌, ◌-◌, ◌/◌, ◌%◌, ◌==◌, Bool, true, false, List, [], ◌∷◌, ◌++◌, map, length, take, Option, Some, None, slice_get, slice_index_or, position, All, IsPermutation, if◌then◌else◌}
+use Rattle.std.specs.List.{filter_map, enumerate_from, list_all, position_or_len, range_with_len}
 use Rattle.text_rules.specs.declared.names.TheConstants.{SHORT_NAME_LIMIT}
-use Rattle.text_rules.specs.Names.{Name, is_short_name}
+use Rattle.text_rules.specs.Names.{Name, is_name_byte, is_short_name}
 use Rattle.ranking.specs.Cases.{Case}
 use Rattle.device_model.specs.declared.component.Component.{Component}
+use Rattle.device_model.specs.TruthTable.{TruthTable, is_table}
 use Rattle.device_model.specs.Devices.{Device}
 
 -- ---- orders
@@ -33,6 +34,16 @@ pub record IsNetlist (device : Device) : Type 0 where
   pub named : All (λ (part : Component). slice_get device.wires (output part) ≡ Some part.name) device.parts
   pub short : All (λ (name : Name). is_short_name name ≡ true) device.wires
 
+-- ---- designs
+
+-- The names are paths of bytes of names, and each type of parts is one that a design can give: a part that is faulty allows some
+-- row of it.
+pub record IsFlat (device : Device) : Type 0 where
+  pub parts : All (λ (part : Component). list_all is_name_byte part.name ≡ true) device.parts
+  pub wires : All (λ (name : Name). list_all is_name_byte name ≡ true) device.wires
+  pub tables : All (λ (rows : TruthTable). is_table rows ≡ true) device.tables
+  pub faulty : All (λ (rows : TruthTable). 0 < rows.bad) device.tables
+
 -- ---- new names
 
 -- a number below 100,000 in five digits
@@ -48,7 +59,7 @@ new_name place name = five_digits place ++ (95 ∷ take (SHORT_NAME_LIMIT - 6) n
 abbrev pub new_names : List ℕ → List Name → List Name
 new_names order wires = map (λ (s : ℕ × ℕ). new_name s.0 (slice_index_or wires s.1 [])) (enumerate_from 0 order)
 
--- ---- the same device under new names
+-- ---- a netlist under new names
 
 -- the part that drives a wire
 abbrev pub driver : List Component → ℕ → Option ℕ
@@ -69,12 +80,37 @@ renamed order device = record {
   tables = [];
 }
 
--- a state of the device, in the order of the renamed one
-abbrev pub renamed_state : List ℕ → Device → List Bool → List Bool
-renamed_state order device state = picked false state (part_order device.parts order)
+-- ---- a design's device under new names
 
-abbrev pub renamed_case : List ℕ → Device → Case → Case
-renamed_case order device known = record {
-  seen = picked None known.seen order;
-  held = picked None known.held (part_order device.parts order);
+-- a path, whose dots become underscores
+abbrev pub undotted : Name → Name
+undotted path = map (λ b. if b == 46 then 95 else b) path
+
+-- a name behind the number of its place
+abbrev pub numbered_name : ℕ × Name → Name
+numbered_name placed = new_name placed.0 (undotted placed.1)
+
+abbrev pub reordered_part : List ℕ → ℕ × Component → Component
+reordered_part wires placed = record {
+  name = numbered_name (placed.0, placed.1.name);
+  kind = placed.1.kind;
+  ports = map (place_in wires) placed.1.ports;
 }
+
+-- The parts in one order, and the wires in another. The wires are numbered behind the parts, so that no name is that of both.
+abbrev pub reordered : List ℕ → List ℕ → Device → Device
+reordered parts wires device = record {
+  parts = map (reordered_part wires) (enumerate_from 0 (filter_map (slice_get device.parts) parts));
+  wires = map numbered_name (enumerate_from (length device.parts) (filter_map (slice_get device.wires) wires));
+  tables = device.tables;
+}
+
+-- ---- states and cases
+
+-- a state, in another order of the parts
+abbrev pub reordered_state : List ℕ → List Bool → List Bool
+reordered_state parts state = picked false state parts
+
+-- a case, in other orders of the parts and of the wires
+abbrev pub reordered_case : List ℕ → List ℕ → Case → Case
+reordered_case parts wires known = record { seen = picked None known.seen wires; held = picked None known.held parts }

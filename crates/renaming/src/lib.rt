@@ -1,6 +1,8 @@
-//! Other names for the signals of a netlist, in another order: definitions, and the law that the same diagnoses are found.
+//! Other names for the signals of a device, in other orders: definitions, and the laws that the same diagnoses are found.
 #![tactic(auto)]
 
 mod laws;
+mod names;
 
-pub use laws::keeps_diagnoses;
+pub use laws::{designs_keep_diagnoses, netlists_keep_diagnoses};
+pub use names::five_digits;

@@ -1,0 +1,23 @@
+pub mod Lines
+pub mod Rows
+pub mod TypeNames
+pub mod TypeRows
+pub mod TypeLines
+pub mod WireLines
+pub mod PartLines
+pub mod BlockLines
+pub mod Contents
+pub mod Flattening
+pub mod NumberedNames
+pub mod Ordered
+pub mod Reordered
+pub mod ReadBack
+mod Examples
+pub mod FlatRows
+pub mod FlatTypes
+pub mod FlatReading
+pub mod FlatPaths
+pub mod FlatDevice
+pub mod WritingBlock
+pub mod WritingLines
+pub mod WritingOrders

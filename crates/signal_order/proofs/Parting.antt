@@ -4,7 +4,7 @@ use Rattle.std.proofs.Math.ListN.{set, replicate}
 use Rattle.std.specs.List.{range_with_len}
 use Rattle.std.proofs.lemmas.List.{length-set, length-replicate}
 use Rattle.std.proofs.lemmas.List.Sorted.{IsPermutation-refl, IsPermutation-trans, IsPermutation-cons, IsPermutation-middle, IsPermutation-pop_more}
-use Rattle.signal_order.specs.Sweeping.{unplaced_from, AreParted}
+use Rattle.signal_order.specs.inner.Sweeping.{unplaced_from, AreParted}
 
 pub unplaced_from-set : (k i : ℕ) (bs : List Bool) → i < length bs → get_or bs i false ≡ true
     → IsPermutation (unplaced_from k bs) ((k + i) ∷ unplaced_from k (set bs i false))
@@ -37,8 +37,12 @@ unplaced_from-replicate k zero = refl
 unplaced_from-replicate k (suc n) = ap (λ l. k ∷ l) (unplaced_from-replicate (k + 1) n)
 
 -- at the start all are to be placed
-pub AreParted-start : (n : ℕ) → AreParted [] (replicate n true)
+AreParted-start : (n : ℕ) → AreParted [] (replicate n true)
 AreParted-start n =
     let P : ℕ → Type 0 = λ m. IsPermutation (range_with_len 0 m) (unplaced_from 0 (replicate n true)) in
     let Q : List ℕ → Type 0 = λ l. IsPermutation (range_with_len 0 n) l in
     subst P (sym (length-replicate n true)) (subst Q (sym (unplaced_from-replicate 0 n)) (IsPermutation-refl (range_with_len 0 n)))
+
+-- nothing is placed yet
+pub AreParted-none : (n : ℕ) (order : List ℕ) (unplaced : List Bool) → order ≡ [] → unplaced ≡ replicate n true → AreParted order unplaced
+AreParted-none n order unplaced none all = subst (λ o. AreParted o unplaced) (sym none) (subst (AreParted []) (sym all) (AreParted-start n))

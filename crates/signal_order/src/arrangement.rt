@@ -5,8 +5,8 @@ use std::alloc::{AllocError, Global};
 // Where no part has a wire yet.
 const NOWHERE: u32 = u32::MAX;
 
-// Up to so many wires the weight doubles with each two, and from there on it grows as steeply as it did last: a graph of more is
-// never served, and what is far above it is still told apart.
+// Up to so many wires the weight doubles with each two, and from there on it grows by the same with each: a graph of more is never
+// served, and what is far above it is still told apart.
 const STEEP_LIMIT: u32 = 40;
 
 // For a wire more half of the bits of the weight, in parts of 1,024.

@@ -1,4 +1,5 @@
-ghost use Rattle.std.specs.Prelude.{length, IfOk};
+ghost use Rattle.std.specs.Prelude.{◌≡◌, ◌<◌, ◌^◌, length, IfOk};
+ghost use Rattle.std.specs.List.{range_with_len};
 ghost use Rattle.renaming.specs.Renaming.{IsOrder};
 
 use crate::arrangement::Arrangement;
@@ -6,11 +7,11 @@ use crate::joints::Joined;
 use crate::row::Row;
 use crate::search::improve;
 use crate::starts::{by_breadth, by_growth, by_names, from_outputs};
-use crate::sweep::signals_of;
+use crate::sweep::{numbers_before, parts_of, signals_of, wires_of};
 use device_model::Device;
 use std::alloc::{AllocError, Global};
 
-/// How many moves a device gets over all starts together, where no number is asked for: about ten seconds for 1,000 gates.
+/// How many moves a device gets over all starts together, where no number is asked for.
 pub const DEFAULT_MOVES: u32 = 2_000_000;
 
 /// Where a search begins.
@@ -40,12 +41,21 @@ impl Start {
     }
 }
 
-/// An order of all signals of a device, found by so many moves from a start. It is the same whenever it is asked for, and the only
-/// error is that there is no memory.
+// The parts in the order that so many moves find from a start. A search puts them into an order in which few wires are across at
+// a time: those that parts on both sides of a place have.
+fn search(alloc: Global, device: &Device, start: Start, moves: u32) -> Result<Row, AllocError> {
+    let wires = device.wires().len();
+    let joined = Joined::new(alloc, device.parts(), wires)?;
+    let list = start.list(alloc, &joined)?;
+    let mut arrangement = Arrangement::new(alloc, &joined.wires, wires, list)?;
+    improve(alloc, &mut arrangement, moves)
+}
+
+/// An order of all signals of a netlist's device, found by so many moves from a start. It is the same whenever it is asked for, and
+/// the only error is that there is no memory.
 ///
-/// A search puts the parts into an order in which few wires are across at a time: those that parts on both sides of a place have.
-/// The signals that parts drive come in that order, and an input of the device comes right before the first part that has it. How
-/// small the sum then is, is not proved.
+/// The signals that parts drive come in the order of these parts, and an input of the device comes right before the first part that
+/// has it. How small the sum then is, is not proved.
 pub fn find_order(
     alloc: Global,
     device: &Device,
@@ -54,11 +64,37 @@ pub fn find_order(
 ) -> Result<Vec<u32>, AllocError>
     ensures { IfOk result (λ order. IsOrder (length device.now.wires) order.items) }
 {
-    let parts = device.parts();
-    let wires = device.wires().len();
-    let joined = Joined::new(alloc, parts, wires)?;
-    let list = start.list(alloc, &joined)?;
-    let mut arrangement = Arrangement::new(alloc, &joined.wires, wires, list)?;
-    let best = improve(alloc, &mut arrangement, moves)?;
-    signals_of(alloc, parts, wires, best.as_slice())
+    let best = search(alloc, device, start, moves)?;
+    signals_of(alloc, device.parts(), device.wires().len(), best.as_slice())
+}
+
+/// An order of all parts of a device, found in the same way: where a wire may be driven by several parts or by none, the parts have
+/// an order of their own.
+pub fn find_part_order(
+    alloc: Global,
+    device: &Device,
+    start: Start,
+    moves: u32,
+) -> Result<Vec<u32>, AllocError>
+    ensures { IfOk result (λ order. IsOrder (length device.now.parts) order.items) }
+{
+    let best = search(alloc, device, start, moves)?;
+    parts_of(alloc, device.parts().len(), best.as_slice())
+}
+
+/// The wires of a device in the order in which parts of these numbers, one after the other, have them at their ports. Those of no
+/// part that is listed come last.
+pub fn wire_order(alloc: Global, device: &Device, parts: &[u32]) -> Result<Vec<u32>, AllocError>
+    ensures { IfOk result (λ order. IsOrder (length device.now.wires) order.items) }
+{
+    wires_of(alloc, device.parts(), device.wires().len(), parts)
+}
+
+/// So many signals in the order in which they stand.
+pub fn given_order(alloc: Global, signals: usize) -> Result<Vec<u32>, AllocError>
+    requires { signals < 2 ^ 32 }
+    ensures given { IfOk result (λ order. order.items ≡ range_with_len 0 signals) }
+    ensures order { IfOk result (λ order. IsOrder signals order.items) }
+{
+    numbers_before(alloc, signals as u32)
 }

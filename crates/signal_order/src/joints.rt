@@ -75,8 +75,8 @@ pub(crate) struct Joined {
     pub(crate) wires: Joints,
     /// The parts of each wire.
     pub(crate) users: Joints,
-    // One more than the first part that drives a wire, or 0 of a wire that none drives.
-    drivers: Row,
+    // The first part that drives each wire.
+    drivers: Vec<Option<u32>>,
     // The wire that each part drives.
     outputs: Row,
 }
@@ -89,14 +89,16 @@ impl Joined {
     ) -> Result<Joined, AllocError> {
         let joints = Joints::of_parts(alloc, parts, wires)?;
         let users = joints.turned(alloc, wires)?;
-        let mut drivers = Row::filled(alloc, 0, wires)?;
+        let mut drivers = vec![in alloc; None; wires]?;
         let mut outputs = Row::empty(alloc);
         for part in parts {
             let output = part.ports.as_slice().last().copied().unwrap_or(0);
-            outputs.push(output)?;
-            if drivers.at(output) == 0 {
-                drivers.put(output, outputs.len());
+            if let Some(driver) = drivers.get_mut(output as usize)
+                && driver.is_none()
+            {
+                *driver = Some(outputs.len());
             }
+            outputs.push(output)?;
         }
         Ok(Joined {
             wires: joints,
@@ -113,7 +115,7 @@ impl Joined {
 
     /// The first part that drives a wire.
     pub(crate) fn driver(&self, wire: u32) -> Option<u32> {
-        self.drivers.at(wire).checked_sub(1)
+        *self.drivers.get(wire as usize)?
     }
 
     /// Whether no other part has the wire that a part drives.

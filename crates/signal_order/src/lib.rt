@@ -8,7 +8,5 @@ mod row;
 mod search;
 mod starts;
 mod sweep;
-#[cfg(test)]
-mod tests;
 
-pub use finding::{DEFAULT_MOVES, Start, find_order};
+pub use finding::{DEFAULT_MOVES, Start, find_order, find_part_order, given_order, wire_order};

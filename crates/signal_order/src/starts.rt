@@ -21,7 +21,7 @@ pub(crate) fn by_names(alloc: Global, joined: &Joined) -> Result<Row, AllocError
 pub(crate) fn from_outputs(alloc: Global, joined: &Joined) -> Result<Row, AllocError> {
     let mut walk = Walk {
         joined,
-        states: Row::filled(alloc, UNMET, joined.len() as usize)?,
+        visits: vec![in alloc; Visit::Unmet; joined.len() as usize]?,
         stack: Row::empty(alloc),
         found: Row::empty(alloc),
     };
@@ -69,17 +69,20 @@ pub(crate) fn by_growth(alloc: Global, joined: &Joined) -> Result<Row, AllocErro
     Ok(found)
 }
 
-const UNMET: u32 = 0;
-
-const OPEN: u32 = 1;
-
-const DONE: u32 = 2;
+// How far a walk is with a part.
+#[derive(Clone, Copy, Debug, PartialEq, Eq)]
+enum Visit {
+    Unmet,
+    // what it is made of is being found
+    Open,
+    Done,
+}
 
 // A walk depth first. A part stands on the stack until all that it is made of is found.
 #[derive(Drop)]
 struct Walk<'a> {
     joined: &'a Joined,
-    states: Row,
+    visits: Vec<Visit>,
     stack: Row,
     found: Row,
 }
@@ -97,27 +100,41 @@ impl Walk<'_> {
     }
 
     fn step(&mut self, part: u32) -> Result<(), AllocError> {
-        match self.states.at(part) {
-            UNMET => self.open(part),
-            OPEN => {
-                self.states.put(part, DONE);
+        match self.visit_of(part) {
+            Visit::Unmet => self.open(part),
+            Visit::Open => {
+                self.set_visit(part, Visit::Done);
                 self.found.push(part)
             }
-            _ => Ok(()),
+            Visit::Done => Ok(()),
         }
     }
 
     fn open(&mut self, part: u32) -> Result<(), AllocError> {
-        self.states.put(part, OPEN);
+        self.set_visit(part, Visit::Open);
         self.stack.push(part)?;
         for wire in self.joined.wires.of(part).iter().rev() {
             if let Some(driver) = self.joined.driver(*wire)
-                && self.states.at(driver) == UNMET
+                && self.visit_of(driver) == Visit::Unmet
             {
                 self.stack.push(driver)?;
             }
         }
         Ok(())
+    }
+
+    // With a part that is not there a walk is done.
+    fn visit_of(&self, part: u32) -> Visit {
+        self.visits
+            .get(part as usize)
+            .copied()
+            .unwrap_or(Visit::Done)
+    }
+
+    fn set_visit(&mut self, part: u32, visit: Visit) {
+        if let Some(known) = self.visits.get_mut(part as usize) {
+            *known = visit;
+        }
     }
 }
 

@@ -1,5 +1,5 @@
 use Rattle.std.proofs.Common.{◌≡◌, length}
-use Rattle.signal_order.specs.Sweeping.{AreParted}
+use Rattle.signal_order.specs.inner.Sweeping.{AreParted}
 use Rattle.signal_order.proofs.sweep.signals_of.Given as goal
 
 abbrev pub invariant-loop-number : goal.invariant-loop-number

@@ -31,17 +31,15 @@ same_file file bytes (Some all) same is = same ∙ is
 pub too_long_is_no_failure : {T : Type 0} (result : Result T LoadError) (error : LoadError) (limit : ℕ) → result ≡ Err error → error ≡ Long limit → result ≡ Err LoadFailed → ⊥
 too_long_is_no_failure result error limit is long failed = let never : ⊥ = cc in never
 
+-- a file that is short enough is read
+pub short_file : (path file : List ℕ) → length file ≤ TEXT_LIMIT → device_in path file ≡ described path file
+short_file path file short = let few : nat_le (length file) TEXT_LIMIT ≡ true = grind arith in rw few
+
 -- what is said of a short text is said of its file
 pub refused_in : (fault : Option Output) (path file : List ℕ) (budget : ℕ) → length file ≤ TEXT_LIMIT → IsExpectedFault fault (described path file)
     → IsExpectedFault fault (if_within budget (device_in path file))
 refused_in None path file budget short is = tt
-refused_in (Some output) path file budget short is = ap (if_within budget) (device_is ∙ is)
-  where
-    few : nat_le (length file) TEXT_LIMIT ≡ true
-    few = grind arith
-
-    device_is : device_in path file ≡ described path file
-    device_is = rw few
+refused_in (Some output) path file budget short is = ap (if_within budget) (short_file path file short ∙ is)
 
 -- words with a form may run out of memory
 with_form : (form : Form) {output : Output} {status : ℕ} {a b : Option (List ℕ)} → GivesUnlessMemory output status a b → GivesUnlessShort (Some form) output status a b
@@ -52,7 +50,7 @@ some_map : {A : Type 0} {P Q : A → Type 0} (o : Option A) → ((a : A) → P a
 some_map None f h = tt
 some_map (Some a) f h = f a h
 
-some_all : {A : Type 0} {P : A → Type 0} (o : Option A) → ((a : A) → P a) → IfSome o P
+pub some_all : {A : Type 0} {P : A → Type 0} (o : Option A) → ((a : A) → P a) → IfSome o P
 some_all None f = tt
 some_all (Some a) f = f a
 

@@ -1,8 +1,6 @@
 -- The device that a file describes, or what is said of a file that gives none.
-use Rattle.std.specs.Prelude.{ℕ, List, [], ◌∷◌, ◌++◌, length, Result, Ok, Err, codes, nat_le, if◌then◌else◌}
-use Rattle.std.specs.Fmt.{decimal}
+use Rattle.std.specs.Prelude.{ℕ, List, length, Result, Ok, Err, codes, nat_le, if◌then◌else◌}
 use Rattle.text_rules.specs.declared.text_lines.TheConstants.{TEXT_LIMIT}
-use Rattle.text_rules.specs.Tokens.{spaced}
 use Rattle.device_model.specs.declared.limits.TheConstants.{NAME_LIMIT, PART_LIMIT, WIRE_LIMIT}
 use Rattle.device_model.specs.Devices.{Device}
 use Rattle.bench_reader.specs.Netlists.{netlist}

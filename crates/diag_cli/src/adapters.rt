@@ -2,7 +2,7 @@
 ghost use Rattle.std.specs.Prelude.{◌≡◌, None};
 ghost use Rattle.std.specs.Io.{ReadsAtMost};
 ghost use Rattle.std.specs.Io.KnownBytes.{ReadConsumes};
-ghost use Rattle.diag_edge.specs.Edge.{Holding, untold, Rose};
+ghost use Rattle.diag_edge.specs.Edge.{untold, Rose};
 
 use diag_edge::{ReadFailed, Shelf, Sink, Source, WriteFailed};
 use std::fs;

@@ -17,4 +17,8 @@ mod weighing;
 mod words;
 
 pub use adapters::{FileShelf, StdSink, StdSource};
+pub use describing::described;
 pub use program::diag;
+pub use refusal::{Refusal, tell};
+pub use saying::say;
+pub use words::{is_design_path, is_device_path};

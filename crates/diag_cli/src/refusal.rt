@@ -1,6 +1,7 @@
 ghost use Rattle.std.specs.Prelude.{◌≡◌, ◌≢◌, ◌⊎◌, ◌-◌, ◌^◌, ◌<◌};
 ghost use Rattle.diag_edge.specs.Edge.{HasCause, RoseExactly, Puts};
 ghost use Rattle.graph_rules.specs.GraphTexts.{Counts, TooLarge, Shared};
+ghost use Rattle.diag_cli.specs.declared.refusal.Refusal.TheVariants.{Memory};
 ghost use Rattle.diag_cli.specs.Checking.{graph_fault_line};
 ghost use Rattle.diag_cli.specs.Planning.{sum_line};
 ghost use Rattle.diag_cli.specs.Output.{Gives};
@@ -9,6 +10,7 @@ ghost use Rattle.diag_cli.specs.Refusals.{refusal_line, refusal_status, told_by,
 use diag_edge::{Sink, WriteFailed, put_above, put_fault, put_line};
 use graph_rules::BITS_LIMIT;
 use itoa::Buffer;
+use std::alloc::AllocError;
 
 /// Why a file gives nothing of what the words ask for.
 #[derive(Clone, Copy, Debug, PartialEq, Eq)]
@@ -35,7 +37,7 @@ pub enum Refusal {
         node: u32,
         variable: u32,
     },
-    /// A count of a flat device is above its limit.
+    /// A count is above its limit.
     Above {
         what: &'static str,
         count: u64,
@@ -47,6 +49,14 @@ pub enum Refusal {
     },
     /// There was no memory.
     Memory,
+}
+
+impl From<AllocError> for Refusal {
+    ghost from_gives = { λ _ refusal. refusal ≡ Memory };
+
+    fn from(_: AllocError) -> Self {
+        Refusal::Memory
+    }
 }
 
 impl Refusal {
@@ -155,7 +165,7 @@ fn put_refusal<O: Sink>(out: &mut O, refusal: Refusal) -> Result<(), WriteFailed
 
 /// Tells a refusal and answers the status, or 5 where the write failed.
 #[tactic(auto, using(crate::proofs::Failing::gives_refusal))]
-pub(crate) fn tell<O: Sink>(out: &mut O, refusal: Refusal) -> u8
+pub fn tell<O: Sink>(out: &mut O, refusal: Refusal) -> u8
     requires faults { O.faults out.old < 2 ^ 64 - 1 }
     ensures write_fault { RoseExactly (O.faults out.old) (O.faults out.new) (result ≡ 5) }
     ensures not_usage { result ≢ 2 }

@@ -127,8 +127,8 @@ pub fn is_design_path(path: &str) -> bool
     ends_in(b".dev", path)
 }
 
-// Whether a file is a netlist or a design by its ending.
-fn is_device_path(path: &str) -> bool
+/// Whether a file is a netlist or a design by its ending.
+pub fn is_device_path(path: &str) -> bool
     ensures { result ≡ is_device_path path.now }
 {
     ends_in(b".bench", path) || is_design_path(path)
@@ -179,7 +179,7 @@ fn form_load<'a>(places: &str, words: &[String]) -> Option<Form<'a>>
 }
 
 /// The form of the words, if they have one.
-pub fn form_of(words: &[String]) -> Option<Form<'_>>
+pub(crate) fn form_of(words: &[String]) -> Option<Form<'_>>
     ensures form { option_map meant result ≡ form_of (map string_bytes words.now) }
     ensures limits { IfSome result (λ form. IsWithinLimits (meant form)) }
 {

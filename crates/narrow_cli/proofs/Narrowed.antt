@@ -1,64 +1,156 @@
 -- From the steps of narrowing to what may be written.
-use Rattle.std.proofs.Common.{◌≡◌, inl, inr, ℕ, List, ◌++◌, length, Option, Ok, Err, Result, refl, sym, ap, subst, ◌∙◌}
-use Rattle.device_model.specs.Devices.{Device}
-use Rattle.bench_reader.specs.Netlists.{netlist}
-use Rattle.bench_reader.specs.Faults.{Fault as NetlistFault}
+use Rattle.std.proofs.Common.{◌≡◌, ◌<◌, ◌≤◌, ℕ, Bool, true, false, cond, nat_lt, List, ◌++◌, length, Option, Some, None, IfSome, IfOk, IfErr, Ok, Err, Result, codes, refl, sym, ap, subst, ◌∙◌, arith}
+use Rattle.std.specs.Prelude.{is_some}
+use Rattle.std.proofs.lemmas.Bool.{ltb-false, le-ltb}
+use Rattle.std.proofs.lemmas.Result.{IfOk-weaker}
+use Rattle.text_rules.specs.declared.text_lines.TheConstants.{TEXT_LIMIT}
+use Rattle.text_rules.specs.Expected.{IsExpectedFault}
+use Rattle.diag_edge.specs.ErrorLines.{above_line}
+use Rattle.device_model.specs.Devices.{Device, IsDevice}
 use Rattle.branch_states.specs.declared.measuring.TheConstants.{BUDGET_LIMIT}
+use Rattle.branch_states.specs.Branches.{sum_of}
 use Rattle.clause_encoder.specs.declared.encoding.EncodeError.{EncodeError}
 use Rattle.clause_encoder.specs.Clauses.{ClauseList}
 use Rattle.clause_encoder.specs.Encoding.{encoded}
-use Rattle.renaming.specs.Renaming.{IsOrder, IsNetlist, renamed}
+use Rattle.renaming.specs.Renaming.{IsOrder, renamed, reordered}
 use Rattle.netlist_writer.specs.Writing.{netlist_text, sums_line}
-use Rattle.netlist_writer.proofs.Gates.{read_netlist}
-use Rattle.narrow_cli.specs.declared.refusal.Refusal.{Refusal}
-use Rattle.narrow_cli.specs.declared.refusal.Refusal.TheVariants.{Fault, Clauses, LongText, Memory}
+use Rattle.design_writer.specs.Writing.{design_text}
+use Rattle.diag_cli.specs.Output.{Output, says}
+use Rattle.diag_cli.specs.Words.{is_design_path}
+use Rattle.diag_cli.specs.Describing.{described}
+use Rattle.diag_cli.specs.declared.refusal.Refusal.{Refusal}
+use Rattle.diag_cli.specs.Refusals.{told_by}
+use Rattle.diag_cli.proofs.Headline.{short_file}
 use Rattle.narrow_cli.specs.declared.candidates.Candidate.{Candidate}
-use Rattle.narrow_cli.specs.Narrowing.{encodable, device_by, sum_by, narrowed, too_long}
-use Rattle.narrow_cli.specs.inner.Candidates.{or_line, sum_within, refusal_line, refusal_status, IsCandidate, NarrowsTo, IsRefusal, MayBeOrMemory}
+use Rattle.narrow_cli.specs.declared.candidates.TheConstants.{NARROWED_LIMIT}
+use Rattle.narrow_cli.specs.Narrowing.{encodable, if_encodable, narrowable, sum_within, sum_told, IsTextBy, IsTextOf, MayBe, narrowed, too_long, MayBeBy}
+use Rattle.narrow_cli.specs.inner.Candidates.{IsRenamable, IsText, IsCandidate, IsRefusedText}
+use Rattle.narrow_cli.proofs.Again.{read_again}
 
-pub read_of : (read : Result Device NetlistFault) (device : Device) → or_line read ≡ Ok device → read ≡ Ok device
-read_of (Ok found) device is = let same : found ≡ device = cc in ap Ok same
-read_of (Err fault) device is = absurd (let never : ⊥ = cc in never)
+-- ---- the text under new names
 
--- what was read from a netlist's text is a netlist
-pub is_netlist : (file : List ℕ) (device : Device) → or_line (netlist file) ≡ Ok device → IsNetlist device
-is_netlist file device is = read_netlist file device (read_of (netlist file) device is)
+-- what a call gives, as a text of the device
+pub is_design_text : {A E : Type 0} (items : A → List ℕ) (path : List ℕ) (device : Device) (parts wires old_parts old_wires : List ℕ) (result : Result A E)
+    → is_design_path path ≡ true → IsOrder (length device.parts) old_parts → IsOrder (length device.wires) old_wires → parts ≡ old_parts → wires ≡ old_wires
+    → IfOk result (λ text. items text ≡ design_text (reordered parts wires device)) → IfOk result (λ text. IsText path device (items text))
+is_design_text items path device parts wires old_parts old_wires result is each_part each_wire p w written =
+    IfOk-weaker result _ _ (λ text same. (
+      reordered parts wires device,
+      subst (λ b. IsTextBy b device (items text) (reordered parts wires device)) (sym is) (record {
+        parts = parts;
+        wires = wires;
+        each_part = subst (IsOrder (length device.parts)) (sym p) each_part;
+        each_wire = subst (IsOrder (length device.wires)) (sym w) each_wire;
+        names = refl;
+        is_text = same;
+      }),
+    )) written
 
-told-within : (clauses : Result ClauseList EncodeError) → sum_within BUDGET_LIMIT clauses ≡ sum_by clauses
-told-within (Ok cnf) = refl
-told-within (Err error) = refl
+pub is_netlist_text : {A E : Type 0} (items : A → List ℕ) (path : List ℕ) (device : Device) (order old_order : List ℕ) (result : Result A E)
+    → is_design_path path ≡ false → IsOrder (length device.wires) old_order → order ≡ old_order
+    → IfOk result (λ text. items text ≡ netlist_text (renamed order device)) → IfOk result (λ text. IsText path device (items text))
+is_netlist_text items path device order old_order result is each_once o written =
+    IfOk-weaker result _ _ (λ text same. (
+      renamed order device,
+      subst (λ b. IsTextBy b device (items text) (renamed order device)) (sym is) (record {
+        order = order;
+        each_once = subst (IsOrder (length device.wires)) (sym o) each_once;
+        names = refl;
+        is_text = same;
+      }),
+    )) written
 
--- what was made by the greatest limit
-pub first_candidate : (order : List ℕ) (device : Device) (candidate : Candidate) → IsOrder (length device.wires) order
-    → candidate.text.items ≡ netlist_text (renamed order device) → candidate.sum ≡ sum_within BUDGET_LIMIT (encoded (renamed order device))
-    → IsCandidate device candidate
-first_candidate order device candidate once text sum = record {
-  order = order;
-  each_once = once;
-  text = text;
-  sum = sum ∙ told-within (encoded (renamed order device));
+-- a text that was weighed
+pub candidate_of : (path : List ℕ) (device : Device) (text : List ℕ) (candidate : Candidate) → IsDevice device → IsRenamable (is_design_path path) device
+    → IsText path device text → candidate.text.items ≡ text → length candidate.text.items ≤ NARROWED_LIMIT
+    → ((new : Device) → described path text ≡ Ok new → candidate.sum ≡ sum_told new) → IsCandidate path device candidate
+candidate_of path device text candidate valid renamable is same short sum = record {
+  new = is.0;
+  text = subst (λ t. IsTextOf path device t is.0) (sym same) is.1;
+  short = short;
+  sum = sum is.0 (read_again path device text is.0 valid renamable is.1);
 }
 
-pub narrows : (file : List ℕ) (device : Device) (before : Option ℕ) (best : Candidate) (text : List ℕ)
-    → or_line (netlist file) ≡ Ok device → encodable device (encoded device) ≡ Ok device → before ≡ sum_within BUDGET_LIMIT (encoded device)
-    → IsCandidate device best → text ≡ sums_line before best.sum ++ best.text.items → NarrowsTo (device_by (netlist file)) text
-narrows file device before best text read fits sum found is =
-    subst (λ expected. NarrowsTo expected text) (sym (ap device_by (read_of (netlist file) device read) ∙ fits)) (record {
-      order = found.order;
-      each_once = found.each_once;
-      whole = is ∙ (λ i. sums_line ((sum ∙ told-within (encoded device)) i) (found.sum i) ++ found.text i);
-    })
+-- a text that is too long
+pub refused_text : (path : List ℕ) (device : Device) (text : List ℕ) (told : Option Output) → IsText path device text
+    → IfSome told (λ output. (NARROWED_LIMIT < length text) × (output ≡ says (above_line (codes "text") (length text) NARROWED_LIMIT) 1))
+    → IfSome told (MayBe path device)
+refused_text path device text None is h = tt
+refused_text path device text (Some output) is h = subst (MayBe path device) (sym h.1) (too_long text is.0 is.1 h.0)
 
-pub may_narrow : (expected : Result Device (List ℕ)) (text : List ℕ) → NarrowsTo expected text → MayBeOrMemory expected text 0
-may_narrow (Ok device) text is = inl (narrowed text is)
-may_narrow (Err line) text is = absurd is
+-- the same of what was weighed without a smaller limit
+pub weighed : {E : Type 0} (path : List ℕ) (device : Device) (text : List ℕ) (result : Result Candidate E) → IsDevice device → IsRenamable (is_design_path path) device
+    → IsText path device text → IfOk result (λ (c : Candidate). c.text.items ≡ text) → IfOk result (λ (c : Candidate). length c.text.items ≤ NARROWED_LIMIT)
+    → IfOk result (λ (c : Candidate). (new : Device) → described path text ≡ Ok new → c.sum ≡ sum_told new) → IfOk result (IsCandidate path device)
+weighed path device text (Ok candidate) valid renamable is same short sum = candidate_of path device text candidate valid renamable is same short sum
+weighed path device text (Err refusal) valid renamable is same short sum = tt
 
-pub may_refuse : (expected : Result Device (List ℕ)) (refusal : Refusal) → IsRefusal expected refusal
-    → MayBeOrMemory expected (refusal_line refusal) (refusal_status refusal)
-may_refuse expected Memory is = inr (refl, refl)
-may_refuse (Ok device) LongText is = inl (too_long is)
-may_refuse (Ok device) (Fault line number name) is = absurd is
-may_refuse (Ok device) (Clauses count) is = absurd is
-may_refuse (Err line) LongText is = inl (sym is, refl)
-may_refuse (Err line) (Fault at number name) is = inl (sym is, refl)
-may_refuse (Err line) (Clauses count) is = inl (sym is, refl)
+pub refused_weighed : {A : Type 0} (path : List ℕ) (device : Device) (text : List ℕ) (result : Result A Refusal) → IsText path device text
+    → IfErr result (λ (refusal : Refusal). IfSome (told_by refusal) (λ output. (NARROWED_LIMIT < length text) × (output ≡ says (above_line (codes "text") (length text) NARROWED_LIMIT) 1)))
+    → IfErr result (IsRefusedText path device)
+refused_weighed path device text (Ok candidate) is h = tt
+refused_weighed path device text (Err refusal) is h = refused_text path device text (told_by refusal) is h
+
+-- ---- sums
+
+-- a sum that is not above a limit is so above no greater one
+pub within_more : (top : ℕ) (clauses : Result ClauseList EncodeError) (sum : Option ℕ) → top ≤ BUDGET_LIMIT → sum ≡ sum_within top clauses → is_some sum ≡ true
+    → sum ≡ sum_within BUDGET_LIMIT clauses
+within_more top (Err error) sum few is there = absurd (let never : ⊥ = cc in never)
+within_more top (Ok cnf) sum few is there = by (nat_lt top (sum_of cnf.clauses)) refl is
+  where
+    by : (above : Bool) → nat_lt top (sum_of cnf.clauses) ≡ above → sum ≡ cond above None (Some (sum_of cnf.clauses)) → sum ≡ sum_within BUDGET_LIMIT (Ok cnf)
+    by true more none = absurd (let never : ⊥ = cc in never)
+    by false less some = some ∙ ap (λ b. cond b None (Some (sum_of cnf.clauses))) (sym (le-ltb BUDGET_LIMIT (sum_of cnf.clauses) (omega (arith, few, ltb-false top (sum_of cnf.clauses) less))))
+
+-- what is told is not above the greatest budget
+pub told_few : (device : Device) (sum : ℕ) → Some sum ≡ sum_told device → sum ≤ BUDGET_LIMIT
+told_few device sum is = by (encoded device) is
+  where
+    by_sum : (n : ℕ) (above : Bool) → nat_lt BUDGET_LIMIT n ≡ above → Some sum ≡ cond above None (Some n) → sum ≤ BUDGET_LIMIT
+    by_sum n true more none = absurd (let never : ⊥ = cc in never)
+    by_sum n false less some = let same : sum ≡ n = cc in omega (arith, same, ltb-false BUDGET_LIMIT n less)
+
+    by : (clauses : Result ClauseList EncodeError) → Some sum ≡ sum_within BUDGET_LIMIT clauses → sum ≤ BUDGET_LIMIT
+    by (Ok cnf) some = by_sum (sum_of cnf.clauses) (nat_lt BUDGET_LIMIT (sum_of cnf.clauses)) refl some
+    by (Err error) none = absurd (let never : ⊥ = cc in never)
+
+-- ---- the file
+
+-- what the file is narrowed to by what it describes
+pub narrowable-is : (path file : List ℕ) (read : Result Device Output) → length file ≤ TEXT_LIMIT → described path file ≡ read → narrowable path file ≡ if_encodable read
+narrowable-is path file read short is = ap if_encodable (short_file path file short ∙ is)
+
+pub expected_fault : (path file : List ℕ) (expected : Result Device Output) (told : Option Output) → narrowable path file ≡ expected → IsExpectedFault told expected
+    → IfSome told (MayBeBy path (narrowable path file))
+expected_fault path file expected None is h = tt
+expected_fault path file expected (Some output) is h = subst (λ e. MayBeBy path e output) (sym (is ∙ h)) refl
+
+-- the file has a fault
+pub refused_file : (path file : List ℕ) (told : Option Output) → length file ≤ TEXT_LIMIT → IsExpectedFault told (described path file)
+    → IfSome told (MayBeBy path (narrowable path file))
+refused_file path file None short h = tt
+refused_file path file (Some output) short h = expected_fault path file (Err output) (Some output) (narrowable-is path file (Err output) short h) refl
+
+-- its device has too many clauses
+pub refused_device : (path file : List ℕ) (device : Device) (told : Option Output) → length file ≤ TEXT_LIMIT → described path file ≡ Ok device
+    → IsExpectedFault told (encodable device (encoded device)) → IfSome told (MayBeBy path (narrowable path file))
+refused_device path file device told short read h = expected_fault path file (encodable device (encoded device)) told (narrowable-is path file (Ok device) short read) h
+
+module _ (path file : List ℕ) (device : Device) (short : length file ≤ TEXT_LIMIT) (read : described path file ≡ Ok device)
+    (fits : encodable device (encoded device) ≡ Ok device) where
+  found : narrowable path file ≡ Ok device
+  found = narrowable-is path file (Ok device) short read ∙ fits
+
+  -- its text under new names would be too long
+  pub refused_names : (told : Option Output) → IfSome told (MayBe path device) → IfSome told (MayBeBy path (narrowable path file))
+  refused_names None h = tt
+  refused_names (Some output) h = subst (λ e. MayBeBy path e output) (sym found) h
+
+  pub narrows : (before : Option ℕ) (best : Candidate) (text : List ℕ) → before ≡ sum_told device
+      → IsCandidate path device best → text ≡ sums_line before best.sum ++ best.text.items → MayBeBy path (narrowable path file) (says text 0)
+  narrows before best text sum is all =
+      let whole : text ≡ sums_line (sum_told device) (sum_told is.new) ++ best.text.items =
+      all ∙ (λ i. sums_line (sum i) (is.sum i) ++ best.text.items) in
+      subst (λ e. MayBeBy path e (says text 0)) (sym found)
+      (subst (λ t. MayBe path device (says t 0)) (sym whole) (narrowed best.text.items is.new is.text is.short))

@@ -1,85 +1,84 @@
--- The text that is written of a netlist, or what is said of a file that gives none.
-use Rattle.std.specs.Prelude.{◌≡◌, ◌<◌, ℕ, List, length, Option, Some, None, Result, Ok, Err, codes, nat_lt, nat_le, if◌then◌else◌}
-use Rattle.text_rules.specs.declared.text_lines.TheConstants.{TEXT_LIMIT}
-use Rattle.diag_edge.specs.ErrorLines.{fault_line, above_line}
+-- The text that is written of a device, or what is said of a file that gives none.
+use Rattle.std.specs.Prelude.{◌≡◌, ◌<◌, ◌≤◌, ℕ, Bool, true, false, List, ◌++◌, length, Option, Some, None, Result, Ok, Err, codes, nat_lt, if◌then◌else◌}
+use Rattle.diag_edge.specs.ErrorLines.{above_line}
 use Rattle.device_model.specs.Devices.{Device}
-use Rattle.bench_reader.specs.Netlists.{netlist}
-use Rattle.bench_reader.specs.Faults.{Fault, fault_number, fault_name}
-use Rattle.clause_encoder.specs.declared.limits.TheConstants.{CLAUSE_LIMIT}
 use Rattle.clause_encoder.specs.declared.encoding.EncodeError.{EncodeError}
-use Rattle.clause_encoder.specs.declared.encoding.EncodeError.TheVariants.{TooManyClauses, Memory}
 use Rattle.clause_encoder.specs.Clauses.{ClauseList}
 use Rattle.clause_encoder.specs.Encoding.{encoded}
 use Rattle.branch_states.specs.declared.measuring.TheConstants.{BUDGET_LIMIT}
 use Rattle.branch_states.specs.Branches.{sum_of}
-use Rattle.renaming.specs.Renaming.{IsOrder, renamed}
-use Rattle.netlist_writer.specs.Writing.{netlist_text, narrowed_text}
+use Rattle.renaming.specs.Renaming.{IsOrder, renamed, reordered}
+use Rattle.netlist_writer.specs.Writing.{netlist_text, sums_line}
+use Rattle.design_writer.specs.Writing.{design_text}
+use Rattle.diag_cli.specs.Words.{is_design_path}
+use Rattle.diag_cli.specs.Output.{Output, says}
+use Rattle.diag_cli.specs.Describing.{device_in}
+use Rattle.diag_cli.specs.Planning.{not_encoded}
+use Rattle.narrow_cli.specs.declared.candidates.TheConstants.{NARROWED_LIMIT}
 
--- ---- what is refused
-
-abbrev pub usage_line : List ℕ
-usage_line = codes "error: usage\n"
-
-abbrev pub read_line : List ℕ
-read_line = codes "error: read\n"
-
-abbrev pub memory_line : List ℕ
-memory_line = codes "error: memory\n"
-
-abbrev pub long_file_line : List ℕ
-long_file_line = codes "error: file above 16777216 bytes\n"
-
--- the text under new names is too long to be read again
-abbrev pub long_text_line : List ℕ
-long_text_line = codes "error: text above 16777216 bytes\n"
-
-abbrev pub netlist_line : Fault → List ℕ
-netlist_line fault = fault_line fault.line (fault_number fault.what) (fault_name fault.what)
-
-abbrev pub clauses_line : ℕ → List ℕ
-clauses_line count = above_line (codes "clauses") count CLAUSE_LIMIT
+-- ---- what is narrowed
 
 -- the device has clauses, or too many
-abbrev pub encodable : Device → Result ClauseList EncodeError → Result Device (List ℕ)
+abbrev pub encodable : Device → Result ClauseList EncodeError → Result Device Output
 encodable device (Ok cnf) = Ok device
-encodable device (Err (TooManyClauses count)) = Err (clauses_line count)
-encodable device (Err Memory) = Err memory_line
+encodable device (Err error) = Err (not_encoded error)
 
-abbrev pub device_by : Result Device Fault → Result Device (List ℕ)
-device_by (Ok device) = encodable device (encoded device)
-device_by (Err fault) = Err (netlist_line fault)
+abbrev pub if_encodable : Result Device Output → Result Device Output
+if_encodable (Ok device) = encodable device (encoded device)
+if_encodable (Err output) = Err output
 
--- the device of a file, or the line that refuses it
-abbrev pub device_in : List ℕ → Result Device (List ℕ)
-device_in file = if nat_le (length file) TEXT_LIMIT then device_by (netlist file) else Err long_file_line
+-- the device of a file, or what refuses it
+abbrev pub narrowable : List ℕ → List ℕ → Result Device Output
+narrowable path file = if_encodable (device_in path file)
 
--- ---- what is written
+-- ---- its sum
 
-abbrev pub sum_by : Result ClauseList EncodeError → Option ℕ
-sum_by (Ok cnf) = if nat_lt BUDGET_LIMIT (sum_of cnf.clauses) then None else Some (sum_of cnf.clauses)
-sum_by (Err error) = None
+-- the sum of clauses, where it is not above a limit
+abbrev pub sum_within : ℕ → Result ClauseList EncodeError → Option ℕ
+sum_within top (Ok cnf) = if nat_lt top (sum_of cnf.clauses) then None else Some (sum_of cnf.clauses)
+sum_within top (Err error) = None
 
 -- the sum of a device, where it is not above the greatest budget
 abbrev pub sum_told : Device → Option ℕ
-sum_told device = sum_by (encoded device)
+sum_told device = sum_within BUDGET_LIMIT (encoded device)
 
--- A text is that of the netlist under new names, in some order of its signals, with the sums before and after.
-pub record IsNarrowed (device : Device) (text : List ℕ) : Type 0 where
+-- ---- its text
+
+-- the text of a netlist in some order of its signals, and the device under the new names
+pub record IsNetlistText (device : Device) (text : List ℕ) (new : Device) : Type 0 where
   pub order : List ℕ
   pub each_once : IsOrder (length device.wires) order
-  pub whole : text ≡ narrowed_text (sum_told device) (sum_told (renamed order device)) order device
+  pub names : new ≡ renamed order device
+  pub is_text : text ≡ netlist_text new
 
--- A text in some order would be longer than a text may be.
-pub record IsTooLong (device : Device) : Type 0 where
-  pub order : List ℕ
-  pub each_once : IsOrder (length device.wires) order
-  pub long : TEXT_LIMIT < length (netlist_text (renamed order device))
+-- the text of a design in some orders of its parts and of its wires, and the device under the new names
+pub record IsDesignText (device : Device) (text : List ℕ) (new : Device) : Type 0 where
+  pub parts : List ℕ
+  pub wires : List ℕ
+  pub each_part : IsOrder (length device.parts) parts
+  pub each_wire : IsOrder (length device.wires) wires
+  pub names : new ≡ reordered parts wires device
+  pub is_text : text ≡ design_text new
 
--- What may be written over a device, and with which status.
-pub data MayBe (device : Device) : List ℕ → ℕ → Type 0 where
-  narrowed : (text : List ℕ) → IsNarrowed device text → MayBe device text 0
-  too_long : IsTooLong device → MayBe device long_text_line 1
+-- of a design, or of a netlist
+abbrev pub IsTextBy : Bool → Device → List ℕ → Device → Type 0
+IsTextBy true device text new = IsDesignText device text new
+IsTextBy false device text new = IsNetlistText device text new
 
-abbrev pub MayBeBy : Result Device (List ℕ) → List ℕ → ℕ → Type 0
-MayBeBy (Ok device) text status = MayBe device text status
-MayBeBy (Err line) text status = (text ≡ line) × (status ≡ 1)
+-- by the path of the file
+abbrev pub IsTextOf : List ℕ → Device → List ℕ → Device → Type 0
+IsTextOf path device text new = IsTextBy (is_design_path path) device text new
+
+-- ---- what is written
+
+-- What may be written of a device: its text under new names, behind the sums before and after; or that the text under some new
+-- names is too long to be read again behind such a line.
+pub data MayBe (path : List ℕ) (device : Device) : Output → Type 0 where
+  narrowed : (text : List ℕ) → (new : Device) → IsTextOf path device text new → length text ≤ NARROWED_LIMIT
+      → MayBe path device (says (sums_line (sum_told device) (sum_told new) ++ text) 0)
+  too_long : (text : List ℕ) → (new : Device) → IsTextOf path device text new → NARROWED_LIMIT < length text
+      → MayBe path device (says (above_line (codes "text") (length text) NARROWED_LIMIT) 1)
+
+abbrev pub MayBeBy : List ℕ → Result Device Output → Output → Type 0
+MayBeBy path (Ok device) output = MayBe path device output
+MayBeBy path (Err refused) output = output ≡ refused

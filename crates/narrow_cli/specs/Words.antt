@@ -1,23 +1,19 @@
 -- What the words of the command line ask for.
-use Rattle.std.specs.Prelude.{ℕ, Bool, ◌&&◌, ◌-◌, nat_lt, List, [], ◌∷◌, length, drop, Option, Some, None, option_and_then, if◌then◌else◌, codes}
+use Rattle.std.specs.Prelude.{ℕ, List, [], ◌∷◌, Option, Some, None, option_and_then, if◌then◌else◌}
 use Rattle.std.specs.Option.{option_map, option_map_or}
-use Rattle.text_rules.specs.Names.{same_name}
 use Rattle.text_rules.specs.Numbers.{plain_number_in}
 use Rattle.diag_edge.specs.Edge.{Holding, told_bytes}
+use Rattle.diag_cli.specs.Words.{is_device_path}
 use Rattle.signal_order.specs.declared.finding.TheConstants.{DEFAULT_MOVES}
 use Rattle.narrow_cli.specs.declared.words.TheConstants.{MOVE_LIMIT}
 
--- the file of a netlist, and how many moves are tried
+-- the file of a device, and how many moves are tried
 pub record Request : Type 0 where
   pub path : List ℕ
   pub moves : ℕ
 
--- a netlist by its ending, before which something stands
-abbrev pub is_netlist_path : List ℕ → Bool
-is_netlist_path path = nat_lt 6 (length path) && same_name (drop (length path - 6) path) (codes ".bench")
-
 abbrev pub request_over : List ℕ → ℕ → Option Request
-request_over path moves = if is_netlist_path path then Some (record { path = path; moves = moves }) else None
+request_over path moves = if is_device_path path then Some (record { path = path; moves = moves }) else None
 
 -- a file, and a number of moves where it is not the usual one
 abbrev pub request_of : List (List ℕ) → Option Request

@@ -1,22 +1,28 @@
-ghost use Rattle.std.specs.Prelude.{◌≡◌, ◌≤◌, Ok, length, MatchResult, IfOk, IfErr};
-ghost use Rattle.bench_reader.specs.Netlists.{netlist};
+ghost use Rattle.std.specs.Prelude.{◌≡◌, ◌≤◌, ◌<◌, Ok, length, codes, MatchResult, IfOk, IfErr, IfSome};
+ghost use Rattle.diag_edge.specs.ErrorLines.{above_line};
 ghost use Rattle.clause_encoder.specs.Encoding.{encoded};
 ghost use Rattle.device_model.specs.Devices.{Device, IsDevice};
-ghost use Rattle.renaming.specs.Renaming.{IsOrder, IsNetlist, renamed};
-ghost use Rattle.netlist_writer.specs.Writing.{netlist_text};
-ghost use Rattle.narrow_cli.specs.Narrowing.{device_by};
-ghost use Rattle.narrow_cli.specs.inner.Candidates.{sum_within, IsCandidate, IsRefusedText, NarrowsTo, IsRefusal};
+ghost use Rattle.diag_cli.specs.Words.{is_design_path};
+ghost use Rattle.diag_cli.specs.Output.{says};
+ghost use Rattle.diag_cli.specs.Describing.{described};
+ghost use Rattle.diag_cli.specs.Refusals.{told_by};
+ghost use Rattle.narrow_cli.specs.Narrowing.{narrowable, sum_within, MayBeBy};
+ghost use Rattle.narrow_cli.specs.inner.Candidates.{IsRenamable, IsText, IsCandidate, IsRefusedText};
 
-use crate::reading::{netlist_device, sum_within};
-use crate::refusal::Refusal;
+use crate::reading::sum_within;
 use branch_states::BUDGET_LIMIT;
+use design_writer::reordered_text;
 use device_model::Device;
+use diag_cli::{Refusal, described, is_design_path};
 use netlist_writer::{renamed_text, sums_line};
-use signal_order::{Start, find_order};
+use signal_order::{Start, find_order, find_part_order, given_order, wire_order};
 use std::alloc::{AllocError, Global};
 use text_rules::TEXT_LIMIT;
 
-/// A netlist under new names: its text, and its sum where that is known.
+/// The most bytes of a text under new names: the line of the sums, which has at most 48, stands before it in a file.
+pub const NARROWED_LIMIT: usize = TEXT_LIMIT - 48;
+
+/// A device under new names: its text, and its sum where that is known.
 #[derive(Drop)]
 pub(crate) struct Candidate {
     pub(crate) text: Vec<u8>,
@@ -24,93 +30,155 @@ pub(crate) struct Candidate {
 }
 
 // The sum of a text that was written here, which has no fault, where it is not above a limit.
-fn sum_of_text(alloc: Global, text: &[u8], top: u32) -> Result<Option<u32>, AllocError>
+fn sum_of_text(alloc: Global, path: &str, text: &[u8], top: u32) -> Result<Option<u32>, AllocError>
     requires short { length text.now ≤ TEXT_LIMIT }
     requires top { top ≤ BUDGET_LIMIT }
-    ensures { IfOk result (λ sum. (device : Device) → netlist text.now ≡ Ok device → sum ≡ sum_within top (encoded device)) }
+    ensures { IfOk result (λ sum. (device : Device) → described path.now text.now ≡ Ok device → sum ≡ sum_within top (encoded device)) }
 {
-    let Ok(device) = netlist_device(alloc, text) else {
+    let Ok(device) = described(alloc, path, text) else {
         return Err(AllocError);
     };
     match sum_within(alloc, &device, top) {
         Ok(sum) => Ok(sum),
         // Under other names it has as many clauses, which were not too many.
-        Err(Refusal::Clauses { count: _ }) => Ok(None),
+        Err(Refusal::Above { .. }) => Ok(None),
         Err(_) => Err(AllocError),
     }
 }
 
-// The netlist under the names of an order. Its sum is told where it is not above a limit.
-fn try_order(alloc: Global, device: &Device, order: &[u32], top: u32) -> Result<Candidate, Refusal>
-    requires device { IsDevice device.now }
-    requires netlist { IsNetlist device.now }
-    requires order { IsOrder (length device.now.wires) order.now }
+// A candidate of a text, unless this is too long to be read again. Its sum is told where it is not above a limit.
+fn weigh(alloc: Global, path: &str, text: Vec<u8>, top: u32) -> Result<Candidate, Refusal>
     requires top { top ≤ BUDGET_LIMIT }
-    ensures text { IfOk result (λ c. c.text.items ≡ netlist_text (renamed order.now device.now)) }
-    ensures sum { IfOk result (λ c. c.sum ≡ sum_within top (encoded (renamed order.now device.now))) }
-    ensures refused { IfErr result (IsRefusedText device.now) }
+    ensures text { IfOk result (λ c. c.text.items ≡ text.items) }
+    ensures short { IfOk result (λ c. length c.text.items ≤ NARROWED_LIMIT) }
+    ensures sum { IfOk result (λ c. (device : Device) → described path.now text.items ≡ Ok device
+        → c.sum ≡ sum_within top (encoded device)) }
+    ensures refused { IfErr result (λ refusal. IfSome (told_by refusal) (λ output. (NARROWED_LIMIT < length text.items)
+        × (output ≡ says (above_line (codes "text") (length text.items) NARROWED_LIMIT) 1))) }
 {
-    let text = renamed_text(alloc, device, order)?;
-    if text.len() > TEXT_LIMIT {
-        return Err(Refusal::LongText);
+    if text.len() > NARROWED_LIMIT {
+        return Err(Refusal::Above {
+            what: "text",
+            count: text.len() as u64,
+            limit: NARROWED_LIMIT as u64,
+        });
     }
-    let sum = sum_of_text(alloc, &text, top)?;
+    let sum = sum_of_text(alloc, path, &text, top)?;
     Ok(Candidate { text, sum })
 }
 
-// The better of a candidate and the netlist under the names of an order.
+// The text of a device under new names that stand in the order of the old ones.
+fn given_text(alloc: Global, path: &str, device: &Device) -> Result<Vec<u8>, AllocError>
+    requires { IsRenamable (is_design_path path.now) device.now }
+    ensures { IfOk result (λ text. IsText path.now device.now text.items) }
+{
+    let wires = given_order(alloc, device.wires().len())?;
+    if is_design_path(path) {
+        let parts = given_order(alloc, device.parts().len())?;
+        reordered_text(alloc, device, &parts, &wires)
+    } else {
+        renamed_text(alloc, device, &wires)
+    }
+}
+
+// The text under names that stand in an order which so many moves find from a start.
+fn found_text(
+    alloc: Global,
+    path: &str,
+    device: &Device,
+    start: Start,
+    moves: u32,
+) -> Result<Vec<u8>, AllocError>
+    requires { IsRenamable (is_design_path path.now) device.now }
+    ensures { IfOk result (λ text. IsText path.now device.now text.items) }
+{
+    if is_design_path(path) {
+        let parts = find_part_order(alloc, device, start, moves)?;
+        let wires = wire_order(alloc, device, &parts)?;
+        reordered_text(alloc, device, &parts, &wires)
+    } else {
+        let order = find_order(alloc, device, start, moves)?;
+        renamed_text(alloc, device, &order)
+    }
+}
+
+// The device under new names that stand in the order of the old ones.
+fn given(alloc: Global, path: &str, device: &Device) -> Result<Candidate, Refusal>
+    requires device { IsDevice device.now }
+    requires renamable { IsRenamable (is_design_path path.now) device.now }
+    ensures candidate { IfOk result (IsCandidate path.now device.now) }
+    ensures refused { IfErr result (IsRefusedText path.now device.now) }
+{
+    let text = given_text(alloc, path, device)?;
+    weigh(alloc, path, text, BUDGET_LIMIT)
+}
+
+// The better of a candidate and of that which so many moves find from a start.
 fn better(
     alloc: Global,
+    path: &str,
     device: &Device,
     best: Candidate,
-    order: &[u32],
+    start: Start,
+    moves: u32,
 ) -> Result<Candidate, Refusal>
     requires device { IsDevice device.now }
-    requires netlist { IsNetlist device.now }
-    requires order { IsOrder (length device.now.wires) order.now }
-    requires best { IsCandidate device.now best }
-    ensures candidate { IfOk result (IsCandidate device.now) }
-    ensures refused { IfErr result (IsRefusedText device.now) }
+    requires renamable { IsRenamable (is_design_path path.now) device.now }
+    requires best { IsCandidate path.now device.now best }
+    ensures candidate { IfOk result (IsCandidate path.now device.now) }
+    ensures refused { IfErr result (IsRefusedText path.now device.now) }
 {
     let top = match best.sum {
         Some(sum) => sum.saturating_sub(1),
         None => BUDGET_LIMIT,
     };
-    let other = try_order(alloc, device, order, top)?;
+    let text = found_text(alloc, path, device, start, moves)?;
+    let other = weigh(alloc, path, text, top)?;
     if other.sum.is_some() {
         return Ok(other);
     }
     Ok(best)
 }
 
-// The best of the given order, and of those that are found from each start.
-fn best_of(alloc: Global, device: &Device, moves: u32) -> Result<Candidate, Refusal>
+// The best of the order of the old names, and of those that are found from each start.
+fn best_of(alloc: Global, path: &str, device: &Device, moves: u32) -> Result<Candidate, Refusal>
     requires device { IsDevice device.now }
-    requires netlist { IsNetlist device.now }
-    ensures candidate { IfOk result (IsCandidate device.now) }
-    ensures refused { IfErr result (IsRefusedText device.now) }
+    requires renamable { IsRenamable (is_design_path path.now) device.now }
+    ensures candidate { IfOk result (IsCandidate path.now device.now) }
+    ensures refused { IfErr result (IsRefusedText path.now device.now) }
 {
-    let given = find_order(alloc, device, Start::Names, 0)?;
-    let mut best = try_order(alloc, device, &given, BUDGET_LIMIT)?;
+    let each = moves / Start::ALL.len() as u32;
+    let mut best = given(alloc, path, device)?;
     for start in Start::ALL {
-        let order = find_order(alloc, device, start, moves / Start::ALL.len() as u32)?;
-        best = better(alloc, device, best, &order)?;
+        best = better(alloc, path, device, best, start, each)?;
     }
     Ok(best)
 }
 
-/// The text of a netlist under new names, in the best order that is found by so many moves, behind a line of comment that tells
-/// the sums.
-pub(crate) fn narrowed(alloc: Global, file: &[u8], moves: u32) -> Result<Vec<u8>, Refusal>
-    requires { length file.now ≤ TEXT_LIMIT }
-    ensures { MatchResult result (λ text. NarrowsTo (device_by (netlist file.now)) text.items)
-        (IsRefusal (device_by (netlist file.now))) }
+// How many types there are: no more than a machine can count, so that all can have short names.
+fn type_count(device: &Device) -> usize
+    ensures { result ≡ length device.now.tables }
 {
-    let device = netlist_device(alloc, file)?;
+    device.tables().len()
+}
+
+/// The text of a device under new names, in the best order that is found by so many moves, behind a line of comment that tells
+/// the sums.
+pub(crate) fn narrowed(
+    alloc: Global,
+    path: &str,
+    file: &[u8],
+    moves: u32,
+) -> Result<Vec<u8>, Refusal>
+    requires { length file.now ≤ TEXT_LIMIT }
+    ensures { MatchResult result (λ text. MayBeBy path.now (narrowable path.now file.now) (says text.items 0))
+        (λ refusal. IfSome (told_by refusal) (MayBeBy path.now (narrowable path.now file.now))) }
+{
+    let device = described(alloc, path, file)?;
     let before = sum_within(alloc, &device, BUDGET_LIMIT)?;
-    // what holds of every device
-    let _parts = device.parts();
-    let best = best_of(alloc, &device, moves)?;
+    // Their contracts say what holds of every device.
+    let _sizes = (device.parts().len(), type_count(&device));
+    let best = best_of(alloc, path, &device, moves)?;
     let mut text = sums_line(alloc, before, best.sum)?;
     text.extend_from_slice(&best.text)?;
     Ok(text)

@@ -4,10 +4,6 @@
 mod candidates;
 mod program;
 mod reading;
-mod refusal;
-mod saying;
-#[cfg(test)]
-mod tests;
 mod words;
 
 pub use program::narrow;

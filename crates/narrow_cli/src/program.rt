@@ -1,36 +1,34 @@
-ghost use Rattle.std.specs.Prelude.{◌≡◌, ◌≢◌, ℕ, List, ◌-◌, ◌^◌, ◌<◌, ◌≤◌, length, map, string_bytes, Some, IfSome};
-ghost use Rattle.bench_reader.specs.Netlists.{netlist};
+ghost use Rattle.std.specs.Prelude.{◌≡◌, ◌≢◌, ◌⊎◌, ◌-◌, ◌^◌, ◌<◌, ◌≤◌, length, map, string_bytes, Some, IfSome};
 ghost use Rattle.diag_edge.specs.Edge.{RoseExactly};
+ghost use Rattle.diag_cli.specs.Output.{Output, Gives, no_memory};
 ghost use Rattle.narrow_cli.specs.Words.{request_of, named_file};
-ghost use Rattle.narrow_cli.specs.Narrowing.{device_by};
-ghost use Rattle.narrow_cli.specs.Runs.{GivesText, IsNarrowRun};
-ghost use Rattle.narrow_cli.specs.inner.Candidates.{MayBeOrMemory};
+ghost use Rattle.narrow_cli.specs.Narrowing.{narrowable, MayBeBy};
+ghost use Rattle.narrow_cli.specs.Runs.{IsNarrowRun};
 
 use crate::candidates::narrowed;
-use crate::refusal::tell;
-use crate::saying::say;
 use crate::words::{Request, request_of};
+use diag_cli::{say, tell};
 use diag_edge::{LoadError, Shelf, Sink, load};
 use std::alloc::Global;
 use text_rules::TEXT_LIMIT;
 
-// Writes the netlist of a file under new names, or tells why there is none, and answers the status.
-fn narrow_file<O: Sink>(alloc: Global, file: &[u8], moves: u32, out: &mut O) -> u8
+// Writes the device of a file under new names, or tells why there is none, and answers the status.
+fn narrow_file<O: Sink>(alloc: Global, path: &str, file: &[u8], moves: u32, out: &mut O) -> u8
     requires short { length file.now ≤ TEXT_LIMIT }
     requires faults { O.faults out.old < 2 ^ 64 - 1 }
     ensures write_fault { RoseExactly (O.faults out.old) (O.faults out.new) (result ≡ 5) }
     ensures not_usage { result ≢ 2 }
     ensures not_read { result ≢ 4 }
-    ensures said { (text : List ℕ) × (told : ℕ) × MayBeOrMemory (device_by (netlist file.now)) text told
-        × GivesText text told result (O.got out.old) (O.got out.new) }
+    ensures said { (output : Output) × (MayBeBy path.now (narrowable path.now file.now) output ⊎ (output ≡ no_memory))
+        × Gives output result (O.got out.old) (O.got out.new) }
 {
-    match narrowed(alloc, file, moves) {
+    match narrowed(alloc, path, file, moves) {
         Ok(text) => say(out, &text, 0),
         Err(refusal) => tell(out, refusal),
     }
 }
 
-// Reads a file, and writes its netlist under new names.
+// Reads a file, and writes its device under new names.
 fn narrow_over<H: Shelf, O: Sink>(
     alloc: Global,
     path: &str,
@@ -46,15 +44,15 @@ fn narrow_over<H: Shelf, O: Sink>(
         (O.faults out.old) (O.faults out.new) (O.got out.old) (O.got out.new) result }
 {
     match load(alloc, shelf, path, TEXT_LIMIT) {
-        Ok(file) => narrow_file(alloc, &file, moves, out),
+        Ok(file) => narrow_file(alloc, path, &file, moves, out),
         Err(LoadError::Failed) => say(out, b"error: read\n", 4),
         Err(LoadError::Long { limit: _ }) => say(out, b"error: file above 16777216 bytes\n", 1),
         Err(LoadError::Memory) => say(out, b"error: memory\n", 6),
     }
 }
 
-/// Does all that the program does: reads the netlist that the words name, and writes it under names in an order in which its sum
-/// is small; and gives the status.
+/// Does all that the program does: reads the device that the words name, and writes it under names in an order in which its sum is
+/// small; and gives the status.
 ///
 /// `words` are those behind the program's name. `IsNarrowRun` says, clause by clause, what holds of each run.
 pub fn narrow<H: Shelf, O: Sink>(alloc: Global, words: &[String], shelf: &mut H, out: &mut O) -> u8

@@ -1,33 +1,14 @@
-ghost use Rattle.std.specs.Prelude.{◌≡◌, ◌≤◌, length, IfOk};
+ghost use Rattle.std.specs.Prelude.{◌≡◌, ◌≤◌, IfOk};
 ghost use Rattle.text_rules.specs.Expected.{Fulfils};
-ghost use Rattle.bench_reader.specs.Netlists.{netlist};
 ghost use Rattle.clause_encoder.specs.Encoding.{encoded};
-ghost use Rattle.narrow_cli.specs.Narrowing.{encodable};
-ghost use Rattle.narrow_cli.specs.inner.Candidates.{Finds, or_line, sum_within, told_by};
+ghost use Rattle.diag_cli.specs.Refusals.{told_by};
+ghost use Rattle.narrow_cli.specs.Narrowing.{encodable, sum_within};
 
-use crate::refusal::Refusal;
-use bench_reader::{BenchError, read_bench};
 use branch_states::{BUDGET_LIMIT, MeasureError, measure};
-use clause_encoder::{EncodeError, encode};
+use clause_encoder::{CLAUSE_LIMIT, EncodeError, encode};
 use device_model::Device;
+use diag_cli::Refusal;
 use std::alloc::Global;
-use text_rules::TEXT_LIMIT;
-
-/// The device of a netlist.
-pub(crate) fn netlist_device(alloc: Global, text: &[u8]) -> Result<Device, Refusal>
-    requires { length text.now ≤ TEXT_LIMIT }
-    ensures { Finds (or_line (netlist text.now)) result }
-{
-    match read_bench(alloc, text) {
-        Ok(device) => Ok(device),
-        Err(BenchError::Bad { line, what }) => Err(Refusal::Fault {
-            line,
-            number: what.number(),
-            name: what.name(),
-        }),
-        Err(BenchError::Memory) => Err(Refusal::Memory),
-    }
-}
 
 /// The sum of a device, where it is not above a limit.
 pub(crate) fn sum_within(alloc: Global, device: &Device, top: u32) -> Result<Option<u32>, Refusal>
@@ -37,7 +18,13 @@ pub(crate) fn sum_within(alloc: Global, device: &Device, top: u32) -> Result<Opt
 {
     let cnf = match encode(alloc, device) {
         Ok(cnf) => cnf,
-        Err(EncodeError::TooManyClauses { count }) => return Err(Refusal::Clauses { count }),
+        Err(EncodeError::TooManyClauses { count }) => {
+            return Err(Refusal::Above {
+                what: "clauses",
+                count,
+                limit: CLAUSE_LIMIT as u64,
+            });
+        }
         Err(EncodeError::Memory) => return Err(Refusal::Memory),
     };
     match measure(alloc, &cnf, top) {

@@ -1,33 +1,27 @@
 ghost use Rattle.std.specs.Prelude.{◌≡◌, map, string_bytes};
 ghost use Rattle.std.specs.Option.{option_map};
-ghost use Rattle.narrow_cli.specs.Words.{is_netlist_path, request_over, request_of};
+ghost use Rattle.narrow_cli.specs.Words.{request_over, request_of};
 ghost use Rattle.narrow_cli.specs.inner.Requests.{meant};
 
+use diag_cli::is_device_path;
 use signal_order::DEFAULT_MOVES;
 use text_rules::plain_number;
 
 /// The most moves that may be asked for.
 pub const MOVE_LIMIT: u32 = 100_000_000;
 
-/// What the words of the command line ask for: a netlist's file, and how many moves are tried.
+/// What the words of the command line ask for: the file of a device, and how many moves are tried.
 #[derive(Clone, Copy, Debug)]
 pub(crate) struct Request<'a> {
     pub(crate) path: &'a str,
     pub(crate) moves: u32,
 }
 
-// Whether a file is a netlist by its ending.
-fn is_netlist_path(path: &str) -> bool
-    ensures { result ≡ is_netlist_path path.now }
-{
-    path.len() > 6 && path.as_bytes().ends_with(b".bench")
-}
-
-// So many moves over the file of a netlist.
+// So many moves over the file of a device.
 fn request_over(path: &str, moves: u32) -> Option<Request<'_>>
     ensures { option_map meant result ≡ request_over path.now moves }
 {
-    if is_netlist_path(path) {
+    if is_device_path(path) {
         Some(Request { path, moves })
     } else {
         None

@@ -1,4 +1,4 @@
-ghost use Rattle.std.specs.Prelude.{◌≡◌, ◌+◌, ◌<◌, ◌≤◌, Bool, List, [], ◌∷◌, length, replicate, All};
+ghost use Rattle.std.specs.Prelude.{◌≡◌, ◌+◌, ◌<◌, ◌≤◌, [], ◌∷◌, length, replicate, All};
 ghost use Rattle.session_rules.specs.CaseWords.{AreWords};
 ghost use Rattle.session_rules.specs.GraphSystems.{case_words};
 ghost use Rattle.adder_load.specs.Readings.{readings_at, adder_case};

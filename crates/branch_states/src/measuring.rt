@@ -1,4 +1,4 @@
-ghost use Rattle.std.specs.Prelude.{true, ◌≡◌, ◌<◌, ◌≤◌, ◌+◌, ◌*◌, ◌++◌, [], ◌∷◌, Bool, List, map, length, MatchResult, IfOk, OnOk};
+ghost use Rattle.std.specs.Prelude.{true, ◌≡◌, ◌<◌, ◌≤◌, ◌+◌, ◌*◌, ◌++◌, Bool, List, map, length, MatchResult, IfOk, OnOk};
 ghost use Rattle.clause_encoder.specs.Clauses.{is_clause_list};
 ghost use Rattle.branch_states.specs.Branches.{order, size, state_of, sum_of, weight, IsLiving};
 ghost use Rattle.branch_states.specs.inner.Steps.{with_state, followed, AreFound, AreStates};

@@ -1,7 +1,7 @@
-ghost use Rattle.std.specs.Prelude.{true, false, ◌≡◌, ◌<◌, ◌≤◌, ◌+◌, ◌^◌, ◌++◌, [], ◌∷◌, ◌⊎◌, ℕ, List, length, All, IfOk, OnOk, slice_index, slice_index_or, nat_le, replicate};
+ghost use Rattle.std.specs.Prelude.{true, false, ◌≡◌, ◌<◌, ◌≤◌, ◌+◌, ◌^◌, ◌++◌, [], ◌∷◌, ℕ, List, length, All, IfOk, OnOk, slice_index_or, nat_le, replicate};
 ghost use Rattle.branch_states.specs.declared.walk.Entry.{Entry};
 ghost use Rattle.branch_states.specs.Branches.{has_true};
-ghost use Rattle.branch_states.specs.inner.Steps.{IsPlaced, IsLow, first_by, end_by, span_of, walk_of, plain, AllOnce, AreWalks, AreTurning};
+ghost use Rattle.branch_states.specs.inner.Steps.{IsPlaced, IsLow, first_by, end_by, span_of, walk_of, AllOnce, AreWalks, AreTurning};
 
 use crate::levels::Levels;
 use crate::walk::{Entry, Span, has_true};

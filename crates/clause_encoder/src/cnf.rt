@@ -1,4 +1,4 @@
-ghost use Rattle.std.specs.Prelude.{◌≡◌, ◌<◌, ◌≤◌, ◌^◌, length, true, slice_index_or, [], IfOk};
+ghost use Rattle.std.specs.Prelude.{◌≡◌, ◌<◌, ◌≤◌, length, true, slice_index_or, [], IfOk};
 ghost use Rattle.std.specs.List.{list_all};
 ghost use Rattle.clause_encoder.specs.Clauses.{is_clause, is_clause_list};
 

@@ -1,4 +1,4 @@
-ghost use Rattle.std.specs.Prelude.{◌≡◌, ◌≢◌, ◌<◌, ◌≤◌, ◌+◌, ◌++◌, ℕ, true, List, map, length, All, MatchResult, IfOk, OnOk};
+ghost use Rattle.std.specs.Prelude.{◌≡◌, ◌<◌, ◌≤◌, ◌+◌, ◌++◌, ℕ, true, List, map, length, All, IfOk, OnOk};
 ghost use Rattle.text_rules.specs.Expected.{Fulfils};
 ghost use Rattle.device_model.specs.Devices.{IsDevice, takes, takes_ports};
 ghost use Rattle.clause_encoder.specs.Encoding.{encoded, reason, Describes, raw_count, raw_clauses, table_clauses, gate_clauses, step_clauses, any_gate_clauses, all_clauses, clause_list, tidy};
@@ -8,7 +8,7 @@ use crate::cnf::Cnf;
 use crate::gates::push_part;
 use crate::limits::{CLAUSE_LIMIT, NARROW_LIMIT, VARIABLE_LIMIT};
 use crate::writer::Writer;
-use device_model::{Component, Device, Kind, Table};
+use device_model::{Device, Kind, Table};
 use std::alloc::{AllocError, Global};
 
 /// Why a device has no list of clauses.

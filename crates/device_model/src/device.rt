@@ -19,7 +19,7 @@ pub struct Device {
 }
 
 impl Model for Device {
-    ghost use Rattle.std.specs.Prelude.{◌≡◌, map, List, ℕ, Vec};
+    ghost use Rattle.std.specs.Prelude.{◌≡◌, map, ℕ, Vec};
     ghost use Rattle.std.specs.declared.alloc.Global.{Global};
     ghost use Rattle.device_model.specs.Devices.{Device as Shown, IsDevice, part_names};
 

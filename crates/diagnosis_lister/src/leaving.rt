@@ -1,4 +1,4 @@
-ghost use Rattle.std.specs.Prelude.{◌≡◌, ◌+◌, ◌<◌, ◌≤◌, map, length, All, Some, IfSome, MatchOption};
+ghost use Rattle.std.specs.Prelude.{◌≡◌, ◌+◌, ◌<◌, ◌≤◌, length, All, Some, IfSome, MatchOption};
 ghost use Rattle.conditioner.specs.Models.{least_under, total_cost};
 ghost use Rattle.minimiser.specs.Stored.{AreLeastCosts};
 ghost use Rattle.diagnosis_lister.specs.Listing.{fault_count};

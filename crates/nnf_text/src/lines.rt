@@ -1,8 +1,8 @@
-ghost use Rattle.std.specs.Prelude.{◌≡◌, ◌++◌, ◌∷◌, [], length, codes, decimal};
+ghost use Rattle.std.specs.Prelude.{◌++◌, ◌∷◌, [], length, codes, decimal};
 ghost use Rattle.std.specs.List.{flat_map};
 ghost use Rattle.diag_edge.specs.Edge.{HasCause};
 ghost use Rattle.text_rules.specs.Tokens.{spaced};
-ghost use Rattle.graph_rules.specs.WrittenGraphs.{literal_word, kid_words, kind_words};
+ghost use Rattle.graph_rules.specs.WrittenGraphs.{literal_word, kind_words};
 ghost use Rattle.diag_edge.specs.Adding.{Adds};
 
 use diag_edge::{Chunk, Sink, WriteFailed};

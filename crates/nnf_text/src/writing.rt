@@ -1,4 +1,4 @@
-ghost use Rattle.std.specs.Prelude.{◌≡◌, ◌≤◌, [], true, Ok};
+ghost use Rattle.std.specs.Prelude.{◌≡◌, ◌≤◌, true, Ok};
 ghost use Rattle.std.specs.List.{flat_map};
 ghost use Rattle.diag_edge.specs.Edge.{HasCause, Puts};
 ghost use Rattle.text_rules.specs.Tokens.{spaced, is_neat};

@@ -1,16 +1,13 @@
-ghost use Rattle.std.specs.Prelude.{◌≡◌, ◌+◌, ◌≤◌, ◌<◌, [], Some, None, length, true, All, IfOk};
-ghost use Rattle.text_rules.specs.Names.{is_short_name, names_rise};
+ghost use Rattle.std.specs.Prelude.{◌≡◌, ◌≤◌, ◌<◌, [], Some, None, length, true, IfOk};
+ghost use Rattle.text_rules.specs.Names.{is_short_name};
 ghost use Rattle.diag_edge.specs.Edge.{HasCause};
-ghost use Rattle.device_model.specs.declared.limits.TheConstants.{PART_LIMIT, WIRE_LIMIT};
-ghost use Rattle.conditioner.specs.Models.{total_cost};
-ghost use Rattle.minimiser.specs.declared.pass.TheConstants.{TOTAL_LIMIT};
 ghost use Rattle.script_lang.specs.Script.{Start, Stop, line_of};
 ghost use Rattle.session_rules.specs.Carrying.{CarriesOut};
 ghost use Rattle.session_core.specs.Services.{moves_of, ChangesTable, TellsGraph};
 ghost use Rattle.session_core.specs.inner.Obeying.{Obeys, seen_request, held_request};
 
 use crate::basis::Basis;
-use crate::limits::{SERVED_NODES, SERVED_VARIABLES, SESSION_LIMIT};
+use crate::limits::SESSION_LIMIT;
 use crate::replies::{put_line_refusal, put_refusal};
 use crate::telling::Question;
 use device_model::Name;

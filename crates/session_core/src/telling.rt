@@ -1,9 +1,7 @@
 //! What is told of a case that stays as it is.
-ghost use Rattle.std.specs.Prelude.{◌≡◌, ◌+◌, ◌<◌, ◌++◌, ◌∷◌, [], length, drop, Some, None, codes, slice_index, is_some};
+ghost use Rattle.std.specs.Prelude.{◌≡◌, ◌+◌, ◌<◌, ◌++◌, ◌∷◌, [], length, is_some};
 ghost use Rattle.diag_edge.specs.Edge.{HasCause};
 ghost use Rattle.ranking.specs.Systems.{least_cost, all_diagnoses};
-ghost use Rattle.conditioner.specs.Models.{least_under};
-ghost use Rattle.probe_report.specs.Verdicts.{blame_of};
 ghost use Rattle.session_rules.specs.GraphSystems.{system_of};
 ghost use Rattle.session_rules.specs.Replies.{end_line, min_line, probe_line, probe_lines, blame_lines, if_any};
 ghost use Rattle.session_rules.specs.Spelling.{Replies};

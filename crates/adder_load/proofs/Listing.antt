@@ -136,6 +136,3 @@ module _ (graph : Graph) (words costs : List ℕ) where
 -- so many were asked for
 pub taken_all : {A : Type 0} (most count : ℕ) (xs : List A) → length xs ≡ count → count ≤ most → count ≡ length (take most xs)
 taken_all most count xs long few = let is = length-take most xs in grind (arith, long, few, is)
-
-pub taken_most : {A : Type 0} (most : ℕ) (xs : List A) → most ≤ length xs → most ≡ length (take most xs)
-taken_most most xs enough = let is = length-take most xs in grind (arith, enough, is)

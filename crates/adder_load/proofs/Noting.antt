@@ -9,7 +9,7 @@ use Rattle.device_model.specs.Devices.{Device, place_of}
 use Rattle.conditioner.specs.Words.{word_of}
 use Rattle.session_rules.specs.CaseWords.{AreWords}
 use Rattle.session_rules.specs.GraphSystems.{case_words}
-use Rattle.session_rules.proofs.CaseWords.{wire-says, wire-are, zeros-say, zeros-are, words-of_case, room-in_words}
+use Rattle.session_rules.proofs.CaseWords.{wire-says, wire-are, zeros-say, zeros-are, words-of_case}
 use Rattle.adder_load.specs.Readings.{Reading, readings, with_reading, with_readings, adder_case}
 use Rattle.adder_load.specs.inner.Noting.{case_in, Notes}
 
@@ -34,12 +34,6 @@ pub wire_within : (device : Device) (name : Name) (wire : ℕ) → Some wire ≡
 wire_within device name wire at = (position-Some (same_name name) device.wires wire [] (sym at)).0
 
 module _ (device : Device) (words : List ℕ) (are : AreWords (length device.parts) (length device.wires) (length words) words) where
-  pub wire_room : (name : Name) (wire : ℕ) → Some wire ≡ place_of name device.wires → length device.parts + wire < length words
-  wire_room name wire at =
-      let within = wire_within device name wire at in
-      let room = room-in_words (length device.parts) (length device.wires) (length words) words are in
-      omega (arith, within, room)
-
   pub noted : (name : Name) (bit : Bool) (wire var : ℕ) (new : List ℕ) → Some wire ≡ place_of name device.wires → var ≡ length device.parts + wire + 1 → new ≡ slice_set words (var - 1) (word_of bit)
       → Notes device words new ((name, bit) ∷ [])
   noted name bit wire var new at is written =

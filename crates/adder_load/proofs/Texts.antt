@@ -15,9 +15,6 @@ left_more f all place below =
     let more : all - place ≡ suc (all - (place + 1)) = omega (arith, below) in
     ap (λ n. flat_map f (range_with_len place n)) more
 
-pub left_none : {A : Type 0} (f : ℕ → List A) (all : ℕ) → flat_map f (range_with_len all (all - all)) ≡ []
-left_none f all = let none : all - all ≡ 0 = omega arith in ap (λ n. flat_map f (range_with_len all n)) none
-
 place_long : (place : ℕ) → length (place_lines place) ≡ 155
 place_long place = refl
 

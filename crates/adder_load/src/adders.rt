@@ -74,7 +74,7 @@ fn add_place(text: &mut Vec<u8>, place: u32) -> Result<(), AllocError>
     add_gate(text, &signal(place + 1, b'c'), b"OR", &g, &p)
 }
 
-/// The netlist of an adder of so many places.
+/// The netlist of an adder of so many places. The only error is that there is no memory.
 pub fn adder_text(alloc: Global, places: u32) -> Result<Vec<u8>, AllocError>
     requires { places ≤ PLACE_LIMIT }
     ensures text { IfOk result (λ text. text.items ≡ adder_text places) }

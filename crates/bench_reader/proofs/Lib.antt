@@ -1,5 +1,6 @@
 pub mod Words
 pub mod Parsing
+pub mod Opening
 pub mod Lines
 pub mod Drivers
 pub mod Driving

@@ -1,11 +1,9 @@
 -- What tokens make.
-use Rattle.std.proofs.Common.{◌≡◌, ℕ, ◌+◌, ◌<◌, ◌≤◌, Bool, true, false, List, [], ◌∷◌, length, get_or, Option, Some, None, codes, Bor, is_some, refl, sym, ap, ◌∙◌, drop, drop-drop, length-drop, arith}
+use Rattle.std.proofs.Common.{◌≡◌, ℕ, ◌<◌, ◌≤◌, Bool, true, false, List, [], ◌∷◌, length, get_or, Option, Some, None, codes, is_some, refl, sym, ap, arith}
 use Rattle.std.specs.Prelude.{◌&&◌, option_map, if◌then◌else◌}
 use Rattle.std.specs.List.{filter, list_all}
 use Rattle.std.proofs.lemmas.List.Sums.{length-filter, count_by-le-length}
-use Rattle.std.specs.Iterator.{YieldsFirstBy}
 use Rattle.text_rules.specs.Names.{Name, is_short_name}
-use Rattle.text_rules.specs.Tokens.{Uncut, tokens_left}
 use Rattle.text_rules.proofs.NameLemmas.{equal_if_same}
 use Rattle.text_rules.proofs.TokenLemmas.{length-tokens}
 use Rattle.bench_reader.specs.declared.fault.BenchFault.TheVariants.{Name as NoName}
@@ -13,17 +11,7 @@ use Rattle.bench_reader.specs.declared.kinds.FlipFlops.{FlipFlops}
 use Rattle.bench_reader.specs.declared.kinds.NamedKind.{NamedKind}
 use Rattle.bench_reader.specs.declared.statement.Inputs.{Inputs}
 use Rattle.bench_reader.specs.Statements.{Gate, has_no_mark, is_the_mark, listed_from, inputs_in, statement_of, kind_named, kind_fault, statement_fault}
-use Rattle.bench_reader.specs.inner.Lines.{input_names, input_tokens, line_tokens, count_names}
-
--- ---- the tokens behind those that calls of `next` took
-
-drop_one_more : (k : ℕ) (xs : List (List ℕ)) → drop 1 (drop k xs) ≡ drop (k + 1) xs
-drop_one_more k xs = simp drop-drop refl
-
-pub next_drops : (k : ℕ) (xs : List (List ℕ)) (r : Option (Bor (List ℕ))) (left after : Uncut)
-    → YieldsFirstBy (λ (token : Bor (List ℕ)). token.now) tokens_left left r after → tokens_left left ≡ drop k xs → tokens_left after ≡ drop (k + 1) xs
-next_drops k xs None left after steps e = steps.1 ∙ sym (ap (drop 1) steps.0) ∙ ap (drop 1) e ∙ drop_one_more k xs
-next_drops k xs (Some t) left after steps e = sym (ap (drop 1) steps) ∙ ap (drop 1) e ∙ drop_one_more k xs
+use Rattle.bench_reader.specs.inner.Lines.{input_names, input_tokens, count_names}
 
 -- ---- lists of inputs
 
@@ -90,7 +78,7 @@ gate_behind output kind (t ∷ ts) o k h = rw (o, k) (gate_with output (kind_nam
 -- A line of two words with an equals sign between them, a bracket and a list makes a gate.
 pub statement_of_gate : (output kind bracket : Name) (line left behind ts : List (List ℕ)) → line ≡ output ∷ codes "=" ∷ left → left ≡ kind ∷ behind → behind ≡ bracket ∷ ts
     → bracket ≡ codes "(" → has_no_mark output ≡ true → has_no_mark kind ≡ true → is_some (inputs_in ts) ≡ true
-    → Some (Gate output (kind_named kind) (filter has_no_mark (drop 4 line))) ≡ statement_of line
+    → Some (Gate output (kind_named kind) (filter has_no_mark ts)) ≡ statement_of line
 statement_of_gate output kind bracket line left behind ts e f g b o k h =
     let whole : line ≡ output ∷ codes "=" ∷ kind ∷ codes "(" ∷ ts = cc in
     rw whole (sym (gate_behind output kind ts o k h))
@@ -108,9 +96,9 @@ fault_of_gate flip_flops output kind names count c o = rw o (by (list_all is_sho
 -- ---- so many inputs
 
 -- A line has no more inputs than bytes.
-pub inputs_fit : (inputs : Inputs) → length (input_names inputs) ≤ length inputs.line.now
+pub inputs_fit : (inputs : Inputs) → length (input_names inputs) ≤ length inputs.text.now
 inputs_fit inputs =
-    omega (arith, length-filter has_no_mark (input_tokens inputs), count_by-le-length has_no_mark (input_tokens inputs), length-drop 4 (line_tokens inputs.line.now), length-tokens true inputs.line.now)
+    omega (arith, length-filter has_no_mark (input_tokens inputs), count_by-le-length has_no_mark (input_tokens inputs), length-tokens true inputs.text.now)
 
 pub word_behind : (token : List ℕ) (left behind : List (List ℕ)) → left ≡ token ∷ behind → has_no_mark token ≡ true → 1 ≤ length (filter has_no_mark left)
 word_behind token left behind e w = rw (e, w) (omega arith)

@@ -6,6 +6,8 @@ use Rattle.std.proofs.lemmas.Bool.{and_parts}
 use Rattle.std.proofs.lemmas.Bool.Decides.{nat_tests, same_from_decides}
 use Rattle.std.proofs.lemmas.Slice.Eq.{bytes_eq-Decides}
 use Rattle.text_rules.specs.Names.{same_name}
+use Rattle.device_model.specs.declared.component.Kind.{Kind}
+use Rattle.device_model.specs.GateWords.{word_of}
 use Rattle.bench_reader.specs.Statements.{capital, capitals}
 use Rattle.bench_reader.specs.inner.Lines.{is_capital}
 
@@ -42,3 +44,7 @@ spells-test test word keyword h e =
     same_from_decides test (same_name (capitals word) keyword)
     (λ t. capitals_from_lower word keyword h (e.0 t), λ c. e.1 (lower_from_capitals word keyword h c))
     (bytes_eq-Decides (capitals word) keyword)
+
+-- the words of gates are in capital letters
+pub capitals-word_of : (kind : Kind) → list_all is_capital (word_of kind) ≡ true
+capitals-word_of kind = grind arith

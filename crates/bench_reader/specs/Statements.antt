@@ -1,13 +1,13 @@
 -- What one line of a netlist says, or what is wrong with it.
-use Rattle.std.specs.Prelude.{ℕ, ◌-◌, Bool, true, not, ◌&&◌, List, [], ◌∷◌, map, length, Option, Some, None, option_map, unwrap_or, Result, Ok, Err, codes, nat_le, if◌then◌else◌}
+use Rattle.std.specs.Prelude.{ℕ, ◌-◌, Bool, true, not, ◌&&◌, List, [], ◌∷◌, map, length, Option, Some, None, option_map, Result, Ok, Err, codes, nat_le, if◌then◌else◌}
 use Rattle.std.specs.List.{list_any, list_all}
-use Rattle.std.specs.Map.{lookup}
 use Rattle.text_rules.specs.Names.{Name, same_name, is_short_name, is_mark}
 use Rattle.text_rules.specs.TextLines.{uncommented}
 use Rattle.text_rules.specs.Tokens.{tokens}
 use Rattle.device_model.specs.declared.component.Kind.{Kind}
-use Rattle.device_model.specs.declared.component.Kind.TheVariants.{And, Or, Nand, Nor, Xor, Xnor, Not, Buff}
+use Rattle.device_model.specs.declared.component.Kind.TheVariants.{Buff}
 use Rattle.device_model.specs.Devices.{takes}
+use Rattle.device_model.specs.GateWords.{gate_named}
 use Rattle.bench_reader.specs.declared.kinds.FlipFlops.{FlipFlops}
 use Rattle.bench_reader.specs.declared.kinds.FlipFlops.TheVariants.{Refused}
 use Rattle.bench_reader.specs.declared.kinds.NamedKind.{NamedKind}
@@ -29,22 +29,16 @@ capital b = if nat_le 97 b && nat_le b 122 then b - 32 else b
 abbrev pub capitals : List ℕ → List ℕ
 capitals word = map capital word
 
-abbrev pub kinds : List (List ℕ × NamedKind)
-kinds = (codes "AND", Combinational And)
-    ∷ (codes "OR", Combinational Or)
-    ∷ (codes "NAND", Combinational Nand)
-    ∷ (codes "NOR", Combinational Nor)
-    ∷ (codes "XOR", Combinational Xor)
-    ∷ (codes "XNOR", Combinational Xnor)
-    ∷ (codes "NOT", Combinational Not)
-    ∷ (codes "BUFF", Combinational Buff)
-    ∷ (codes "BUF", Combinational Buff)
-    ∷ (codes "DFF", Sequential)
-    ∷ []
+-- The word of a gate names that gate. `BUF` is another word for a buffer, and `DFF` is the word of a flip-flop, which keeps its
+-- value for a time.
+abbrev pub gate_or_other : Name → Option Kind → NamedKind
+gate_or_other word (Some gate) = Combinational gate
+gate_or_other word None =
+    if same_name word (codes "BUF") then Combinational Buff else if same_name word (codes "DFF") then Sequential else Unknown
 
--- what a word names, in capital or in small letters: a gate, a flip-flop, which keeps its value for a time, or nothing
+-- what a word names, in capital or in small letters: a gate, a flip-flop or nothing
 abbrev pub kind_named : Name → NamedKind
-kind_named word = unwrap_or (lookup (same_name (capitals word)) kinds) Unknown
+kind_named word = gate_or_other (capitals word) (gate_named (capitals word))
 
 -- ---- statements
 

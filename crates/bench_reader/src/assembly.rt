@@ -42,7 +42,7 @@ fn ports_of(
         }
     }
     ports.push(place_of(signals, output))?;
-    Wires::new(alloc, &ports)
+    Ok(Wires::of(ports))
 }
 
 // The part of a gate or of a flip-flop.

@@ -1,6 +1,7 @@
 ghost use Rattle.std.specs.Prelude.{◌≡◌, true};
 ghost use Rattle.std.specs.List.{list_all};
 ghost use Rattle.text_rules.specs.Names.{same_name};
+ghost use Rattle.device_model.specs.GateWords.{gate_named};
 ghost use Rattle.bench_reader.specs.Statements.{capitals, kind_named, part_kind};
 ghost use Rattle.bench_reader.specs.inner.Lines.{is_capital};
 
@@ -46,25 +47,25 @@ pub fn spells(word: &[u8], keyword: &[u8]) -> bool
     word.eq_ignore_ascii_case(keyword)
 }
 
+// The gate that a word names, in capital letters, small letters or both.
+fn gate_spelled(word: &[u8]) -> Option<Kind>
+    ensures { result ≡ gate_named (capitals word.now) }
+{
+    for gate in Kind::GATES {
+        if spells(word, gate.word()) {
+            return Some(gate);
+        }
+    }
+    None
+}
+
 /// The kind that a word names.
 pub fn kind_named(word: &[u8]) -> NamedKind
     ensures { result ≡ kind_named word.now }
 {
-    if spells(word, b"AND") {
-        NamedKind::Combinational(Kind::And)
-    } else if spells(word, b"OR") {
-        NamedKind::Combinational(Kind::Or)
-    } else if spells(word, b"NAND") {
-        NamedKind::Combinational(Kind::Nand)
-    } else if spells(word, b"NOR") {
-        NamedKind::Combinational(Kind::Nor)
-    } else if spells(word, b"XOR") {
-        NamedKind::Combinational(Kind::Xor)
-    } else if spells(word, b"XNOR") {
-        NamedKind::Combinational(Kind::Xnor)
-    } else if spells(word, b"NOT") {
-        NamedKind::Combinational(Kind::Not)
-    } else if spells(word, b"BUFF") || spells(word, b"BUF") {
+    if let Some(gate) = gate_spelled(word) {
+        NamedKind::Combinational(gate)
+    } else if spells(word, b"BUF") {
         NamedKind::Combinational(Kind::Buff)
     } else if spells(word, b"DFF") {
         NamedKind::Sequential

@@ -4,14 +4,11 @@ ghost use Rattle.std.specs.Option.{option_map};
 ghost use Rattle.text_rules.specs.Tokens.{tokens_left};
 ghost use Rattle.bench_reader.specs.Statements.{has_no_mark, listed_from, inputs_in, statement_of, kind_fault, statement_fault, reading};
 ghost use Rattle.bench_reader.specs.Signals.{driven_by_gate};
-ghost use Rattle.bench_reader.specs.inner.Lines.{line_tokens, input_tokens, input_names, meaning, meaning_of_line, unnumbered, is_close, count_names};
+ghost use Rattle.bench_reader.specs.inner.Lines.{line_tokens, behind_bracket, input_tokens, input_names, meaning, meaning_of_line, unnumbered, is_close, count_names};
 
 use crate::fault::BenchFault;
 use crate::kinds::{FlipFlops, NamedKind, kind_named, spells};
 use text_rules::{Tokens, is_mark, is_short_name, uncommented};
-
-/// So many tokens stand before the inputs of a gate.
-const BEFORE_INPUTS: usize = 4;
 
 /// What a line says.
 #[derive(Clone, Copy)]
@@ -28,11 +25,11 @@ pub enum Statement<'a> {
     },
 }
 
-/// The inputs of a gate: what stands in its line behind the output, the equals sign, the kind and the opening bracket.
-/// The line is cut again wherever they are read, so that a line takes no memory of its own.
+/// The inputs of a gate: what stands in its line behind the opening bracket. It is cut again wherever they are read, so that a
+/// line takes no memory of its own.
 #[derive(Clone, Copy)]
 pub struct Inputs<'a> {
-    line: &'a [u8],
+    text: &'a [u8],
 }
 
 impl<'a> Inputs<'a> {
@@ -40,11 +37,17 @@ impl<'a> Inputs<'a> {
     pub fn tokens(self) -> Tokens<'a>
         ensures { tokens_left result ≡ input_tokens self.entry }
     {
-        let mut tokens = Tokens::with_marks(self.line);
-        for _ in 0..BEFORE_INPUTS {
-            tokens.next();
-        }
-        tokens
+        Tokens::with_marks(self.text)
+    }
+}
+
+// What stands behind the first opening bracket of a line.
+fn behind_bracket(line: &[u8]) -> &[u8]
+    ensures { result.now ≡ behind_bracket line.now }
+{
+    match line.iter().position(|byte| *byte == b'(') {
+        Some(opening) => &line[opening + 1..],
+        None => &[],
     }
 }
 
@@ -145,7 +148,9 @@ fn gate_of<'a>(line: &'a [u8], output: &'a [u8], mut tokens: Tokens<'a>) -> Opti
         Some(Statement::Gate {
             output,
             kind: kind_named(kind),
-            inputs: Inputs { line },
+            inputs: Inputs {
+                text: behind_bracket(line),
+            },
         })
     } else {
         None

@@ -1,5 +1,5 @@
 -- Counts of levels, and what is added to them, level by level or block by block.
-use Rattle.std.proofs.Common.{◌≡◌, ℕ, ◌+◌, ◌/◌, ◌<◌, ◌≤◌, ◌^◌, ◌⊎◌, inl, inr, max, List, length, get_or, replicate, ap, sym, ◌∙◌, arith}
+use Rattle.std.proofs.Common.{◌≡◌, ℕ, ◌+◌, ◌/◌, ◌<◌, ◌≤◌, ◌⊎◌, inl, inr, max, List, length, get_or, replicate, ap, sym, ◌∙◌, arith}
 use Rattle.std.proofs.lemmas.Bool.{cases_lt}
 use Rattle.std.proofs.lemmas.List.{get_or_default, length-replicate, get_or-replicate, same_lists}
 use Rattle.std.proofs.lemmas.List.FromFn.{length-map-range_with_len, get_or-map-range_with_len}
@@ -33,12 +33,6 @@ counts-none n m e =
     same_lists (counts_of (replicate n 0) (replicate m 0)) (replicate n 0) (long ∙ sym (length-replicate n 0))
     (λ k d h. count-known (replicate n 0) (replicate m 0) k d (omega (arith, long, length-replicate {A = ℕ} n 0)) ∙ none-at n m k (omega (arith, long)) e ∙ sym (get_or-replicate n k 0 d (omega (arith, long))))
 
-pub parts-none : (n m : ℕ) → m ≡ n / 256 + 1 → AreParts (replicate n 0) (replicate m 0)
-parts-none n m e = record {
-  long = length-replicate m 0 ∙ e ∙ ap (λ k. k / 256 + 1) (sym (length-replicate n 0));
-  few = λ i h. omega (arith, none-at n m i (omega (arith, length-replicate {A = ℕ} n 0)) e);
-}
-
 -- ---- one is added
 
 -- from the first level up to another, and all others as before
@@ -61,20 +55,6 @@ adding-first first end before levels blocks e p = record {
 }
 
 -- ---- all is added
-
--- what was below a limit is not above it
-pub adding-few : (first end level : ℕ) (before levels blocks : List ℕ) → end ≤ level → ((i : ℕ) → i < length before → get_or before i 0 < 2 ^ 31)
-    → IsAdding first end level before levels blocks → AreParts levels blocks
-adding-few first end level before levels blocks h low a = record {
-  long = a.parts ∙ ap (λ n. n / 256 + 1) (sym a.long);
-  few = λ i here. elim (cases_lt i first) [
-    | inl far ↦ omega (arith, a.same i (omega (arith, a.long)) (inl far), low i (omega (arith, a.long)))
-    | inr begun ↦ elim (cases_lt i level) [
-      | inl within ↦ omega (arith, a.done i begun within, low i (omega (arith, a.long)))
-      | inr over ↦ omega (arith, a.same i (omega (arith, a.long)) (inr over), low i (omega (arith, a.long)))
-    ]
-  ];
-}
 
 pub adding-done : (first end level : ℕ) (before levels blocks : List ℕ) → end ≤ level → end ≤ length before → IsAdding first end level before levels blocks
     → (i : ℕ) → first ≤ i → i < end → get_or (counts_of levels blocks) i 0 ≡ get_or before i 0 + 1

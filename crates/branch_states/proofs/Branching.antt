@@ -9,16 +9,17 @@ use Rattle.ranking.specs.Bits.{row_number, lists_of_bits}
 use Rattle.ranking.proofs.Bits.{not_left}
 use Rattle.ranking.proofs.Lists.{map-flat_map}
 use Rattle.clause_encoder.specs.Clauses.{Clause}
-use Rattle.branch_states.specs.Branches.{order, has_true, is_left, left, is_touched, is_covered, is_open, some_passes, is_dead, different, living, size, bits_of, words_of, state_of, without, branch, branches, IsLiving}
+use Rattle.branch_states.specs.Branches.{order, has_true, is_left, left, is_touched, is_covered, is_open, some_passes, is_dead, different, living, size, bits_of, words_of, state_of, without, branch, IsLiving}
 use Rattle.branch_states.proofs.Lists.{longer, lists_of_bits-more, each-long, flat_map_same, filter-flat_map, flat_map-filter, different-flat_map, each-different, each-filter, each-map}
 use Rattle.branch_states.specs.inner.Steps.{AllOnce}
 use Rattle.branch_states.proofs.Places.{first_met-once, untouched-left, covered-without, covered-more}
 
--- ---- one more bit
+-- the living lists that a list leaves, for the bit 0 and then for 1
+abbrev pub branches : List Clause → ℕ → List Bool → List (List Bool)
+branches clauses i list =
+    filter (λ next. not (is_dead clauses (i + 1) next)) (branch clauses i list false ∷ branch clauses i list true ∷ [])
 
-and_last : (x y : Bool) → (x && true) ≡ (true && x)
-and_last true y = refl
-and_last false y = refl
+-- ---- one more bit
 
 no_bits : (vs : List ℕ) (c : Clause) → is_left vs [] c ≡ true
 no_bits [] c = refl

@@ -13,7 +13,8 @@ use Rattle.ranking.proofs.Bits.{pointwise-refl, pointwise-equal}
 use Rattle.ranking.proofs.Lists.{list_any-map}
 use Rattle.smallvec.specs.declared.small_vec.SmallVec.{SmallVec}
 use Rattle.clause_encoder.specs.Clauses.{Clause, ClauseList, var_of, is_clause, is_clause_list}
-use Rattle.branch_states.specs.Branches.{order, place, left, is_touched, is_covered, is_open, some_passes, is_dead, same_list, different, living, size, bits_of, words_of, state_of, weight, sum_of, branch, branches, IsLiving}
+use Rattle.branch_states.specs.Branches.{order, place, left, is_touched, is_covered, is_open, some_passes, is_dead, same_list, different, living, size, bits_of, words_of, state_of, weight, sum_of, branch, IsLiving}
+use Rattle.branch_states.proofs.Branching.{branches}
 use Rattle.branch_states.specs.inner.Steps.{with_state, followed, AreFound, AreStates}
 use Rattle.branch_states.proofs.Lists.{each-different, is_among, different-append}
 use Rattle.branch_states.proofs.Branching.{left-next, living_lists-next, living_are_living, equal_states-equal_lists}
@@ -111,12 +112,6 @@ followed-alive clauses i states ls list bit state low h f alive e =
     subst (λ t. AreFound clauses (i + 1) (with_state states state) (ls ++ cond t (branch clauses i list bit ∷ []) [])) alive
     (subst (λ s. AreFound clauses (i + 1) (with_state states s) (ls ++ branch clauses i list bit ∷ [])) (sym e)
     (found-more clauses (i + 1) states ls (branch clauses i list bit) f (next-living clauses i list bit h low (not-true (is_dead clauses (i + 1) (branch clauses i list bit)) (sym alive)))))
-
-pub followed-dead : (clauses : List Clause) (i : ℕ) (states : List (List ℕ)) (ls : List (List Bool)) (list : List Bool) (bit : Bool)
-    → AreFound clauses (i + 1) states ls → false ≡ not (is_dead clauses (i + 1) (branch clauses i list bit)) → AreFound clauses (i + 1) states (ls ++ followed clauses i list bit)
-followed-dead clauses i states ls list bit f dead =
-    subst (λ t. AreFound clauses (i + 1) states (ls ++ cond t (branch clauses i list bit ∷ []) [])) dead
-    (subst (AreFound clauses (i + 1) states) (sym (append-nil ls)) f)
 
 -- ---- a level
 

@@ -56,12 +56,6 @@ walks-empty n =
     ∙ (λ i. filled (get_or-replicate n k 0 0 (omega (arith, long)) i) (get_or-replicate n k [] [] (omega (arith, long)) i))
     ∙ sym (get_or-replicate n k [] d (omega (arith, long))))
 
-pub fronts-empty : (n : ℕ) → AreFronts (replicate n 0) (replicate n [])
-fronts-empty n = record {
-  long = length-replicate n 0 ∙ sym (length-replicate n []);
-  within = λ i h. omega (arith, ap length (get_or-replicate {A = List Entry} n i [] [] (omega (arith, length-replicate {A = List Entry} n []))));
-}
-
 -- the front of a level is another one
 pub walks-set : (counts : List ℕ) (fronts : List (List Entry)) (k : ℕ) (front : List Entry) → k < length fronts
     → all_filled counts (set fronts k front) ≡ set (all_filled counts fronts) k (filled (get_or counts k 0) front)
@@ -77,15 +71,6 @@ walks-set counts fronts k front h =
       | inr other ↦ ap (filled (get_or counts i 0)) (get_or-set_other fronts k i front [] other)
           ∙ sym (walk-known counts fronts i d (omega (arith, within, length-set fronts k front))) ∙ sym (get_or-set_other (all_filled counts fronts) k i walk d other)
     ])
-
-pub fronts-set : (counts : List ℕ) (fronts : List (List Entry)) (k : ℕ) (front : List Entry) → k < length fronts → length front ≤ get_or counts k 0 → AreFronts counts fronts → AreFronts counts (set fronts k front)
-fronts-set counts fronts k front h fits a = record {
-  long = a.long ∙ sym (length-set fronts k front);
-  within = λ i low. elim (cases_eq i k) [
-    | inl same ↦ subst (λ j. length (get_or (set fronts k front) j []) ≤ get_or counts j 0) (sym same) (omega (arith, ap length (get_or-set_same fronts k front [] h)))
-    | inr other ↦ omega (arith, ap length (get_or-set_other fronts k i front [] other), a.within i (omega (arith, length-set fronts k front)))
-  ];
-}
 
 -- ---- walks that are known by their fronts
 

@@ -1,50 +1,18 @@
 -- What the clauses of a list say, from level to level and at the last one.
-use Rattle.std.proofs.Common.{◌≡◌, ℕ, suc, ◌<◌, Bool, true, false, not, ◌&&◌, ◌||◌, List, [], ◌∷◌, length, get_or, ℤ, inl, inr, refl, ap, sym, ◌∙◌, arith}
-use Rattle.std.specs.Prelude.{nat_lt, ◌==◌}
-use Rattle.std.proofs.lemmas.Bool.{false≢true, or_cases, or_left, or_right, and_parts, and_from, or_from, and_left, lt-ltb, eqb-true}
-use Rattle.ranking.specs.Bits.{same_bit}
-use Rattle.clause_encoder.specs.Clauses.{Clause, var_of, is_positive, is_true_clause}
-use Rattle.branch_states.specs.Branches.{order, place, is_true_by, has_true, is_covered, some_passes, without, branch, IsLiving}
+use Rattle.std.proofs.Common.{◌≡◌, ℕ, suc, ◌<◌, Bool, true, false, not, ◌&&◌, ◌||◌, List, [], ◌∷◌, length, get_or, ℤ, refl, sym, ◌∙◌, arith}
+use Rattle.std.specs.Prelude.{nat_lt}
+use Rattle.std.proofs.lemmas.Bool.{and_from, or_from, and_left, lt-ltb}
+use Rattle.clause_encoder.specs.Clauses.{Clause, var_of}
+use Rattle.branch_states.specs.Branches.{order, place, is_covered, some_passes, IsLiving}
 use Rattle.branch_states.proofs.Branching.{Known, known}
 use Rattle.branch_states.proofs.Ordering.{among, among-first_met, place-among, has-variable}
 
--- the clauses of a list are true
-abbrev pub all_left_hold : (ℕ → Bool) → List Clause → List Bool → Bool
-all_left_hold a [] list = true
-all_left_hold a (c ∷ clauses) [] = true
-all_left_hold a (c ∷ clauses) (b ∷ list) = (not b || is_true_clause a c) && all_left_hold a clauses list
-
 -- ---- one level on
-
-true-by : (a : ℕ → Bool) (v : ℕ) (c : Clause) → has_true v (a v) c ≡ true → is_true_clause a c ≡ true
-true-by a v [] e = absurd (false≢true e)
-true-by a v (l ∷ c) e = elim (or_cases (is_true_by v (a v) l) (has_true v (a v) c) e) [
-  | inl here ↦
-      let parts = and_parts (var_of l == v) (same_bit (is_positive l) (a v)) here in
-      or_left (same_bit (is_positive l) (a (var_of l))) (is_true_clause a c) (ap (λ w. same_bit (is_positive l) (a w)) (eqb-true (var_of l) v parts.0) ∙ parts.1)
-  | inr rest ↦ or_right (same_bit (is_positive l) (a (var_of l))) (is_true_clause a c) (true-by a v c rest)
-]
 
 one : (b t h : Bool) → (t ≡ true → h ≡ true) → (not (b && not t) || h) ≡ (not b || h)
 one true true h e = sym (e refl)
 one true false h e = refl
 one false t h e = refl
-
-hold-without : (a : ℕ → Bool) (v : ℕ) (clauses : List Clause) (list : List Bool) → all_left_hold a clauses (without (has_true v (a v)) clauses list) ≡ all_left_hold a clauses list
-hold-without a v [] list = refl
-hold-without a v (c ∷ clauses) [] = refl
-hold-without a v (c ∷ clauses) (b ∷ list) = λ i. one b (has_true v (a v) c) (is_true_clause a c) (true-by a v c) i && hold-without a v clauses list i
-
--- The clauses of a list are true exactly where those are that the next variable's bit leaves.
-pub hold-branch : (a : ℕ → Bool) (clauses : List Clause) (i : ℕ) (list : List Bool) → all_left_hold a clauses (branch clauses i list (a (get_or (order clauses) i 0))) ≡ all_left_hold a clauses list
-hold-branch a clauses i list = hold-without a (get_or (order clauses) i 0) clauses list
-
--- A dead list holds under no assignment that gives the first variables their bits; a list that has no clause holds.
-pub none-hold : (a : ℕ → Bool) (clauses : List Clause) (list : List Bool) → some_passes (λ _. true) clauses list ≡ false → all_left_hold a clauses list ≡ true
-none-hold a [] list e = refl
-none-hold a (c ∷ clauses) [] e = refl
-none-hold a (c ∷ clauses) (true ∷ list) e = absurd (false≢true (sym e))
-none-hold a (c ∷ clauses) (false ∷ list) e = none-hold a clauses list e
 
 -- ---- the last level
 

@@ -6,7 +6,7 @@ use Rattle.std.specs.Prelude.{nat_lt, if◌then◌else◌}
 use Rattle.std.specs.List.{filter}
 use Rattle.std.proofs.Math.Bool.{or-false, or_assoc}
 use Rattle.std.proofs.lemmas.Bool.{false≢true, or_parts, or_from, and_parts, and_from, and_left, and_right, or_cases, or_left, or_right, not-true, not-false}
-use Rattle.std.proofs.lemmas.List.{append-nil, append_assoc, get_or-drop, length-append, length-map, length-drop, length-replicate, replicate_more, take_more, take_all, drop_more, take-append-drop, length-take-le, map-append, take-append-le, drop-append-le, drop_at, get_or-map}
+use Rattle.std.proofs.lemmas.List.{append-nil, append_assoc, get_or-drop, length-append, length-map, length-drop, replicate_more, take_more, take_all, drop_more, take-append-drop, length-take-le, map-append, take-append-le, drop-append-le, drop_at}
 use Rattle.std.proofs.lemmas.List.Elements.{filter-append, All-head, All-tail, All-push}
 use Rattle.ranking.specs.Bits.{bit_in}
 use Rattle.clause_encoder.specs.Clauses.{Clause, ClauseList, var_of}
@@ -326,10 +326,6 @@ row-put es put more start end rest opened m s e o = record {
   cut = (λ i. take (end - start) (drop (s i) (m i))) ∙ ap (take (end - start)) (drop_at es put (length es) refl)
       ∙ take_all (end - start) put (omega (arith, ap length m, length-append es put))
 
--- the row of a level
-pub row-at : (es : List Event) (rows : List Row) (k : ℕ) (d : Row) → All (IsRow es) rows → k < length rows → IsRow es (get_or rows k d) × (row_walk es (get_or rows k d) ≡ get_or (map (row_walk es) rows) k [])
-row-at es rows k d all h = (all k d h, sym (get_or-map (row_walk es) rows k d [] h))
-
 -- ---- room for what is read and written
 
 count-front : (p : Entry → Bool) (xs ys : List Entry) → length (filter p xs) ≤ length (filter p (xs ++ ys))
@@ -366,10 +362,6 @@ rest-room p es rest k h end = sym (count-run p (spread (take k es) 0) rest h) �
 
 pub count-few : (p : Entry → Bool) (ws : List Entry) → length (filter p ws) ≤ length ws
 count-few p ws = omega (arith, length-filter_both p (λ e. not (p e)) (λ _. refl) ws)
-
-pub rest-few : (es : List Event) (rest : ℕ) → rest ≤ length (spread es rest)
-rest-few [] rest = omega (arith, length-replicate rest plain)
-rest-few (e ∷ es) rest = omega (arith, rest-few es rest, length-append (replicate e.run plain) (e.entry ∷ spread es rest))
 
 -- ---- a walk over clauses
 
@@ -477,12 +469,6 @@ length-next vs i cs =
     let walked = length-bits_of (is_walked vs i) cs all long ∙ sym (length-map (filter (is_walked vs i) cs) (entry_of vs i)) in
     sym (length-bits_of goes_on (walk_of vs cs i) (bits_of (is_walked vs i) cs all) walked)
     ∙ ap length (outs-walk vs i cs all) ∙ length-bits_of (is_open vs (i + 1)) cs all long
-
-pub open-few : (vs : List ℕ) (i : ℕ) (cs : List Clause) → length (filter was_open (walk_of vs cs i)) ≤ length cs
-open-few vs i cs = omega (arith, length-open vs i cs, length-filter_both (is_open vs i) (λ c. not (is_open vs i c)) (λ _. refl) cs)
-
-pub next-few : (vs : List ℕ) (i : ℕ) (cs : List Clause) → length (filter goes_on (walk_of vs cs i)) ≤ length cs
-next-few vs i cs = omega (arith, length-next vs i cs, length-filter_both (is_open vs (i + 1)) (λ c. not (is_open vs (i + 1) c)) (λ _. refl) cs)
 
 -- ---- what branches keep
 

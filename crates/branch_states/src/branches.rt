@@ -2,6 +2,7 @@ ghost use Rattle.std.specs.Prelude.{◌≡◌, ◌<◌, ◌≤◌, ◌+◌, ◌-
 ghost use Rattle.std.specs.Bool.{OnTrue};
 ghost use Rattle.clause_encoder.specs.Clauses.{is_clause_list};
 ghost use Rattle.branch_states.specs.Branches.{order, size, is_dead, branch, state_of, IsLiving};
+ghost use Rattle.clause_encoder.specs.declared.limits.TheConstants.{CLAUSE_LIMIT};
 
 use crate::order::find_order;
 use crate::spans::find_walks;
@@ -74,7 +75,7 @@ impl<'a> Branches<'a> {
     /// How many words of 64 bits a state of the present level has.
     pub fn words(&self) -> u32
         ensures words { result ≡ size self.now.cnf.clauses self.now.level }
-        ensures few { result ≤ 4097 }
+        ensures few { result ≤ CLAUSE_LIMIT / 64 + 1 }
     {
         words_for(self.walks.opened(self.level))
     }
@@ -83,7 +84,7 @@ impl<'a> Branches<'a> {
     pub fn after(&self) -> u32
         requires { self.now.level < length (order self.now.cnf.clauses) }
         ensures words { result ≡ size self.now.cnf.clauses (self.now.level + 1) }
-        ensures few { result ≤ 4097 }
+        ensures few { result ≤ CLAUSE_LIMIT / 64 + 1 }
     {
         words_for(self.walks.opened(self.level + 1))
     }
@@ -126,9 +127,9 @@ impl<'a> Branches<'a> {
 
 // How many words hold so many bits.
 fn words_for(bits: u32) -> u32
-    requires { bits ≤ 262144 }
+    requires { bits ≤ CLAUSE_LIMIT }
     ensures words { result ≡ bits / 64 + 1 }
-    ensures few { result ≤ 4097 }
+    ensures few { result ≤ CLAUSE_LIMIT / 64 + 1 }
 {
     bits / 64 + 1
 }

@@ -2,6 +2,7 @@ ghost use Rattle.std.specs.Prelude.{true, false, ◌≡◌, ◌<◌, ◌≤◌, 
 ghost use Rattle.branch_states.specs.declared.walk.Entry.{Entry};
 ghost use Rattle.branch_states.specs.Branches.{has_true};
 ghost use Rattle.branch_states.specs.inner.Steps.{IsPlaced, IsLow, first_by, end_by, span_of, walk_of, AllOnce, AreWalks, AreTurning};
+ghost use Rattle.clause_encoder.specs.declared.limits.TheConstants.{CLAUSE_LIMIT};
 
 use crate::levels::Levels;
 use crate::walk::{Entry, Span, has_true};
@@ -18,7 +19,7 @@ pub(crate) fn find_walks(
 ) -> Result<Walks, AllocError>
     requires once { AllOnce variables.now }
     requires few { length variables.now < 2 ^ 29 }
-    requires most { length cnf.now.clauses ≤ 262144 }
+    requires most { length cnf.now.clauses ≤ CLAUSE_LIMIT }
     requires placed { All (All (IsPlaced variables.now places.now)) cnf.now.clauses }
     ensures { IfOk result (λ walks. AreWalks variables.now cnf.now.clauses walks) }
 {
@@ -32,7 +33,7 @@ fn fill(levels: &mut Levels, cnf: &Cnf, variables: &[u32], places: &[u32]) -> Re
     requires once { AllOnce variables.now }
     requires empty { levels.old ≡ replicate (length variables.now + 1) [] }
     requires few { length variables.now < 2 ^ 29 }
-    requires most { length cnf.now.clauses ≤ 262144 }
+    requires most { length cnf.now.clauses ≤ CLAUSE_LIMIT }
     requires placed { All (All (IsPlaced variables.now places.now)) cnf.now.clauses }
     ensures { OnOk result (AreWalks variables.now cnf.now.clauses levels.new) }
 {

@@ -4,7 +4,7 @@ use Rattle.std.specs.Prelude.{if◌then◌else◌}
 use Rattle.std.specs.List.{filter}
 use Rattle.std.proofs.Math.Pow.{pow_mono}
 use lib.Count.{ones-le}
-use Rattle.std.proofs.lemmas.Bool.{lt-ltb, le-ltb}
+use Rattle.std.proofs.lemmas.Bool.{lt-ltb}
 use Rattle.std.proofs.lemmas.List.{length-append, length-map, length-take-le, length-drop}
 use Rattle.std.proofs.lemmas.List.FromFn.{length-map-range_with_len}
 use Rattle.device_model.specs.declared.component.Kind.{Kind}
@@ -119,11 +119,6 @@ length-any_gate kind inputs n step wide e h z y xs long =
 
       count : (m inputs : ℕ) → 5 ≤ inputs → m ≡ inputs - 1 - 1 → n * m + n ≡ n * (inputs - 1)
       count m inputs wide e = times m ∙ ap (λ k. n * k) (one_more m inputs wide e)
-
-pub length-narrow : (kind : Kind) (inputs n : ℕ) → ((h y : ℕ) (xs : List ℕ) → length xs ≡ inputs → length (gate_clauses kind h xs y) ≡ n) → inputs ≤ 4
-    → (h z y : ℕ) (xs : List ℕ) → length xs ≡ inputs → length (any_gate_clauses kind h z xs y) ≡ n
-length-narrow kind inputs n narrow few h z y xs long =
-    ap (λ w. length (if w then wide_clauses kind h z xs y else gate_clauses kind h xs y)) (le-ltb 4 (length xs) (omega arith)) ∙ narrow h y xs long
 
 -- ---- parts
 

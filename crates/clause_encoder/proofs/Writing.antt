@@ -1,7 +1,7 @@
 -- Clauses that are written one after the other: what a step of a loop adds to those that were there.
 use Rattle.std.proofs.Common.{◌≡◌, ℕ, zero, suc, ◌+◌, ◌-◌, ◌*◌, ◌/◌, ◌%◌, ◌^◌, ◌<◌, ◌≤◌, Bool, true, false, not, cond, List, [], ◌∷◌, ◌++◌, map, length, take, drop, get_or, ℤ, pos, count_ones, Some, ap, sym, ◌∙◌, arith, append_assoc, ◌&&◌, w32, to_z, of_z, FitsSigned}
 use Rattle.std.specs.List.{list_all, filter, range_with_len}
-use Rattle.std.proofs.lemmas.List.{append-nil, drop_more, drop_all, take_all, take_more, length-map, get_or-map}
+use Rattle.std.proofs.lemmas.List.{append-nil, drop_more, drop_all, take_more, length-map, get_or-map}
 use Rattle.std.specs.Prelude.{◌==◌, slice_get, nat_lt, nat_le}
 use Rattle.std.proofs.Math.Pow.{pow_mono}
 use Rattle.std.proofs.lemmas.Bool.{eqb-true, leb-true, ltb-true, and_parts, false≢true}
@@ -13,7 +13,7 @@ use Rattle.device_model.specs.declared.component.Kind.{Kind}
 use Rattle.device_model.specs.declared.component.Component.{Component}
 use Rattle.device_model.specs.Devices.{Device, IsDevice, has_arity, has_wires, is_set, rows_take, takes_ports}
 use Rattle.clause_encoder.specs.Clauses.{Clause, literal}
-use Rattle.clause_encoder.specs.Encoding.{tidy, and_clauses, row_bits, row_clause, blocking_literals, gate_clauses, step_clauses, chain_clauses, raw_clauses, inner_count, inner_vars, first_inner, clauses_from, wire_variable}
+use Rattle.clause_encoder.specs.Encoding.{tidy, and_clauses, row_bits, row_clause, blocking_literals, step_clauses, chain_clauses, raw_clauses, inner_count, inner_vars, first_inner, clauses_from, wire_variable}
 use Rattle.clause_encoder.proofs.Literals.{tidy-append}
 use Rattle.clause_encoder.proofs.RowBits.{row_bits-cons, is_set-zero, odd-row}
 use Rattle.clause_encoder.proofs.Meaning.{and_clauses-literals}
@@ -160,6 +160,13 @@ IsTable-from rows e =
       bad = ltb-true rows.bad (2 ^ (2 ^ rows.ports)) (and_parts (nat_lt rows.bad (2 ^ (2 ^ rows.ports))) (is_cost rows.cost) sets.1).0;
     }
 
+-- the rows of a table are those below `1 << ports`
+pub row_below : (rows : TruthTable) (row ports : ℕ) → is_table rows ≡ true → ports ≡ rows.ports → row < 1 * 2 ^ ports % 4294967296 → row < 2 ^ rows.ports
+row_below rows row ports e f lt =
+    let few = (IsTable-from rows e).few in
+    let all = shifted ports (omega arith) in
+    omega (arith, ap (λ n. 2 ^ n) f)
+
 -- the table of a part that has one
 pub taken : (tables : List TruthTable) (t ports : ℕ) (rows : TruthTable) → rows_take (slice_get tables t) ports ≡ true → rows ≡ get_or tables t rows
     → (slice_get tables t ≡ Some rows) × (ports ≡ rows.ports)
@@ -184,9 +191,6 @@ inner_at-more device place part lt is =
     let more : inner_vars (take (place + 1) device.parts) ≡ inner_vars (take place device.parts ++ get_or device.parts place part ∷ []) = ap inner_vars (take_more device.parts place part lt) in
     let last : inner_vars (get_or device.parts place part ∷ []) ≡ inner_vars (part ∷ []) = ap (λ p. inner_vars (p ∷ [])) (sym is) in
     omega (arith, more, last, inner_vars-append (take place device.parts) (get_or device.parts place part ∷ []))
-
-pub inner_at-all : (device : Device) (place : ℕ) → length device.parts ≤ place → inner_at device place ≡ first_inner device + inner_vars device.parts
-inner_at-all device place past = ap (λ ps. first_inner device + inner_vars ps) (take_all place device.parts past)
 
 -- the clauses of a part, and of those behind it
 pub split-at : (device : Device) (place : ℕ) (part : Component) → place < length device.parts → part ≡ get_or device.parts place part
@@ -229,13 +233,6 @@ pub step-written : (kind : Kind) (h last y z before : ℕ) (xs : List ℕ) (i : 
 step-written kind h last y z before xs i now next start lt e inv =
     written now next start (step_clauses kind z before (get_or xs i 0)) (chain_clauses kind h last y (z + 1) z (drop (i + 1) xs)) e
     (ap (λ ys. now ++ tidy (chain_clauses kind h last y z before ys)) (sym (drop_more xs i 0 lt)) ∙ inv)
-
--- the gate at the end of its chain
-pub chain-written : (kind : Kind) (h last y z before : ℕ) (xs : List ℕ) (i : ℕ) (now next start : List Clause) → length xs ≤ i
-    → next ≡ now ++ tidy (gate_clauses kind h (before ∷ last ∷ []) y)
-    → now ++ tidy (chain_clauses kind h last y z before (drop i xs)) ≡ start → next ≡ start
-chain-written kind h last y z before xs i now next start past e inv =
-    e ∙ ap (λ ys. now ++ tidy (chain_clauses kind h last y z before ys)) (sym (drop_all i xs past)) ∙ inv
 
 -- the variables of wires are small
 pub small : (parts : ℕ) (wires ports items : List ℕ) → ports ≡ items → items ≡ map (λ wire. parts + wire + 1) wires → parts ≤ 4096 → ((k d : ℕ) → k < length wires → get_or wires k d < 16384)

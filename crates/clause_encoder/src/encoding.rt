@@ -48,7 +48,7 @@ pub fn encode(alloc: Global, device: &Device) -> Result<Cnf, EncodeError>
 
 // Writes the clauses of all parts, and returns the greatest variable.
 fn push_parts(alloc: Global, writer: &mut Writer, device: &Device) -> Result<u32, AllocError>
-    ensures clauses { OnOk result (writer.new ≡ writer.old ++ tidy (all_clauses device.now)) }
+    ensures clauses { OnOk result (writer.new.clauses ≡ writer.old.clauses ++ tidy (all_clauses device.now)) }
     ensures vars { IfOk result (λ vars. vars ≡ (clause_list device.now).vars) }
     ensures few { IfOk result (λ vars. vars < VARIABLE_LIMIT) }
 {
@@ -59,7 +59,6 @@ fn push_parts(alloc: Global, writer: &mut Writer, device: &Device) -> Result<u32
     for (place, part) in parts.iter().enumerate() {
         set_ports(&mut ports, parts.len(), part.ports.as_slice())?;
         inner = push_part(
-            alloc,
             writer,
             device.tables(),
             part.kind,

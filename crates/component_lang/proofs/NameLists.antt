@@ -1,5 +1,5 @@
 -- Lists of names as the code keeps them.
-use Rattle.std.proofs.Common.{◌≡◌, ℕ, suc, ◌+◌, ◌≤◌, Bool, true, false, cond, not, List, [], ◌∷◌, ◌++◌, map, length, Option, Some, None, Result, Ok, Err, Bor, refl, sym, ap, ◌∙◌, append_assoc, append-nil, length-append, arith}
+use Rattle.std.proofs.Common.{◌≡◌, ℕ, suc, ◌+◌, ◌≤◌, Bool, true, false, cond, not, List, [], ◌∷◌, ◌++◌, map, length, Option, Some, None, Result, Ok, Err, Bor, refl, sym, ap, ◌∙◌, append_assoc, length-append, arith}
 use Rattle.std.specs.Prelude.{◌&&◌, ◌||◌, position, nat_lt, if◌then◌else◌}
 use Rattle.std.specs.List.{list_any, list_all, position_or_len}
 use Rattle.std.proofs.lemmas.Bool.{lt-ltb}
@@ -216,12 +216,6 @@ more_places-unknown known done wires n names plain h =
     none : (b : Bool) → if_plain (list_all is_plain_name names) (Ok (found_or (b && false) (done ++ place_in wires n ∷ map (place_in wires) names))) ≡ more_places false done wires names
     none true = refl
     none false = refl
-
-pub more_places-end : (known : Bool) (done : List ℕ) (wires : List Name) → more_places known done wires [] ≡ Ok (if known then Some done else None)
-more_places-end true done wires = ap (λ (xs : List ℕ). Ok (Some xs)) (append-nil done)
-more_places-end false done wires = refl
-
--- ---- lengths
 
 -- ---- names of a list
 

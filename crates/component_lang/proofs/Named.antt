@@ -7,7 +7,9 @@ use Rattle.std.specs.Option.{option_map}
 use Rattle.std.proofs.lemmas.Bool.{and_parts, lt-ltb, ltb-true}
 use Rattle.std.proofs.lemmas.List.{length-map}
 use Rattle.std.proofs.lemmas.Bool.Decides.{nat_tests}
+use Rattle.std.proofs.lemmas.Map.Made.{lookup-map_values}
 use Rattle.text_rules.specs.Names.{Name, same_name, is_among}
+use Rattle.device_model.specs.GateWords.{gate_words, gate_named}
 use Rattle.component_lang.specs.declared.design.UsedKind.{UsedKind}
 use Rattle.component_lang.specs.declared.design.UsedKind.TheVariants.{Gate, Shape as OfShape, Block as OfBlock}
 use Rattle.component_lang.specs.declared.design.Shape.{Shape}
@@ -98,6 +100,10 @@ kind_named-split : (reader : Reader) (name : Name) → kind_named reader name
 kind_named-split reader name =
     lookup-append (same_name name) gates (types_from 0 reader.types ++ blocks_from 0 reader.blocks)
     ∙ ap (first_some (lookup (same_name name) gates)) (lookup-append (same_name name) (types_from 0 reader.types) (blocks_from 0 reader.blocks))
+
+-- a name that is no word of a gate
+pub no_gate : (name : Name) → gate_named name ≡ None → lookup (same_name name) gates ≡ None
+no_gate name g = lookup-map_values Gate (same_name name) gate_words ∙ ap (option_map Gate) g
 
 pub kind_named-type : (reader : Reader) (name : Name) (place : ℕ) → lookup (same_name name) gates ≡ None → position (same_name name) (type_names reader.types) ≡ Some place
     → kind_named reader name ≡ Some (OfShape place)

@@ -1,8 +1,8 @@
 -- What is closed above a line, and which kind of parts a name means there.
-use Rattle.std.specs.Prelude.{ℕ, ◌+◌, List, [], ◌∷◌, ◌++◌, codes, Option}
+use Rattle.std.specs.Prelude.{ℕ, ◌+◌, List, [], ◌∷◌, ◌++◌, map, Option}
 use Rattle.std.specs.Map.{lookup}
 use Rattle.text_rules.specs.Names.{Name, same_name}
-use Rattle.device_model.specs.declared.component.Kind.TheVariants.{And, Or, Nand, Nor, Xor, Xnor, Not, Buff}
+use Rattle.device_model.specs.GateWords.{gate_words}
 use Rattle.component_lang.specs.declared.design.UsedKind.{UsedKind}
 use Rattle.component_lang.specs.declared.design.UsedKind.TheVariants.{Gate, Shape as OfShape, Block as OfBlock}
 use Rattle.component_lang.specs.declared.design.Shape.{Shape}
@@ -32,8 +32,7 @@ pub record Reader : Type 0 where
 
 -- the names of gates
 abbrev pub gates : List (List ℕ × UsedKind)
-gates = (codes "AND", Gate And) ∷ (codes "OR", Gate Or) ∷ (codes "NAND", Gate Nand) ∷ (codes "NOR", Gate Nor)
-    ∷ (codes "XOR", Gate Xor) ∷ (codes "XNOR", Gate Xnor) ∷ (codes "NOT", Gate Not) ∷ (codes "BUFF", Gate Buff) ∷ []
+gates = map (λ (word, gate). (word, Gate gate)) gate_words
 
 -- the names of types, each with its place
 abbrev pub types_from : ℕ → List Shape → List (List ℕ × UsedKind)

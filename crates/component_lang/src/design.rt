@@ -43,12 +43,14 @@ impl Model for Uses {
 }
 
 impl Uses {
+    /// The list that a vector holds.
     pub fn of(items: Vec<Used>) -> Uses
         ensures { result ≡ items.items }
     {
         Uses { items }
     }
 
+    /// The parts, in the order in which the block has them.
     pub fn as_slice(&self) -> &[Used]
         ensures { result.now ≡ self.now }
     {
@@ -92,12 +94,14 @@ impl Design {
         Design { types, blocks, top }
     }
 
+    /// The types, in the order of the text.
     pub fn types(&self) -> &[Shape]
         ensures { result.now ≡ self.now.types }
     {
         self.types.as_slice()
     }
 
+    /// The blocks, in the order of the text: each uses only blocks before it.
     pub fn blocks(&self) -> &[Block]
         ensures blocks { result.now ≡ self.now.blocks }
         ensures valid { is_design self.now ≡ true }

@@ -1,19 +1,15 @@
 ghost use Rattle.std.specs.Prelude.{◌≡◌, ◌+◌, ◌≤◌, length, map};
-ghost use Rattle.std.specs.Map.{lookup};
 ghost use Rattle.std.specs.Option.{option_map};
-ghost use Rattle.text_rules.specs.Names.{same_name};
 ghost use Rattle.text_rules.specs.declared.text_lines.TheConstants.{TEXT_LIMIT};
-ghost use Rattle.component_lang.specs.declared.design.UsedKind.TheVariants.{Gate as OfGate};
 ghost use Rattle.component_lang.specs.declared.design.Shape.{Shape as TypeOfParts};
 ghost use Rattle.component_lang.specs.declared.design.Block.{Block as BlockOfParts};
-ghost use Rattle.component_lang.specs.Kinds.{gates};
 ghost use Rattle.component_lang.specs.inner.NameSets.{names_in};
 
 use crate::design::{Block, Design, Shape, Used, UsedKind};
 use crate::fault::LangFault;
 use crate::line_error::LineError;
-use crate::words::{add_names, is_plain_name, spells};
-use device_model::{Kind, Name, Wires};
+use crate::words::{add_names, is_plain_name};
+use device_model::{Name, Wires, gate_named};
 use indexmap::IndexSet;
 use std::alloc::Global;
 use text_rules::Tokens;
@@ -28,31 +24,6 @@ pub struct Library<'a> {
     ghost types_named: { names_in type_names ≡ map (λ (shape : TypeOfParts). shape.name) types.items },
     ghost blocks_named: { names_in block_names ≡ map (λ (block : BlockOfParts). block.name) blocks.items },
     ghost few: { length types.items + length blocks.items ≤ TEXT_LIMIT },
-}
-
-// The gate that a word names.
-fn gate_named(word: &[u8]) -> Option<Kind>
-    ensures { option_map OfGate result ≡ lookup (same_name word.now) gates }
-{
-    if spells(word, b"AND") {
-        Some(Kind::And)
-    } else if spells(word, b"OR") {
-        Some(Kind::Or)
-    } else if spells(word, b"NAND") {
-        Some(Kind::Nand)
-    } else if spells(word, b"NOR") {
-        Some(Kind::Nor)
-    } else if spells(word, b"XOR") {
-        Some(Kind::Xor)
-    } else if spells(word, b"XNOR") {
-        Some(Kind::Xnor)
-    } else if spells(word, b"NOT") {
-        Some(Kind::Not)
-    } else if spells(word, b"BUFF") {
-        Some(Kind::Buff)
-    } else {
-        None
-    }
 }
 
 impl<'a> Library<'a> {
@@ -134,7 +105,7 @@ impl<'a> Library<'a> {
         Ok(Used {
             name: Name::new(alloc, name)?,
             kind,
-            args: Wires::new(alloc, &places)?,
+            args: Wires::of(places),
         })
     }
 

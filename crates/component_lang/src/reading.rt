@@ -192,7 +192,9 @@ fn after_line<'a>(
     }
 }
 
-/// Reads the design of a text.
+/// Reads the design of a text of at most 16,777,216 bytes.
+///
+/// Memory may run out at any time; any other error is the first fault of the text.
 pub fn read_lang(alloc: Global, text: &[u8]) -> Result<Design, LangError>
     requires { length text.now ≤ TEXT_LIMIT }
     ensures read { Fulfils (λ made. made) told (design text.now) result }

@@ -37,12 +37,12 @@ device = record {
   tables = joint ∷ [];
 }
 
-as_it_stands : design_text device ≡ codes "type T0 a b\nok 00\nok 11\nbad 00\nbad 10\nbad 01\nbad 11\ncost 12\nend\nblock FLAT\nwire a.x\nwire y\nwire z\npart a.g NOT a.x y\npart b T0 y z\nend\ntop FLAT\n"
+as_it_stands : design_text device ≡ codes "type TYPE0 a b\nok 00\nok 11\nbad 00\nbad 10\nbad 01\nbad 11\ncost 12\nend\nblock FLAT\nwire a.x\nwire y\nwire z\npart a.g NOT a.x y\npart b TYPE0 y z\nend\ntop FLAT\n"
 unfolding digits device
 as_it_stands = refl
 
 turned_round : design_text (reordered (1 ∷ 0 ∷ []) (2 ∷ 0 ∷ 1 ∷ []) device)
-    ≡ codes "type T0 a b\nok 00\nok 11\nbad 00\nbad 10\nbad 01\nbad 11\ncost 12\nend\nblock FLAT\nwire 00002_z\nwire 00003_a_x\nwire 00004_y\npart 00000_b T0 00004_y 00002_z\npart 00001_a_g NOT 00003_a_x 00004_y\nend\ntop FLAT\n"
+    ≡ codes "type TYPE0 a b\nok 00\nok 11\nbad 00\nbad 10\nbad 01\nbad 11\ncost 12\nend\nblock FLAT\nwire 00002_z\nwire 00003_a_x\nwire 00004_y\npart 00000_b TYPE0 00004_y 00002_z\npart 00001_a_g NOT 00003_a_x 00004_y\nend\ntop FLAT\n"
 unfolding digits device
 turned_round = refl
 
@@ -51,7 +51,7 @@ old_paths_are_refused : device_of_text (design_text device) ≡ None
 unfolding digits device
 old_paths_are_refused = refl
 
-read_with_its_line : device_of_text (narrowed_design_text (Some 90) None (1 ∷ 0 ∷ []) (2 ∷ 0 ∷ 1 ∷ []) device) ≡ Some (record {
+read_with_its_line : device_of_text (narrowed_design_text 8388608 (Some 90) None (1 ∷ 0 ∷ []) (2 ∷ 0 ∷ 1 ∷ []) device) ≡ Some (record {
   parts = part (codes "00000_b") (Table 0) (2 ∷ 0 ∷ []) ∷ part (codes "00001_a_g") Not (1 ∷ 2 ∷ []) ∷ [];
   wires = codes "00002_z" ∷ codes "00003_a_x" ∷ codes "00004_y" ∷ [];
   tables = joint ∷ [];

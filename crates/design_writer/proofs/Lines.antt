@@ -8,7 +8,8 @@ use Rattle.std.proofs.lemmas.List.Folds.{list_all-append}
 use Rattle.std.proofs.lemmas.List.Sums.{take_while-cons}
 use Rattle.text_rules.specs.Names.{is_name_byte}
 use Rattle.text_rules.specs.TextLines.{all_lines, uncommented}
-use Rattle.text_rules.specs.Tokens.{words, spaced, is_word_byte, is_filled}
+use Rattle.text_rules.specs.Tokens.{words, spaced, is_filled}
+use Rattle.text_rules.specs.inner.WordBytes.{is_word_byte}
 use Rattle.text_rules.proofs.PartLemmas.{passes_too}
 use Rattle.text_rules.proofs.LineLemmas.{all_lines-line}
 use Rattle.text_rules.proofs.SpacedLines.{is_line_word, beside, spaced-beside, words-beside, beside-is_line}

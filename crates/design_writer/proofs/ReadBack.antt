@@ -44,13 +44,13 @@ module _ (device : Device) (fine : IsWritable device) (few : length device.table
   comment [] first h = let other : ⊥ = cc in absurd other
   comment (b ∷ line) first h = let sign : 35 ≡ b = cc in ap (λ c. line_words (c ∷ line)) (sym sign)
 
-  pub read_behind : (before after : Option ℕ) → device_of_text (sums_line before after ++ design_text device) ≡ Some device
-  read_behind before after =
-      let is = sums_read before after in
+  pub read_behind : (limit : ℕ) (before after : Option ℕ) → device_of_text (sums_line limit before after ++ design_text device) ≡ Some device
+  read_behind limit before after =
+      let is = sums_read limit before after in
       let text = design_text device in
-      let cut : all_lines (sums_line before after ++ text) ≡ is.line ∷ all_lines text =
+      let cut : all_lines (sums_line limit before after ++ text) ≡ is.line ∷ all_lines text =
       ap (λ t. all_lines (t ++ text)) is.ends ∙ ap all_lines (append_assoc is.line (10 ∷ []) text) ∙ all_lines-line is.line text is.alone in
-      let skipped : design (sums_line before after ++ text) ≡ design_from 2 (all_lines text) (outer []) =
+      let skipped : design (sums_line limit before after ++ text) ≡ design_from 2 (all_lines text) (outer []) =
       ap (λ ls. design_from 1 ls (outer [])) cut ∙ ap (λ ws. unless_wrong 1 (after_words (outer []) ws) (design_from 2 (all_lines text))) (comment is.line _ is.ends) in
       ap device_by (skipped ∙ design_read 2) ∙ made
 

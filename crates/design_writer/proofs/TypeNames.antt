@@ -5,6 +5,7 @@ use Rattle.std.specs.List.{list_any, list_all, enumerate_from}
 use Rattle.std.specs.Map.{lookup}
 use Rattle.std.proofs.lemmas.Bool.{and_from, and_parts, le-leb, not-true, not_from_false, cond-true, cond-false, ne_eqb, cases_order, or_from}
 use Rattle.std.proofs.lemmas.Bool.Decides.{nat_tests}
+use Rattle.std.proofs.lemmas.List.Folds.{list_all-append}
 use Rattle.std.proofs.lemmas.Fmt.{length-decimal-le, decimal_nonempty, decimal_injective, first_decimal}
 use Rattle.text_rules.specs.Names.{Name, same_name, is_name_byte}
 use Rattle.text_rules.specs.Numbers.{is_digit, has_leading_zero}
@@ -57,17 +58,21 @@ cost_back cost some few =
 
 -- ---- the names of types
 
+-- a test that letters and digits pass
+behind_word : (test : ℕ → Bool) (digits : List ℕ) → list_all test (codes "TYPE") ≡ true → list_all test digits ≡ true → list_all test (codes "TYPE" ++ digits) ≡ true
+behind_word test digits letters h = list_all-append test (codes "TYPE") digits ∙ and_from _ _ letters h
+
 pub type_name-plain : (place : ℕ) → place < 2 ^ 64 → is_plain_name (type_name place) ≡ true
 type_name-plain place small =
     let digits = decimal_digits place small in
     let long = length-decimal-le 20 place (omega arith) (omega arith) small in
     and_from _ _
     (and_from _ _ (and_from _ _ (le-leb 1 (length (type_name place)) (omega arith)) (le-leb (length (type_name place)) 64 (omega arith)))
-    (and_from _ _ refl (passes_too is_digit is_name_byte digit_in_name (decimal place) digits)))
-    (not_from_false _ (no_dot (type_name place) (and_from _ _ refl (passes_too is_digit (λ b. not (b == 46)) digit_no_dot (decimal place) digits))))
+    (behind_word is_name_byte (decimal place) refl (passes_too is_digit is_name_byte digit_in_name (decimal place) digits)))
+    (not_from_false _ (no_dot (type_name place) (behind_word (λ b. not (b == 46)) (decimal place) refl (passes_too is_digit (λ b. not (b == 46)) digit_no_dot (decimal place) digits))))
 
 pub type_name-written : (place : ℕ) → place < 2 ^ 64 → is_written (type_name place) ≡ true
-type_name-written place small = and_from _ _ refl (passes_too is_digit is_name_byte digit_in_name (decimal place) (decimal_digits place small))
+type_name-written place small = behind_word is_name_byte (decimal place) refl (passes_too is_digit is_name_byte digit_in_name (decimal place) (decimal_digits place small))
 
 -- the types of two places have two names
 pub other_type : (j k : ℕ) → j < 2 ^ 64 → k < 2 ^ 64 → j ≢ k → same_name (type_name j) (type_name k) ≡ false

@@ -23,5 +23,5 @@ device_of_text text = device_by (design text)
 -- It is read as the device with the names exchanged, with or without the line of the sums, and with nothing else changed.
 pub record IsReadAsReordered (parts wires : List ℕ) (device : Device) : Type 0 where
   pub bare : device_of_text (design_text (reordered parts wires device)) ≡ Some (reordered parts wires device)
-  pub whole : (before after : Option ℕ)
-      → device_of_text (narrowed_design_text before after parts wires device) ≡ Some (reordered parts wires device)
+  pub whole : (limit : ℕ) (before after : Option ℕ)
+      → device_of_text (narrowed_design_text limit before after parts wires device) ≡ Some (reordered parts wires device)

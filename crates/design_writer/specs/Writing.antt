@@ -9,8 +9,9 @@ use Rattle.device_model.specs.declared.component.Kind.TheVariants.{Table}
 use Rattle.device_model.specs.declared.component.Component.{Component}
 use Rattle.device_model.specs.TruthTable.{TruthTable}
 use Rattle.device_model.specs.Devices.{Device, is_set}
+use Rattle.device_model.specs.GateWords.{word_of}
 use Rattle.renaming.specs.Renaming.{reordered}
-use Rattle.netlist_writer.specs.Writing.{kind_word, sums_line}
+use Rattle.netlist_writer.specs.Writing.{sums_line}
 
 -- the words of a line
 abbrev pub Line : Type 0
@@ -18,9 +19,9 @@ Line = List (List ℕ)
 
 -- ---- types
 
--- `T0`, `T1` and so on
+-- `TYPE0`, `TYPE1` and so on
 abbrev pub type_name : ℕ → Name
-type_name place = 84 ∷ decimal place
+type_name place = codes "TYPE" ++ decimal place
 
 -- the ports of a type are called by letters
 abbrev pub port_names : ℕ → List Name
@@ -46,7 +47,7 @@ type_lines placed =
 -- the word for a kind of parts
 abbrev pub kind_name : Kind → Name
 kind_name (Table place) = type_name place
-kind_name gate = kind_word gate
+kind_name gate = word_of gate
 
 abbrev pub part_line : List Name → Component → Line
 part_line wires part =
@@ -68,5 +69,5 @@ abbrev pub design_text : Device → List ℕ
 design_text device = flat_map spaced (design_lines device)
 
 -- the device of a design under new names, in orders of its parts and of its wires, behind the line of the sums
-abbrev pub narrowed_design_text : Option ℕ → Option ℕ → List ℕ → List ℕ → Device → List ℕ
-narrowed_design_text before after parts wires device = sums_line before after ++ design_text (reordered parts wires device)
+abbrev pub narrowed_design_text : ℕ → Option ℕ → Option ℕ → List ℕ → List ℕ → Device → List ℕ
+narrowed_design_text limit before after parts wires device = sums_line limit before after ++ design_text (reordered parts wires device)

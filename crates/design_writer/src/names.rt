@@ -2,9 +2,8 @@ ghost use Rattle.std.specs.Prelude.{◌≡◌, ◌<◌, ◌++◌, OnOk};
 ghost use Rattle.renaming.specs.Renaming.{undotted, numbered_name};
 
 use device_model::Name;
-use renaming::five_digits;
+use renaming::{KEPT_LIMIT, five_digits};
 use std::alloc::AllocError;
-use text_rules::SHORT_NAME_LIMIT;
 
 // Adds a path, whose dots become underscores.
 fn add_undotted(text: &mut Vec<u8>, path: &[u8]) -> Result<(), AllocError>
@@ -22,7 +21,7 @@ pub(crate) fn add_name(text: &mut Vec<u8>, name: &Name, place: u32) -> Result<()
     ensures { OnOk result (text.new.items ≡ text.old.items ++ numbered_name (place, name.now)) }
 {
     let path = name.as_slice();
-    let kept = path.len().min(SHORT_NAME_LIMIT - 6);
+    let kept = path.len().min(KEPT_LIMIT);
     text.extend_from_slice(&five_digits(place))?;
     text.extend_from_slice(b"_")?;
     add_undotted(text, &path[..kept])

@@ -9,7 +9,7 @@ ghost use Rattle.design_writer.specs.inner.Tables.{numbered_from, wire_name, wir
 use crate::names::add_name;
 use crate::types::{add_type_name, add_types};
 use device_model::{Component, Device, Kind, Name};
-use netlist_writer::{kind_word, places_of};
+use netlist_writer::places_of;
 use std::alloc::{AllocError, Global};
 
 // Adds the word for a kind of parts.
@@ -18,7 +18,7 @@ fn add_kind(text: &mut Vec<u8>, kind: Kind) -> Result<(), AllocError>
 {
     match kind {
         Kind::Table(place) => add_type_name(text, place as usize),
-        gate => text.extend_from_slice(kind_word(gate)),
+        gate => text.extend_from_slice(gate.word()),
     }
 }
 
@@ -156,7 +156,8 @@ fn add_block(
     text.extend_from_slice(b"end\ntop FLAT\n")
 }
 
-/// The text of a device as a design of one block, whose parts and wires stand in other orders under new names.
+/// The text of a device as a design of one block, whose parts and wires stand in other orders under new names. The only error is
+/// that there is no memory.
 pub fn reordered_text(
     alloc: Global,
     device: &Device,

@@ -9,6 +9,7 @@ use Rattle.device_model.specs.declared.component.Kind.TheVariants.{And, Or, Nand
 use Rattle.device_model.specs.declared.building.BuildError.TheVariants.{TooMany, TwoParts, TwoWires, Arity, NoWire}
 use Rattle.device_model.specs.TruthTable.{TruthTable, is_cost}
 use Rattle.device_model.specs.Devices.{Device, gate_value, kind_cost, part_costs, allows, takes}
+use Rattle.device_model.specs.GateWords.{word_of, gate_kinds, gate_named}
 use Rattle.ranking.specs.Systems.{least_cost, all_diagnoses}
 use Rattle.device_model.specs.Diagnosis.{device_system}
 use Rattle.device_model.specs.Building.{built}
@@ -90,6 +91,12 @@ an_inverter_takes_one = refl
 
 a_buffer_takes_one : map (takes Buff) (0 ∷ 1 ∷ 2 ∷ []) ≡ false ∷ true ∷ false ∷ []
 a_buffer_takes_one = refl
+
+each_word_names_its_gate : map (λ kind. gate_named (word_of kind)) gate_kinds ≡ map (λ (kind : Kind). Some kind) gate_kinds
+each_word_names_its_gate = refl
+
+small_letters_name_no_gate : gate_named (codes "and") ≡ None
+small_letters_name_no_gate = refl
 
 -- ok allows 00 and 11, bad allows 00 and 10, and a failure costs 7
 abbrev tables : List TruthTable

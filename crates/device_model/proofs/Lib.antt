@@ -5,6 +5,7 @@ pub mod Repeats
 pub mod CallerLemmas
 mod Steps
 pub mod Tables
+pub mod GateWords
 pub mod Making
 pub mod Costs
 mod Placing

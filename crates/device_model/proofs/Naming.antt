@@ -51,9 +51,6 @@ name_below-Below a b h = ap is_lt h
 pub name_below-above : (a b : Name) → Below b a → name_below a b ≡ false
 name_below-above a b h = ap is_lt (nat_list_cmp_total.antisymm a b ∙ ap ordering_reverse h)
 
-pub name_below-itself : (a : Name) → name_below a a ≡ false
-name_below-itself a = ap is_lt (tied_itself nat_list_cmp_total a)
-
 not_true : (b : Bool) → (b ≡ true → ⊥) → b ≡ false
 not_true true h = absurd (h refl)
 not_true false h = refl

@@ -25,10 +25,6 @@ module _ {A : Type 0} (name : A → Name) where
   Below-among n (x ∷ xs) y h (inl e) = subst (λ (z : A). Below n (name z)) (sym e) h.0
   Below-among n (x ∷ xs) y h (inr m) = Below-among n xs y h.1 m
 
-  pub BelowAll-from_among : (n : Name) (ys : List A) → ((y : A) → Among y ys → Below n (name y)) → BelowAll n ys
-  BelowAll-from_among n [] h = tt
-  BelowAll-from_among n (y ∷ ys) h = (h y (inl refl), BelowAll-from_among n ys (λ z m. h z (inr m)))
-
   pub BelowAll-trans : (m n : Name) (ys : List A) → Below m n → BelowAll n ys → BelowAll m ys
   BelowAll-trans m n [] b h = tt
   BelowAll-trans m n (y ∷ ys) b h = (Below-trans m n (name y) b h.0, BelowAll-trans m n ys b h.1)

@@ -13,7 +13,7 @@ use Rattle.device_model.specs.Order.{sorted_distinct}
 use Rattle.device_model.specs.TruthTable.{TruthTable}
 use Rattle.device_model.specs.Devices.{Device, has_wires}
 use Rattle.device_model.specs.Building.{place_in, renumbered, device_of}
-use Rattle.device_model.specs.Sorting.{numbered_from, with_places}
+use Rattle.device_model.specs.inner.Sorting.{numbered_from, with_places}
 use Rattle.device_model.proofs.Naming.{Below, Below-irreflexive, same_name-above}
 use Rattle.device_model.proofs.Ordered.{Among, Below-among, Rises, Rises-sorted_distinct}
 use Rattle.device_model.proofs.Sorting.{itself, Contains-from_among, among_permutation, Rises-unmap}

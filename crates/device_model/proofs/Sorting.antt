@@ -3,7 +3,7 @@ use Rattle.std.proofs.Common.{◌≡◌, ℕ, zero, suc, ◌+◌, ◌<◌, ◌�
 use Rattle.std.specs.List.Sorted.{IsPermutation}
 use Rattle.std.proofs.lemmas.List.Sorted.{Contains-permutation}
 use Rattle.text_rules.specs.Names.{Name, name_below, names_rise}
-use Rattle.device_model.proofs.Naming.{Below, Below-trans, Below-irreflexive, same, below, above, compared, name_below-Below, Below-from_test}
+use Rattle.device_model.proofs.Naming.{Below, Below-trans, same, below, above, compared, name_below-Below, Below-from_test}
 use Rattle.device_model.proofs.Ordered.{Among, BelowAll, BelowAll-trans, Rises}
 use Rattle.std.proofs.lemmas.Bool.{and_parts}
 
@@ -38,10 +38,6 @@ AtMost-from_test a b h = elim (compared a b) [
   | below l ↦ inr l
   | above l ↦ (let e = name_below-Below b a l in cc)
 ]
-
-AtMost-below : (a b : Name) → AtMost a b → Below b a → a ≡ b
-AtMost-below a b (inl e) l = e
-AtMost-below a b (inr k) l = absurd (Below-irreflexive a (Below-trans a b a k l))
 
 module _ {A : Type 0} (name : A → Name) where
   abbrev pub AtMostAll : Name → List A → Type 0

@@ -6,7 +6,7 @@ ghost use Rattle.device_model.specs.Order.{sorted_distinct};
 ghost use Rattle.device_model.specs.Devices.{IsDevice, part_names, takes_ports, has_arity, has_wires};
 ghost use Rattle.text_rules.specs.Expected.{Fulfils};
 ghost use Rattle.device_model.specs.Building.{built, reason, repeated};
-ghost use Rattle.device_model.specs.Sorting.{numbered_from, with_places, IsFirstRepeat, IsTwice};
+ghost use Rattle.device_model.specs.inner.Sorting.{numbered_from, with_places, IsFirstRepeat, IsTwice};
 ghost use Rattle.device_model.specs.declared.building.BuildError.TheVariants.{TwoParts, TwoWires, Memory};
 
 use crate::component::{Component, Kind, Table};

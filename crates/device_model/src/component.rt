@@ -1,6 +1,6 @@
-ghost use Rattle.std.specs.Prelude.{◌≡◌, ◌<◌, length, map, slice_index, All, IfOk, Some, None, true, if◌then◌else◌};
+ghost use Rattle.std.specs.Prelude.{◌≡◌, ◌<◌, ◌^◌, length, map, slice_index, All, IfOk, Some, None, true, if◌then◌else◌};
 ghost use Rattle.device_model.specs.TruthTable.{set_of_all, is_table};
-ghost use Rattle.device_model.specs.Devices.{most_inputs, takes};
+ghost use Rattle.device_model.specs.Devices.{is_set, most_inputs, takes};
 
 use crate::limits::{COST_LIMIT, INPUT_LIMIT};
 use crate::names::Name;
@@ -30,6 +30,14 @@ impl Wires {
         Ok(Wires { items })
     }
 
+    /// The list that a vector holds.
+    pub fn of(items: Vec<u32>) -> Wires
+        ensures { result ≡ items.items }
+    {
+        Wires { items }
+    }
+
+    /// The places, in the order of the ports.
     pub fn as_slice(&self) -> &[u32]
         ensures { result.now ≡ self.now }
     {
@@ -168,6 +176,15 @@ impl Table {
         ensures { result ≡ self.now.bad }
     {
         self.bad
+    }
+
+    /// Whether a part, ok or faulty, allows a row.
+    pub fn allows(&self, ok: bool, row: u32) -> bool
+        requires { row < 2 ^ self.now.ports }
+        ensures { result ≡ is_set (if ok then self.now.ok else self.now.bad) row }
+    {
+        let rows = if ok { self.ok } else { self.bad };
+        (rows >> row) & 1 == 1
     }
 
     /// What a failure of a part costs, 1 to 1,000.

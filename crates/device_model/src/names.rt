@@ -40,6 +40,7 @@ impl Name {
         Ok(Name { bytes })
     }
 
+    /// Its bytes, of which there is at least one.
     pub fn as_slice(&self) -> &[u8]
         ensures bytes { result.now ≡ self.now }
         ensures some { 1 ≤ length self.now }
@@ -64,18 +65,21 @@ impl Model for Names {
 }
 
 impl Names {
+    /// The list that a vector holds.
     pub fn of(items: Vec<Name>) -> Names
         ensures { result ≡ items.items }
     {
         Names { items }
     }
 
+    /// The names, in their order.
     pub fn as_slice(&self) -> &[Name]
         ensures { result.now ≡ self.now }
     {
         self.items.as_slice()
     }
 
+    /// The vector that holds them.
     pub fn into_vec(self) -> Vec<Name>
         ensures { result.items ≡ self }
     {

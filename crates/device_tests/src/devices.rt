@@ -179,6 +179,9 @@ fn makes_tables_and_lists_of_names(rt: HostRuntime) -> Result<(), Fail> {
     assert_eq!(rt; table.ports(), 6);
     assert_eq!(rt; table.ok(), u64::MAX);
     assert_eq!(rt; table.bad(), 1);
+    assert!(rt; table.allows(true, 63));
+    assert!(rt; table.allows(false, 0));
+    assert!(rt; !table.allows(false, 63));
     assert_eq!(rt; table.cost(), 1000);
     let names = Names::of(numbered(rt.alloc(), 3)?);
     assert_eq!(rt; names.as_slice().len(), 3);

@@ -1,6 +1,7 @@
 ghost use Rattle.renaming.specs.Renaming.{IsOrder};
 
 use bench_reader::read_bench;
+use branch_states::BUDGET_LIMIT;
 use component_lang::read_lang;
 use design_writer::reordered_text;
 use device_model::Device;
@@ -42,7 +43,7 @@ fn writes_a_netlist_in_other_orders(rt: HostRuntime) -> Result<(), Fail> {
 #[test]
 fn tells_sums(rt: HostRuntime) -> Result<(), Fail> {
     let expected = "# sum 120 before, above 8388608 after\n";
-    let line = sums_line(rt.alloc(), Some(120), None)?;
+    let line = sums_line(rt.alloc(), BUDGET_LIMIT, Some(120), None)?;
     assert!(rt; line.as_slice() == expected.as_bytes());
     Ok(())
 }
@@ -53,7 +54,7 @@ const DESIGN: &str =
 
 // The same as one block. The wires are numbered behind the parts, and the bad row has 1 at its second port.
 const FLAT: &str =
-    "type T0 a b\nok 00\nok 11\nbad 01\ncost 1\nend\nblock FLAT\nwire 00002_a\nwire 00003_b\nwire 00004_y\npart 00000_i_u NOT 00002_a 00003_b\npart 00001_v T0 00003_b 00004_y\nend\ntop FLAT\n";
+    "type TYPE0 a b\nok 00\nok 11\nbad 01\ncost 1\nend\nblock FLAT\nwire 00002_a\nwire 00003_b\nwire 00004_y\npart 00000_i_u NOT 00002_a 00003_b\npart 00001_v TYPE0 00003_b 00004_y\nend\ntop FLAT\n";
 
 // The flat device of a design.
 fn flat_device(alloc: Global, text: &str) -> Result<Device, Fail> {

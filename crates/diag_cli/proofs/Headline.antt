@@ -1,5 +1,5 @@
 -- From what was done by a course to what holds of a run.
-use Rattle.std.proofs.Common.{◌≡◌, ◌≢◌, ◌⊎◌, ◌<◌, ◌≤◌, ◌+◌, ℕ, true, false, List, length, Option, Some, None, IfSome, inl, inr, refl, ◌∙◌, ap, subst, sym, arith, codes, nat_le}
+use Rattle.std.proofs.Common.{◌≡◌, ◌≢◌, ◌⊎◌, ◌<◌, ◌≤◌, ◌+◌, ℕ, true, false, List, length, Option, Some, None, IfSome, inl, inr, refl, ◌∙◌, ap, subst, sym, arith, nat_le}
 use Rattle.std.specs.Prelude.{Result, Ok, Err}
 use Rattle.std.specs.Io.KnownBytes.{Consumes, IsAtEnd}
 use Rattle.std.proofs.lemmas.Bool.{cases_eq}
@@ -7,29 +7,27 @@ use Rattle.text_rules.specs.declared.text_lines.TheConstants.{TEXT_LIMIT}
 use Rattle.text_rules.specs.Expected.{IsExpectedFault}
 use Rattle.diag_edge.specs.Edge.{RoseExactly, Holding, absent, told_bytes}
 use Rattle.diag_edge.specs.declared.loading.LoadError.{LoadError}
-use Rattle.diag_edge.specs.declared.loading.LoadError.TheVariants.{Failed as LoadFailed, Long}
+use Rattle.diag_edge.specs.declared.loading.LoadError.TheVariants.{Failed as LoadFailed, Long, Memory}
 use Rattle.session_rules.specs.Items.{Item}
 use Rattle.session_rules.specs.Spelling.{Writes}
 use Rattle.device_model.specs.Devices.{Device}
 use Rattle.diag_cli.specs.declared.serving.TheConstants.{SCRIPT_LIMIT}
 use Rattle.diag_cli.specs.Words.{Form, Load, Over, Command, Serve, Plan, Check, Compile, asks_script}
 use Rattle.diag_cli.specs.Describing.{long_file_line, described, device_in}
-use Rattle.diag_cli.specs.Output.{Output, Gives, GivesUnlessMemory, says, no_memory}
-use Rattle.diag_cli.specs.Courses.{End, Ended, Failed, Cut, Course, Tells, Serves, read_error, served, wholly_served, whole_output, if_within, served_or_refused, course_by}
+use Rattle.diag_cli.specs.Output.{Output, Gives, says, no_memory}
+use Rattle.diag_cli.specs.Courses.{End, Ended, Failed, Cut, Course, Tells, Serves, usage_line, read_error, not_loaded, served, wholly_served, whole_output, if_within, served_or_refused, course_by}
 use Rattle.diag_cli.specs.Loads.{loaded}
 use Rattle.diag_cli.specs.Refusals.{or_memory}
 use Rattle.diag_cli.specs.Runs.{Reading, Writing, IsIdle, GivesUnlessShort, IsRun}
-use Rattle.diag_cli.specs.inner.Courses.{EndsAs, CameTo, IsServed, Follows}
+use Rattle.diag_cli.specs.inner.Courses.{EndsAs, CameTo, IsServed, GivesUnlessMemory, Follows}
 use Rattle.diag_cli.proofs.Failing.{gives_part}
+use Rattle.diag_cli.proofs.Unread.{IsUnread}
 use Rattle.diag_cli.proofs.Scripts.{taken_all, broken_begins_all}
 
 -- the file that is told, under another name
 pub same_file : (file bytes : List ℕ) (told : Option (List ℕ)) → file ≡ bytes → IfSome told (λ all. bytes ≡ all) → IfSome told (λ all. file ≡ all)
 same_file file bytes None same is = tt
 same_file file bytes (Some all) same is = same ∙ is
-
-pub too_long_is_no_failure : {T : Type 0} (result : Result T LoadError) (error : LoadError) (limit : ℕ) → result ≡ Err error → error ≡ Long limit → result ≡ Err LoadFailed → ⊥
-too_long_is_no_failure result error limit is long failed = let never : ⊥ = cc in never
 
 -- a file that is short enough is read
 pub short_file : (path file : List ℕ) → length file ≤ TEXT_LIMIT → device_in path file ≡ described path file
@@ -208,7 +206,7 @@ long_course path command file long = by command
     by (Compile budget) = rw no_more
 
 -- and so it is right to tell that
-pub long_is_right : (path : List ℕ) (command : Command) (told : Option (List ℕ)) → IfSome told (λ file. TEXT_LIMIT < length file) → IfSome told (IsRight path command (says long_file_line 1))
+long_is_right : (path : List ℕ) (command : Command) (told : Option (List ℕ)) → IfSome told (λ file. TEXT_LIMIT < length file) → IfSome told (IsRight path command (says long_file_line 1))
 long_is_right path command None long = tt
 long_is_right path command (Some file) long = inr (long_course path command file long)
 
@@ -239,7 +237,7 @@ module _ (held : List ℕ → Holding) (shelf new_shelf input : Reading) (out ne
     not_cut taken = absurd (omega (arith, taken))
 
     -- The file could not be read.
-    pub run_failed : shelf.faults < new_shelf.faults → RoseExactly out.faults new_out.faults (status ≡ 5)
+    run_failed : shelf.faults < new_shelf.faults → RoseExactly out.faults new_out.faults (status ≡ 5)
         → Gives (says read_error 4) status out.got new_out.got → IsRun (Some (Over path command)) held shelf new_shelf input input out new_out status
     run_failed moves writes said = record {
       write_fault = writes;
@@ -261,7 +259,7 @@ module _ (held : List ℕ → Holding) (shelf new_shelf input : Reading) (out ne
         given = some_all (told_bytes (held path)) (λ file. some_all (output_by file) (λ output kept same. absurd (omega (arith, kept, moves))))
 
     -- One output was given without a look at the script.
-    pub run_told : (output : Output) → output.status ≢ 0 → output.status ≢ 2 → output.status ≢ 4 → output.status ≢ 7 → IfSome (told_bytes (held path)) (IsRight path command output)
+    run_told : (output : Output) → output.status ≢ 0 → output.status ≢ 2 → output.status ≢ 4 → output.status ≢ 7 → IfSome (told_bytes (held path)) (IsRight path command output)
         → held path ≢ absent → new_shelf.faults ≡ shelf.faults → RoseExactly out.faults new_out.faults (status ≡ 5)
         → Gives output status out.got new_out.got → IsRun (Some (Over path command)) held shelf new_shelf input input out new_out status
     run_told output no0 no2 no4 no7 right there kept writes said = record {
@@ -288,8 +286,19 @@ module _ (held : List ℕ → Holding) (shelf new_shelf input : Reading) (out ne
         given : OutputsGiven
         given = some_map (told_bytes (held path)) given_by right
 
+    -- The file was not read.
+    pub run_unread : (error : LoadError) → IsUnread error (held path) shelf.faults new_shelf.faults → RoseExactly out.faults new_out.faults (status ≡ 5)
+        → Gives (not_loaded error) status out.got new_out.got → IsRun (Some (Over path command)) held shelf new_shelf input input out new_out status
+    run_unread LoadFailed rises writes said = run_failed rises writes said
+    run_unread (Long limit) is writes said =
+        run_told (says long_file_line 1) (λ e. omega (arith, e)) (λ e. omega (arith, e)) (λ e. omega (arith, e)) (λ e. omega (arith, e))
+        (long_is_right path command (told_bytes (held path)) is.0) is.1 is.2 writes said
+    run_unread Memory is writes said =
+        run_told no_memory (λ e. omega (arith, e)) (λ e. omega (arith, e)) (λ e. omega (arith, e)) (λ e. omega (arith, e))
+        (some_all (told_bytes (held path)) (λ file. inl refl)) is.0 is.1 writes said
+
   -- The words have no form.
-  pub run_usage : RoseExactly out.faults new_out.faults (status ≡ 5) → Gives (says (codes "error: usage\n") 2) status out.got new_out.got
+  pub run_usage : RoseExactly out.faults new_out.faults (status ≡ 5) → Gives (says usage_line 2) status out.got new_out.got
       → IsRun None held shelf shelf input input out new_out status
   run_usage writes said = record {
     write_fault = writes;
@@ -301,10 +310,10 @@ module _ (held : List ℕ → Holding) (shelf new_shelf input : Reading) (out ne
     not_asked = λ asks. idle;
     no_script = λ output course. idle;
     output = λ read taken. inr said;
-    complete = completes None shelf shelf input input out new_out status writes (says (codes "error: usage\n") 2) (λ read taken. inr said);
+    complete = completes None shelf shelf input input out new_out status writes (says usage_line 2) (λ read taken. inr said);
     script_fault = λ answers course rises. never_rises rises;
     all_read = λ answers course zero. absurd (let never : ⊥ = cc in never);
-    cut = λ whole. ((λ seven. absurd (known (says (codes "error: usage\n") 2) said 7 seven (λ e. absurd (omega (arith, e))) (λ e. absurd (omega (arith, e))))), λ taken. absurd (omega (arith, taken)));
+    cut = λ whole. ((λ seven. absurd (known (says usage_line 2) said 7 seven (λ e. absurd (omega (arith, e))) (λ e. absurd (omega (arith, e))))), λ taken. absurd (omega (arith, taken)));
   }
 
   -- An adder is made, and no file is named.

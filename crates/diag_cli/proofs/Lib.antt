@@ -3,6 +3,7 @@ pub mod WordLemmas
 pub mod Running
 pub mod ServedDevices
 pub mod Failing
+pub mod Unread
 pub mod Scripts
 pub mod Headline
 pub mod Adapting

@@ -1,10 +1,9 @@
 -- What is found of an adder's graph is what is told of its device.
-use Rattle.std.proofs.Common.{◌≡◌, ℕ, ◌-◌, ◌<◌, Bool, List, [], ◌∷◌, ◌++◌, length, get_or, take, Option, Some, None, IfSome, Result, Ok, refl, ap, ap₂, sym, ◌∙◌, subst, arith, inl, inr, codes}
+use Rattle.std.proofs.Common.{◌≡◌, ℕ, ◌-◌, ◌<◌, Bool, List, [], ◌∷◌, ◌++◌, length, get_or, take, Option, Some, None, IfSome, refl, ap, ap₂, sym, ◌∙◌, subst, arith, inl, inr, codes}
 use Rattle.std.specs.Option.{option_map}
 use Rattle.std.proofs.Math.Seq.{get_or-take, take-append_seam}
 use Rattle.std.proofs.lemmas.List.{length-map, length-take}
 use Rattle.text_rules.specs.Names.{Name}
-use Rattle.text_rules.specs.Expected.{IsExpectedFault}
 use Rattle.ranking.specs.Cases.{Case}
 use Rattle.ranking.specs.Ranking.{least, diagnoses}
 use Rattle.ranking.specs.Systems.{least_cost, all_diagnoses}
@@ -12,23 +11,23 @@ use Rattle.graph_rules.specs.Graphs.{Graph}
 use Rattle.device_model.specs.Devices.{Device, part_names, part_costs}
 use Rattle.device_model.specs.declared.component.Component.{Component}
 use Rattle.device_model.specs.Diagnosis.{device_system}
-use Rattle.clause_encoder.specs.Clauses.{ClauseList}
 use Rattle.conditioner.specs.Models.{models, least_under, diagnoses_under}
 use Rattle.diagnosis_lister.specs.Listing.{bits_of}
 use Rattle.adder_load.specs.declared.sampling.Found.{Found}
 use Rattle.adder_load.specs.Readings.{adder_case}
 use Rattle.adder_load.proofs.Cases.{case_seen, case_held}
-use Rattle.session_rules.specs.GraphSystems.{case_words, IsCaseOf}
-use Rattle.session_rules.specs.Items.{Item}
+use Rattle.session_rules.specs.GraphSystems.{case_words}
+use Rattle.session_rules.proofs.CaseSizes.{IsCaseOf}
 use Rattle.session_rules.proofs.Begun.{HaveSpellings}
 use Rattle.session_rules.proofs.Meaning.{same_consistent}
 use Rattle.diag_cli.specs.declared.loading.TheConstants.{LISTED_LIMIT}
 use Rattle.diag_cli.specs.declared.loading.Summary.{Summary}
-use Rattle.diag_cli.specs.Output.{Output, Gives, GivesUnlessMemory}
+use Rattle.diag_cli.specs.Output.{Output, Gives}
+use Rattle.diag_cli.specs.inner.Courses.{GivesUnlessMemory}
 use Rattle.diag_cli.specs.Planning.{count_line}
-use Rattle.diag_cli.specs.Loads.{names_line, listed_lines, summary_lines, summary_by, summary_of}
+use Rattle.diag_cli.specs.Loads.{names_line, listed_lines}
 use Rattle.diag_cli.specs.Refusals.{or_memory}
-use Rattle.diag_cli.specs.inner.Loading.{if_found, summary_output, IsSummaryOf}
+use Rattle.diag_cli.specs.inner.Loading.{if_found, IsSummaryOf}
 use Rattle.diag_cli.specs.inner.Serving.{IsServable}
 
 -- what is written over all of a vector
@@ -94,24 +93,6 @@ have_found parts None first last = ((_, refl), tt)
 have_found parts (Some f) first last = ((_, refl), ((_, refl), ((_, refl), ((_, refl), tt))))
 
 -- ---- what is told of a device, or of none
-
--- the clauses of the device were counted
-pub told_by_clauses : (places : ℕ) (device : Device) (expected : Result ClauseList Output) (cnf : ClauseList) (clauses : ℕ) (summary : Summary) → expected ≡ Ok cnf → clauses ≡ length cnf.clauses
-    → IsSummaryOf device clauses places summary → summary_by places device expected ≡ summary_output summary
-told_by_clauses places device expected cnf clauses summary is counted sums =
-    ap (summary_by places device) is
-    ∙ ((λ i. record { items = summary_lines (device_system device) (sym counted i) (adder_case device places); status = 0 })
-    ∙ ap (λ (items : List Item). record { items = items; status = 0 }) sums)
-
--- or refused
-pub told_refused : (fault : Option Output) (places : ℕ) (device : Device) (expected : Result ClauseList Output) → IsExpectedFault fault expected → IfSome fault (λ said. summary_by places device expected ≡ said)
-told_refused None places device expected is = tt
-told_refused (Some output) places device expected is = ap (summary_by places device) is
-
--- and so is the device
-pub device_refused : (fault : Option Output) (places : ℕ) (expected : Result Device Output) → IsExpectedFault fault expected → IfSome fault (λ said. summary_of places expected ≡ said)
-device_refused None places expected is = tt
-device_refused (Some output) places expected is = ap (summary_of places) is
 
 -- a refusal of an output that is told
 pub gives_told : (fault : Option Output) (output : Output) (status : ℕ) (a b : Option (List ℕ)) → IfSome fault (λ said. output ≡ said) → Gives (or_memory fault) status a b → GivesUnlessMemory output status a b

@@ -36,13 +36,6 @@ taken_all script (Some left) bytes Ended i j same took is = taken_to_end SCRIPT_
 taken_all script (Some left) bytes Failed i j same took is = absurd (let never : ⊥ = omega (arith, is, same) in never)
 taken_all script (Some left) bytes Cut i j same took is = taken_to_limit SCRIPT_LIMIT script bytes left took is.0
 
--- a script below the limit is answered with status 0
-pub served_whole : (answers : List (List ℕ) → List Item) (script : List ℕ) → length script < SCRIPT_LIMIT → (wholly_served answers script).status ≡ 0
-served_whole answers script short = ends_below SCRIPT_LIMIT (take SCRIPT_LIMIT script) short
-  where
-    ends_below : (limit : ℕ) (taken : List ℕ) → length script < limit → (served answers taken (if nat_lt (length script) limit then Ended else Cut)).status ≡ 0
-    ends_below limit taken is = rw (lt-ltb (length script) limit is)
-
 -- ---- what begins the answers to lines and to any that follow begins the output of the whole script
 
 module _ (limit : ℕ) (answers : List (List ℕ) → List Item) (script bytes rest : List ℕ) (lines : List (List ℕ)) (a b : Option (List ℕ))

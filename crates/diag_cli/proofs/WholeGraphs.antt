@@ -15,7 +15,8 @@ use Rattle.branch_states.specs.Branches.{sum_of}
 use Rattle.session_rules.specs.Items.{Whole}
 use Rattle.session_rules.specs.Spelling.{IsWholeOf}
 use Rattle.session_rules.proofs.Spellings.{replies_one}
-use Rattle.diag_cli.specs.Output.{Output, Gives, GivesUnlessMemory}
+use Rattle.diag_cli.specs.Output.{Output, Gives}
+use Rattle.diag_cli.specs.inner.Courses.{GivesUnlessMemory}
 use Rattle.diag_cli.specs.Describing.{described, device_in}
 use Rattle.diag_cli.specs.Planning.{within}
 use Rattle.diag_cli.specs.Courses.{graph_by, compiled}

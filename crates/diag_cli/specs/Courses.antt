@@ -2,6 +2,8 @@
 use Rattle.std.specs.Prelude.{ℕ, ◌+◌, ◌*◌, List, [], ◌∷◌, ◌++◌, length, take, Option, Some, None, Result, Ok, Err, codes, nat_lt, if◌then◌else◌}
 use Rattle.std.specs.Fmt.{decimal}
 use Rattle.text_rules.specs.TextLines.{whole_lines, all_lines}
+use Rattle.diag_edge.specs.declared.loading.LoadError.{LoadError}
+use Rattle.diag_edge.specs.declared.loading.LoadError.TheVariants.{Failed as LoadFailed, Long, Memory}
 use Rattle.device_model.specs.Devices.{Device}
 use Rattle.ranking.specs.Systems.{System}
 use Rattle.device_model.specs.Diagnosis.{device_system}
@@ -12,11 +14,25 @@ use Rattle.session_rules.specs.Items.{Item, Plain, Whole, line}
 use Rattle.session_rules.specs.Sessions.{replies}
 use Rattle.diag_cli.specs.declared.serving.TheConstants.{SCRIPT_LIMIT}
 use Rattle.diag_cli.specs.Words.{Form, Load, Over, Command, Serve, Plan, Check, Compile}
-use Rattle.diag_cli.specs.Output.{Output, says}
-use Rattle.diag_cli.specs.Describing.{device_in}
+use Rattle.diag_cli.specs.Output.{Output, says, no_memory}
+use Rattle.diag_cli.specs.Describing.{long_file_line, device_in}
 use Rattle.diag_cli.specs.Planning.{within, sizes_in, planned}
 use Rattle.diag_cli.specs.Checking.{graph_in, checked}
 use Rattle.diag_cli.specs.Loads.{loaded}
+
+-- ---- no file is read
+
+abbrev pub usage_line : List ℕ
+usage_line = codes "error: usage\n"
+
+abbrev pub read_error : List ℕ
+read_error = codes "error: read\n"
+
+-- the output by why the file was not read
+abbrev pub not_loaded : LoadError → Output
+not_loaded LoadFailed = says read_error 4
+not_loaded (Long limit) = says long_file_line 1
+not_loaded Memory = no_memory
 
 -- ---- a script is answered
 
@@ -25,9 +41,6 @@ pub data End : Type 0 where
   Ended : End
   Failed : End
   Cut : End
-
-abbrev pub read_error : List ℕ
-read_error = codes "error: read\n"
 
 abbrev pub script_too_long : List ℕ
 script_too_long = codes "error: script above 1099511627776 bytes\n"
@@ -100,6 +113,6 @@ course_by path Check file = Tells (checked (graph_in file))
 course_by path (Compile budget) file = Tells (compiled budget (device_in path file))
 
 abbrev pub course_of : Option Form → List ℕ → Course
-course_of None file = Tells (says (codes "error: usage\n") 2)
+course_of None file = Tells (says usage_line 2)
 course_of (Some (Load places)) file = Tells (loaded places)
 course_of (Some (Over path command)) file = course_by path command file

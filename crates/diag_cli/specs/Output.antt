@@ -1,5 +1,5 @@
 -- What a run writes, and the status that it ends with.
-use Rattle.std.specs.Prelude.{◌≡◌, ◌≢◌, ◌⊎◌, ℕ, List, [], ◌∷◌, Option, codes}
+use Rattle.std.specs.Prelude.{◌≡◌, ◌≢◌, ℕ, List, [], ◌∷◌, Option, codes}
 use Rattle.session_rules.specs.Items.{Item, Plain}
 use Rattle.session_rules.specs.Spelling.{Writes, WritesPart}
 
@@ -23,7 +23,3 @@ no_memory = says no_memory_line 6
 pub record Gives (output : Output) (status : ℕ) (before after : Option (List ℕ)) : Type 0 where
   pub whole : status ≢ 5 → (status ≡ output.status) × Writes before after output.items
   pub broken : status ≡ 5 → WritesPart before after output.items
-
--- memory ran out, or the output was given
-abbrev pub GivesUnlessMemory : Output → ℕ → Option (List ℕ) → Option (List ℕ) → Type 0
-GivesUnlessMemory output status before after = Gives no_memory status before after ⊎ Gives output status before after

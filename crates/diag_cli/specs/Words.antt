@@ -33,9 +33,9 @@ path_of (Over path command) = Some path
 abbrev pub named_file : Option Form → Option (List ℕ)
 named_file form = option_and_then path_of form
 
--- what is told of that file; where none is named it is as good as empty
-abbrev pub told_file : (List ℕ → Holding) → Option Form → Option (List ℕ)
-told_file held form = option_map_or (λ path. told_bytes (held path)) (named_file form) (Some [])
+-- what is told of a file by its name; where none is named it is as good as empty
+abbrev pub told_file : (List ℕ → Holding) → Option (List ℕ) → Option (List ℕ)
+told_file held name = option_map_or (λ path. told_bytes (held path)) name (Some [])
 
 -- only `serve` asks for a script
 abbrev pub asks_script : Option Form → Bool

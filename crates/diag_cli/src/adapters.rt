@@ -1,13 +1,14 @@
-//! The real shelf, source and sink: a few lines over std, which the system's side is trusted to serve.
+//! The real shelf, source, sink and words: a few lines over std, which the system's side is trusted to serve.
 ghost use Rattle.std.specs.Prelude.{◌≡◌, None};
 ghost use Rattle.std.specs.Io.{ReadsAtMost};
 ghost use Rattle.std.specs.Io.KnownBytes.{ReadConsumes};
 ghost use Rattle.diag_edge.specs.Edge.{untold, Rose};
 
 use diag_edge::{ReadFailed, Shelf, Sink, Source, WriteFailed};
-use std::fs;
+use std::alloc::{AllocError, Global};
 use std::fs::File;
 use std::io::{ErrorKind, Read, Write};
+use std::{env, fs};
 
 // Reads once, and again as long as a signal interrupts it.
 fn read_from<R: Read>(input: &mut R, into: &mut [u8]) -> Result<usize, ReadFailed>
@@ -193,4 +194,20 @@ impl<W: Write + Drop> Sink for StdSink<W> {
         }
         Err(self.fail())
     }
+}
+
+/// The words behind the program's name. Where they cannot be had as text there are none, so that they are answered as
+/// wrong words. An error is want of memory.
+pub fn words_of(rt: &HostRuntime, alloc: Global) -> Result<Vec<String>, AllocError> {
+    let mut words = Vec::new(alloc);
+    match env::args(rt) {
+        Ok(args) => {
+            for word in args.skip(1) {
+                words.push(word)?;
+            }
+        }
+        Err(error) if error.kind() == ErrorKind::OutOfMemory => return Err(AllocError),
+        Err(_) => {}
+    }
+    Ok(words)
 }

@@ -2,9 +2,10 @@ ghost use Rattle.std.specs.Prelude.{◌≡◌, ◌≢◌, ◌⊎◌, ◌-◌, �
 ghost use Rattle.std.specs.Option.{option_map};
 ghost use Rattle.diag_edge.specs.Edge.{RoseExactly};
 ghost use Rattle.nnf_text.specs.Refusals.{told};
-ghost use Rattle.diag_cli.specs.Output.{Gives, GivesUnlessMemory, says};
+ghost use Rattle.diag_cli.specs.Output.{Gives, says};
 ghost use Rattle.diag_cli.specs.Checking.{checked, graph_fault_line, graph_in};
 ghost use Rattle.diag_cli.specs.Refusals.{Finds, told_by};
+ghost use Rattle.diag_cli.specs.inner.Courses.{GivesUnlessMemory};
 
 use crate::refusal::{Refusal, tell};
 use diag_edge::{Sink, put_line};

@@ -1,8 +1,8 @@
 ghost use Rattle.std.specs.Prelude.{◌≡◌, ◌≢◌, ◌-◌, ◌^◌, ◌<◌, ◌≤◌, length};
 ghost use Rattle.diag_edge.specs.Edge.{RoseExactly};
 ghost use Rattle.diag_cli.specs.Describing.{device_in};
-ghost use Rattle.diag_cli.specs.Output.{GivesUnlessMemory};
 ghost use Rattle.diag_cli.specs.Courses.{compiled};
+ghost use Rattle.diag_cli.specs.inner.Courses.{GivesUnlessMemory};
 
 use crate::describing::described;
 use crate::graphs::graph_within;

@@ -32,8 +32,8 @@ pub(crate) fn netlist_device(alloc: Global, text: &[u8]) -> Result<Device, Refus
     }
 }
 
-// The refusal that tells a count above its limit.
-pub(crate) fn above(what: &'static str, count: u64, limit: usize) -> Refusal
+/// The refusal that tells a count above its limit.
+pub fn above(what: &'static str, count: u64, limit: usize) -> Refusal
     ensures { told_by result ≡ Some (says (above_line what.now count limit) 1) }
 {
     Refusal::Above {

@@ -7,10 +7,11 @@ ghost use Rattle.adder_load.specs.Adders.{adder_text};
 ghost use Rattle.session_rules.specs.Spelling.{Replies};
 ghost use Rattle.diag_cli.specs.Describing.{or_line, netlist_line};
 ghost use Rattle.diag_cli.specs.Loads.{names_line, summary_of, loaded};
-ghost use Rattle.diag_cli.specs.Output.{Gives, GivesUnlessMemory};
+ghost use Rattle.diag_cli.specs.Output.{Gives};
 ghost use Rattle.diag_cli.specs.Refusals.{Finds};
 ghost use Rattle.diag_cli.specs.inner.Loading.{IsSummaryOf, IsInStep, Loads, listed_items, inconsistent_items, found_items, summary_items, summary_output};
 ghost use Rattle.diag_cli.specs.inner.Serving.{IsServable};
+ghost use Rattle.diag_cli.specs.inner.Courses.{GivesUnlessMemory};
 
 use crate::describing::netlist_device;
 use crate::graphs::{costs_of, graph_within};

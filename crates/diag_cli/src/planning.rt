@@ -2,10 +2,11 @@ ghost use Rattle.std.specs.Prelude.{◌≡◌, ◌≢◌, ◌⊎◌, ◌-◌, �
 ghost use Rattle.diag_edge.specs.Edge.{HasCause, RoseExactly};
 ghost use Rattle.clause_encoder.specs.Encoding.{encoded};
 ghost use Rattle.diag_cli.specs.Describing.{device_in};
-ghost use Rattle.diag_cli.specs.Output.{Gives, GivesUnlessMemory};
+ghost use Rattle.diag_cli.specs.Output.{Gives};
 ghost use Rattle.diag_cli.specs.Planning.{count_line, size_lines, within, sizes_by, sizes_in, planned};
 ghost use Rattle.session_rules.specs.Spelling.{Replies};
 ghost use Rattle.diag_cli.specs.Refusals.{Finds};
+ghost use Rattle.diag_cli.specs.inner.Courses.{GivesUnlessMemory};
 
 use crate::describing::described;
 use crate::refusal::{Refusal, tell};

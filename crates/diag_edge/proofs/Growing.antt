@@ -1,7 +1,7 @@
 -- How known bytes grow by one text and then another, and how they are consumed.
-use Rattle.std.proofs.Common.{arith, subst, take, ◌≡◌, ◌-◌, ◌^◌, ◌<◌, ◌≤◌, ℕ, List, length, length-take, length-append, [], ◌++◌, Option, Some, None, Result, Ok, Err, refl, sym, ◌∙◌, ap, append_assoc, IsErr, append-nil}
+use Rattle.std.proofs.Common.{subst, take, ◌≡◌, ℕ, List, [], ◌++◌, Option, Some, None, Result, Ok, Err, refl, sym, ◌∙◌, ap, append_assoc, IsErr, append-nil}
 use Rattle.std.specs.Io.KnownBytes.{Appends, Consumes}
-use Rattle.diag_edge.specs.Edge.{AppendsPrefix, Puts, Rose, RoseExactly}
+use Rattle.diag_edge.specs.Edge.{AppendsPrefix, Puts}
 
 -- nothing was put
 pub grows_none : (a : Option (List ℕ)) → Appends a a []
@@ -35,23 +35,12 @@ pub puts_second : {T E : Type 0} (a b c : Option (List ℕ)) (r : Result T E) (x
 puts_second a b c (Ok v) xs ys h k = grows_more a b c xs ys h k
 puts_second a b c (Err e) xs ys h k = begins_more a b c xs ys h k
 
--- a text was put, and another after it or none
-pub ruleset puts_on = (puts_first, puts_second)
-
 -- known bytes were taken, and then more
 pub consumes_more : (a b c : Option (List ℕ)) (xs ys : List ℕ) → Consumes a b xs → Consumes b c ys → Consumes a c (xs ++ ys)
 consumes_more None b c xs ys h k = tt
 consumes_more (Some olds) None c xs ys h k = absurd h
 consumes_more (Some olds) (Some bs) None xs ys h k = absurd k
 consumes_more (Some olds) (Some bs) (Some cs) xs ys h k = h ∙ ap (λ zs. xs ++ zs) k ∙ sym (append_assoc xs ys cs)
-
--- the count rose by one call, and was below the greatest u64
-pub rose_exactly : {P : Type 0} (before middle now : ℕ) → P → before < 2 ^ 64 - 1 → middle ≡ before → Rose middle now → RoseExactly before now P
-rose_exactly before middle now p small same rose = record { rose = λ _. omega (arith, small, same, rose); stayed = λ never. absurd (never p) }
-
--- the count stayed
-pub stayed_exactly : {P : Type 0} (before now : ℕ) → ¬ P → now ≡ before → RoseExactly before now P
-stayed_exactly before now never same = record { rose = λ p. absurd (never p); stayed = λ _. same }
 
 -- at the end no more is taken
 pub consumes_end : (a b c : Option (List ℕ)) (xs into : List ℕ) (count : ℕ) → Consumes a b xs → count ≡ 0 → Consumes b c (take count into) → Consumes a c xs
@@ -62,8 +51,3 @@ consumes_end a b c xs into count h none k =
 pub consumes_none : (a : Option (List ℕ)) → Consumes a a []
 consumes_none None = tt
 consumes_none (Some xs) = refl
-
--- where nothing is left, nothing is taken
-pub consumes_nothing : (now : Option (List ℕ)) (into : List ℕ) (count : ℕ) → count ≤ length into → Consumes (Some []) now (take count into) → count ≡ 0
-consumes_nothing None into count fits h = absurd h
-consumes_nothing (Some bs) into count fits h = omega (arith, fits, length-take count into, length-append (take count into) bs, ap length h)

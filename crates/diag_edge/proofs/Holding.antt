@@ -4,7 +4,8 @@ use Rattle.std.proofs.lemmas.Option.{slice_get_within, get_or_from_slice_get}
 use Rattle.std.specs.declared.alloc.Global.{Global}
 use Rattle.std.specs.Str.{bytes_eq}
 use Rattle.diag_edge.specs.Edge.{holds}
-use Rattle.diag_edge.specs.InMemory.{named_files, held_in, bytes_at}
+use Rattle.diag_edge.specs.InMemory.{named_files, held_in}
+use Rattle.diag_edge.specs.inner.Places.{bytes_at}
 
 -- the file at this place has the name
 pub held_in-drop : (pairs : List (String Global × Vec ℕ Global)) (k : ℕ) (name : List ℕ) (pair : String Global × Vec ℕ Global) → slice_get pairs k ≡ Some pair → bytes_eq (string_bytes pair.0) name ≡ true → held_in (named_files (drop k pairs)) name ≡ holds (bytes_at pairs k)

@@ -1,5 +1,5 @@
 -- What the ends in memory show: a source, a shelf and a sink whose bytes and failures are chosen.
-use Rattle.std.specs.Prelude.{ℕ, ◌+◌, ◌-◌, ◌^◌, min, List, [], ◌∷◌, map, Contains, Vec, String, if◌then◌else◌, string_bytes, Option, Some, None, slice_get}
+use Rattle.std.specs.Prelude.{ℕ, ◌+◌, ◌-◌, ◌^◌, min, List, [], ◌∷◌, map, Contains, Vec, String, if◌then◌else◌, string_bytes}
 use Rattle.std.specs.declared.alloc.Global.{Global}
 use Rattle.std.specs.Str.{bytes_eq}
 use Rattle.diag_edge.specs.Edge.{Holding, absent, holds}
@@ -65,12 +65,3 @@ named_files pairs = map (λ pair. record { name = string_bytes pair.0; bytes = p
 abbrev pub held_in : List NamedFile → List ℕ → Holding
 held_in [] name = absent
 held_in (file ∷ files) name = if bytes_eq file.name name then holds file.bytes else held_in files name
-
--- the bytes of a pair, or none
-abbrev pub pair_bytes : Option (String Global × Vec ℕ Global) → List ℕ
-pair_bytes None = []
-pair_bytes (Some pair) = pair.1.items
-
--- the bytes of the pair at this place, or none past the last
-abbrev pub bytes_at : List (String Global × Vec ℕ Global) → ℕ → List ℕ
-bytes_at pairs place = pair_bytes (slice_get pairs place)

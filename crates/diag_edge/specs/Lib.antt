@@ -3,3 +3,4 @@ pub mod InMemory
 pub mod Adding
 pub mod Sure
 pub mod ErrorLines
+pub mod inner

@@ -17,18 +17,19 @@ const CHUNK_LIMIT: usize = 4096;
 /// What is still gathered when the chunk is dropped is not put.
 #[derive(Drop)]
 pub struct Chunk {
-    bytes: [u8; 4096],
+    bytes: [u8; CHUNK_LIMIT],
     len: usize,
 }
 
 impl Model for Chunk {
     ghost use Rattle.std.specs.Prelude.{ℕ, List, ◌≤◌, take};
+    ghost use Rattle.diag_edge.specs.declared.chunk.TheConstants.{CHUNK_LIMIT};
 
     ghost Value = { List ℕ };
 
     ghost view = { λ c. take c.len c.bytes };
 
-    ghost invariant = { λ c. c.len ≤ 4096 };
+    ghost invariant = { λ c. c.len ≤ CHUNK_LIMIT };
 }
 
 impl Chunk {
@@ -37,7 +38,7 @@ impl Chunk {
         ensures { result ≡ [] }
     {
         Chunk {
-            bytes: [0; 4096],
+            bytes: [0; CHUNK_LIMIT],
             len: 0,
         }
     }
@@ -126,9 +127,9 @@ impl Chunk {
 
     // Puts what is gathered, where so many bytes have no room beside it.
     fn make_room<O: Sink>(&mut self, out: &mut O, needed: usize) -> Result<(), WriteFailed>
-        requires { needed ≤ 4096 }
+        requires { needed ≤ CHUNK_LIMIT }
         ensures bytes { Adds (O.got out.old) (O.got out.new) self.old self.new result [] }
-        ensures room { OnOk result (length self.new + needed ≤ 4096) }
+        ensures room { OnOk result (length self.new + needed ≤ CHUNK_LIMIT) }
         ensures cause { HasCause (O.faults out.old) (O.faults out.new) result }
     {
         if needed > CHUNK_LIMIT - self.len {
@@ -149,7 +150,7 @@ impl Chunk {
     }
 
     fn push(&mut self, text: &[u8])
-        requires { length self.old + length text.now ≤ 4096 }
+        requires { length self.old + length text.now ≤ CHUNK_LIMIT }
         ensures { self.new ≡ self.old ++ text.now }
     {
         let end = self.len + text.len();

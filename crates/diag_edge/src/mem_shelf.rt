@@ -3,7 +3,8 @@ ghost use Rattle.std.specs.Prelude.{◌≡◌, ◌≢◌, ◌↔◌, ◌+◌, �
 ghost use Rattle.std.specs.Io.{ReadsAtMost};
 ghost use Rattle.std.specs.Io.KnownBytes.{ReadConsumes};
 ghost use Rattle.diag_edge.specs.Edge.{HasCause, absent, holds, told_bytes};
-ghost use Rattle.diag_edge.specs.InMemory.{ShelfInMemory, NamedFile, IsNextFailing, after_call, no_calls, one_more, named_files, held_in, bytes_at};
+ghost use Rattle.diag_edge.specs.InMemory.{ShelfInMemory, NamedFile, IsNextFailing, after_call, no_calls, one_more, named_files, held_in};
+ghost use Rattle.diag_edge.specs.inner.Places.{bytes_at};
 
 use crate::calls::NumberedCalls;
 use crate::copying::copy_from;

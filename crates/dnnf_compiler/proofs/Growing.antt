@@ -4,10 +4,8 @@ use Rattle.std.proofs.lemmas.Option.{slice_get_within}
 use Rattle.graph_rules.specs.declared.NodeKind.TheVariants.{And}
 use Rattle.graph_rules.specs.declared.NodeKind.{NodeKind}
 use Rattle.graph_rules.specs.Graphs.{Node, is_true}
-use Rattle.clause_encoder.specs.Clauses.{Clause}
 use Rattle.node_store.specs.Stores.{Stored, Makes, Means, AddsAtMost}
 use Rattle.dnnf_compiler.specs.inner.Joining.{Grows, IsConstant, IsBoth}
-use Rattle.dnnf_compiler.specs.inner.Meaning.{IsNodeOf}
 
 pub grows_not : (nodes : List Node) → Grows nodes nodes
 grows_not nodes = record { longer = omega arith; truth = λ k a h. refl; variables = λ k v h. refl }
@@ -17,13 +15,6 @@ grows_then old mid new g h = record {
   longer = omega (arith, g.longer, h.longer);
   truth = λ k a lt. h.truth k a (omega (arith, g.longer)) ∙ g.truth k a lt;
   variables = λ k v lt. h.variables k v (omega (arith, g.longer)) ∙ g.variables k v lt;
-}
-
-pub node_grows : (clauses : List Clause) (i : ℕ) (state : List ℕ) (old new : List Node) (node : ℕ) → Grows old new → IsNodeOf clauses i state old node → IsNodeOf clauses i state new node
-node_grows clauses i state old new node g is = record {
-  within = omega (arith, is.within, g.longer);
-  truth = λ list has a. g.truth node a is.within ∙ is.truth list has a;
-  variables = λ v h. g.variables node v is.within ∙ is.variables v h;
 }
 
 pub constant_grows : (old new : List Node) (value : Bool) (node : ℕ) → Grows old new → IsConstant old value node → IsConstant new value node

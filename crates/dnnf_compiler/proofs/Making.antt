@@ -70,10 +70,6 @@ mention_grows : (old new : List Node) (v : ℕ) (o : Option ℕ) → Grows old n
 mention_grows old new v None g h = refl
 mention_grows old new v (Some n) g h = g.variables n v h
 
-pub within_grows : (old new : List Node) (o : Option ℕ) → Grows old new → IfSome o (λ n. n < length old) → IfSome o (λ n. n < length new)
-within_grows old new None g h = h
-within_grows old new (Some n) g h = omega (arith, h, g.longer)
-
 pub read_below : (below : List ℕ) (place : ℕ) → place < length below → slice_get below place ≡ Some (slice_index below place)
 read_below [] place h = absurd (omega arith)
 read_below (n ∷ below) zero h = refl
@@ -89,29 +85,9 @@ node_in nodes var below (Some place) free h = (free place (slice_index below pla
 
 -- ---- one bit
 
-and_nothing : (b : Bool) → false ≡ (b && false)
-and_nothing true = refl
-and_nothing false = refl
-
 or_nothing : (b : Bool) → b ≡ (b || false)
 or_nothing true = refl
 or_nothing false = refl
-
-pub branch_none : (m : Maker) (var : ℕ) (bit : Bool) (below : List ℕ) → IsMaker m → IsBranch m m var bit below None None
-branch_none m var bit below is = record {
-  adds = adds_not m 1 2 is;
-  within = tt;
-  truth = λ a. and_nothing (same_bit bit (a var));
-  variables = λ v apart. refl;
-}
-
-pub branch_no : (m : Maker) (var : ℕ) (bit : Bool) (below : List ℕ) (place : ℕ) → IsMaker m → slice_index below place ≡ m.no → IsBranch m m var bit below (Some place) None
-branch_no m var bit below place is none = record {
-  adds = adds_not m 1 2 is;
-  within = tt;
-  truth = λ a. and_nothing (same_bit bit (a var)) ∙ ap (λ b. same_bit bit (a var) && b) (sym (ap (λ n. is_true m.store.nodes n a) none ∙ is.no.truth a));
-  variables = λ v apart. refl;
-}
 
 pub branch_both : (m : Maker) (var : ℕ) (bit : Bool) (below : List ℕ) (place literal both : ℕ) (s : Stored) → IsMaker m → AreFree m.store.nodes var below → place < length below
     → ((a : Assignment) → is_true m.store.nodes literal a ≡ same_bit bit (a var)) → ((v : ℕ) → mentions m.store.nodes v literal ≡ (var == v))
@@ -141,24 +117,6 @@ both_apart nodes var below place literal free low lit v = by (var == v) refl whe
   by false e = (λ j. at_most_one ((lit v ∙ e) j ∷ mentions nodes v node ∷ [])) ∙ alone (mentions nodes v node)
 
 -- ---- both bits
-
-pub join_none : (m : Maker) → IsMaker m → IsJoin m m None None m.no
-join_none m is = record { adds = adds_not m 1 2 is; within = is.no.within; truth = λ a. is.no.truth a; variables = λ v f g. is.no.variables v }
-
-pub join_first : (m : Maker) (node : ℕ) → IsMaker m → node < length m.store.nodes → IsJoin m m (Some node) None node
-join_first m node is low = record { adds = adds_not m 1 2 is; within = low; truth = λ a. or_nothing (is_true m.store.nodes node a); variables = λ v f g. f }
-
-pub join_second : (m : Maker) (node : ℕ) → IsMaker m → node < length m.store.nodes → IsJoin m m None (Some node) node
-join_second m node is low = record { adds = adds_not m 1 2 is; within = low; truth = λ a. refl; variables = λ v f g. g }
-
-pub join_both : (m : Maker) (first second node : ℕ) (s : Stored) → IsMaker m → Makes m.store s Or (first ∷ second ∷ []) node → Means m.store.nodes s.nodes Or (first ∷ second ∷ []) node → IsStore s
-    → IsJoin m (record m { store = s }) (Some first) (Some second) node
-join_both m first second node s is makes means store = record {
-  adds = adds_store m s is store (grows_by m.store.nodes s.nodes Or (first ∷ second ∷ []) node makes.nodes means) makes.vars (omega (arith, makes.made)) (omega (arith, makes.handed));
-  within = slice_get_within s.nodes node (record { what = Or; kids = first ∷ second ∷ [] }) makes.there;
-  truth = λ a. means.truth a ∙ ap (λ b. is_true m.store.nodes first a || b) (sym (or_nothing (is_true m.store.nodes second a)));
-  variables = λ v f g. means.variables v ∙ (λ j. f j || (g j || false));
-}
 
 either : (x : Bool) (may : Bool → Bool) → ((same_bit false x && may false) || (same_bit true x && may true)) ≡ may x
 either true may = refl

@@ -16,7 +16,7 @@ use Rattle.branch_states.specs.Branches.{order, left, is_dead, branch, same_list
 use Rattle.branch_states.proofs.Counting.{next-living, length-words, first-living, first-states, living-at}
 use Rattle.branch_states.proofs.Ordering.{one_more}
 use Rattle.dnnf_compiler.specs.inner.Meaning.{HasState}
-use Rattle.dnnf_compiler.specs.inner.Forks.{AreReached, Extends, LeadsBy, DiesBy}
+use Rattle.dnnf_compiler.specs.inner.Forks.{AreReached, Extends, LeadsBy}
 
 -- ---- what stands in a list
 
@@ -222,9 +222,6 @@ Tells clauses i s bit result = (list : List Bool) → IsLiving clauses i list �
 
 abbrev Writes : List Clause → ℕ → List ℕ → Bool → Bool → List ℕ → Type 0
 Writes clauses i s bit result next = (list : List Bool) → IsLiving clauses i list → s ≡ state_of clauses i list → OnTrue result (next ≡ state_of clauses (i + 1) (branch clauses i list bit))
-
-pub dies_by : (clauses : List Clause) (i : ℕ) (s : List ℕ) (bit result : Bool) → result ≡ false → Tells clauses i s bit result → DiesBy clauses i s bit
-dies_by clauses i s bit result dies tells list has = not_false _ (sym dies ∙ tells list has.living has.same)
 
 pub leads_by : (clauses : List Clause) (i : ℕ) (s next : List ℕ) (bit result : Bool) → i < length (order clauses) → result ≡ true → Tells clauses i s bit result → Writes clauses i s bit result next → LeadsBy clauses i s bit next
 leads_by clauses i s next bit result h lives tells writes list has = record {

@@ -117,15 +117,6 @@ among_parts x [] ys m = inr m
 among_parts x (z ∷ xs) ys (inl e) = inl (inl e)
 among_parts x (z ∷ xs) ys (inr m) = elim (among_parts x xs ys m) [ inl a ↦ inl (inr a) | inr a ↦ inr a ]
 
-pub among_left : {A : Type 0} (x : A) (xs ys : List A) → Among x xs → Among x (xs ++ ys)
-among_left x [] ys m = absurd m
-among_left x (z ∷ xs) ys (inl e) = inl e
-among_left x (z ∷ xs) ys (inr m) = inr (among_left x xs ys m)
-
-pub among_right : {A : Type 0} (x : A) (xs ys : List A) → Among x ys → Among x (xs ++ ys)
-among_right x [] ys m = m
-among_right x (z ∷ xs) ys m = inr (among_right x xs ys m)
-
 pub Different-append : (xs ys : List Name) → Different xs → Different ys → ((n : Name) → Among n xs → Among n ys → ⊥) → Different (xs ++ ys)
 Different-append [] ys h g apart = g
 Different-append (x ∷ xs) ys h g apart = (

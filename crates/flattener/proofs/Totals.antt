@@ -11,7 +11,6 @@ use Rattle.device_model.specs.declared.component.Component.{Component}
 use Rattle.device_model.specs.declared.limits.TheConstants.{PART_LIMIT, WIRE_LIMIT, NAME_LIMIT}
 use Rattle.device_model.specs.Devices.{Device}
 use Rattle.device_model.specs.Building.{NamedPart}
-use Rattle.component_lang.specs.declared.design.Block.{Block}
 use Rattle.component_lang.specs.Designs.{Design, is_design, are_blocks}
 use Rattle.flattener.specs.declared.counting.Counts.{Counts}
 use Rattle.flattener.specs.declared.flattening.FlattenError.{FlattenError}
@@ -111,9 +110,6 @@ short_from_longest (n ∷ names) h = and_from (nat_le (length n) NAME_LIMIT) (ar
 module _ (design : Design) (valid : is_design design ≡ true) where
   good : are_blocks design.types [] design.blocks ≡ true
   good = good_blocks design valid
-
-  abbrev pub top_block : Block
-  top_block = get_or design.blocks design.top no_block
 
   pub top_good : GoodBlock design.types (take design.top design.blocks) (get_or design.blocks design.top no_block)
   top_good = good_block design.types design.blocks good design.top (top_within design valid)

@@ -102,10 +102,6 @@ agreed false true true w ag h = absurd (cc)
 agreed false true false w ag h = absurd (cc)
 agreed false false x w ag h = omega arith
 
-zero_cond : (b : Bool) → cond b 0 0 ≤ 0
-zero_cond true = omega arith
-zero_cond false = omega arith
-
 fits_known : (positive b : Bool) (w n : ℕ) → literal_cost (leaf_of positive (Some b)) w positive ≡ Some n → agrees_at (Some b) positive ≡ true
 fits_known true true w n e = refl
 fits_known true false w n e = absurd (cc)

@@ -51,11 +51,6 @@ any-kid f kids k m e = list_any-map (λ b. b) f kids ∙ any_in f k kids m e
 kid-with : (f : ℕ → Bool) (kids : List ℕ) → list_any (λ b. b) (map f kids) ≡ true → Passing f kids
 kid-with f kids e = any_from f kids (sym (list_any-map (λ b. b) f kids) ∙ e)
 
-all-kid : (f : ℕ → Bool) (kids : List ℕ) (k : ℕ) → In k kids → list_all (λ b. b) (map f kids) ≡ true → f k ≡ true
-all-kid f [] k m e = absurd m
-all-kid f (j ∷ kids) k (inl q) e = ap f q ∙ and_left _ _ e
-all-kid f (j ∷ kids) k (inr r) e = all-kid f kids k r (and_right (f j) _ e)
-
 pub all-below : (n : ℕ) (kids : List ℕ) (k : ℕ) → are_below n kids ≡ true → In k kids → k < n
 all-below n [] k all m = absurd m
 all-below n (j ∷ kids) k all (inl q) = subst (λ x. x < n) (sym q) (ltb-true j n (and_parts (nat_lt j n) (are_below n kids) all).0)

@@ -3,10 +3,11 @@ use Rattle.std.specs.Prelude.{◌≡◌, ℕ, ◌==◌, Option, Some, None, List
 use Rattle.ranking.specs.Values.{values}
 use Rattle.graph_rules.specs.Graphs.{Graph}
 use Rattle.minimiser.specs.Costs.{node_cost, known_at, part_cost}
+use Rattle.minimiser.specs.declared.pass.TheConstants.{NONE}
 
 -- the greatest number stands for no cost
 abbrev pub cost_in : ℕ → Option ℕ
-cost_in n = if n == 4294967295 then None else Some n
+cost_in n = if n == NONE then None else Some n
 
 -- the least costs at the first nodes of a graph
 unfoldable pub costs_to : Graph → List ℕ → List ℕ → ℕ → List (Option ℕ)

@@ -1,6 +1,7 @@
 ghost use Rattle.std.specs.Prelude.{◌≡◌, ◌+◌, ◌-◌, ◌<◌, ◌≤◌, ◌^◌, [], ◌∷◌, ◌++◌, map, length, All, IfSome};
 ghost use Rattle.conditioner.specs.Models.{least_under, total_cost};
-ghost use Rattle.minimiser.specs.Costs.{part_cost, literal_cost, cost_at, sum_costs, cheapest, held_cost};
+ghost use Rattle.minimiser.specs.Costs.{part_cost, literal_cost, cost_at, sum_costs, cheapest};
+ghost use Rattle.minimiser.specs.inner.Held.{held_cost};
 ghost use Rattle.minimiser.specs.Stored.{cost_in, costs_to, AreLeastCosts};
 
 use crate::steps::Steps;

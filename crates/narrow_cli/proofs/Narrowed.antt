@@ -18,6 +18,7 @@ use Rattle.design_writer.specs.Writing.{design_text}
 use Rattle.diag_cli.specs.Output.{Output, says}
 use Rattle.diag_cli.specs.Words.{is_design_path}
 use Rattle.diag_cli.specs.Describing.{described}
+use Rattle.diag_cli.specs.Planning.{not_encoded, within}
 use Rattle.diag_cli.specs.declared.refusal.Refusal.{Refusal}
 use Rattle.diag_cli.specs.Refusals.{told_by}
 use Rattle.diag_cli.proofs.Headline.{short_file}
@@ -126,11 +127,18 @@ pub expected_fault : (path file : List ℕ) (expected : Result Device Output) (t
 expected_fault path file expected None is h = tt
 expected_fault path file expected (Some output) is h = subst (λ e. MayBeBy path e output) (sym (is ∙ h)) refl
 
--- the file has a fault
-pub refused_file : (path file : List ℕ) (told : Option Output) → length file ≤ TEXT_LIMIT → IsExpectedFault told (described path file)
-    → IfSome told (MayBeBy path (narrowable path file))
-refused_file path file None short h = tt
-refused_file path file (Some output) short h = expected_fault path file (Err output) (Some output) (narrowable-is path file (Err output) short h) refl
+-- What is told of clauses whatever the budget is, as that there are too many, is told of the device.
+pub not_encodable : (told : Option Output) (clauses : Result ClauseList EncodeError) (device : Device)
+    → ((budget : ℕ) → IsExpectedFault told (within budget clauses)) → IsExpectedFault told (encodable device clauses)
+not_encodable None clauses device h = tt
+not_encodable (Some output) (Err error) device h =
+    let all : within 0 (Err error) ≡ Err output = h 0 in
+    let same : not_encoded error ≡ output = cc in
+    ap Err same
+not_encodable (Some output) (Ok cnf) device h =
+    let few : nat_lt (sum_of cnf.clauses) (sum_of cnf.clauses) ≡ false = le-ltb (sum_of cnf.clauses) (sum_of cnf.clauses) (omega arith) in
+    let all = rw few at (h (sum_of cnf.clauses)) in
+    absurd (let never : ⊥ = cc in never)
 
 -- its device has too many clauses
 pub refused_device : (path file : List ℕ) (device : Device) (told : Option Output) → length file ≤ TEXT_LIMIT → described path file ≡ Ok device
@@ -148,9 +156,9 @@ module _ (path file : List ℕ) (device : Device) (short : length file ≤ TEXT_
   refused_names (Some output) h = subst (λ e. MayBeBy path e output) (sym found) h
 
   pub narrows : (before : Option ℕ) (best : Candidate) (text : List ℕ) → before ≡ sum_told device
-      → IsCandidate path device best → text ≡ sums_line before best.sum ++ best.text.items → MayBeBy path (narrowable path file) (says text 0)
+      → IsCandidate path device best → text ≡ sums_line BUDGET_LIMIT before best.sum ++ best.text.items → MayBeBy path (narrowable path file) (says text 0)
   narrows before best text sum is all =
-      let whole : text ≡ sums_line (sum_told device) (sum_told is.new) ++ best.text.items =
-      all ∙ (λ i. sums_line (sum i) (is.sum i) ++ best.text.items) in
+      let whole : text ≡ sums_line BUDGET_LIMIT (sum_told device) (sum_told is.new) ++ best.text.items =
+      all ∙ (λ i. sums_line BUDGET_LIMIT (sum i) (is.sum i) ++ best.text.items) in
       subst (λ e. MayBeBy path e (says text 0)) (sym found)
       (subst (λ t. MayBe path device (says t 0)) (sym whole) (narrowed best.text.items is.new is.text is.short))

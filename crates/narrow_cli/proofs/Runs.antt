@@ -1,36 +1,30 @@
 -- From what was done with a file to what holds of a run.
-use Rattle.std.proofs.Common.{◌≡◌, ◌≢◌, inl, inr, ◌<◌, ℕ, false, List, length, Option, Some, None, IfSome, refl, sym, arith, nat_le}
+use Rattle.std.proofs.Common.{◌≡◌, ◌≢◌, inl, inr, ◌<◌, ℕ, false, List, length, Option, Some, None, IfSome, refl, sym, ◌∙◌, arith, nat_le}
 use Rattle.std.specs.Prelude.{Err}
 use Rattle.std.proofs.lemmas.Option.{IfSome_then}
 use Rattle.text_rules.specs.declared.text_lines.TheConstants.{TEXT_LIMIT}
 use Rattle.diag_edge.specs.Edge.{RoseExactly, Holding, absent, told_bytes}
+use Rattle.diag_edge.specs.declared.loading.LoadError.{LoadError}
+use Rattle.diag_edge.specs.declared.loading.LoadError.TheVariants.{Failed, Long, Memory}
 use Rattle.diag_cli.specs.Output.{Output, Gives, says, no_memory}
-use Rattle.diag_cli.specs.Courses.{read_error}
+use Rattle.diag_cli.specs.Courses.{read_error, not_loaded}
 use Rattle.diag_cli.specs.Describing.{long_file_line, device_in}
 use Rattle.diag_cli.proofs.Headline.{some_all}
+use Rattle.diag_cli.proofs.Unread.{IsUnread}
 use Rattle.narrow_cli.specs.Words.{Request}
-use Rattle.narrow_cli.specs.Runs.{usage_line, Answers, IsNarrowRun}
+use Rattle.narrow_cli.specs.Runs.{Answers, IsNarrowRun}
 
 long_file : (path file : List ℕ) → TEXT_LIMIT < length file → device_in path file ≡ Err (says long_file_line 1)
 long_file path file long = let many : nat_le (length file) TEXT_LIMIT ≡ false = grind arith in rw many
 
 module _ (held : List ℕ → Holding) (reads new_reads writes new_writes : ℕ) (got new_got : Option (List ℕ)) (status : ℕ) where
-  -- the words ask for nothing
-  pub run_usage : RoseExactly writes new_writes (status ≡ 5) → new_reads ≡ reads → Gives (says usage_line 2) status got new_got
-      → IsNarrowRun None held reads new_reads writes new_writes got new_got status
-  run_usage wrote kept said = record {
-    write_fault = wrote;
-    read_fault = λ whole. record { rose = λ four. absurd (omega (arith, four, (said.whole whole).0)); stayed = λ _. kept };
-    no_file = λ moved. absurd (moved (sym kept));
-    no_name = λ none. kept;
-    absent_file = tt;
-    usage = λ whole. ((λ two. refl), (λ none. (said.whole whole).0));
-    output = λ same. (says usage_line 2, refl, said);
-  }
+  -- the status is no other one than that of an output which was given, or 5
+  other_status : (output : Output) → Gives output status got new_got → (s : ℕ) → s ≢ 5 → output.status ≢ s → status ≢ s
+  other_status output said s whole other is = other (sym ((said.whole (λ five. whole (sym is ∙ five))).0) ∙ is)
 
   module _ (request : Request) where
     -- a read failed
-    pub run_failed : reads < new_reads → RoseExactly writes new_writes (status ≡ 5) → Gives (says read_error 4) status got new_got
+    run_failed : reads < new_reads → RoseExactly writes new_writes (status ≡ 5) → Gives (says read_error 4) status got new_got
         → IsNarrowRun (Some request) held reads new_reads writes new_writes got new_got status
     run_failed rises wrote said = record {
       write_fault = wrote;
@@ -43,7 +37,7 @@ module _ (held : List ℕ → Holding) (reads new_reads writes new_writes : ℕ)
     }
 
     -- An output was given which may be for the words and the file.
-    pub run_told : (output : Output) → status ≢ 2 → status ≢ 4 → IfSome (told_bytes (held request.path)) (λ file. Answers (Some request) file output)
+    run_told : (output : Output) → status ≢ 2 → status ≢ 4 → IfSome (told_bytes (held request.path)) (λ file. Answers (Some request) file output)
         → held request.path ≢ absent → new_reads ≡ reads → RoseExactly writes new_writes (status ≡ 5) → Gives output status got new_got
         → IsNarrowRun (Some request) held reads new_reads writes new_writes got new_got status
     run_told output not_usage not_read right there kept wrote said = record {
@@ -56,14 +50,15 @@ module _ (held : List ℕ → Holding) (reads new_reads writes new_writes : ℕ)
       output = IfSome_then (told_bytes (held request.path)) right (λ file answers same. (output, answers, said));
     }
 
-    -- memory ran out
-    pub run_memory : status ≢ 2 → status ≢ 4 → held request.path ≢ absent → new_reads ≡ reads → RoseExactly writes new_writes (status ≡ 5) → Gives no_memory status got new_got
-        → IsNarrowRun (Some request) held reads new_reads writes new_writes got new_got status
-    run_memory not_usage not_read = run_told no_memory not_usage not_read (some_all (told_bytes (held request.path)) (λ file. inr refl))
-
-    -- the file is too long
-    pub run_long : status ≢ 2 → status ≢ 4 → IfSome (told_bytes (held request.path)) (λ file. TEXT_LIMIT < length file) → held request.path ≢ absent → new_reads ≡ reads
-        → RoseExactly writes new_writes (status ≡ 5) → Gives (says long_file_line 1) status got new_got
-        → IsNarrowRun (Some request) held reads new_reads writes new_writes got new_got status
-    run_long not_usage not_read long = run_told (says long_file_line 1) not_usage not_read
-        (IfSome_then (told_bytes (held request.path)) long (λ file is. inl (rw (long_file request.path file is) refl)))
+    -- The file was not read.
+    pub run_unread : (error : LoadError) → IsUnread error (held request.path) reads new_reads → RoseExactly writes new_writes (status ≡ 5)
+        → Gives (not_loaded error) status got new_got → IsNarrowRun (Some request) held reads new_reads writes new_writes got new_got status
+    run_unread Failed rises wrote said = run_failed rises wrote said
+    run_unread (Long limit) is wrote said =
+        run_told (says long_file_line 1) (other_status (says long_file_line 1) said 2 (λ e. omega (arith, e)) (λ e. omega (arith, e)))
+        (other_status (says long_file_line 1) said 4 (λ e. omega (arith, e)) (λ e. omega (arith, e)))
+        (IfSome_then (told_bytes (held request.path)) is.0 (λ file long. inl (rw (long_file request.path file long) refl))) is.1 is.2 wrote said
+    run_unread Memory is wrote said =
+        run_told no_memory (other_status no_memory said 2 (λ e. omega (arith, e)) (λ e. omega (arith, e)))
+        (other_status no_memory said 4 (λ e. omega (arith, e)) (λ e. omega (arith, e)))
+        (some_all (told_bytes (held request.path)) (λ file. inr refl)) is.0 is.1 wrote said

@@ -75,7 +75,7 @@ IsTextOf path device text new = IsTextBy (is_design_path path) device text new
 -- names is too long to be read again behind such a line.
 pub data MayBe (path : List ℕ) (device : Device) : Output → Type 0 where
   narrowed : (text : List ℕ) → (new : Device) → IsTextOf path device text new → length text ≤ NARROWED_LIMIT
-      → MayBe path device (says (sums_line (sum_told device) (sum_told new) ++ text) 0)
+      → MayBe path device (says (sums_line BUDGET_LIMIT (sum_told device) (sum_told new) ++ text) 0)
   too_long : (text : List ℕ) → (new : Device) → IsTextOf path device text new → NARROWED_LIMIT < length text
       → MayBe path device (says (above_line (codes "text") (length text) NARROWED_LIMIT) 1)
 

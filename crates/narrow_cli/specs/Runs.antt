@@ -1,13 +1,11 @@
 -- What holds of each run of the program.
-use Rattle.std.specs.Prelude.{◌≡◌, ◌≢◌, ◌⊎◌, ◌↔◌, ℕ, List, Option, Some, None, IfSome, codes}
+use Rattle.std.specs.Prelude.{◌≡◌, ◌≢◌, ◌⊎◌, ◌↔◌, ℕ, List, Option, Some, None, IfSome}
 use Rattle.diag_edge.specs.Edge.{RoseExactly, Holding, absent}
 use Rattle.diag_cli.specs.Output.{Output, Gives, says, no_memory}
-use Rattle.diag_cli.specs.Courses.{read_error}
-use Rattle.narrow_cli.specs.Words.{Request, named_file, told_file}
+use Rattle.diag_cli.specs.Words.{told_file}
+use Rattle.diag_cli.specs.Courses.{usage_line, read_error}
+use Rattle.narrow_cli.specs.Words.{Request, named_file}
 use Rattle.narrow_cli.specs.Narrowing.{narrowable, MayBeBy}
-
-abbrev pub usage_line : List ℕ
-usage_line = codes "error: usage\n"
 
 -- what may be given for the words and the file; memory may run out where they ask for something
 abbrev pub Answers : Option Request → List ℕ → Output → Type 0
@@ -22,11 +20,11 @@ pub record IsNarrowRun (request : Option Request) (held : List ℕ → Holding) 
   -- Otherwise it is 4 exactly where a read failed, and then one line is written.
   pub read_fault : status ≢ 5 → RoseExactly reads new_reads (status ≡ 4)
   pub no_file : reads ≢ new_reads → Gives (says read_error 4) status got new_got
-  -- Where the words ask for nothing, nothing is read. A file that is absent cannot be read.
+  -- Where the words ask for nothing, no read fails. A file that is absent cannot be read.
   pub no_name : request ≡ None → new_reads ≡ reads
   pub absent_file : IfSome (named_file request) (λ name. held name ≡ absent → status ≢ 5 → status ≡ 4)
   -- Otherwise it is 2 exactly where the words ask for nothing.
   pub usage : status ≢ 5 → (status ≡ 2) ↔ (request ≡ None)
   -- Where no read failed, what is written is what may be for the words and the file.
-  pub output : IfSome (told_file held request) (λ file. new_reads ≡ reads →
+  pub output : IfSome (told_file held (named_file request)) (λ file. new_reads ≡ reads →
       (output : Output) × Answers request file output × Gives output status got new_got)

@@ -1,11 +1,9 @@
 -- What the words of the command line ask for.
 use Rattle.std.specs.Prelude.{ℕ, List, [], ◌∷◌, Option, Some, None, option_and_then, if◌then◌else◌}
-use Rattle.std.specs.Option.{option_map, option_map_or}
+use Rattle.std.specs.Option.{option_map}
 use Rattle.text_rules.specs.Numbers.{plain_number_in}
-use Rattle.diag_edge.specs.Edge.{Holding, told_bytes}
 use Rattle.diag_cli.specs.Words.{is_device_path}
-use Rattle.signal_order.specs.declared.finding.TheConstants.{DEFAULT_MOVES}
-use Rattle.narrow_cli.specs.declared.words.TheConstants.{MOVE_LIMIT}
+use Rattle.narrow_cli.specs.declared.words.TheConstants.{DEFAULT_MOVES, MOVE_LIMIT}
 
 -- the file of a device, and how many moves are tried
 pub record Request : Type 0 where
@@ -24,7 +22,3 @@ request_of words = None
 -- the file that is named, if one is
 abbrev pub named_file : Option Request → Option (List ℕ)
 named_file request = option_map (λ (r : Request). r.path) request
-
--- what is told of that file; where none is named it is as good as empty
-abbrev pub told_file : (List ℕ → Holding) → Option Request → Option (List ℕ)
-told_file held request = option_map_or (λ path. told_bytes (held path)) (named_file request) (Some [])

@@ -13,7 +13,7 @@ use crate::reading::sum_within;
 use branch_states::BUDGET_LIMIT;
 use design_writer::reordered_text;
 use device_model::Device;
-use diag_cli::{Refusal, described, is_design_path};
+use diag_cli::{Refusal, above, described, is_design_path};
 use netlist_writer::{renamed_text, sums_line};
 use signal_order::{Start, find_order, find_part_order, given_order, wire_order};
 use std::alloc::{AllocError, Global};
@@ -57,11 +57,7 @@ fn weigh(alloc: Global, path: &str, text: Vec<u8>, top: u32) -> Result<Candidate
         × (output ≡ says (above_line (codes "text") (length text.items) NARROWED_LIMIT) 1))) }
 {
     if text.len() > NARROWED_LIMIT {
-        return Err(Refusal::Above {
-            what: "text",
-            count: text.len() as u64,
-            limit: NARROWED_LIMIT as u64,
-        });
+        return Err(above("text", text.len() as u64, NARROWED_LIMIT));
     }
     let sum = sum_of_text(alloc, path, &text, top)?;
     Ok(Candidate { text, sum })
@@ -179,7 +175,7 @@ pub(crate) fn narrowed(
     // Their contracts say what holds of every device.
     let _sizes = (device.parts().len(), type_count(&device));
     let best = best_of(alloc, path, &device, moves)?;
-    let mut text = sums_line(alloc, before, best.sum)?;
+    let mut text = sums_line(alloc, BUDGET_LIMIT, before, best.sum)?;
     text.extend_from_slice(&best.text)?;
     Ok(text)
 }

@@ -7,4 +7,4 @@ mod reading;
 mod words;
 
 pub use program::narrow;
-pub use words::MOVE_LIMIT;
+pub use words::{DEFAULT_MOVES, MOVE_LIMIT};

@@ -7,8 +7,8 @@ ghost use Rattle.narrow_cli.specs.Runs.{IsNarrowRun};
 
 use crate::candidates::narrowed;
 use crate::words::{Request, request_of};
-use diag_cli::{say, tell};
-use diag_edge::{LoadError, Shelf, Sink, load};
+use diag_cli::{say, say_load_error, tell};
+use diag_edge::{Shelf, Sink, load};
 use std::alloc::Global;
 use text_rules::TEXT_LIMIT;
 
@@ -45,9 +45,7 @@ fn narrow_over<H: Shelf, O: Sink>(
 {
     match load(alloc, shelf, path, TEXT_LIMIT) {
         Ok(file) => narrow_file(alloc, path, &file, moves, out),
-        Err(LoadError::Failed) => say(out, b"error: read\n", 4),
-        Err(LoadError::Long { limit: _ }) => say(out, b"error: file above 16777216 bytes\n", 1),
-        Err(LoadError::Memory) => say(out, b"error: memory\n", 6),
+        Err(error) => say_load_error(out, error),
     }
 }
 

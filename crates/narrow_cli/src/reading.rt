@@ -5,9 +5,8 @@ ghost use Rattle.diag_cli.specs.Refusals.{told_by};
 ghost use Rattle.narrow_cli.specs.Narrowing.{encodable, sum_within};
 
 use branch_states::{BUDGET_LIMIT, MeasureError, measure};
-use clause_encoder::{CLAUSE_LIMIT, EncodeError, encode};
 use device_model::Device;
-use diag_cli::Refusal;
+use diag_cli::{Refusal, clauses_of};
 use std::alloc::Global;
 
 /// The sum of a device, where it is not above a limit.
@@ -16,17 +15,7 @@ pub(crate) fn sum_within(alloc: Global, device: &Device, top: u32) -> Result<Opt
     ensures encodable { Fulfils (λ _. device.now) told_by (encodable device.now (encoded device.now)) result }
     ensures sum { IfOk result (λ sum. sum ≡ sum_within top (encoded device.now)) }
 {
-    let cnf = match encode(alloc, device) {
-        Ok(cnf) => cnf,
-        Err(EncodeError::TooManyClauses { count }) => {
-            return Err(Refusal::Above {
-                what: "clauses",
-                count,
-                limit: CLAUSE_LIMIT as u64,
-            });
-        }
-        Err(EncodeError::Memory) => return Err(Refusal::Memory),
-    };
+    let cnf = clauses_of(alloc, device)?;
     match measure(alloc, &cnf, top) {
         Ok(sum) => Ok(Some(sum)),
         Err(MeasureError::Above) => Ok(None),

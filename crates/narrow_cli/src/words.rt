@@ -4,8 +4,10 @@ ghost use Rattle.narrow_cli.specs.Words.{request_over, request_of};
 ghost use Rattle.narrow_cli.specs.inner.Requests.{meant};
 
 use diag_cli::is_device_path;
-use signal_order::DEFAULT_MOVES;
 use text_rules::plain_number;
+
+/// So many moves are tried where no number is given.
+pub const DEFAULT_MOVES: u32 = 2_000_000;
 
 /// The most moves that may be asked for.
 pub const MOVE_LIMIT: u32 = 100_000_000;

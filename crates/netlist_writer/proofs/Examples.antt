@@ -53,15 +53,15 @@ two_gates = refl
 
 -- ---- the line of the sums
 
-both_sums : sums_line (Some 120) (Some 7) ≡ codes "# sum 120 before, 7 after\n"
+both_sums : sums_line 8388608 (Some 120) (Some 7) ≡ codes "# sum 120 before, 7 after\n"
 unfolding digits
 both_sums = refl
 
-unknown_sum : sums_line None (Some 30) ≡ codes "# sum above 8388608 before, 30 after\n"
+unknown_sum : sums_line 8388608 None (Some 30) ≡ codes "# sum above 8388608 before, 30 after\n"
 unfolding digits
 unknown_sum = refl
 
-read_with_its_line : netlist (narrowed_text None None (1 ∷ 0 ∷ []) inverter)
+read_with_its_line : netlist (narrowed_text 8388608 None None (1 ∷ 0 ∷ []) inverter)
     ≡ Ok (device (part (codes "00000_y") Not (1 ∷ 0 ∷ []) ∷ []) (codes "00000_y" ∷ codes "00001_a" ∷ []))
-unfolding inverter
+unfolding inverter digits
 read_with_its_line = refl

@@ -1,5 +1,5 @@
 -- Each line of a netlist's text, and what it is read as.
-use Rattle.std.proofs.Common.{◌≡◌, ℕ, zero, suc, ◌+◌, ◌-◌, ◌%◌, ◌/◌, ◌≤◌, ◌==◌, Bool, true, false, not, List, [], ◌∷◌, ◌++◌, length, codes, Option, Some, None, Ok, refl, sym, ap, ◌∙◌, arith, append_assoc}
+use Rattle.std.proofs.Common.{◌≡◌, ℕ, zero, suc, ◌+◌, ◌-◌, ◌%◌, ◌/◌, ◌≤◌, ◌==◌, Bool, true, false, not, List, [], ◌∷◌, ◌++◌, length, codes, Option, Some, None, Ok, refl, sym, ap, ◌∙◌, arith, append_assoc, decimal}
 use Rattle.std.specs.Prelude.{◌&&◌, nat_le, nat_lt}
 use Rattle.std.specs.Fmt.{digit_glyph, digits_onto, digits}
 use Rattle.std.specs.List.{list_all}
@@ -9,17 +9,20 @@ use Rattle.std.proofs.lemmas.List.Folds.{list_all-append}
 use Rattle.std.proofs.lemmas.List.Sums.{take_while-cons}
 use Rattle.text_rules.specs.Names.{Name, is_short_name, is_name_byte, is_mark}
 use Rattle.text_rules.specs.TextLines.{is_line, uncommented}
-use Rattle.text_rules.specs.Tokens.{tokens, is_word, is_word_byte}
+use Rattle.text_rules.specs.Tokens.{tokens}
+use Rattle.text_rules.specs.inner.WordBytes.{is_word_byte}
+use Rattle.text_rules.proofs.TokenLemmas.{is_word}
 use Rattle.text_rules.proofs.PartLemmas.{passes_too}
 use Rattle.text_rules.proofs.TokenLemmas.{tokens-blank, tokens-mark, tokens-word}
 use Rattle.device_model.specs.declared.component.Kind.{Kind}
 use Rattle.device_model.specs.declared.component.Kind.TheVariants.{And, Or, Nand, Nor, Xor, Xnor, Not, Buff, Table}
 use Rattle.device_model.specs.Devices.{takes, takes_ports}
+use Rattle.device_model.specs.GateWords.{word_of}
 use Rattle.bench_reader.specs.declared.kinds.FlipFlops.TheVariants.{Refused}
 use Rattle.bench_reader.specs.declared.kinds.NamedKind.TheVariants.{Combinational}
 use Rattle.bench_reader.specs.declared.fault.BenchFault.TheVariants.{Name as NoName, Inputs as WrongInputs}
 use Rattle.bench_reader.specs.Statements.{Statement, Input, Gate, has_no_mark, kind_named, kind_fault, listed_from, inputs_in, statement_of, statement_fault, unless_faulty, reading_of_statement, reading_of, reading}
-use Rattle.netlist_writer.specs.Writing.{kind_word, listed, input_line, gate_line, sum_words, sums_line}
+use Rattle.netlist_writer.specs.Writing.{listed, input_line, gate_line, sum_words, sums_line}
 
 -- A text is a line that is read as this, with its line feed.
 pub record IsLineOf (text : List ℕ) (said : Option Statement) : Type 0 where
@@ -83,8 +86,8 @@ name_is_word (b ∷ name) h =
 
 -- the word of a gate, and what it names
 record IsKindWord (kind : Kind) : Type 0 where
-  word : IsPlainWord (kind_word kind)
-  named : kind_named (kind_word kind) ≡ Combinational kind
+  word : IsPlainWord (word_of kind)
+  named : kind_named (word_of kind) ≡ Combinational kind
 
 kind_is_word : (kind : Kind) (ports : ℕ) → takes_ports [] kind ports ≡ true → IsKindWord kind
 kind_is_word And ports h = record { word = record { one = refl; unmarked = refl; plain = refl }; named = refl }
@@ -193,25 +196,25 @@ gate_read o kind inputs good =
     let name = name_is_word o good.output_short in
     let word = kind_is_word kind (length inputs + 1) good.taken in
     let rest : List ℕ = listed inputs ++ codes ")" in
-    let behind : List ℕ = kind_word kind ++ (codes "(" ++ rest) in
+    let behind : List ℕ = word_of kind ++ (codes "(" ++ rest) in
     let line : List ℕ = o ++ (codes " = " ++ behind) in
     let plain : list_all is_plain line ≡ true =
     both_plain o (codes " = " ++ behind) name.plain (both_plain (codes " = ") behind refl
-    (both_plain (kind_word kind) (codes "(" ++ rest) word.word.plain (both_plain (codes "(") rest refl
+    (both_plain (word_of kind) (codes "(" ++ rest) word.word.plain (both_plain (codes "(") rest refl
     (both_plain (listed inputs) (codes ")") (listed_plain inputs good.inputs_short) refl)))) in
-    let cut : tokens true line ≡ o ∷ codes "=" ∷ kind_word kind ∷ codes "(" ∷ listed_tokens inputs =
+    let cut : tokens true line ≡ o ∷ codes "=" ∷ word_of kind ∷ codes "(" ∷ listed_tokens inputs =
     tokens-word true o (codes " = " ++ behind) name.one refl
     ∙ ap (λ ts. o ∷ ts) (tokens-blank true 32 (codes "= " ++ behind) refl ∙ tokens-mark true 61 (32 ∷ behind) refl
-    ∙ ap (λ ts. codes "=" ∷ ts) (tokens-blank true 32 behind refl ∙ tokens-word true (kind_word kind) (codes "(" ++ rest) word.word.one refl
-    ∙ ap (λ ts. kind_word kind ∷ ts) (tokens-mark true 40 rest refl ∙ ap (λ ts. codes "(" ∷ ts) (tokens-listed inputs good.inputs_short)))) in
+    ∙ ap (λ ts. codes "=" ∷ ts) (tokens-blank true 32 behind refl ∙ tokens-word true (word_of kind) (codes "(" ++ rest) word.word.one refl
+    ∙ ap (λ ts. word_of kind ∷ ts) (tokens-mark true 40 rest refl ∙ ap (λ ts. codes "(" ∷ ts) (tokens-listed inputs good.inputs_short)))) in
     let some = leb-true 1 (length inputs) (and_parts (nat_le 1 (length inputs)) _ (good_takes o kind inputs good)).0 in
-    let stated = gate_stated o (kind_word kind) inputs name word.word some good.inputs_short in
+    let stated = gate_stated o (word_of kind) inputs name word.word some good.inputs_short in
     record {
       line = line;
       ends =
           sym (append_assoc o (codes " = " ++ behind) (10 ∷ [])
-          ∙ ap (λ t. o ++ (codes " = " ++ t)) (append_assoc (kind_word kind) (codes "(" ++ rest) (10 ∷ [])
-          ∙ ap (λ t. kind_word kind ++ (codes "(" ++ t)) (append_assoc (listed inputs) (codes ")") (10 ∷ []))));
+          ∙ ap (λ t. o ++ (codes " = " ++ t)) (append_assoc (word_of kind) (codes "(" ++ rest) (10 ∷ [])
+          ∙ ap (λ t. word_of kind ++ (codes "(" ++ t)) (append_assoc (listed inputs) (codes ")") (10 ∷ []))));
       alone = plain_is_line line plain;
       read =
           ap (λ t. reading_of Refused (tokens true t)) (plain_uncommented line plain) ∙ ap (reading_of Refused) cut
@@ -231,26 +234,31 @@ digits_in_line (suc k) n acc h =
     cond_both (n / 10 == 0) (glyph ∷ acc) (digits_onto k 10 false (n / 10) (glyph ∷ acc)) (λ line. is_line line ≡ true)
     (λ _. one) (λ _. digits_in_line k (n / 10) (glyph ∷ acc) one)
 
-sum_in_line : (sum : Option ℕ) → is_line (sum_words sum) ≡ true
-unfolding digits
-sum_in_line None = refl
-sum_in_line (Some n) = digits_in_line 64 n [] refl
-
 both_in_line : (a b : List ℕ) → is_line a ≡ true → is_line b ≡ true → is_line (a ++ b) ≡ true
 both_in_line a b p q = list_all-append (λ b. not (b == 10)) a b ∙ and_from _ _ p q
 
+number_in_line : (n : ℕ) → is_line (decimal n) ≡ true
+unfolding digits
+number_in_line n = digits_in_line 64 n [] refl
+
+sum_in_line : (limit : ℕ) (sum : Option ℕ) → is_line (sum_words limit sum) ≡ true
+sum_in_line limit None = both_in_line (codes "above ") (decimal limit) refl (number_in_line limit)
+sum_in_line limit (Some n) = number_in_line n
+
 -- it says nothing
-pub sums_read : (before after : Option ℕ) → IsLineOf (sums_line before after) None
-sums_read before after =
-    let behind : List ℕ = sum_words after ++ codes " after" in
+pub sums_read : (limit : ℕ) (before after : Option ℕ) → IsLineOf (sums_line limit before after) None
+sums_read limit before after =
+    let first = sum_words limit before in
+    let last = sum_words limit after in
+    let behind : List ℕ = last ++ codes " after" in
     let middle : List ℕ = codes " before, " ++ behind in
     record {
-      line = codes "# sum " ++ (sum_words before ++ middle);
+      line = codes "# sum " ++ (first ++ middle);
       ends =
-          sym (ap (λ t. codes "# sum " ++ t) (append_assoc (sum_words before) middle (10 ∷ [])
-          ∙ ap (λ t. sum_words before ++ (codes " before, " ++ t)) (append_assoc (sum_words after) (codes " after") (10 ∷ []))));
+          sym (ap (λ t. codes "# sum " ++ t) (append_assoc first middle (10 ∷ [])
+          ∙ ap (λ t. first ++ (codes " before, " ++ t)) (append_assoc last (codes " after") (10 ∷ []))));
       alone =
-          both_in_line (codes "# sum ") (sum_words before ++ middle) refl (both_in_line (sum_words before) middle (sum_in_line before)
-          (both_in_line (codes " before, ") behind refl (both_in_line (sum_words after) (codes " after") (sum_in_line after) refl)));
+          both_in_line (codes "# sum ") (first ++ middle) refl (both_in_line first middle (sum_in_line limit before)
+          (both_in_line (codes " before, ") behind refl (both_in_line last (codes " after") (sum_in_line limit after) refl)));
       read = refl;
     }

@@ -128,6 +128,7 @@ module _ (order : List ℕ) (device : Device) where
     pub is_read_back : IsReadAsRenamed order device
     is_read_back = record {
       bare = ap netlist text-at ∙ read_alone wires gate_at is_writable ∙ ap Ok (sym renamed-at);
-      whole = λ before after.
-          ap (λ t. netlist (sums_line before after ++ t)) text-at ∙ read_behind wires gate_at is_writable (sums_line before after) (sums_read before after) ∙ ap Ok (sym renamed-at);
+      whole = λ limit before after.
+          ap (λ t. netlist (sums_line limit before after ++ t)) text-at
+          ∙ read_behind wires gate_at is_writable (sums_line limit before after) (sums_read limit before after) ∙ ap Ok (sym renamed-at);
     }

@@ -3,22 +3,10 @@ use Rattle.std.specs.Prelude.{ℕ, ◌-◌, ◌==◌, List, [], ◌∷◌, ◌++
 use Rattle.std.specs.List.{flat_map, find, range_with_len}
 use Rattle.text_rules.specs.Names.{Name}
 use Rattle.device_model.specs.declared.component.Kind.{Kind}
-use Rattle.device_model.specs.declared.component.Kind.TheVariants.{And, Or, Nand, Nor, Xor, Xnor, Not, Buff, Table}
 use Rattle.device_model.specs.declared.component.Component.{Component}
 use Rattle.device_model.specs.Devices.{Device}
+use Rattle.device_model.specs.GateWords.{word_of}
 use Rattle.renaming.specs.Renaming.{output, renamed}
-
--- the word that a netlist has for a gate; for a part of a type it has none
-abbrev pub kind_word : Kind → List ℕ
-kind_word And = codes "AND"
-kind_word Or = codes "OR"
-kind_word Nand = codes "NAND"
-kind_word Nor = codes "NOR"
-kind_word Xor = codes "XOR"
-kind_word Xnor = codes "XNOR"
-kind_word Not = codes "NOT"
-kind_word Buff = codes "BUFF"
-kind_word (Table t) = []
 
 -- names with a comma and a space between each two
 abbrev pub listed : List Name → List ℕ
@@ -32,7 +20,7 @@ input_line name = codes "INPUT(" ++ (name ++ codes ")\n")
 
 -- `output = KIND(first, second)`
 abbrev pub gate_line : Name → Kind → List Name → List ℕ
-gate_line name kind inputs = name ++ (codes " = " ++ (kind_word kind ++ (codes "(" ++ (listed inputs ++ codes ")\n"))))
+gate_line name kind inputs = name ++ (codes " = " ++ (word_of kind ++ (codes "(" ++ (listed inputs ++ codes ")\n"))))
 
 -- the names of the wires at the ports of a gate but for the last one
 abbrev pub input_names : List Name → Component → List Name
@@ -51,15 +39,16 @@ netlist_text device = flat_map (wire_line device) (range_with_len 0 (length devi
 
 -- ---- the line before it
 
--- a sum, where it is known
-abbrev pub sum_words : Option ℕ → List ℕ
-sum_words None = codes "above 8388608"
-sum_words (Some sum) = decimal sum
+-- a sum, or that it is above a limit
+abbrev pub sum_words : ℕ → Option ℕ → List ℕ
+sum_words limit None = codes "above " ++ decimal limit
+sum_words limit (Some sum) = decimal sum
 
 -- a comment that tells the sum under the old names, and that under the new ones
-abbrev pub sums_line : Option ℕ → Option ℕ → List ℕ
-sums_line before after = codes "# sum " ++ (sum_words before ++ (codes " before, " ++ (sum_words after ++ codes " after\n")))
+abbrev pub sums_line : ℕ → Option ℕ → Option ℕ → List ℕ
+sums_line limit before after =
+    codes "# sum " ++ (sum_words limit before ++ (codes " before, " ++ (sum_words limit after ++ codes " after\n")))
 
 -- the netlist under new names, in an order of its signals
-abbrev pub narrowed_text : Option ℕ → Option ℕ → List ℕ → Device → List ℕ
-narrowed_text before after order device = sums_line before after ++ netlist_text (renamed order device)
+abbrev pub narrowed_text : ℕ → Option ℕ → Option ℕ → List ℕ → Device → List ℕ
+narrowed_text limit before after order device = sums_line limit before after ++ netlist_text (renamed order device)

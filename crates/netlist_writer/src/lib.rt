@@ -10,4 +10,4 @@ mod writing;
 pub use laws::{are_netlists, reads_back};
 pub use sums::sums_line;
 pub use tables::places_of;
-pub use writing::{kind_word, renamed_text};
+pub use writing::renamed_text;

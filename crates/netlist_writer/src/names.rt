@@ -3,9 +3,8 @@ ghost use Rattle.netlist_writer.specs.Writing.{listed};
 ghost use Rattle.netlist_writer.specs.inner.Tables.{name_by};
 
 use device_model::Name;
-use renaming::five_digits;
+use renaming::{KEPT_LIMIT, five_digits};
 use std::alloc::AllocError;
-use text_rules::SHORT_NAME_LIMIT;
 
 // Adds the new name of a wire: its place, and what fits of its old name.
 pub(crate) fn add_name(
@@ -20,7 +19,7 @@ pub(crate) fn add_name(
     ensures { OnOk result (text.new.items ≡ text.old.items ++ name_by wires.now places.now wire) }
 {
     let name = wires[wire as usize].as_slice();
-    let kept = name.len().min(SHORT_NAME_LIMIT - 6);
+    let kept = name.len().min(KEPT_LIMIT);
     text.extend_from_slice(&five_digits(places[wire as usize]))?;
     text.extend_from_slice(b"_")?;
     text.extend_from_slice(&name[..kept])

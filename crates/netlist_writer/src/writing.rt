@@ -1,30 +1,13 @@
 ghost use Rattle.std.specs.Prelude.{◌≡◌, ◌<◌, ◌++◌, Option, Some, None, length, All, IfOk, IfSome, OnOk};
 ghost use Rattle.std.specs.List.{flat_map};
 ghost use Rattle.renaming.specs.Renaming.{IsOrder, IsNetlist, renamed};
-ghost use Rattle.netlist_writer.specs.Writing.{kind_word, netlist_text};
+ghost use Rattle.netlist_writer.specs.Writing.{netlist_text};
 ghost use Rattle.netlist_writer.specs.inner.Tables.{name_by, line_under, part_at, line_by_tables};
 
 use crate::names::{add_name, add_names};
 use crate::tables::{drivers_of, places_of};
-use device_model::{Component, Device, Kind, Name};
+use device_model::{Component, Device, Name};
 use std::alloc::{AllocError, Global};
-
-/// The word for a kind of gate. A part of a type has none.
-pub fn kind_word<'a>(kind: Kind) -> &'a [u8]
-    ensures { result.now ≡ kind_word kind }
-{
-    match kind {
-        Kind::And => b"AND",
-        Kind::Or => b"OR",
-        Kind::Nand => b"NAND",
-        Kind::Nor => b"NOR",
-        Kind::Xor => b"XOR",
-        Kind::Xnor => b"XNOR",
-        Kind::Not => b"NOT",
-        Kind::Buff => b"BUFF",
-        Kind::Table(_) => b"",
-    }
-}
 
 // Adds the line of a wire from outside.
 fn add_input(
@@ -61,7 +44,7 @@ fn add_gate(
     let ports = gate.ports.as_slice();
     add_name(text, wires, places, wire)?;
     text.extend_from_slice(b" = ")?;
-    text.extend_from_slice(kind_word(gate.kind))?;
+    text.extend_from_slice(gate.kind.word())?;
     text.extend_from_slice(b"(")?;
     add_names(text, wires, places, &ports[..ports.len() - 1])?;
     text.extend_from_slice(b")\n")
@@ -118,7 +101,7 @@ fn lines_of(
     Ok(text)
 }
 
-/// The text of a netlist whose wires stand in another order, under new names.
+/// The text of a netlist whose wires stand in another order, under new names. The only error is that there is no memory.
 pub fn renamed_text(alloc: Global, device: &Device, order: &[u32]) -> Result<Vec<u8>, AllocError>
     requires netlist { IsNetlist device.now }
     requires order { IsOrder (length device.now.wires) order.now }

@@ -25,9 +25,6 @@ module _ (vars line : ℕ) (done : List Node) (ws : List (List ℕ)) (node : Nod
   pub line-child : list_all (λ kid. nat_lt kid (length done)) node.kids ≡ false → nodes_behind vars done ((line, ws) ∷ []) ≡ Err (AtLine line 3)
   line-child late = line-node (Some 3) (cond-true _ _ _ (not_from_false _ late))
 
-  pub line-variable : list_all (λ kid. nat_lt kid (length done)) node.kids ≡ true → variable_fits vars node.what ≡ false → nodes_behind vars done ((line, ws) ∷ []) ≡ Err (AtLine line 4)
-  line-variable early out = line-node (Some 4) (cond-false _ _ _ (ap not early) ∙ cond-false _ _ _ out)
-
   pub line-right : list_all (λ kid. nat_lt kid (length done)) node.kids ≡ true → variable_fits vars node.what ≡ true
       → nodes_behind vars done ((line, ws) ∷ []) ≡ Ok (record { nodes = done ++ node ∷ []; vars = vars })
   line-right early fits = line-node None (cond-false _ _ _ (ap not early) ∙ cond-true _ _ _ fits)

@@ -8,7 +8,9 @@ use Rattle.std.proofs.lemmas.List.Sums.{sum_by-cons}
 use Rattle.std.proofs.lemmas.Fmt.{decimal_nonempty}
 use Rattle.text_rules.specs.Numbers.{is_digit}
 use Rattle.text_rules.specs.TextLines.{is_line}
-use Rattle.text_rules.specs.Tokens.{is_word, is_word_byte, is_neat}
+use Rattle.text_rules.specs.Tokens.{is_neat}
+use Rattle.text_rules.specs.inner.WordBytes.{is_word_byte}
+use Rattle.text_rules.proofs.TokenLemmas.{is_word}
 use Rattle.text_rules.proofs.PartLemmas.{passes_too}
 use Rattle.graph_rules.specs.declared.NodeKind.{NodeKind}
 use Rattle.graph_rules.specs.declared.NodeKind.TheVariants.{Literal, And, Or}

@@ -1,18 +1,17 @@
 -- Two nodes are equal where the kept ones are.
-use Rattle.std.proofs.Common.{◌≡◌, ℕ, zero, suc, Bool, true, false, ◌&&◌, List, [], ◌∷◌, ◌++◌, map, Some, cond, ap, refl, sym, ◌∙◌, subst, inl, inr}
+use Rattle.std.proofs.Common.{◌≡◌, ℕ, zero, suc, Bool, true, false, ◌&&◌, List, [], ◌∷◌, ◌++◌, map, Some, ap, refl, sym, ◌∙◌, subst}
 use Rattle.std.specs.Prelude.{slice_get, nat_eq}
-use Rattle.std.specs.List.{list_any, IsDistinct, AllByRecursion}
+use Rattle.std.specs.List.{IsDistinct, AllByRecursion}
 use Rattle.std.specs.Cmp.Lexicographic.{pointwise, same_text}
 use Rattle.std.proofs.lemmas.Cmp.{nat_list_eq_equiv}
 use Rattle.std.proofs.lemmas.Bool.{and_parts, and_from, eqb-true, eq-eqb}
 use Rattle.smallvec.specs.SmallVec.{SmallVec}
-use Rattle.indexmap.specs.IndexSet.{insert_key}
 use Rattle.graph_rules.specs.declared.NodeKind.{NodeKind}
 use Rattle.graph_rules.specs.declared.NodeKind.TheVariants.{Literal, And, Or}
 use Rattle.graph_rules.specs.Graphs.{Node}
 use Rattle.node_store.specs.declared.store.Kept.{Kept}
 use Rattle.node_store.specs.inner.Keeping.{shown}
-use Rattle.node_store.specs.Stores.{EachOnce, AddsAtMost}
+use Rattle.node_store.specs.Stores.{EachOnce}
 use Rattle.node_store.specs.contracts.store.KeptPartialEq.TheImpl.{eq-value}
 
 abbrev kept : NodeKind → SmallVec ℕ → Kept
@@ -95,13 +94,6 @@ once_shown (x ∷ xs) apart (suc i) (suc j) node e f = ap suc (once_shown xs apa
 map-push : (xs : List Kept) (x : Kept) → map shown (xs ++ x ∷ []) ≡ map shown xs ++ shown x ∷ []
 map-push [] x = refl
 map-push (y ∷ xs) x = ap (λ ns. shown y ∷ ns) (map-push xs x)
-
--- an insert leaves the nodes, or adds the node behind them
-pub holds_shown : (xs ys : List Kept) (x : Kept) → ys ≡ insert_key eq-value.it xs x → AddsAtMost (map shown xs) (shown x) (map shown ys)
-holds_shown xs ys x e = by (list_any (eq-value.it x) xs) refl where
-  by : (b : Bool) → list_any (eq-value.it x) xs ≡ b → AddsAtMost (map shown xs) (shown x) (map shown ys)
-  by true f = inl (ap (map shown) (e ∙ ap (λ b. cond b xs (xs ++ x ∷ [])) f))
-  by false f = inr (ap (map shown) (e ∙ ap (λ b. cond b xs (xs ++ x ∷ [])) f) ∙ map-push xs x)
 
 pub there_shown : (xs : List Kept) (i : ℕ) (x k : Kept) → slice_get xs i ≡ Some k → eq-value.it x k ≡ true → slice_get (map shown xs) i ≡ Some (shown x)
 there_shown [] i x k e t = absurd (cc)

@@ -11,7 +11,8 @@ use Rattle.ranking.specs.Assignments.{Assignment}
 use Rattle.graph_rules.specs.Graphs.{Node, literal_node, truth_by, mention_by, is_true, mentions, AreNodes, node_fits}
 use Rattle.graph_rules.specs.GraphTexts.{edges}
 use Rattle.node_store.specs.declared.store.TheConstants.{VARIABLE_LIMIT}
-use Rattle.node_store.specs.Stores.{Stored, IsStore, EachOnce, IsNew, literals, literal_place}
+use Rattle.node_store.specs.Stores.{Stored, IsStore, EachOnce, literals, literal_place}
+use Rattle.node_store.specs.inner.Literals.{IsNew}
 use Rattle.graph_rules.proofs.NodeValues.{value_of-get}
 use Rattle.graph_rules.proofs.NodesFit.{fits-get, AreNodes-push}
 

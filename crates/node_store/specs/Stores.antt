@@ -58,10 +58,6 @@ pub record Means (old new : List Node) (kind : NodeKind) (kids : List ℕ) (numb
   pub true_before : (k : ℕ) (a : Assignment) → k < length old → is_true new k a ≡ is_true old k a
   pub variables_before : (k v : ℕ) → k < length old → mentions new v k ≡ mentions old v k
 
--- no node is this one
-abbrev pub IsNew : List Node → Node → Type 0
-IsNew nodes node = (i : ℕ) → slice_get nodes i ≡ Some node → ⊥
-
 -- The graph of a node and of those below it: its root is true where the node is.
 pub record IsFrozen (store : Stored) (root : ℕ) (graph : Graph) : Type 0 where
   pub vars : graph.vars ≡ store.vars

@@ -3,3 +3,4 @@ pub mod Flat
 pub mod Keeping
 pub mod Freezing
 pub mod Nearby
+pub mod Literals

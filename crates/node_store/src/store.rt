@@ -3,7 +3,8 @@ ghost use Rattle.ranking.specs.Assignments.{Assignment};
 ghost use Rattle.ranking.specs.Bits.{same_bit};
 ghost use Rattle.graph_rules.specs.declared.NodeKind.TheVariants.{And, Or};
 ghost use Rattle.graph_rules.specs.Graphs.{literal_node, at_most_one, is_true, mentions, apart_at, node_fits, AreNodes, IsGraph};
-ghost use Rattle.node_store.specs.Stores.{IsStore, IsFrozen, Makes, Means, AddsAtMost, EachOnce, IsNew, literals};
+ghost use Rattle.node_store.specs.Stores.{IsStore, IsFrozen, Makes, Means, AddsAtMost, EachOnce, literals};
+ghost use Rattle.node_store.specs.inner.Literals.{IsNew};
 ghost use Rattle.node_store.specs.inner.Keeping.{shown};
 ghost use Rattle.node_store.specs.inner.Freezing.{AreBefore, IsBelow, IsClosed, Marks, IsCopied};
 

@@ -30,7 +30,7 @@ use Rattle.conditioner.specs.Words.{known_of, known}
 use Rattle.conditioner.specs.Models.{has_model, fits_words, models}
 use Rattle.conditioner.proofs.FittingWords.{known-at, fits_words-at, fits_words-from, fits_words-front}
 use Rattle.nnf_text.proofs.ReadingBack.{IsList, graph_text-read, graph_text-is_neat}
-use Rattle.projector.specs.Projecting.{projected_kind, projected_node, held_literals, root_with, projection, projected_text, IsGraphOf}
+use Rattle.projector.specs.Projecting.{projected_kind, projected_node, held_literals, root_with, projection, projected_text, IsGraphOfStates}
 use Rattle.projector.proofs.Kids.{each_below, any_more, at_most_one-from, at_most_one-less}
 use Rattle.projector.proofs.Literals.{wanted_of, literal-truth, literal-mentions, literal-fits}
 use Rattle.projector.proofs.Meeting.{Agrees, Meets, Meets-same, can_by, node_is}
@@ -374,5 +374,5 @@ module _ (graph : Graph) (words : List ℕ) (parts : ℕ) (is : IsGraph graph) (
     projected_text-is_neat = graph_text-is_neat parts all projected-is_list
 
     -- it reads as a decomposable graph over the parts, true for the models alone
-    pub projected_text-means : IsGraphOf parts (models graph words parts) (parsed (projected_text graph words parts))
-    projected_text-means = subst (IsGraphOf parts (models graph words parts)) (sym (graph_text-read parts all projected-is_list)) (refl, projected-apart, (λ h long. projected-models h long))
+    pub projected_text-means : IsGraphOfStates parts (models graph words parts) (parsed (projected_text graph words parts))
+    projected_text-means = subst (IsGraphOfStates parts (models graph words parts)) (sym (graph_text-read parts all projected-is_list)) (refl, projected-apart, (λ h long. projected-models h long))

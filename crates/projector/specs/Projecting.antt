@@ -1,5 +1,5 @@
 -- The graph of the health states that a graph allows under words, and the text that it is written as.
-use Rattle.std.specs.Prelude.{◌≡◌, ℕ, ◌-◌, Bool, true, false, List, [], ◌∷◌, ◌++◌, map, length, take, Option, Some, None, nat_le, slice_index, if◌then◌else◌, Ok, Err}
+use Rattle.std.specs.Prelude.{◌≡◌, ℕ, ◌-◌, Bool, List, [], ◌∷◌, ◌++◌, map, length, take, Option, Some, None, nat_le, slice_index, if◌then◌else◌, Ok, Err}
 use Rattle.std.specs.List.{list_any, filter_map, enumerate_from, range_with_len}
 use Rattle.std.specs.Cmp.Lexicographic.{pointwise}
 use Rattle.ranking.specs.Bits.{same_bit}
@@ -56,8 +56,8 @@ abbrev pub projected_text : Graph → List ℕ → ℕ → List ℕ
 projected_text graph words parts = graph_text (projection graph words parts)
 
 -- a graph over so many parts, decomposable, and true for these states alone
-abbrev pub IsGraphOf : ℕ → List (List Bool) → Parsed → Type 0
-IsGraphOf parts states (Err refusal) = false ≡ true
-IsGraphOf parts states (Ok graph) =
+abbrev pub IsGraphOfStates : ℕ → List (List Bool) → Parsed → Type 0
+IsGraphOfStates parts states (Err refusal) = ⊥
+IsGraphOfStates parts states (Ok graph) =
     (graph.vars ≡ parts) × Decomposable graph.nodes
     × ((h : List Bool) → length h ≡ parts → holds graph h ≡ list_any (pointwise same_bit h) states)

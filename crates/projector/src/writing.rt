@@ -4,7 +4,7 @@ ghost use Rattle.text_rules.specs.Tokens.{is_neat};
 ghost use Rattle.graph_rules.specs.Graphs.{IsGraph};
 ghost use Rattle.graph_rules.specs.GraphTexts.{parsed};
 ghost use Rattle.conditioner.specs.Models.{models};
-ghost use Rattle.projector.specs.Projecting.{projected_text, IsGraphOf};
+ghost use Rattle.projector.specs.Projecting.{projected_text, IsGraphOfStates};
 
 use crate::held::{add_ends, held_count};
 use crate::nodes::add_nodes;
@@ -34,7 +34,7 @@ pub fn write_projected<O: Sink>(
 
     // The text has no blank line, and is read as a decomposable graph over the parts that is true for the models alone.
     ensures neat { is_neat (projected_text graph.now words.now parts) ≡ true }
-    ensures models { IsGraphOf parts (models graph.now words.now parts)
+    ensures models { IsGraphOfStates parts (models graph.now words.now parts)
         (parsed (projected_text graph.now words.now parts)) }
 {
     put_lines(graph, words, parts, out)

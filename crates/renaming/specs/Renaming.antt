@@ -1,12 +1,12 @@
 -- The signals of a device in another order and under other names: what becomes of it, of its states and of its cases.
 use Rattle.std.specs.Prelude.{◌≡◌, ℕ, ◌<◌, ◌+◌, ◌-◌, ◌/◌, ◌%◌, ◌==◌, Bool, true, false, List, [], ◌∷◌, ◌++◌, map, length, take, Option, Some, None, slice_get, slice_index_or, position, All, IsPermutation, if◌then◌else◌}
 use Rattle.std.specs.List.{filter_map, enumerate_from, list_all, position_or_len, range_with_len}
-use Rattle.text_rules.specs.declared.names.TheConstants.{SHORT_NAME_LIMIT}
 use Rattle.text_rules.specs.Names.{Name, is_name_byte, is_short_name}
 use Rattle.ranking.specs.Cases.{Case}
 use Rattle.device_model.specs.declared.component.Component.{Component}
 use Rattle.device_model.specs.TruthTable.{TruthTable, is_table}
 use Rattle.device_model.specs.Devices.{Device}
+use Rattle.renaming.specs.declared.names.TheConstants.{KEPT_LIMIT}
 
 -- ---- orders
 
@@ -53,7 +53,7 @@ five_digits n =
 
 -- the place of a signal, an underscore, and as much of its old name as there is room for
 abbrev pub new_name : ℕ → Name → Name
-new_name place name = five_digits place ++ (95 ∷ take (SHORT_NAME_LIMIT - 6) name)
+new_name place name = five_digits place ++ (95 ∷ take KEPT_LIMIT name)
 
 -- the new names of wires, in their order
 abbrev pub new_names : List ℕ → List Name → List Name

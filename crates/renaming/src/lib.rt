@@ -5,4 +5,4 @@ mod laws;
 mod names;
 
 pub use laws::{designs_keep_diagnoses, netlists_keep_diagnoses};
-pub use names::five_digits;
+pub use names::{KEPT_LIMIT, five_digits};

@@ -8,7 +8,7 @@ use Rattle.text_rules.specs.Names.{Name, same_name, is_short_name}
 use Rattle.text_rules.specs.Tokens.{words}
 use Rattle.text_rules.specs.Numbers.{number_in, value_behind, are_digits, has_leading_zero}
 use Rattle.script_lang.specs.declared.limits.TheConstants.{COUNT_LIMIT, LINE_LIMIT}
-use Rattle.script_lang.specs.Asked.{is_well_named, is_well_asked}
+use Rattle.script_lang.proofs.Asked.{is_well_named, is_well_asked}
 use Rattle.script_lang.specs.declared.refusal.LineRefusal.TheVariants.{TooLong}
 use Rattle.script_lang.specs.Script.{Request, Start, Stop, See, Unsee, Hold, Unhold, Min, Next, Several, After, Probe, Probes, Blame, Dnnf, Line, Blank, Refused, is_script_name, on_session, on_name, on_value, on_pair, if_value, on_count, if_count, on_names, at_equals, value_in, read_by, read_as, commands, begins_comment, line_of_words, line_of}
 

@@ -1,4 +1,5 @@
 pub mod LineLemmas
+pub mod Asked
 pub mod AskedLemmas
 mod WordLemmas
 mod Examples

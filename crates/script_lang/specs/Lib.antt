@@ -1,5 +1,4 @@
 pub mod Refusals
 pub mod Script
-pub mod Asked
 pub mod Meaning
 pub mod inner

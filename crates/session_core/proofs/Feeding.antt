@@ -95,9 +95,6 @@ module _ (one : Table → List ℕ → List Step) (h : IsCut one) where
 
 -- ---- bytes that were taken
 
-pub fed_none : (one : Table → List ℕ → List Step) (s : Table) (l : List ℕ) (a : Option (List ℕ)) → Fed one s s l l [] a a
-fed_none one s l a = record { made = makes_none s a; begun = refl }
-
 pub fed_more : {one : Table → List ℕ → List Step} {s t u : Table} {l k j xs ys : List ℕ} {a b c : Option (List ℕ)} → IsCut one → Fed one s t l k xs a b → Fed one t u k j ys b c → Fed one s u l j (xs ++ ys) a c
 fed_more {one} {s} {t} {u} {l} {k} {j} {xs} {ys} {a} {b} {c} h first second = record {
   made = subst (λ ms. Makes s u ms a c) (moves_to_both one h s t l k xs ys first.made.table first.begun) (makes_more first.made second.made);

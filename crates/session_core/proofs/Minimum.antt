@@ -7,7 +7,8 @@ use Rattle.text_rules.specs.Names.{Name}
 use Rattle.ranking.specs.Ranking.{cost, least, least_with, is_at_most, diagnoses}
 use Rattle.ranking.specs.Systems.{System}
 use Rattle.session_rules.specs.Items.{line}
-use Rattle.session_rules.specs.Replies.{faulty_names, min_line, min_text}
+use Rattle.session_core.specs.inner.Texts.{min_text}
+use Rattle.session_rules.specs.Replies.{faulty_names, min_line}
 
 filter-none : {A : Type 0} (xs : List A) → filter (λ x. false) xs ≡ []
 filter-none [] = refl

@@ -38,9 +38,6 @@ pub asked_open : (old : Shown) (session : Name) (request : Request) (entry : Ent
 asked_open old session request entry found = ap (λ (e : Option Entry). outcome (system_of old.subject) session (nat_le old.limit (length old.table)) e request) found
 
 module _ {T E : Type 0} (old : Shown) (session : Name) (request : Request) (one : IsOneMove request) (before after : Option (List ℕ)) (result : Result T E) where
-  the_outcome : Outcome
-  the_outcome = outcome_in (system_of old.subject) old.limit old.table session request
-
   -- what a request comes to
   pub obeys_outcome : (to : Outcome) (new : Shown) → outcome_in (system_of old.subject) old.limit old.table session request ≡ to
       → new ≡ with_table old (carried old.table session to).table → Replies before after result (carried old.table session to).items → Obeys old new session request before after result

@@ -1,5 +1,5 @@
 -- What is told of a case, by what the graph answers under its words.
-use Rattle.std.proofs.Common.{◌≡◌, ◌≢◌, ℕ, zero, suc, ◌+◌, ◌<◌, ◌≤◌, Bool, true, false, not, List, [], ◌∷◌, ◌++◌, map, length, get_or, drop, Option, Some, None, refl, ap, ap₂, sym, ◌∙◌, subst, arith, codes, add-one}
+use Rattle.std.proofs.Common.{◌≡◌, ◌≢◌, ℕ, zero, suc, ◌+◌, ◌<◌, Bool, true, false, not, List, [], ◌∷◌, ◌++◌, map, length, get_or, drop, Option, Some, None, refl, ap, ap₂, sym, ◌∙◌, subst, arith, codes, add-one}
 use Rattle.std.specs.Prelude.{is_some, slice_get, if◌then◌else◌}
 use Rattle.std.specs.List.{list_all, list_any}
 use Rattle.std.proofs.lemmas.List.{get_or-map}
@@ -8,7 +8,7 @@ use Rattle.ranking.specs.Bits.{bit_in}
 use Rattle.ranking.specs.Cases.{Case}
 use Rattle.ranking.specs.Ranking.{cost, least, least_with, least_of, diagnoses}
 use Rattle.ranking.specs.Systems.{System}
-use Rattle.ranking.proofs.Drops.{drop-item, drop-past}
+use Rattle.ranking.proofs.Drops.{drop-item}
 use Rattle.conditioner.specs.Words.{known_of}
 use Rattle.probe_report.specs.declared.verdicts.Blame.{Blame}
 use Rattle.probe_report.specs.Verdicts.{verdict as verdict_on}
@@ -76,9 +76,6 @@ lines-next system s known names i h =
     by true = refl
     by false = refl
 
-pub lines-end : (system : System) (s : Name) (known : Case) (names : List Name) (i : ℕ) → length names ≤ i → probe_lines system s known i (drop i names) ≡ []
-lines-end system s known names i h = rw (drop-past names i h) refl
-
 pub lines-have : (system : System) (s : Name) (known : Case) (i : ℕ) (names : List Name) → HaveSpellings (probe_lines system s known i names)
 lines-have system s known i [] = tt
 lines-have system s known i (name ∷ names) = by (is_some (seen_at known i)) (lines-have system s known (i + 1) names)
@@ -91,9 +88,6 @@ lines-have system s known i (name ∷ names) = by (is_some (seen_at known i)) (l
 pub verdicts-next : (s : Name) (names : List Name) (verdicts : List Blame) (i : ℕ) (v : Blame) → i < length names → i < length verdicts
     → verdict_lines s (drop i names) (drop i verdicts) ≡ (line (s ∷ codes "blame" ∷ get_or names i [] ∷ blame_text (get_or verdicts i v) ∷ []) ∷ []) ++ verdict_lines s (drop (i + 1) names) (drop (i + 1) verdicts)
 verdicts-next s names verdicts i v h g = rw (add-one i, drop-item names i [] h, drop-item verdicts i v g) refl
-
-pub verdicts-end : (s : Name) (names : List Name) (verdicts : List Blame) (i : ℕ) → length names ≤ i → verdict_lines s (drop i names) (drop i verdicts) ≡ []
-verdicts-end s names verdicts i h = rw (drop-past names i h) refl
 
 pub verdicts-have : (s : Name) (names : List Name) (verdicts : List Blame) → HaveSpellings (verdict_lines s names verdicts)
 verdicts-have s [] verdicts = tt

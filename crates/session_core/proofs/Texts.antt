@@ -1,5 +1,5 @@
 -- The texts of replies.
-use Rattle.std.proofs.Common.{◌≡◌, ℕ, suc, ◌+◌, ◌<◌, ◌≤◌, Bool, true, false, List, [], ◌∷◌, ◌++◌, length, map, drop, Option, refl, sym, ◌∙◌, ap, append_assoc, get_or, add-one, subst, Result, IsErr}
+use Rattle.std.proofs.Common.{◌≡◌, ℕ, suc, ◌+◌, ◌<◌, Bool, true, false, List, [], ◌∷◌, ◌++◌, length, map, drop, Option, refl, sym, ◌∙◌, ap, append_assoc, get_or, add-one, subst, Result, IsErr}
 use Rattle.std.specs.Prelude.{◌==◌, if◌then◌else◌}
 use Rattle.diag_edge.specs.Edge.{AppendsPrefix}
 use denote.Ref.{Bor}
@@ -10,7 +10,7 @@ use Rattle.diag_edge.specs.Adding.{Grown, Adds}
 use Rattle.diag_edge.proofs.Added.{grown_more, part_more, adds_first, spaced-first}
 use Rattle.text_rules.specs.Names.{Name}
 use Rattle.text_rules.specs.Tokens.{spaced}
-use Rattle.ranking.proofs.Drops.{drop-item, drop-past}
+use Rattle.ranking.proofs.Drops.{drop-item}
 use Rattle.diagnosis_lister.specs.Listing.{bits_of}
 use Rattle.session_rules.specs.Replies.{faulty_names}
 use Rattle.session_core.specs.inner.Texts.{spaced_before}
@@ -35,9 +35,6 @@ faulty-drop parts state i h g = rw (add-one i, drop-item parts i [] h, drop-item
     by : (b : Bool) → faulty_names (get_or parts i [] ∷ drop (suc i) parts) (b ∷ bits_of (drop (suc i) state)) ≡ (if b then faulty_names (drop (suc i) parts) (bits_of (drop (suc i) state)) else get_or parts i [] ∷ faulty_names (drop (suc i) parts) (bits_of (drop (suc i) state)))
     by true = refl
     by false = refl
-
-pub faulty-end : (parts : List Name) (state : List ℕ) (i : ℕ) → length parts ≤ i → faulty_names (drop i parts) (bits_of (drop i state)) ≡ []
-faulty-end parts state i h = rw (drop-past parts i h) refl
 
 -- the next part is faulty, and named
 pub named : (parts : List Name) (state : List ℕ) (i : ℕ) (part name : Name) → i < length parts → i < length state → part ≡ get_or parts i [] → name ≡ part → (get_or state i 0 == 0) ≡ false

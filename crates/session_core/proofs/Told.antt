@@ -1,16 +1,12 @@
 -- Items that are written one after the other.
-use Rattle.std.proofs.Common.{◌≡◌, ℕ, List, [], ◌∷◌, ◌++◌, Option, Result, Ok, Err, IsErr, refl, sym, ◌∙◌, ap, subst, append_assoc, append-nil}
+use Rattle.std.proofs.Common.{◌≡◌, ℕ, List, [], ◌∷◌, ◌++◌, Option, Result, Ok, Err, IsErr, sym, ◌∙◌, ap, subst, append_assoc}
 use Rattle.std.specs.Io.KnownBytes.{Appends}
 use Rattle.diag_edge.specs.Edge.{AppendsPrefix}
-use Rattle.session_rules.specs.Items.{Item, Plain}
+use Rattle.session_rules.specs.Items.{Item}
 use Rattle.session_rules.specs.Spelling.{Spelled, Writes, WritesPart, Replies}
-use Rattle.session_rules.proofs.Spellings.{spells_one, writes_none, writes_more}
+use Rattle.session_rules.proofs.Spellings.{spells_one, writes_more}
 use Rattle.session_rules.proofs.Begun.{HaveSpellings, part_more, part_after}
 use Rattle.session_core.specs.inner.Telling.{Said}
-
--- a text has a spelling
-pub text_has : (bytes : List ℕ) → HaveSpellings (Plain bytes ∷ [])
-text_has bytes = ((bytes, refl), tt)
 
 -- items, and then others
 pub replies_then : {T E : Type 0} (a b c : Option (List ℕ)) (r : Result T E) (xs ys : List Item) → Writes a b xs → Replies b c r ys → Replies a c r (xs ++ ys)
@@ -21,9 +17,6 @@ replies_then a b c (Err e) xs ys first second = part_after a b c xs ys first sec
 pub replies_broken : {T E : Type 0} (a b : Option (List ℕ)) (r : Result T E) (xs ys : List Item) → IsErr r → WritesPart a b xs → HaveSpellings ys → Replies a b r (xs ++ ys)
 replies_broken a b (Ok v) xs ys failed part have = absurd (let no : ⊥ = cc in no)
 replies_broken a b (Err e) xs ys failed part have = part_more a b xs ys part have
-
-pub said_none : (a : Option (List ℕ)) (all : List Item) → Said a a all all
-said_none a all = record { done = []; written = writes_none a; both = refl }
 
 -- more of them were written
 pub said_more : (a b c : Option (List ℕ)) (xs left all rest : List Item) → rest ≡ xs ++ left → Said a b rest all → Writes b c xs → Said a c left all
@@ -39,11 +32,6 @@ said_part a b c (Ok v) xs left all rest failed next said part have = absurd (let
 said_part a b c (Err e) xs left all rest failed next said part have =
     subst (WritesPart a c) (ap (λ ys. said.done ++ ys) (sym next) ∙ said.both)
     (part_after a b c said.done (xs ++ left) said.written (part_more b c xs left part have))
-
--- all of them were
-pub said_all : (a b : Option (List ℕ)) (all left : List Item) → left ≡ [] → Said a b left all → Writes a b all
-said_all a b all left none said =
-    subst (Writes a b) (sym (append-nil said.done) ∙ ap (λ ys. said.done ++ ys) (sym none) ∙ said.both) said.written
 
 -- one item was put, or begun
 pub writes_one : (a b : Option (List ℕ)) (item : Item) (text : List ℕ) → Spelled item text → Appends a b text → Writes a b (item ∷ [])

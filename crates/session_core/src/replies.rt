@@ -7,8 +7,8 @@ ghost use Rattle.diag_edge.specs.Edge.{HasCause, Puts};
 ghost use Rattle.diagnosis_lister.specs.Listing.{bits_of};
 ghost use Rattle.session_rules.specs.Refusals.{refusal_number, refusal_text};
 ghost use Rattle.script_lang.specs.Refusals as line_refusals;
-ghost use Rattle.session_rules.specs.Replies.{faulty_names, count_text, min_text};
-ghost use Rattle.session_core.specs.inner.Texts.{blame_text, spaced_before};
+ghost use Rattle.session_rules.specs.Replies.{faulty_names, count_text};
+ghost use Rattle.session_core.specs.inner.Texts.{blame_text, spaced_before, min_text};
 
 use device_model::Name;
 use diag_edge::{Chunk, Sink, WriteFailed, put_line};

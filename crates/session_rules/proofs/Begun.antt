@@ -1,5 +1,5 @@
 -- Beginnings of texts.
-use Rattle.std.proofs.Common.{ℕ, List, [], ◌∷◌, ◌++◌, Option, refl, sym, subst, append_assoc, append-nil}
+use Rattle.std.proofs.Common.{ℕ, List, [], ◌∷◌, ◌++◌, Option, refl, sym, subst, append_assoc}
 use Rattle.diag_edge.proofs.Growing.{grows_more}
 use Rattle.session_rules.specs.Items.{Item}
 use Rattle.session_rules.specs.Spelling.{Spelled, Spells, Begins, Writes, WritesPart}
@@ -33,10 +33,6 @@ begins_more xs ys text begun h =
 pub begins_after : (xs ys : List Item) (front text : List ℕ) → Spells xs front → Begins ys text → Begins (xs ++ ys) (front ++ text)
 begins_after xs ys front text spelled begun =
     (begun.0, subst (Spells (xs ++ ys)) (sym (append_assoc front text begun.0)) (spells_more xs ys front (text ++ begun.0) spelled begun.1))
-
--- a text that spells items begins them
-pub begins_whole : (items : List Item) (text : List ℕ) → Spells items text → Begins items text
-begins_whole items text spelled = ([], subst (Spells items) (sym (append-nil text)) spelled)
 
 pub part_more : (a b : Option (List ℕ)) (xs ys : List Item) → WritesPart a b xs → HaveSpellings ys → WritesPart a b (xs ++ ys)
 part_more a b xs ys part h = record { text = part.text; begun = begins_more xs ys part.text part.begun h; grown = part.grown }

@@ -8,7 +8,7 @@ use Rattle.session_rules.specs.Spelling.{Writes, WritesPart, Replies}
 use Rattle.session_rules.specs.Carrying.{Makes, BreaksOff, CarriesOut}
 use Rattle.session_rules.proofs.Spellings.{writes_more, writes_none}
 use Rattle.session_rules.proofs.Whole.{said-append, left_by-append, said-replies}
-use Rattle.session_rules.proofs.Begun.{HaveSpellings, have_after, begins_whole, part_more, part_after}
+use Rattle.session_rules.proofs.Begun.{HaveSpellings, have_after, part_more, part_after}
 
 pub makes_none : (t : Table) (a : Option (List ℕ)) → Makes t t [] a a
 makes_none t a = record { written = writes_none a; table = refl }
@@ -73,13 +73,6 @@ script_moves-append one t (l ∷ ls) ks =
     ap (λ xs. first ++ xs) (script_moves-append one (left_by t first) ls ks)
     ∙ (ap (λ u. first ++ (rest ++ script_moves one u ks)) (sym (left_by-append t first rest))
     ∙ sym (append_assoc first rest (script_moves one (left_by t (first ++ rest)) ks)))
-
--- what moves wrote begins what they say with more to come, if some text spells that
-pub made_begins : {t u : Table} {ms : List Step} {a b : Option (List ℕ)} (ns : List Step) → Makes t u ms a b → HaveSpellings (said ns) → WritesPart a b (said (ms ++ ns))
-made_begins {t} {u} {ms} {a} {b} ns made h =
-    let done = made.written in
-    let front : WritesPart a b (said ms) = record { text = done.text; begun = begins_whole (said ms) done.text done.spelled; grown = done.grown } in
-    subst (WritesPart a b) (sym (said-append ms ns)) (part_more a b (said ms) (said ns) front h)
 
 -- What was written where moves broke off begins a text that spells all that they say, if some text does.
 pub broken_begins : (t : Table) (ms : List Step) (a b : Option (List ℕ)) → BreaksOff t ms a b → HaveSpellings (said ms) → WritesPart a b (said ms)

@@ -6,8 +6,8 @@ pub mod ReplyTexts
 pub mod LineFronts
 pub mod Enumerated
 pub mod Meaning
+pub mod CaseSizes
 pub mod Keeping
-pub mod KeepingMoves
 pub mod Same
 pub mod GraphReplies
 pub mod CaseWords

@@ -1,5 +1,5 @@
 -- Every reply over a graph has a text, so what was written where a script broke off begins its replies.
-use Rattle.std.proofs.Common.{◌≡◌, ℕ, zero, suc, ◌+◌, ◌^◌, ◌<◌, ◌≤◌, Bool, true, false, List, [], ◌∷◌, ◌++◌, length, Option, Some, None, refl, sym, ap, ◌∙◌, subst, arith}
+use Rattle.std.proofs.Common.{◌≡◌, ℕ, zero, suc, ◌+◌, ◌^◌, ◌<◌, ◌≤◌, Bool, true, false, List, [], ◌∷◌, ◌++◌, length, Option, Some, None, refl, sym, subst, arith}
 use Rattle.std.specs.Prelude.{nat_le, if◌then◌else◌, codes, is_some}
 use Rattle.std.specs.List.{list_all}
 use Rattle.text_rules.specs.Names.{Name, is_among}
@@ -16,16 +16,15 @@ use Rattle.session_rules.specs.declared.refusal.Refusal.TheVariants.{Full, NoWir
 use Rattle.session_rules.specs.Items.{Item, Projected}
 use Rattle.session_rules.specs.Replies.{Found, Listed, min_line, found, next_of, repeat_steps, seen_at, probe_line, probe_lines, blame_lines, if_any, end_line, diagnosis_line}
 use Rattle.session_rules.specs.Sessions.{Table, Entry, Outcome, Declined, Done, at_place, becomes, tells, with_seen, with_held, new_entry, state_of, when_open, outcome, outcome_in, entry_of, carried, step, replies}
-use Rattle.session_rules.specs.Moves.{said, left_by, line_moves, script_moves}
+use Rattle.session_rules.specs.Moves.{left_by, line_moves, script_moves}
 use Rattle.session_rules.specs.Spelling.{Spelled, WritesPart}
-use Rattle.session_rules.specs.Carrying.{Makes, BreaksOff}
-use Rattle.session_rules.specs.GraphSystems.{Subject, system_of, case_words, IsCaseOf, HasCasesOf}
-use Rattle.session_rules.proofs.Whole.{said-replies}
+use Rattle.session_rules.specs.Carrying.{BreaksOff}
+use Rattle.session_rules.specs.GraphSystems.{Subject, system_of, case_words}
+use Rattle.session_rules.proofs.CaseSizes.{IsCaseOf, HasCasesOf}
 use Rattle.session_rules.proofs.Begun.{HaveSpellings, have_both}
-use Rattle.session_rules.proofs.Broken.{breaks_before, script_moves-append, made_begins, broken_replies}
+use Rattle.session_rules.proofs.Broken.{breaks_before, script_moves-append, broken_replies}
 use Rattle.session_rules.proofs.CaseWords.{length-case_words}
 use Rattle.session_rules.proofs.Keeping.{step-keeps}
-use Rattle.session_rules.proofs.KeepingMoves.{lines-keep}
 
 -- some text spells an item
 abbrev HasText : Item → Type 0
@@ -177,15 +176,3 @@ module _ (subject : Subject) (is : IsGraph subject.graph) (room : length subject
       let later = script_moves one (left_by old (script_moves one old lines)) more in
       broken_begins_replies limit old new (lines ++ more) a b h
       (subst (λ ms. BreaksOff new ms a b) (sym (script_moves-append one old lines more)) (breaks_before later broke))
-
-  -- and what was written of a script that was carried out begins its replies and those to more lines
-  pub made_begins_more : (limit : ℕ) (old new : Table) (lines more : List (List ℕ)) (a b : Option (List ℕ)) → HasCasesOf (system_of subject) old
-      → Makes old new (script_moves (line_moves (system_of subject) limit) old lines) a b → WritesPart a b (replies (system_of subject) limit old (lines ++ more))
-  made_begins_more limit old new lines more a b h made =
-      let one = line_moves system limit in
-      let after = left_by old (script_moves one old lines) in
-      let later = script_moves one after more in
-      let cases = subst (λ t. HasCasesOf system t) made.table (lines-keep system limit old new lines a b h made) in
-      let have = subst HaveSpellings (sym (said-replies system limit after more)) (replies-have limit after more cases) in
-      let all = ap said (sym (script_moves-append one old lines more)) ∙ said-replies system limit old (lines ++ more) in
-      subst (WritesPart a b) all (made_begins later made have)

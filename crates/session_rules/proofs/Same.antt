@@ -12,9 +12,9 @@ use Rattle.session_rules.specs.declared.refusal.Refusal.{Refusal}
 use Rattle.session_rules.specs.declared.refusal.Refusal.TheVariants.{NoWire}
 use Rattle.session_rules.specs.Items.{Item, Projected, line}
 use Rattle.session_rules.specs.Replies.{min_line, next_of, repeat_steps, least_at, seen_at, probe_line, probe_lines, count_text, if_any, end_line, blame_lines}
-use Rattle.session_rules.specs.Sessions.{Entry, Table, Step, Outcome, entry_of, carried, when_open, outcome, outcome_in, at_place, tells, moved, step, run, after_lines, replies}
+use Rattle.session_rules.specs.Sessions.{Entry, Table, Step, Outcome, entry_of, carried, when_open, outcome, outcome_in, at_place, tells, moved, step, run, replies}
 use Rattle.session_rules.specs.Moves.{left_by, listing, goes_on, listing_moves, moves, line_moves, script_moves}
-use Rattle.session_rules.specs.GraphSystems.{IsCaseOf, HasCasesOf}
+use Rattle.session_rules.proofs.CaseSizes.{IsCaseOf, HasCasesOf}
 use Rattle.session_rules.proofs.Keeping.{step-keeps}
 use Rattle.session_rules.proofs.Whole.{line_moves-whole}
 
@@ -23,10 +23,6 @@ module _ (one other : Table → List ℕ → Step) (Holds : Table → Type 0) (k
   run-same : (t : Table) (ls : List (List ℕ)) → Holds t → run one t ls ≡ run other t ls
   run-same t [] h = refl
   run-same t (l ∷ ls) h = ap₂ (λ x y. x ++ y) (ap (λ s. s.items) (agree t l h)) (run-same (one t l).table ls (kept t l h) ∙ ap (λ s. run other s.table ls) (agree t l h))
-
-  after_lines-same : (t : Table) (ls : List (List ℕ)) → Holds t → after_lines one t ls ≡ after_lines other t ls
-  after_lines-same t [] h = refl
-  after_lines-same t (l ∷ ls) h = after_lines-same (one t l).table ls (kept t l h) ∙ ap (λ s. after_lines other s.table ls) (agree t l h)
 
 -- and two ways to answer by moves
 module _ (one other : Table → List ℕ → List Step) (Holds : Table → Type 0) (kept : (t : Table) (l : List ℕ) → Holds t → Holds (left_by t (one t l))) (agree : (t : Table) (l : List ℕ) → Holds t → one t l ≡ other t l) where
@@ -133,7 +129,3 @@ module _ (system : System) (consistent : Case → List (List Bool)) (same : (kno
   -- a script has the same replies in both, and leaves the same table
   pub replies-same : (limit : ℕ) (table : Table) (lines : List (List ℕ)) → HasCasesOf system table → replies system limit table lines ≡ replies other limit table lines
   replies-same limit = run-same _ _ (HasCasesOf system) (λ t l. step-keeps system limit t (line_of l)) (λ t l. step-same limit t (line_of l))
-
-  pub tables-same : (limit : ℕ) (table : Table) (lines : List (List ℕ)) → HasCasesOf system table
-      → after_lines (λ t l. step system limit t (line_of l)) table lines ≡ after_lines (λ t l. step other limit t (line_of l)) table lines
-  tables-same limit = after_lines-same _ _ (HasCasesOf system) (λ t l. step-keeps system limit t (line_of l)) (λ t l. step-same limit t (line_of l))

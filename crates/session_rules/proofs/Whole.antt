@@ -5,8 +5,13 @@ use Rattle.text_rules.specs.Names.{Name}
 use Rattle.ranking.specs.Systems.{System, all_diagnoses}
 use Rattle.script_lang.specs.Script.{Line, Ask, Several, line_of}
 use Rattle.session_rules.specs.Replies.{Found, Listed, next_of, repeat_steps}
-use Rattle.session_rules.specs.Sessions.{Table, Entry, Step, with_entry, entry_of, carried, outcome, step, run, after_lines, replies}
+use Rattle.session_rules.specs.Sessions.{Table, Entry, Step, with_entry, entry_of, carried, outcome, step, run, replies}
 use Rattle.session_rules.specs.Moves.{said, left_by, whole, listing, goes_on, listing_moves, moves, line_moves, line_step, script_moves}
+
+-- the table that lines leave which are answered one after the other
+abbrev pub after_lines : (Table → List ℕ → Step) → Table → List (List ℕ) → Table
+after_lines step_by table [] = table
+after_lines step_by table (l ∷ lines) = after_lines step_by (step_by table l).table lines
 
 one_move : (table : Table) (s : Step) → whole table (s ∷ []) ≡ s
 one_move table s = ap (λ items. record { table = s.table; items = items }) (append-nil s.items)

@@ -1,5 +1,5 @@
 -- A system whose consistent states are the models of a graph. Its variables are the parts, then the wires, then inner ones.
-use Rattle.std.specs.Prelude.{◌≡◌, ℕ, ◌+◌, ◌-◌, Bool, List, ◌++◌, map, length, replicate, Option, Some, None}
+use Rattle.std.specs.Prelude.{ℕ, ◌+◌, ◌-◌, Bool, List, ◌++◌, map, length, replicate, Option, Some, None}
 use Rattle.text_rules.specs.Names.{Name}
 use Rattle.ranking.specs.Cases.{Case}
 use Rattle.ranking.specs.Systems.{System}
@@ -7,7 +7,6 @@ use Rattle.graph_rules.specs.Graphs.{Graph}
 use Rattle.device_model.specs.Devices.{Device, part_names, part_costs}
 use Rattle.conditioner.specs.Words.{word_of}
 use Rattle.conditioner.specs.Models.{models}
-use Rattle.session_rules.specs.Sessions.{Entry, Table, entry_of}
 
 -- the word that says what is known of a variable
 abbrev pub word_of_known : Option Bool → ℕ
@@ -41,12 +40,3 @@ system_of subject = graph_system subject.parts subject.wires subject.costs subje
 -- the system of a device's graph
 abbrev pub compiled_system : Device → Graph → System
 compiled_system device graph = graph_system (part_names device.parts) device.wires (part_costs device) graph
-
--- a case has a place for each wire and each part
-abbrev pub IsCaseOf : System → Case → Type 0
-IsCaseOf system known = (length known.seen ≡ length system.wires) × (length known.held ≡ length system.parts)
-
--- the case of each open session has
-abbrev pub HasCasesOf : System → Table → Type 0
-HasCasesOf system table =
-    (session : Name) (entry : Entry) → entry_of session table ≡ Some entry → IsCaseOf system entry.known

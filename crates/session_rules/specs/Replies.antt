@@ -26,11 +26,6 @@ abbrev pub count_text : Option ℕ → List ℕ
 count_text None = codes "-"
 count_text (Some n) = decimal n
 
--- the words of that line: the least cost and the names of the faulty parts, or that no state agrees
-abbrev pub min_text : Name → List Name → Option ℕ → List Bool → List Name
-min_text session parts None state = session ∷ codes "inconsistent" ∷ []
-min_text session parts (Some fewest) state = session ∷ codes "min" ∷ decimal fewest ∷ faulty_names parts state
-
 -- the least cost, and one of the diagnoses
 abbrev pub min_line : System → Name → Option ℕ → List (List Bool) → Item
 min_line system session fewest [] = inconsistent session

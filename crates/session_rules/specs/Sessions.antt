@@ -147,14 +147,10 @@ step system limit table (Refused refusal) = record {
 }
 step system limit table (Ask session request) = carried table session (outcome_in system limit table session request)
 
--- what lines are answered one after the other, and the table that they leave
+-- what lines are answered one after the other
 abbrev pub run : (Table → List ℕ → Step) → Table → List (List ℕ) → List Item
 run step_by table [] = []
 run step_by table (l ∷ lines) = (step_by table l).items ++ run step_by (step_by table l).table lines
-
-abbrev pub after_lines : (Table → List ℕ → Step) → Table → List (List ℕ) → Table
-after_lines step_by table [] = table
-after_lines step_by table (l ∷ lines) = after_lines step_by (step_by table l).table lines
 
 -- the replies to the lines of a script
 abbrev pub replies : System → ℕ → Table → List (List ℕ) → List Item

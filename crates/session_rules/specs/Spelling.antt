@@ -1,23 +1,23 @@
 -- Which bytes spell a list of items.
-use Rattle.std.specs.Prelude.{◌≡◌, ◌≤◌, ℕ, true, false, List, [], ◌∷◌, ◌++◌, length, Option, Result, MatchResult, Ok, Err}
+use Rattle.std.specs.Prelude.{◌≡◌, ◌≤◌, ℕ, true, List, [], ◌∷◌, ◌++◌, length, Option, Result, MatchResult, Ok, Err}
 use Rattle.std.specs.Io.KnownBytes.{Appends}
 use Rattle.text_rules.specs.Tokens.{is_neat}
 use Rattle.graph_rules.specs.Graphs.{Decomposable}
 use Rattle.graph_rules.specs.GraphTexts.{Parsed, parsed}
 use Rattle.device_model.specs.Devices.{Device}
-use Rattle.dnnf_compiler.specs.Compiled.{IsGraphOf as MeansDevice}
-use Rattle.projector.specs.Projecting.{IsGraphOf}
+use Rattle.dnnf_compiler.specs.Compiled.{IsGraphOf}
+use Rattle.projector.specs.Projecting.{IsGraphOfStates}
 use Rattle.session_rules.specs.Items.{Item, Plain, Projected, Whole}
 
 -- a graph over so many variables, decomposable, with at most so many nodes, that means a device
 abbrev pub IsWholeOf : Device → ℕ → ℕ → Parsed → Type 0
-IsWholeOf device vars most (Err refusal) = false ≡ true
+IsWholeOf device vars most (Err refusal) = ⊥
 IsWholeOf device vars most (Ok graph) =
-    (graph.vars ≡ vars) × Decomposable graph.nodes × (length graph.nodes ≤ most) × MeansDevice device graph
+    (graph.vars ≡ vars) × Decomposable graph.nodes × (length graph.nodes ≤ most) × IsGraphOf device graph
 
 abbrev pub Spelled : Item → List ℕ → Type 0
 Spelled (Plain bytes) text = text ≡ bytes
-Spelled (Projected parts states) text = (is_neat text ≡ true) × IsGraphOf parts states (parsed text)
+Spelled (Projected parts states) text = (is_neat text ≡ true) × IsGraphOfStates parts states (parsed text)
 Spelled (Whole device vars most) text = (is_neat text ≡ true) × IsWholeOf device vars most (parsed text)
 
 -- the text is those of the items, one after the other

@@ -10,18 +10,19 @@ use text_rules::SHORT_NAME_LIMIT;
 /// The name of a session, held without memory of its own.
 #[derive(Drop)]
 pub(crate) struct ShortName {
-    bytes: [u8; 64],
+    bytes: [u8; SHORT_NAME_LIMIT],
     len: usize,
 }
 
 impl Model for ShortName {
     ghost use Rattle.std.specs.Prelude.{ℕ, List, ◌≤◌, take};
+    ghost use Rattle.text_rules.specs.declared.names.TheConstants.{SHORT_NAME_LIMIT};
 
     ghost Value = { List ℕ };
 
     ghost view = { λ n. take n.len n.bytes };
 
-    ghost invariant = { λ n. n.len ≤ 64 };
+    ghost invariant = { λ n. n.len ≤ SHORT_NAME_LIMIT };
 }
 
 impl ShortName {
@@ -30,7 +31,7 @@ impl ShortName {
         requires { length name.now ≤ SHORT_NAME_LIMIT }
         ensures { result ≡ name.now }
     {
-        let mut bytes = [0; 64];
+        let mut bytes = [0; SHORT_NAME_LIMIT];
         bytes[..name.len()].copy_from_slice(name);
         ShortName {
             bytes,

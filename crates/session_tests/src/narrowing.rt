@@ -19,7 +19,7 @@ const PIPE: &str =
 
 // A part of a type that is faulty allows each row, where the type says nothing else.
 const NARROW_PIPE: &str =
-    "# sum 12 before, 12 after\ntype T0 a b\nok 00\nok 11\nbad 00\nbad 10\nbad 01\nbad 11\ncost 3\nend\nblock FLAT\nwire 00002_a\nwire 00003_b\nwire 00004_y\npart 00000_i_u NOT 00002_a 00003_b\npart 00001_v T0 00003_b 00004_y\nend\ntop FLAT\n";
+    "# sum 12 before, 12 after\ntype TYPE0 a b\nok 00\nok 11\nbad 00\nbad 10\nbad 01\nbad 11\ncost 3\nend\nblock FLAT\nwire 00002_a\nwire 00003_b\nwire 00004_y\npart 00000_i_u NOT 00002_a 00003_b\npart 00001_v TYPE0 00003_b 00004_y\nend\ntop FLAT\n";
 
 const ROWS: [Row; 8] = [
     (

@@ -11,9 +11,6 @@ use crate::sweep::{numbers_before, parts_of, signals_of, wires_of};
 use device_model::Device;
 use std::alloc::{AllocError, Global};
 
-/// How many moves a device gets over all starts together, where no number is asked for.
-pub const DEFAULT_MOVES: u32 = 2_000_000;
-
 /// Where a search begins.
 #[derive(Clone, Copy, Debug, PartialEq, Eq)]
 pub enum Start {
@@ -83,14 +80,14 @@ pub fn find_part_order(
 }
 
 /// The wires of a device in the order in which parts of these numbers, one after the other, have them at their ports. Those of no
-/// part that is listed come last.
+/// part that is listed come last. The only error is that there is no memory.
 pub fn wire_order(alloc: Global, device: &Device, parts: &[u32]) -> Result<Vec<u32>, AllocError>
     ensures { IfOk result (λ order. IsOrder (length device.now.wires) order.items) }
 {
     wires_of(alloc, device.parts(), device.wires().len(), parts)
 }
 
-/// So many signals in the order in which they stand.
+/// So many signals in the order in which they stand. The only error is that there is no memory.
 pub fn given_order(alloc: Global, signals: usize) -> Result<Vec<u32>, AllocError>
     requires { signals < 2 ^ 32 }
     ensures given { IfOk result (λ order. order.items ≡ range_with_len 0 signals) }

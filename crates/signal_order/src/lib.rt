@@ -9,4 +9,4 @@ mod search;
 mod starts;
 mod sweep;
 
-pub use finding::{DEFAULT_MOVES, Start, find_order, find_part_order, given_order, wire_order};
+pub use finding::{Start, find_order, find_part_order, given_order, wire_order};

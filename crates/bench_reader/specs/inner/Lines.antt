@@ -1,6 +1,6 @@
 -- What the code's values of a line mean, and the tests of its parts.
-use Rattle.std.specs.Prelude.{ℕ, Bool, true, false, ◌&&◌, List, [], ◌∷◌, length, Option, Some, None, option_map, drop, codes, Result, nat_le, if◌then◌else◌}
-use Rattle.std.specs.List.{list_all, filter}
+use Rattle.std.specs.Prelude.{ℕ, ◌+◌, ◌==◌, Bool, true, false, ◌&&◌, List, [], ◌∷◌, length, Option, Some, None, option_map, drop, codes, Result, nat_le, if◌then◌else◌}
+use Rattle.std.specs.List.{list_all, filter, position_or_len}
 use Rattle.std.specs.Result.{result_map_both}
 use Rattle.text_rules.specs.Names.{Name, is_short_name}
 use Rattle.text_rules.specs.Tokens.{tokens}
@@ -18,11 +18,15 @@ is_capital b = nat_le 65 b && nat_le b 90
 abbrev pub line_tokens : List ℕ → List (List ℕ)
 line_tokens line = tokens true line
 
--- the tokens behind the opening bracket of a gate
-abbrev pub input_tokens : Inputs → List (List ℕ)
-input_tokens inputs = drop 4 (line_tokens inputs.line.now)
+-- what stands behind the first opening bracket
+abbrev pub behind_bracket : List ℕ → List ℕ
+behind_bracket line = drop (position_or_len (λ b. b == 40) line + 1) line
 
--- the words among them
+-- the names and the marks behind the opening bracket of a gate
+abbrev pub input_tokens : Inputs → List (List ℕ)
+input_tokens inputs = line_tokens inputs.text.now
+
+-- the names among them
 abbrev pub input_names : Inputs → List Name
 input_names inputs = filter has_no_mark (input_tokens inputs)
 

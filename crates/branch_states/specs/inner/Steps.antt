@@ -9,6 +9,9 @@ use Rattle.branch_states.specs.declared.walk.Span.{Span}
 use Rattle.branch_states.specs.declared.walk.Entry.{Entry}
 use Rattle.branch_states.specs.declared.walk.Event.{Event}
 use Rattle.branch_states.specs.declared.walk.Row.{Row}
+use Rattle.clause_encoder.specs.declared.limits.TheConstants.{CLAUSE_LIMIT}
+use Rattle.branch_states.specs.declared.order.TheConstants.{UNMET}
+use Rattle.branch_states.specs.declared.counts.TheConstants.{BLOCK}
 
 -- ---- what happens at the next variable
 
@@ -77,17 +80,17 @@ pub record AreFronts (counts : List ℕ) (fronts : List (List Entry)) : Type 0 w
   pub long : length counts ≡ length fronts
   pub within : (i : ℕ) → i < length fronts → length (slice_index_or fronts i []) ≤ slice_index counts i
 
--- ---- counts, one for each level, in two parts: one of the level alone, and one of its block of 256 levels
+-- ---- counts, one for each level, in two parts: one of the level alone, and one of its block of levels
 
 abbrev pub count_at : List ℕ → List ℕ → ℕ → ℕ
-count_at levels blocks i = slice_index levels i + slice_index blocks (i / 256)
+count_at levels blocks i = slice_index levels i + slice_index blocks (i / BLOCK)
 
 abbrev pub counts_of : List ℕ → List ℕ → List ℕ
 counts_of levels blocks = map (count_at levels blocks) (range_with_len 0 (length levels))
 
 -- there is a part for each block, and no count is too large for 32 bits
 pub record AreParts (levels blocks : List ℕ) : Type 0 where
-  pub long : length blocks ≡ length levels / 256 + 1
+  pub long : length blocks ≡ length levels / BLOCK + 1
   pub few : (i : ℕ) → i < length levels → count_at levels blocks i < 2 ^ 32
 
 -- ---- a clause more
@@ -137,7 +140,7 @@ pub record AreWalks (vs : List ℕ) (clauses : List Clause) (walks : List (List 
 
 -- the first place of its variables
 abbrev pub first_place : List ℕ → Clause → ℕ
-first_place vs [] = 4294967295
+first_place vs [] = UNMET
 first_place vs (l ∷ clause) = min (place vs (var_of l)) (first_place vs clause)
 
 -- the place behind the last one
@@ -150,7 +153,7 @@ span_of vs clause = record { first = first_place vs clause; end = end_place vs c
 
 -- The same by the places of the variables, that of variable v at v - 1.
 abbrev pub first_by : List ℕ → Clause → ℕ
-first_by places [] = 4294967295
+first_by places [] = UNMET
 first_by places (l ∷ clause) = min (slice_index places (var_of l - 1)) (first_by places clause)
 
 abbrev pub end_by : List ℕ → Clause → ℕ
@@ -173,9 +176,9 @@ pub record IsPlaced (vs places : List ℕ) (l : ℤ) : Type 0 where
 
 -- Of each variable the place is known that was met, and of the others 2 ^ 32 - 1 stands there.
 pub record IsIndex (vs places : List ℕ) : Type 0 where
-  pub few : length vs + count_by (λ p. p == 4294967295) places ≡ length places
+  pub few : length vs + count_by (λ p. p == UNMET) places ≡ length places
   pub met : (k : ℕ) → k < length places → list_any (λ u. u == k + 1) vs ≡ true → slice_index places k ≡ place vs (k + 1)
-  pub unmet : (k : ℕ) → k < length places → list_any (λ u. u == k + 1) vs ≡ false → slice_index places k ≡ 4294967295
+  pub unmet : (k : ℕ) → k < length places → list_any (λ u. u == k + 1) vs ≡ false → slice_index places k ≡ UNMET
 
 -- the place of a literal's variable is known and low
 pub record IsLow (places : List ℕ) (l : ℤ) : Type 0 where
@@ -187,7 +190,7 @@ pub record IsLow (places : List ℕ) (l : ℤ) : Type 0 where
 
 pub record IsKept (cnf : ClauseList) (level : ℕ) (variables : List ℕ) (walks : List (List Entry)) : Type 0 where
   pub valid : is_clause_list cnf ≡ true
-  pub most : length cnf.clauses ≤ 262144
+  pub most : length cnf.clauses ≤ CLAUSE_LIMIT
   pub ordered : variables ≡ order cnf.clauses
   pub few : length variables ≤ cnf.vars
   pub within : level ≤ length variables

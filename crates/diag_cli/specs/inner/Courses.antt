@@ -1,11 +1,11 @@
 -- What a course did, with the input and the output.
-use Rattle.std.specs.Prelude.{◌≡◌, ◌⊎◌, ◌<◌, ◌≤◌, ℕ, List, ◌++◌, length}
+use Rattle.std.specs.Prelude.{◌≡◌, ◌⊎◌, ◌<◌, ◌≤◌, ℕ, List, ◌++◌, length, Option}
 use Rattle.std.specs.Io.KnownBytes.{Consumes, IsAtEnd}
 use Rattle.text_rules.specs.TextLines.{whole_lines, all_lines}
 use Rattle.session_rules.specs.Items.{Item}
 use Rattle.session_rules.specs.Spelling.{WritesPart}
 use Rattle.diag_cli.specs.declared.serving.TheConstants.{SCRIPT_LIMIT}
-use Rattle.diag_cli.specs.Output.{Gives, GivesUnlessMemory, no_memory}
+use Rattle.diag_cli.specs.Output.{Output, Gives, no_memory}
 use Rattle.diag_cli.specs.Courses.{End, Ended, Failed, Cut, Course, Tells, Serves, served}
 use Rattle.diag_cli.specs.Runs.{Reading, Writing, IsIdle}
 
@@ -47,6 +47,10 @@ CameTo answers input new_input out new_out status =
 pub record IsServed (answers : List (List ℕ) → List Item) (input new_input : Reading) (out new_out : Writing) (status : ℕ) : Type 0 where
   pub answer : CameTo answers input new_input out new_out status
   pub all_read : status ≡ 0 → IsAtEnd new_input.left
+
+-- memory ran out, or the output was given
+abbrev pub GivesUnlessMemory : Output → ℕ → Option (List ℕ) → Option (List ℕ) → Type 0
+GivesUnlessMemory output status before after = Gives no_memory status before after ⊎ Gives output status before after
 
 -- what was done, by the course
 abbrev pub Follows : Course → Reading → Reading → Writing → Writing → ℕ → Type 0

@@ -1,5 +1,5 @@
 -- The hashes of nodes. They have no meaning.
-use Rattle.std.specs.Prelude.{ℕ, ◌+◌, ◌*◌, ◌/◌, ◌%◌, ◌^◌, List, [], ◌∷◌, bit_and, bit_or, bit_xor}
+use Rattle.std.specs.Prelude.{ℕ, ◌+◌, ◌*◌, ◌/◌, ◌^◌, List, [], ◌∷◌, bit_and, bit_or, bit_xor}
 use Rattle.node_store.specs.declared.nearby.NearHasher.{NearHasher}
 
 abbrev pub mixed : ℕ → ℕ → ℕ

@@ -1,9 +1,11 @@
 -- The words of replies, as the code makes them.
-use Rattle.std.specs.Prelude.{ℕ, List, ◌∷◌, codes}
+use Rattle.std.specs.Prelude.{ℕ, Bool, List, [], ◌∷◌, Option, Some, None, codes}
+use Rattle.std.specs.Fmt.{decimal}
 use Rattle.std.specs.List.{flat_map}
 use Rattle.text_rules.specs.Names.{Name}
 use Rattle.probe_report.specs.declared.verdicts.Blame.{Blame}
 use Rattle.probe_report.specs.declared.verdicts.Blame.TheVariants.{Always, Sometimes, Never, Inconsistent}
+use Rattle.session_rules.specs.Replies.{faulty_names}
 
 -- names with a space before each
 abbrev pub spaced_before : List Name → List ℕ
@@ -15,3 +17,8 @@ blame_text Always = codes "always"
 blame_text Sometimes = codes "sometimes"
 blame_text Never = codes "never"
 blame_text Inconsistent = codes "inconsistent"
+
+-- the words of the reply to `min`: the least cost and the names of the faulty parts, or that no state agrees
+abbrev pub min_text : Name → List Name → Option ℕ → List Bool → List Name
+min_text session parts None state = session ∷ codes "inconsistent" ∷ []
+min_text session parts (Some fewest) state = session ∷ codes "min" ∷ decimal fewest ∷ faulty_names parts state

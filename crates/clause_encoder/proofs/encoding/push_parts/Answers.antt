@@ -1,6 +1,18 @@
-use Rattle.std.proofs.Common.{length, ap, ◌∙◌, refl, arith}
-use Rattle.clause_encoder.proofs.Writing.{part-written, inner-next, small, low}
+use Rattle.std.proofs.Common.{◌+◌, length, ap, ◌∙◌, refl, arith}
+use Rattle.std.proofs.lemmas.List.{length-map}
+use Rattle.device_model.specs.Devices.{takes_ports}
+use Rattle.clause_encoder.proofs.Writing.{arity-taken, part-written, inner-next, small, low}
 use Rattle.clause_encoder.proofs.encoding.push_parts.Goals as goal
+
+pub push_part-requires-clause-arity : goal.push_part-requires-clause-arity
+push_part-requires-clause-arity c =
+    let parts = c.parts-parts.result.now in
+    let part = c.index-parts-place.result in
+    let tables = c.tables.result.now in
+    let wires = c.as_slice.result.now in
+    ap (takes_ports tables part.kind) (ap length (c.deref.ensures.value ∙ c.in_ok-set_ports.ensures) ∙ length-map wires (λ wire. length parts + wire + 1))
+    ∙ arity-taken c.args.device.now parts c.loop-place.place part tables wires
+    c.parts-parts.ensures.valid c.parts-parts.ensures.parts (omega arith) c.index-parts-place.is c.tables.ensures.tables c.as_slice.ensures
 
 pub push_part-requires-clause-ports : goal.push_part-requires-clause-ports
 push_part-requires-clause-ports c =
@@ -10,7 +22,7 @@ push_part-requires-clause-ports c =
 
 pub loop-place-preserved : goal.loop-place-preserved
 loop-place-preserved c = record {
-  clauses = part-written c.args.device.now c.loop-place.place c.parts-parts.result.now c.index-parts-place.result c.tables.result.now _ c.loop-place.inner c.deref.result.now c.as_slice.result.now c.loop-place.writer c.push_part.new.writer _
+  clauses = part-written c.args.device.now c.loop-place.place c.parts-parts.result.now c.index-parts-place.result c.tables.result.now _ c.loop-place.inner c.deref.result.now c.as_slice.result.now c.loop-place.writer.clauses c.push_part.new.writer.clauses _
       c.parts-parts.ensures.parts (omega arith) c.index-parts-place.is c.tables.ensures.tables refl c.loop-place.invariant.inner (c.deref.ensures.value ∙ c.in_ok-set_ports.ensures) c.as_slice.ensures c.in_ok-inner.ensures.clauses c.loop-place.invariant.clauses;
   inner = inner-next c.args.device.now c.loop-place.place c.parts-parts.result.now c.index-parts-place.result c.loop-place.inner c.in_ok-inner.inner c.deref.result.now c.as_slice.result.now
       c.parts-parts.ensures.parts (omega arith) c.index-parts-place.is c.loop-place.invariant.inner (c.deref.ensures.value ∙ c.in_ok-set_ports.ensures) c.as_slice.ensures c.in_ok-inner.ensures.inner;

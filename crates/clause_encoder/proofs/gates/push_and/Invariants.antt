@@ -6,5 +6,5 @@ use Rattle.clause_encoder.proofs.gates.push_and.Given as goal
 -- what was written and what the inputs that are left give
 abbrev pub invariant-loop-input : goal.invariant-loop-input
 invariant-loop-input l =
-    l.writer ++ tidy (map (λ x. literal false l.health ∷ literal (not l.output_as_is) l.output ∷ literal l.inputs_as_is x ∷ []) (drop l.input-index l.inputs))
-    ≡ l.fn.writer ++ tidy (map (λ x. literal false l.health ∷ literal (not l.output_as_is) l.output ∷ literal l.inputs_as_is x ∷ []) l.inputs)
+    l.writer.clauses ++ tidy (map (λ x. literal false l.health ∷ literal (not l.output_as_is) l.output ∷ literal l.inputs_as_is x ∷ []) (drop l.input-index l.inputs))
+    ≡ l.fn.writer.clauses ++ tidy (map (λ x. literal false l.health ∷ literal (not l.output_as_is) l.output ∷ literal l.inputs_as_is x ∷ []) l.inputs)

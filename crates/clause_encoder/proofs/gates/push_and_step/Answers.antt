@@ -18,9 +18,9 @@ returns c =
     let no_b = passed c.literal-4.result (not s) b c.requires.before c.literal-4.ensures in
     let no_x = passed c.literal-5.result (not s) x c.requires.input c.literal-5.ensures in
     on_ok_weaker c.push-3.result
-    (λ e. three-written c.args.writer.now c.push.new.self c.push-2.new.self c.push-3.new.self
+    (λ e. three-written c.args.writer.now.clauses c.push.new.self.clauses c.push-2.new.self.clauses c.push-3.new.self.clauses
     (literal (not s) z ∷ literal s b ∷ []) (literal (not s) z ∷ literal s x ∷ []) (literal s z ∷ literal (not s) b ∷ literal (not s) x ∷ [])
-    (c.in_ok-push.ensures ∙ (λ i. c.args.writer.now ++ tidy ((not_z i ∷ with_b i ∷ []) ∷ [])))
-    (c.in_ok-push-2.ensures ∙ (λ i. c.push.new.self ++ tidy ((not_z i ∷ with_x i ∷ []) ∷ [])))
-    (e ∙ (λ i. c.push-2.new.self ++ tidy ((is_z i ∷ no_b i ∷ no_x i ∷ []) ∷ []))))
+    (c.in_ok-push.ensures ∙ (λ i. c.args.writer.now.clauses ++ tidy ((not_z i ∷ with_b i ∷ []) ∷ [])))
+    (c.in_ok-push-2.ensures ∙ (λ i. c.push.new.self.clauses ++ tidy ((not_z i ∷ with_x i ∷ []) ∷ [])))
+    (e ∙ (λ i. c.push-2.new.self.clauses ++ tidy ((is_z i ∷ no_b i ∷ no_x i ∷ []) ∷ []))))
     c.push-3.ensures

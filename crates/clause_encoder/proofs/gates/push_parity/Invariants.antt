@@ -7,5 +7,5 @@ use Rattle.clause_encoder.proofs.gates.push_parity.Given as goal
 -- what was written and what the rows that are left give
 abbrev pub invariant-loop-row : goal.invariant-loop-row
 invariant-loop-row l =
-    l.writer ++ tidy (map (λ r. row_clause l.health l.inputs l.output (row_bits r l.inputs) (same_bit l.odd (has_odd_ones (row_bits r l.inputs)))) (range_with_len l.row (2 ^ length l.inputs - l.row)))
-    ≡ l.fn.writer ++ tidy (parity_clauses l.odd l.health l.inputs l.output)
+    l.writer.clauses ++ tidy (map (λ r. row_clause l.health l.inputs l.output (row_bits r l.inputs) (same_bit l.odd (has_odd_ones (row_bits r l.inputs)))) (range_with_len l.row (2 ^ length l.inputs - l.row)))
+    ≡ l.fn.writer.clauses ++ tidy (parity_clauses l.odd l.health l.inputs l.output)

@@ -11,5 +11,5 @@ returns-in_ok-push_table-in-Table-clause-clauses c =
     let ports = c.args.ports.now in
     let arity : rows_take (slice_get tables c.in-Table.table) (length ports) ≡ true = subst (λ kind. takes_ports tables kind (length ports) ≡ true) c.in-Table.is c.requires.arity in
     let table = taken tables c.in-Table.table (length ports) c.index-tables-table.result arity c.index-tables-table.is in
-    c.in_ok-push_table-in-Table.ensures ∙ ap (λ rows. c.args.writer.now ++ tidy (table_clauses rows c.args.health ports)) (sym table.0)
-    ∙ ap (λ kind. c.args.writer.now ++ tidy (raw_clauses tables kind c.args.health c.args.inner ports)) (sym c.in-Table.is)
+    c.in_ok-push_table-in-Table.ensures ∙ ap (λ rows. c.args.writer.now.clauses ++ tidy (table_clauses rows c.args.health ports)) (sym table.0)
+    ∙ ap (λ kind. c.args.writer.now.clauses ++ tidy (raw_clauses tables kind c.args.health c.args.inner ports)) (sym c.in-Table.is)

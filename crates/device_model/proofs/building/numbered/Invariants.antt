@@ -1,5 +1,5 @@
 use Rattle.std.proofs.Common.{◌≡◌, length}
-use Rattle.device_model.specs.Sorting.{numbered_from}
+use Rattle.device_model.specs.inner.Sorting.{numbered_from}
 use Rattle.device_model.proofs.building.numbered.Given as goal
 
 abbrev pub invariant-loop-wire : goal.invariant-loop-wire

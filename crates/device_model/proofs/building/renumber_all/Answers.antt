@@ -1,7 +1,7 @@
 use Rattle.std.proofs.Common.{◌∙◌, ℕ, List, slice_index_or, slice_set, ap}
 use Rattle.std.proofs.lemmas.List.Edits.{map_over_more}
 use Rattle.device_model.specs.declared.component.Component.{Component}
-use Rattle.device_model.specs.Sorting.{with_places}
+use Rattle.device_model.specs.inner.Sorting.{with_places}
 use Rattle.device_model.proofs.building.renumber_all.Goals as goal
 
 pub loop-part-preserved : goal.loop-part-preserved

@@ -1,5 +1,5 @@
 use Rattle.std.proofs.Common.{◌≡◌, ◌++◌, map, take, drop}
-use Rattle.device_model.specs.Sorting.{with_places}
+use Rattle.device_model.specs.inner.Sorting.{with_places}
 use Rattle.device_model.proofs.building.renumber_all.Given as goal
 
 abbrev pub invariant-loop-part : goal.invariant-loop-part

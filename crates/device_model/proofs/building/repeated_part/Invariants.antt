@@ -1,5 +1,5 @@
 use Rattle.device_model.specs.Devices.{part_names}
-use Rattle.device_model.specs.Sorting.{NeighboursDiffer}
+use Rattle.device_model.specs.inner.Sorting.{NeighboursDiffer}
 use Rattle.device_model.proofs.building.repeated_part.Given as goal
 
 abbrev pub invariant-loop-place : goal.invariant-loop-place

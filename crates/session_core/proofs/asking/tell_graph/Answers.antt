@@ -3,7 +3,7 @@ use Rattle.text_rules.specs.Tokens.{spaced}
 use Rattle.diag_edge.specs.Edge.{Puts}
 use Rattle.diag_edge.proofs.Growing.{puts_first, puts_second}
 use Rattle.graph_rules.specs.GraphTexts.{parsed}
-use Rattle.projector.specs.Projecting.{projected_text, IsGraphOf}
+use Rattle.projector.specs.Projecting.{projected_text, IsGraphOfStates}
 use Rattle.projector.proofs.Projected.{projected_text-is_neat, projected_text-means}
 use Rattle.session_rules.specs.GraphSystems.{Subject, system_of}
 use Rattle.session_rules.specs.Items.{Item, Projected, line}
@@ -31,7 +31,7 @@ spelled subject known basis are =
     let graph = subject.graph in
     let parts = length subject.parts in (
       projected_text-is_neat graph known parts basis.valid are.long (few_parts subject basis) (few_lines subject basis),
-      subst (λ (states : List (List Bool)). IsGraphOf parts states (parsed (projected_text graph known parts)))
+      subst (λ (states : List (List Bool)). IsGraphOfStates parts states (parsed (projected_text graph known parts)))
           (models-by_words subject.parts subject.wires subject.costs graph graph.vars known basis.costs refl are)
           (projected_text-means graph known parts basis.valid are.long (few_parts subject basis) (few_lines subject basis)),
     )

@@ -2,7 +2,8 @@ use Rattle.std.proofs.Common.{◌≡◌, ◌∷◌, ℕ, List, Option, codes, de
 use Rattle.diag_edge.specs.Edge.{Puts}
 use Rattle.text_rules.specs.Tokens.{spaced}
 use Rattle.diagnosis_lister.specs.Listing.{bits_of}
-use Rattle.session_rules.specs.Replies.{min_text, faulty_names}
+use Rattle.session_rules.specs.Replies.{faulty_names}
+use Rattle.session_core.specs.inner.Texts.{min_text}
 use Rattle.session_core.proofs.replies.put_min.Goals as goal
 
 pub returns-in-None-clause-text : goal.returns-in-None-clause-text

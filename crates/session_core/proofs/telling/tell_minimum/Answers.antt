@@ -6,12 +6,12 @@ use Rattle.conditioner.specs.Models.{least_under, diagnoses_under}
 use Rattle.diagnosis_lister.specs.Listing.{bits_of}
 use Rattle.session_rules.specs.GraphSystems.{system_of}
 use Rattle.session_rules.specs.Items.{Item, line}
-use Rattle.session_rules.specs.Replies.{min_text}
 use Rattle.session_rules.specs.Spelling.{Replies}
 use Rattle.session_rules.proofs.CaseWords.{least-by_words, diagnoses-by_words}
 use Rattle.session_rules.proofs.Spellings.{replies_one}
 use Rattle.session_core.specs.inner.Bases.{case_in}
 use Rattle.session_core.proofs.Minimum.{min_line-is}
+use Rattle.session_core.specs.inner.Texts.{min_text}
 use Rattle.session_core.proofs.telling.tell_minimum.Goals as goal
 
 pub returns-clause-reply : goal.returns-clause-reply

@@ -5,7 +5,7 @@ use Rattle.std.specs.List.Sorted.{IsPermutation}
 use Rattle.std.proofs.lemmas.List.{length-map}
 use Rattle.device_model.specs.Order.{sorted_distinct}
 use Rattle.device_model.specs.Devices.{Device, IsDevice}
-use Rattle.device_model.specs.Sorting.{numbered_from, with_places}
+use Rattle.device_model.specs.inner.Sorting.{numbered_from, with_places}
 use Rattle.device_model.proofs.Making.{IsDevice-device_of, component_name}
 use Rattle.device_model.proofs.Placing.{wire_name, length-wires, positions_fit, positions_differ, ports_fit, written_back, assembled}
 use Rattle.device_model.proofs.Answering.{built-arity, built-no_wire, built-device, arity_at, wire_at, all_arities, all_joined}

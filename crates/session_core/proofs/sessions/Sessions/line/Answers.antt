@@ -3,7 +3,7 @@ use Rattle.std.proofs.lemmas.Bool.{and_parts, leb-true}
 use Rattle.std.specs.Prelude.{nat_le, ◌&&◌}
 use Rattle.text_rules.specs.Names.{is_short_name}
 use Rattle.script_lang.specs.declared.limits.TheConstants.{COUNT_LIMIT}
-use Rattle.script_lang.specs.Asked.{is_well_asked}
+use Rattle.script_lang.proofs.Asked.{is_well_asked}
 use Rattle.script_lang.proofs.AskedLemmas.{well_asked}
 use Rattle.script_lang.specs.Script.{Line}
 use Rattle.session_core.specs.Services.{TellsGraph}

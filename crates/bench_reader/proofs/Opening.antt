@@ -1,0 +1,115 @@
+-- What stands behind the first opening bracket of a line, and the tokens behind the first that is one.
+use Rattle.std.proofs.Common.{◌≡◌, ℕ, suc, ◌+◌, ◌==◌, Bool, true, false, cond, not, ◌&&◌, List, [], ◌∷◌, ◌++◌, drop, codes, refl, sym, ap, ◌∙◌, inl, inr, arith}
+use Rattle.std.specs.List.{list_all, position_or_len}
+use Rattle.std.proofs.lemmas.Bool.{and_parts, and_from, or_parts, not-true, not_from_false, false≢true}
+use Rattle.std.proofs.lemmas.Bool.Decides.{nat_tests}
+use Rattle.text_rules.specs.Names.{same_name}
+use Rattle.text_rules.specs.Tokens.{is_blank, stands_alone, ends_word, before_tokens, tokens}
+use Rattle.text_rules.specs.inner.WordBytes.{is_word_byte}
+use Rattle.text_rules.proofs.NameLemmas.{equal_if_same}
+use Rattle.text_rules.proofs.TokenLemmas.{tokens-blank, tokens-mark, tokens-byte, byte_kinds}
+use Rattle.bench_reader.specs.Statements.{has_no_mark}
+use Rattle.bench_reader.specs.inner.Lines.{behind_bracket}
+
+abbrev is_open : List ℕ → Bool
+is_open token = same_name token (codes "(")
+
+abbrev none_opens : List (List ℕ) → Bool
+none_opens ts = list_all (λ t. not (is_open t)) ts
+
+-- ---- one byte of a line
+
+abbrev place : List ℕ → ℕ
+place line = position_or_len (λ b. b == 40) line
+
+later : (b : ℕ) (line : List ℕ) → (b == 40) ≡ false → behind_bracket (b ∷ line) ≡ behind_bracket line
+later b line other =
+    let first : place (b ∷ line) ≡ 1 + place line = ap (λ t. cond (not t) (1 + place line) 0) other in
+    let on : place (b ∷ line) + 1 ≡ suc (place line + 1) = omega (arith, first) in
+    ap (λ k. drop k (b ∷ line)) on
+
+blank_is_other : (b : ℕ) → is_blank b ≡ true → (b == 40) ≡ false
+blank_is_other b blank = grind (arith, nat_tests)
+
+byte_is_other : (b : ℕ) → is_word_byte true b ≡ true → (b == 40) ≡ false
+byte_is_other b inside = grind (arith, nat_tests)
+
+-- a word that begins with another byte is no bracket
+word_is_other : (ends : Bool) (b : ℕ) (ts others : List (List ℕ)) (first : List ℕ) → (b == 40) ≡ false → before_tokens ends b ts ≡ first ∷ others → is_open first ≡ false
+word_is_other ends b [] others first other e = cc
+word_is_other true b (t ∷ ts) others first other e = cc
+word_is_other false b (t ∷ ts) others first other e = cc
+
+-- nor is one that a word goes on with
+rest_is_other : (others : List (List ℕ)) (text first : List ℕ) → ends_word true text ≡ false → tokens true text ≡ first ∷ others → is_open first ≡ false
+rest_is_other others [] first goes e = cc
+rest_is_other others (c ∷ text) first goes e =
+    let parts = or_parts (is_blank c) (stands_alone true c) goes in
+    let inside = and_from _ _ (not_from_false _ parts.0) (not_from_false _ parts.1) in
+    word_is_other (ends_word true text) c (tokens true text) others first (byte_is_other c inside) (sym (tokens-byte true c text inside) ∙ e)
+
+-- ---- the tokens behind the first bracket
+
+abbrev IsBehind : List ℕ → Type 0
+IsBehind line = (before after : List (List ℕ)) → tokens true line ≡ before ++ (codes "(" ∷ after) → none_opens before ≡ true → tokens true (behind_bracket line) ≡ after
+
+on_mark : (b : ℕ) (line : List ℕ) → IsBehind line → tokens true (b ∷ line) ≡ (b ∷ []) ∷ tokens true line → IsBehind (b ∷ line)
+on_mark b line behind is [] after e none =
+    let first : b ≡ 40 = cc in
+    let rest : tokens true line ≡ after = cc in
+    ap (λ c. tokens true (behind_bracket (c ∷ line))) first ∙ rest
+on_mark b line behind is (token ∷ before) after e none =
+    let parts = and_parts (not (is_open token)) (none_opens before) none in
+    let token_is : b ∷ [] ≡ token = cc in
+    let other : is_open (b ∷ []) ≡ false = ap is_open token_is ∙ not-true _ parts.0 in
+    let rest : tokens true line ≡ before ++ (codes "(" ∷ after) = cc in
+    ap (tokens true) (later b line (byte_by b other)) ∙ behind before after rest parts.1
+  where
+    by : (t : Bool) → (t && true) ≡ false → t ≡ false
+    by true e = e
+    by false e = refl
+
+    byte_by : (c : ℕ) → is_open (c ∷ []) ≡ false → (c == 40) ≡ false
+    byte_by c other = by (c == 40) other
+
+on_byte : (b : ℕ) (line : List ℕ) → IsBehind line → (b == 40) ≡ false → tokens true (b ∷ line) ≡ before_tokens (ends_word true line) b (tokens true line) → IsBehind (b ∷ line)
+on_byte b line behind other is before after e none =
+    ap (tokens true) (later b line other) ∙ by (ends_word true line) (tokens true line) refl refl before after (sym is ∙ e) none
+  where
+    by : (ends : Bool) (ts : List (List ℕ)) → ends_word true line ≡ ends → tokens true line ≡ ts → (before after : List (List ℕ)) → before_tokens ends b ts ≡ before ++ (codes "(" ∷ after)
+        → none_opens before ≡ true → tokens true (behind_bracket line) ≡ after
+    by ends ts goes all [] after e none = absurd (false≢true (sym (word_is_other ends b ts after (codes "(") other e)))
+    by ends [] goes all (token ∷ []) after e none = absurd (let no : ⊥ = cc in no)
+    by ends [] goes all (token ∷ next ∷ before) after e none = absurd (let no : ⊥ = cc in no)
+    by true (t ∷ ts) goes all (token ∷ before) after e none =
+        let rest : t ∷ ts ≡ before ++ (codes "(" ∷ after) = cc in
+        behind before after (all ∙ rest) (and_parts (not (is_open token)) (none_opens before) none).1
+    by false (t ∷ ts) goes all (token ∷ before) after e none =
+        let rest : ts ≡ before ++ (codes "(" ∷ after) = cc in
+        behind (t ∷ before) after (all ∙ ap (λ us. t ∷ us) rest)
+        (and_from _ _ (not_from_false _ (rest_is_other ts line t goes all)) (and_parts (not (is_open token)) (none_opens before) none).1)
+
+pub tokens_behind : (line : List ℕ) → IsBehind line
+tokens_behind [] [] after e none = absurd (let no : ⊥ = cc in no)
+tokens_behind [] (token ∷ before) after e none = absurd (let no : ⊥ = cc in no)
+tokens_behind (b ∷ line) before after e none = elim (byte_kinds true b) [
+  | inl blank ↦ ap (tokens true) (later b line (blank_is_other b blank)) ∙ tokens_behind line before after (sym (tokens-blank true b line blank) ∙ e) none
+  | inr (inl alone) ↦ on_mark b line (tokens_behind line) (tokens-mark true b line alone) before after e none
+  | inr (inr inside) ↦ on_byte b line (tokens_behind line) (byte_is_other b inside) (tokens-byte true b line inside) before after e none
+]
+
+-- a word without a mark is no bracket
+unmarked_is_other : (word : List ℕ) → has_no_mark word ≡ true → is_open word ≡ false
+unmarked_is_other word h = by (is_open word) refl
+  where
+    by : (b : Bool) → is_open word ≡ b → b ≡ false
+    by false e = refl
+    by true e = absurd (let bracket = equal_if_same word (codes "(") e in let no : false ≡ true = sym (ap has_no_mark bracket) ∙ h in cc)
+
+-- what stands behind the bracket of a gate
+pub tokens_of_inputs : (line output kind bracket : List ℕ) (left behind ts : List (List ℕ)) → tokens true line ≡ output ∷ codes "=" ∷ left → left ≡ kind ∷ behind → behind ≡ bracket ∷ ts
+    → bracket ≡ codes "(" → has_no_mark output ≡ true → has_no_mark kind ≡ true → tokens true (behind_bracket line) ≡ ts
+tokens_of_inputs line output kind bracket left behind ts e f g b o k =
+    let whole : tokens true line ≡ (output ∷ codes "=" ∷ kind ∷ []) ++ (codes "(" ∷ ts) = cc in
+    tokens_behind line (output ∷ codes "=" ∷ kind ∷ []) ts whole
+    (and_from _ _ (not_from_false _ (unmarked_is_other output o)) (and_from _ _ (not_from_false _ (unmarked_is_other kind k)) refl))

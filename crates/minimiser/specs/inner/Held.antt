@@ -1,0 +1,14 @@
+-- What the parts cost that are fixed to faulty.
+use Rattle.std.specs.Prelude.{ℕ, ◌+◌, Bool, true, false, List, [], ◌∷◌, Option, Some, None}
+use Rattle.conditioner.specs.Words.{known_of}
+
+abbrev pub held_one : ℕ → Option Bool → ℕ
+held_one cost None = 0
+held_one cost (Some true) = 0
+held_one cost (Some false) = cost
+
+-- what the parts cost that are fixed to faulty
+abbrev pub held_cost : List ℕ → List ℕ → ℕ
+held_cost [] words = 0
+held_cost (c ∷ costs) [] = 0
+held_cost (c ∷ costs) (w ∷ words) = held_one c (known_of w) + held_cost costs words

@@ -7,13 +7,6 @@ use Rattle.branch_states.specs.Branches.{order, place, is_covered, some_passes, 
 use Rattle.branch_states.proofs.Branching.{Known, known}
 use Rattle.branch_states.proofs.Ordering.{among, among-first_met, place-among, has-variable}
 
--- ---- one level on
-
-one : (b t h : Bool) → (t ≡ true → h ≡ true) → (not (b && not t) || h) ≡ (not b || h)
-one true true h e = sym (e refl)
-one true false h e = refl
-one false t h e = refl
-
 -- ---- the last level
 
 covered-all : (vs : List ℕ) (c : Clause) → ((j : ℕ) (l : ℤ) → j < length c → among vs (var_of (get_or c j l)) ≡ true) → is_covered vs (length vs) c ≡ true

@@ -20,7 +20,7 @@ device_by (Err fault) = None
 abbrev pub device_of_text : List ℕ → Option Device
 device_of_text text = device_by (design text)
 
--- It is read as the device with the names exchanged, with or without the line of the sums, and with nothing else changed.
+-- It is read as the device with new names in the new orders, with or without the line of the sums, and with nothing else changed.
 pub record IsReadAsReordered (parts wires : List ℕ) (device : Device) : Type 0 where
   pub bare : device_of_text (design_text (reordered parts wires device)) ≡ Some (reordered parts wires device)
   pub whole : (limit : ℕ) (before after : Option ℕ)

@@ -4,7 +4,7 @@ ghost use Rattle.device_model.specs.Devices.{Device, IsDevice};
 ghost use Rattle.renaming.specs.Renaming.{IsOrder, IsFlat};
 ghost use Rattle.design_writer.specs.Reading.{device_of_text, IsReadAsReordered};
 
-/// The names of a device that a design gives are paths, and its types are those that a design can have.
+/// The names of a device that a design gives have bytes of names alone, and its types are those that a design can have.
 pub fn are_flat()
     ensures { (text : List ℕ) (device : Device) → device_of_text text ≡ Some device → IsFlat device }
 {}

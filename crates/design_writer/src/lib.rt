@@ -1,4 +1,4 @@
-//! The text of a device as a design under new names, which is read as the same device with its names exchanged.
+//! The text of a device as a design under new names, which is read as the device with these names in the new orders.
 #![tactic(auto)]
 
 mod laws;

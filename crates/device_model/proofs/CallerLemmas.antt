@@ -30,11 +30,6 @@ sorted_distinct-same_names xs ys to back =
     sorted_distinct-is itself xs (sorted_distinct itself ys) (Rises-sorted_distinct itself ys)
     (λ n m. Among-sorted_distinct ys n (to n m)) (λ n m. back n (Among-from_sorted_distinct ys n m))
 
-same_tests : (a b : Bool) → (a ≡ true → b ≡ true) → (b ≡ true → a ≡ true) → a ≡ b
-same_tests true b to back = sym (to refl)
-same_tests false true to back = back refl
-same_tests false false to back = refl
-
 -- the same, by the test
 pub sorted_distinct-same_tests : (xs ys : List Name) → ((n : Name) → is_among xs n ≡ is_among ys n) → sorted_distinct itself xs ≡ sorted_distinct itself ys
 sorted_distinct-same_tests xs ys same_test =
@@ -42,17 +37,7 @@ sorted_distinct-same_tests xs ys same_test =
     (λ n m. among_from_test n ys (sym (same_test n) ∙ is_among-among n xs m))
     (λ n m. among_from_test n xs (same_test n ∙ is_among-among n ys m))
 
--- ---- a list to which a name is added where it is not there yet
-
-count-push : (m : Name) (ks : List Name) (k : Name) → count m (ks ++ k ∷ []) ≡ count m (k ∷ ks)
-count-push m [] k = refl
-count-push m (x ∷ ks) k = omega (arith, count-push m ks k)
-
 -- ---- places
-
--- the place of a name of the list is within the list in order
-pub place_in-below : (names : List Name) (n : Name) → Among n names → place_in (sorted_distinct itself names) n < length (sorted_distinct itself names)
-place_in-below names n m = position_or_len-among (sorted_distinct itself names) n (Among-sorted_distinct names n m)
 
 -- a name of a rising list stands at no other place
 pub place_in-names_rise : (names : List Name) (k : ℕ) → names_rise names ≡ true → k < length names → place_in names (get_or names k []) ≡ k

@@ -208,10 +208,6 @@ first_reached cnf valid = record { apart = (tt, tt); living = λ j s e. one j s 
 
 -- ---- what one bit leaves
 
-not_false : (b : Bool) → false ≡ not b → b ≡ true
-not_false true e = refl
-not_false false e = absurd (cc)
-
 not_true : (b : Bool) → true ≡ not b → b ≡ false
 not_true true e = absurd (cc)
 not_true false e = refl

@@ -77,9 +77,6 @@ Grows-part parts wires name kind ports h g = record {
 -- ---- positions
 
 module _ (old own more : List Name) (passed : List ℕ) (within : are_within (length old) passed ≡ true) where
-  abbrev pub all_wires : List Name
-  all_wires = old ++ (own ++ more)
-
   pub record Named (wire : ℕ) : Type 0 where
     pub inside : position_of passed (length old) wire < length (old ++ (own ++ more))
     pub named : wire_at (old ++ (own ++ more)) (position_of passed (length old) wire) ≡ wire_at (map (wire_at old) passed ++ own) wire

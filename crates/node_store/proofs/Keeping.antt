@@ -91,10 +91,6 @@ once_shown (x ∷ xs) apart zero (suc j) node e f = let s : shown x ≡ node = c
 once_shown (x ∷ xs) apart (suc i) zero node e f = let s : shown x ≡ node = cc in absurd (first_apart x xs i apart.0 (e ∙ ap Some (sym s)))
 once_shown (x ∷ xs) apart (suc i) (suc j) node e f = ap suc (once_shown xs apart.1 i j node e f)
 
-map-push : (xs : List Kept) (x : Kept) → map shown (xs ++ x ∷ []) ≡ map shown xs ++ shown x ∷ []
-map-push [] x = refl
-map-push (y ∷ xs) x = ap (λ ns. shown y ∷ ns) (map-push xs x)
-
 pub there_shown : (xs : List Kept) (i : ℕ) (x k : Kept) → slice_get xs i ≡ Some k → eq-value.it x k ≡ true → slice_get (map shown xs) i ≡ Some (shown x)
 there_shown [] i x k e t = absurd (cc)
 there_shown (y ∷ xs) zero x k e t = let s : y ≡ k = cc in ap Some (ap shown s ∙ sym (same_shown x k t))

@@ -1,4 +1,3 @@
-pub mod Drops
 mod Examples
 pub mod Values
 pub mod Lists

@@ -36,7 +36,7 @@ pub record IsNetlist (device : Device) : Type 0 where
 
 -- ---- designs
 
--- The names are paths of bytes of names, and each type of parts is one that a design can give: a part that is faulty allows some
+-- The names have bytes of names alone, and each type of parts is one that a design can give: a part that is faulty allows some
 -- row of it.
 pub record IsFlat (device : Device) : Type 0 where
   pub parts : All (λ (part : Component). list_all is_name_byte part.name ≡ true) device.parts

@@ -2,13 +2,12 @@
 use Rattle.std.proofs.Common.{◌≡◌, ◌≢◌, ℕ, zero, suc, ◌+◌, ◌<◌, Bool, true, false, not, List, [], ◌∷◌, ◌++◌, map, length, get_or, drop, Option, Some, None, refl, ap, ap₂, sym, ◌∙◌, subst, arith, codes, add-one}
 use Rattle.std.specs.Prelude.{is_some, slice_get, if◌then◌else◌}
 use Rattle.std.specs.List.{list_all, list_any}
-use Rattle.std.proofs.lemmas.List.{get_or-map}
+use Rattle.std.proofs.lemmas.List.{get_or-map, drop_more}
 use Rattle.text_rules.specs.Names.{Name}
 use Rattle.ranking.specs.Bits.{bit_in}
 use Rattle.ranking.specs.Cases.{Case}
 use Rattle.ranking.specs.Ranking.{cost, least, least_with, least_of, diagnoses}
 use Rattle.ranking.specs.Systems.{System}
-use Rattle.ranking.proofs.Drops.{drop-item}
 use Rattle.conditioner.specs.Words.{known_of}
 use Rattle.probe_report.specs.declared.verdicts.Blame.{Blame}
 use Rattle.probe_report.specs.Verdicts.{verdict as verdict_on}
@@ -64,12 +63,10 @@ module _ (subject : Subject) (words : List ℕ) (basis : IsBasis subject) (are :
 pub lines-next : (system : System) (s : Name) (known : Case) (names : List Name) (i : ℕ) → i < length names
     → probe_lines system s known i (drop i names) ≡ unseen_line system s known (get_or names i []) i ++ probe_lines system s known (i + 1) (drop (i + 1) names)
 lines-next system s known names i h =
-    ap (probe_lines system s known i) (drop-item names i [] h)
-    ∙ (by (is_some (seen_at known i))
-    ∙ ap (λ n. unseen_line system s known (get_or names i []) i ++ probe_lines system s known (i + 1) (drop n names)) (sym (add-one i)))
+    ap (probe_lines system s known i) (drop_more names i [] h) ∙ by (is_some (seen_at known i))
   where
     rest : List Item
-    rest = probe_lines system s known (i + 1) (drop (suc i) names)
+    rest = probe_lines system s known (i + 1) (drop (i + 1) names)
 
     by : (b : Bool) → (elim b [ true ↦ rest | false ↦ probe_line system s known (get_or names i []) i ∷ rest ])
         ≡ (elim b as (λ (_ : Bool). List Item) [ true ↦ [] | false ↦ probe_line system s known (get_or names i []) i ∷ [] ]) ++ rest
@@ -87,7 +84,7 @@ lines-have system s known i (name ∷ names) = by (is_some (seen_at known i)) (l
 -- and the verdicts from a part on
 pub verdicts-next : (s : Name) (names : List Name) (verdicts : List Blame) (i : ℕ) (v : Blame) → i < length names → i < length verdicts
     → verdict_lines s (drop i names) (drop i verdicts) ≡ (line (s ∷ codes "blame" ∷ get_or names i [] ∷ blame_text (get_or verdicts i v) ∷ []) ∷ []) ++ verdict_lines s (drop (i + 1) names) (drop (i + 1) verdicts)
-verdicts-next s names verdicts i v h g = rw (add-one i, drop-item names i [] h, drop-item verdicts i v g) refl
+verdicts-next s names verdicts i v h g = rw (drop_more names i [] h, drop_more verdicts i v g) refl
 
 pub verdicts-have : (s : Name) (names : List Name) (verdicts : List Blame) → HaveSpellings (verdict_lines s names verdicts)
 verdicts-have s [] verdicts = tt

@@ -5,12 +5,12 @@ use Rattle.diag_edge.specs.Edge.{AppendsPrefix}
 use denote.Ref.{Bor}
 use Rattle.std.specs.List.{flat_map}
 use Rattle.std.proofs.lemmas.List.Concat.{flat_map-append}
+use Rattle.std.proofs.lemmas.List.{drop_more}
 use Rattle.std.proofs.lemmas.List.Folds.{flat_map-map}
 use Rattle.diag_edge.specs.Adding.{Grown, Adds}
 use Rattle.diag_edge.proofs.Added.{grown_more, part_more, adds_first, spaced-first}
 use Rattle.text_rules.specs.Names.{Name}
 use Rattle.text_rules.specs.Tokens.{spaced}
-use Rattle.ranking.proofs.Drops.{drop-item}
 use Rattle.diagnosis_lister.specs.Listing.{bits_of}
 use Rattle.session_rules.specs.Replies.{faulty_names}
 use Rattle.session_core.specs.inner.Texts.{spaced_before}
@@ -30,9 +30,9 @@ line_pieces session words names =
 -- the faulty parts among those that are left
 pub faulty-drop : (parts : List Name) (state : List ℕ) (i : ℕ) → i < length parts → i < length state
     → faulty_names (drop i parts) (bits_of (drop i state)) ≡ (if get_or state i 0 == 0 then faulty_names (drop (i + 1) parts) (bits_of (drop (i + 1) state)) else get_or parts i [] ∷ faulty_names (drop (i + 1) parts) (bits_of (drop (i + 1) state)))
-faulty-drop parts state i h g = rw (add-one i, drop-item parts i [] h, drop-item state i 0 g) (by (get_or state i 0 == 0))
+faulty-drop parts state i h g = rw (drop_more parts i [] h, drop_more state i 0 g) (by (get_or state i 0 == 0))
   where
-    by : (b : Bool) → faulty_names (get_or parts i [] ∷ drop (suc i) parts) (b ∷ bits_of (drop (suc i) state)) ≡ (if b then faulty_names (drop (suc i) parts) (bits_of (drop (suc i) state)) else get_or parts i [] ∷ faulty_names (drop (suc i) parts) (bits_of (drop (suc i) state)))
+    by : (b : Bool) → faulty_names (get_or parts i [] ∷ drop (i + 1) parts) (b ∷ bits_of (drop (i + 1) state)) ≡ (if b then faulty_names (drop (i + 1) parts) (bits_of (drop (i + 1) state)) else get_or parts i [] ∷ faulty_names (drop (i + 1) parts) (bits_of (drop (i + 1) state)))
     by true = refl
     by false = refl
 

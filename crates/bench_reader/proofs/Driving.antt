@@ -87,4 +87,3 @@ module _ (line : ℕ) (es new : Entries) (key : Bor Name) (old : Option Driver) 
 
   pub input-gate : (driver : Driver) → old ≡ Some driver → driver ≡ ByGate → driven_more (seen es) (line, Input key.now) ≡ Err (fault_at DrivenTwice line)
   input-gate driver some gate = ap (λ d. unless_gate line d (insert_entry same_name (seen es) key.now Outside)) (looked ∙ some ∙ ap Some gate)
-

@@ -1,5 +1,5 @@
 -- What is known where a file was not read.
-use Rattle.std.proofs.Common.{◌≡◌, ◌≢◌, ◌<◌, ◌-◌, ◌^◌, ℕ, List, length, IfSome, ap, arith, refl}
+use Rattle.std.proofs.Common.{◌≡◌, ◌≢◌, ◌<◌, ◌-◌, ◌^◌, ℕ, length, IfSome, ap, arith, refl}
 use Rattle.std.specs.Prelude.{Err, IsErrOf}
 use Rattle.text_rules.specs.declared.text_lines.TheConstants.{TEXT_LIMIT}
 use Rattle.diag_edge.specs.Edge.{Holding, absent, told_bytes, RisesAt}

@@ -1,24 +1,31 @@
 -- What is told of a graph in `.nnf` text.
-use Rattle.std.specs.Prelude.{ℕ, List, [], ◌∷◌, length, Result, Ok, Err, codes, nat_le, ◌==◌, if◌then◌else◌}
+use Rattle.std.specs.Prelude.{ℕ, List, [], ◌∷◌, length, Result, Ok, Err, codes, nat_le, if◌then◌else◌}
 use Rattle.std.specs.Fmt.{decimal}
 use Rattle.text_rules.specs.declared.text_lines.TheConstants.{TEXT_LIMIT}
 use Rattle.text_rules.specs.Tokens.{spaced}
 use Rattle.graph_rules.specs.declared.TheConstants.{BITS_LIMIT}
 use Rattle.graph_rules.specs.Graphs.{Graph}
-use Rattle.graph_rules.specs.GraphTexts.{Refusal, NoHeader, AtLine, Counts, TooLarge, Shared, edges, verdict}
+use Rattle.graph_rules.specs.GraphTexts.{LineFault, WrongLine, WrongChild, WrongVariable, Refusal, NoHeader, AtLine, Counts, TooLarge, Shared, edges, verdict}
 use Rattle.diag_cli.specs.declared.checking.GraphSizes.{GraphSizes}
 use Rattle.diag_cli.specs.Output.{Output, says}
 use Rattle.diag_edge.specs.ErrorLines.{fault_line}
 use Rattle.diag_cli.specs.Describing.{long_file_line}
 
--- the faults of one line, by their numbers
-abbrev pub line_fault_name : ℕ → List ℕ
-line_fault_name number = if number == 2 then codes "line" else if number == 3 then codes "child" else codes "variable"
+-- the number and the name of what is wrong with a line
+abbrev pub line_fault_number : LineFault → ℕ
+line_fault_number WrongLine = 2
+line_fault_number WrongChild = 3
+line_fault_number WrongVariable = 4
+
+abbrev pub line_fault_name : LineFault → List ℕ
+line_fault_name WrongLine = codes "line"
+line_fault_name WrongChild = codes "child"
+line_fault_name WrongVariable = codes "variable"
 
 -- the line that tells why a text gives no decomposable graph
 abbrev pub graph_fault_line : Refusal → List ℕ
 graph_fault_line NoHeader = spaced (codes "error:" ∷ codes "fault" ∷ codes "1" ∷ codes "header" ∷ [])
-graph_fault_line (AtLine line number) = fault_line line number (line_fault_name number)
+graph_fault_line (AtLine line fault) = fault_line line (line_fault_number fault) (line_fault_name fault)
 graph_fault_line (Counts said found) =
     spaced (codes "error:" ∷ codes "fault" ∷ codes "5" ∷ codes "counts" ∷ decimal said ∷ decimal found ∷ [])
 graph_fault_line (TooLarge bits) =

@@ -1,15 +1,28 @@
 -- What a graph says that was compiled: of clauses, and of the device that they are of.
-use Rattle.std.specs.Prelude.{◌≡◌, ◌+◌, ◌-◌, ◌≤◌, Bool, List, ◌++◌, length}
+use Rattle.std.specs.Prelude.{◌≡◌, ◌+◌, ◌*◌, ◌-◌, ◌≤◌, Bool, List, ◌++◌, length}
 use Rattle.std.specs.List.{list_any}
 use Rattle.ranking.specs.Bits.{lists_of_bits}
 use Rattle.ranking.specs.Assignments.{Assignment}
-use Rattle.graph_rules.specs.Graphs.{Graph, is_true, holds}
+use Rattle.graph_rules.specs.Graphs.{Graph, IsGraph, is_true, holds}
+use Rattle.graph_rules.specs.GraphTexts.{edges}
 use Rattle.device_model.specs.Devices.{Device, fits}
-use Rattle.clause_encoder.specs.Clauses.{Clause, all_hold}
+use Rattle.clause_encoder.specs.Clauses.{Clause, ClauseList, all_hold}
+use Rattle.branch_states.specs.Branches.{sum_of}
+use Rattle.dnnf_compiler.specs.declared.compiling.Compiled.{Compiled}
 
 -- The root, which is the last node, is true exactly under the assignments that make all clauses true.
 abbrev pub SaysAll : List Clause → Graph → Type 0
 SaysAll clauses graph = (a : Assignment) → is_true graph.nodes (length graph.nodes - 1) a ≡ all_hold a clauses
+
+-- What clauses are compiled to: a decomposable graph over their variables that is true exactly where all of them are, whose size
+-- their sum bounds.
+pub record IsCompiled (list : ClauseList) (compiled : Compiled) : Type 0 where
+  pub decomposable : IsGraph compiled.graph
+  pub vars : compiled.graph.vars ≡ list.vars
+  pub truth : SaysAll list.clauses compiled.graph
+  pub few_made : compiled.made ≤ 3 * sum_of list.clauses + 2
+  pub few_nodes : length compiled.graph.nodes ≤ compiled.made + 2 * list.vars
+  pub few_edges : edges compiled.graph.nodes ≤ 6 * (sum_of list.clauses + 1)
 
 -- whether it is true under these bits for the parts and the wires, and some bits for the variables above theirs
 abbrev pub holds_for : Graph → List Bool → List Bool → Bool

@@ -1,10 +1,8 @@
-ghost use Rattle.std.specs.Prelude.{◌≡◌, ◌+◌, ◌*◌, ◌<◌, ◌≤◌, length, IfOk};
-ghost use Rattle.graph_rules.specs.Graphs.{IsGraph};
-ghost use Rattle.graph_rules.specs.GraphTexts.{edges};
+ghost use Rattle.std.specs.Prelude.{◌≡◌, ◌<◌, ◌≤◌, IfOk};
 ghost use Rattle.branch_states.specs.declared.measuring.TheConstants.{BUDGET_LIMIT};
 ghost use Rattle.branch_states.specs.declared.measuring.MeasureError.TheVariants.{Above};
 ghost use Rattle.branch_states.specs.Branches.{sum_of};
-ghost use Rattle.dnnf_compiler.specs.Compiled.{SaysAll};
+ghost use Rattle.dnnf_compiler.specs.Compiled.{IsCompiled};
 ghost use Rattle.dnnf_compiler.specs.inner.Rooting.{IsRoot};
 
 use crate::forks::{count_forks, find_forks};
@@ -26,13 +24,7 @@ pub struct Compiled {
 /// The sum of the clause list is at most `BUDGET_LIMIT`. That sum bounds how often a node is made, and so the size of the graph.
 pub fn compile(alloc: Global, cnf: &Cnf) -> Result<Compiled, AllocError>
     requires { sum_of cnf.now.clauses ≤ BUDGET_LIMIT }
-
-    ensures decomposable { IfOk result (λ c. IsGraph c.graph) }
-    ensures vars { IfOk result (λ c. c.graph.vars ≡ cnf.now.vars) }
-    ensures truth { IfOk result (λ c. SaysAll cnf.now.clauses c.graph) }
-    ensures few_made { IfOk result (λ c. c.made ≤ 3 * sum_of cnf.now.clauses + 2) }
-    ensures few_nodes { IfOk result (λ c. length c.graph.nodes ≤ c.made + 2 * cnf.now.vars) }
-    ensures few_edges { IfOk result (λ c. edges c.graph.nodes ≤ 6 * (sum_of cnf.now.clauses + 1)) }
+    ensures { IfOk result (IsCompiled cnf.now) }
 {
     // A sum within the limit is not above it.
     compile_within(alloc, cnf, BUDGET_LIMIT).map_err(|_| AllocError)
@@ -43,17 +35,10 @@ pub fn compile(alloc: Global, cnf: &Cnf) -> Result<Compiled, AllocError>
 /// Each level's states are found once, and counted as they are. It stops as soon as the sum is above the limit.
 pub fn compile_within(alloc: Global, cnf: &Cnf, top: u32) -> Result<Compiled, MeasureError>
     requires { top ≤ BUDGET_LIMIT }
-
     // Where the sum is above the limit the answer is an error, and the error says so only there.
     ensures within { IfOk result (λ _. sum_of cnf.now.clauses ≤ top) }
     ensures above { result ≡ Err Above → top < sum_of cnf.now.clauses }
-
-    ensures decomposable { IfOk result (λ c. IsGraph c.graph) }
-    ensures vars { IfOk result (λ c. c.graph.vars ≡ cnf.now.vars) }
-    ensures truth { IfOk result (λ c. SaysAll cnf.now.clauses c.graph) }
-    ensures few_made { IfOk result (λ c. c.made ≤ 3 * sum_of cnf.now.clauses + 2) }
-    ensures few_nodes { IfOk result (λ c. length c.graph.nodes ≤ c.made + 2 * cnf.now.vars) }
-    ensures few_edges { IfOk result (λ c. edges c.graph.nodes ≤ 6 * (sum_of cnf.now.clauses + 1)) }
+    ensures compiled { IfOk result (IsCompiled cnf.now) }
 {
     let mut branches = Branches::of(alloc, cnf)?;
     let (levels, last) = find_forks(alloc, &mut branches, top)?;
@@ -70,13 +55,7 @@ pub fn compile_within(alloc: Global, cnf: &Cnf, top: u32) -> Result<Compiled, Me
 // The graph of the node of all clauses.
 fn frozen(cnf: &Cnf, store: Store, root: u32) -> Result<Compiled, AllocError>
     requires { IsRoot cnf.now store root }
-
-    ensures decomposable { IfOk result (λ c. IsGraph c.graph) }
-    ensures vars { IfOk result (λ c. c.graph.vars ≡ cnf.now.vars) }
-    ensures truth { IfOk result (λ c. SaysAll cnf.now.clauses c.graph) }
-    ensures few_made { IfOk result (λ c. c.made ≤ 3 * sum_of cnf.now.clauses + 2) }
-    ensures few_nodes { IfOk result (λ c. length c.graph.nodes ≤ c.made + 2 * cnf.now.vars) }
-    ensures few_edges { IfOk result (λ c. edges c.graph.nodes ≤ 6 * (sum_of cnf.now.clauses + 1)) }
+    ensures { IfOk result (IsCompiled cnf.now) }
 {
     let made = store.made();
     match store.freeze(root) {

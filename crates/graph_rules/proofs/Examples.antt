@@ -4,7 +4,7 @@ use Rattle.std.specs.Prelude.{codes, Ok, Err}
 use Rattle.std.specs.Fmt.{digits}
 use Rattle.graph_rules.specs.declared.NodeKind.TheVariants.{Literal, And, Or}
 use Rattle.graph_rules.specs.Graphs.{Graph, literal_node, true_node, holds, mentions, apart_at, node_fits, nodes_fit}
-use Rattle.graph_rules.specs.GraphTexts.{parsed, verdict, NoHeader, AtLine, Counts, TooLarge, Shared}
+use Rattle.graph_rules.specs.GraphTexts.{parsed, verdict, NoHeader, WrongLine, WrongChild, WrongVariable, AtLine, Counts, TooLarge, Shared}
 use Rattle.graph_rules.specs.WrittenGraphs.{graph_text}
 
 abbrev text : List (List ℕ) → List ℕ
@@ -24,16 +24,16 @@ no_byte = refl
 counts : parsed (text (map codes ("nnf 2 0 1" ∷ "L 1" ∷ []))) ≡ Err (Counts 2 1)
 counts = refl
 
-child : parsed (text (map codes ("nnf 2 1 1" ∷ "A 1 1" ∷ "L 1" ∷ []))) ≡ Err (AtLine 2 3)
+child : parsed (text (map codes ("nnf 2 1 1" ∷ "A 1 1" ∷ "L 1" ∷ []))) ≡ Err (AtLine 2 WrongChild)
 child = refl
 
-variable : parsed (text (map codes ("nnf 1 0 1" ∷ "L 2" ∷ []))) ≡ Err (AtLine 2 4)
+variable : parsed (text (map codes ("nnf 1 0 1" ∷ "L 2" ∷ []))) ≡ Err (AtLine 2 WrongVariable)
 variable = refl
 
-no_form : parsed (text (map codes ("nnf 1 0 1" ∷ "X 1" ∷ []))) ≡ Err (AtLine 2 2)
+no_form : parsed (text (map codes ("nnf 1 0 1" ∷ "X 1" ∷ []))) ≡ Err (AtLine 2 WrongLine)
 no_form = refl
 
-many_kids : parsed (text (map codes ("nnf 1 0 1" ∷ "A 4294967295 0" ∷ []))) ≡ Err (AtLine 2 2)
+many_kids : parsed (text (map codes ("nnf 1 0 1" ∷ "A 4294967295 0" ∷ []))) ≡ Err (AtLine 2 WrongLine)
 many_kids = refl
 
 great_header : parsed (text (map codes ("nnf 4294967296 0 1" ∷ "A 0" ∷ []))) ≡ Err NoHeader
@@ -95,21 +95,21 @@ no_nodes_said : verdict (text (map codes ("nnf 0 0 1" ∷ []))) ≡ Err NoHeader
 no_nodes_said = refl
 
 -- blank lines are counted
-line_behind_blank_ones : verdict (text (map codes ("" ∷ "nnf 1 0 1" ∷ " " ∷ "" ∷ "L 1 1" ∷ []))) ≡ Err (AtLine 5 2)
+line_behind_blank_ones : verdict (text (map codes ("" ∷ "nnf 1 0 1" ∷ " " ∷ "" ∷ "L 1 1" ∷ []))) ≡ Err (AtLine 5 WrongLine)
 line_behind_blank_ones = refl
 
 -- the form is told before a child
-form_before_child : verdict (text (map codes ("nnf 1 0 1" ∷ "A 3 7" ∷ []))) ≡ Err (AtLine 2 2)
+form_before_child : verdict (text (map codes ("nnf 1 0 1" ∷ "A 3 7" ∷ []))) ≡ Err (AtLine 2 WrongLine)
 form_before_child = refl
 
-own_child : verdict (text (map codes ("nnf 1 1 1" ∷ "A 1 0" ∷ []))) ≡ Err (AtLine 2 3)
+own_child : verdict (text (map codes ("nnf 1 1 1" ∷ "A 1 0" ∷ []))) ≡ Err (AtLine 2 WrongChild)
 own_child = refl
 
-variable_0 : verdict (text (map codes ("nnf 1 0 1" ∷ "L -0" ∷ []))) ≡ Err (AtLine 2 4)
+variable_0 : verdict (text (map codes ("nnf 1 0 1" ∷ "L -0" ∷ []))) ≡ Err (AtLine 2 WrongVariable)
 variable_0 = refl
 
 -- the first line with a fault, and lines before counts
-first_fault : verdict (text (map codes ("nnf 9 9 1" ∷ "L 2" ∷ "X" ∷ []))) ≡ Err (AtLine 2 4)
+first_fault : verdict (text (map codes ("nnf 9 9 1" ∷ "L 2" ∷ "X" ∷ []))) ≡ Err (AtLine 2 WrongVariable)
 first_fault = refl
 
 far_fewer_nodes : verdict (text (map codes ("nnf 4294967295 0 1" ∷ "L 1" ∷ []))) ≡ Err (Counts 4294967295 1)
@@ -133,16 +133,16 @@ accepted_spellings = refl
 
 -- ---- numbers past their widths
 
-eleven_digits : verdict (text (map codes ("nnf 1 0 1" ∷ "L 00000000001" ∷ []))) ≡ Err (AtLine 2 2)
+eleven_digits : verdict (text (map codes ("nnf 1 0 1" ∷ "L 00000000001" ∷ []))) ≡ Err (AtLine 2 WrongLine)
 eleven_digits = refl
 
-variable_past_32_bits : verdict (text (map codes ("nnf 1 0 1" ∷ "L -4294967296" ∷ []))) ≡ Err (AtLine 2 2)
+variable_past_32_bits : verdict (text (map codes ("nnf 1 0 1" ∷ "L -4294967296" ∷ []))) ≡ Err (AtLine 2 WrongLine)
 variable_past_32_bits = refl
 
-greatest_variable : verdict (text (map codes ("nnf 1 0 1" ∷ "L 4294967295" ∷ []))) ≡ Err (AtLine 2 4)
+greatest_variable : verdict (text (map codes ("nnf 1 0 1" ∷ "L 4294967295" ∷ []))) ≡ Err (AtLine 2 WrongVariable)
 greatest_variable = refl
 
-two_signs : verdict (text (map codes ("nnf 1 0 1" ∷ "L --1" ∷ []))) ≡ Err (AtLine 2 2)
+two_signs : verdict (text (map codes ("nnf 1 0 1" ∷ "L --1" ∷ []))) ≡ Err (AtLine 2 WrongLine)
 two_signs = refl
 
 edges_past_64_bits : verdict (text (map codes ("nnf 1 18446744073709551616 1" ∷ "A 0" ∷ []))) ≡ Err NoHeader

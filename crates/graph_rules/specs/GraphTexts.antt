@@ -79,18 +79,23 @@ variable_fits vars (Literal var positive) = nat_le 1 var && nat_le var vars
 variable_fits vars And = true
 variable_fits vars Or = true
 
--- A line of no form is fault 2, one with a child that is no earlier node 3, one with a variable that is not there 4.
-abbrev pub node_fault : ℕ → ℕ → Option Node → Option ℕ
-node_fault vars own None = Some 2
+-- what is wrong with a line: it has no form, a child of it is no earlier node, or its variable is not there
+pub data LineFault : Type 0 where
+  WrongLine : LineFault
+  WrongChild : LineFault
+  WrongVariable : LineFault
+
+abbrev pub node_fault : ℕ → ℕ → Option Node → Option LineFault
+node_fault vars own None = Some WrongLine
 node_fault vars own (Some node) =
-    if not (list_all (λ kid. nat_lt kid own) node.kids) then Some 3
-    else (if variable_fits vars node.what then None else Some 4)
+    if not (list_all (λ kid. nat_lt kid own) node.kids) then Some WrongChild
+    else (if variable_fits vars node.what then None else Some WrongVariable)
 
 -- Refusals: no header, a line with its fault, numbers that are not those said, too many bits, and a variable shared by
 -- children of an and. Reading a text alone gives the first three.
 pub data Refusal : Type 0 where
   NoHeader : Refusal
-  AtLine : (line number : ℕ) → Refusal
+  AtLine : (line : ℕ) (fault : LineFault) → Refusal
   Counts : (said found : ℕ) → Refusal
   TooLarge : (bits : ℕ) → Refusal
   Shared : (node variable : ℕ) → Refusal
@@ -103,9 +108,9 @@ has_words (line, (w ∷ ws)) = true
 abbrev pub filled_lines : List ℕ → List (ℕ × List (List ℕ))
 filled_lines text = filter has_words (enumerate_from 1 (map words (all_lines text)))
 
-abbrev pub fault_at : ℕ → Option ℕ → Option Refusal
+abbrev pub fault_at : ℕ → Option LineFault → Option Refusal
 fault_at line None = None
-fault_at line (Some number) = Some (AtLine line number)
+fault_at line (Some fault) = Some (AtLine line fault)
 
 -- each node line with the node's own number
 abbrev pub line_fault : ℕ → ℕ × (ℕ × List (List ℕ)) → Option Refusal

@@ -6,7 +6,7 @@ use Rattle.std.proofs.lemmas.Bool.{cond-true, cond-false, not_from_false}
 use Rattle.std.proofs.lemmas.List.{length-append}
 use Rattle.text_rules.specs.Tokens.{words}
 use Rattle.graph_rules.specs.Graphs.{Node, Graph}
-use Rattle.graph_rules.specs.GraphTexts.{Header, node_of, node_fault, variable_fits, has_words, node_at_line, line_fault, fault_at, edges, differs, Refusal, AtLine, Parsed, read_unless, parsed_below, parsed, checked_if, verdict}
+use Rattle.graph_rules.specs.GraphTexts.{Header, node_of, node_fault, variable_fits, has_words, node_at_line, line_fault, fault_at, edges, differs, LineFault, WrongLine, WrongChild, Refusal, AtLine, Parsed, read_unless, parsed_below, parsed, checked_if, verdict}
 use Rattle.text_rules.specs.Expected.{IsExpectedFault}
 use Rattle.nnf_text.specs.inner.Reading.{filled_from, nodes_behind, if_counted}
 use Rattle.nnf_text.proofs.Options.{none≢some}
@@ -18,12 +18,12 @@ abbrev by_node : ℕ → ℕ → List Node → Option Node → Parsed
 by_node vars line done o = read_unless (record { nodes = done ++ cons_option o []; vars = vars }) (cons_option (fault_at line (node_fault vars (length done) o)) [])
 
 module _ (vars line : ℕ) (done : List Node) (ws : List (List ℕ)) (node : Node) (is : node_of ws ≡ Some node) where
-  line-node : (fault : Option ℕ) → node_fault vars (length done) (Some node) ≡ fault
+  line-node : (fault : Option LineFault) → node_fault vars (length done) (Some node) ≡ fault
       → nodes_behind vars done ((line, ws) ∷ []) ≡ read_unless (record { nodes = done ++ node ∷ []; vars = vars }) (cons_option (fault_at line fault) [])
   line-node fault e = ap (by_node vars line done) is ∙ ap (λ f. read_unless (record { nodes = done ++ node ∷ []; vars = vars }) (cons_option (fault_at line f) [])) e
 
-  pub line-child : list_all (λ kid. nat_lt kid (length done)) node.kids ≡ false → nodes_behind vars done ((line, ws) ∷ []) ≡ Err (AtLine line 3)
-  line-child late = line-node (Some 3) (cond-true _ _ _ (not_from_false _ late))
+  pub line-child : list_all (λ kid. nat_lt kid (length done)) node.kids ≡ false → nodes_behind vars done ((line, ws) ∷ []) ≡ Err (AtLine line WrongChild)
+  line-child late = line-node (Some WrongChild) (cond-true _ _ _ (not_from_false _ late))
 
   pub line-right : list_all (λ kid. nat_lt kid (length done)) node.kids ≡ true → variable_fits vars node.what ≡ true
       → nodes_behind vars done ((line, ws) ∷ []) ≡ Ok (record { nodes = done ++ node ∷ []; vars = vars })
@@ -40,14 +40,14 @@ module _ (vars number : ℕ) (done : List Node) (lines : List (List ℕ)) where
   graph_of nodes = record { nodes = nodes; vars = vars }
 
   -- what all these lines give, by the node of the first and its fault
-  abbrev whole_by : Option Node → Option ℕ → Parsed
+  abbrev whole_by : Option Node → Option LineFault → Parsed
   whole_by o fault = read_unless (record { nodes = done ++ cons_option o (filter_map node_at_line rest); vars = vars }) (cons_option (fault_at number fault) (filter_map (line_fault vars) (enumerate_from (length done + 1) rest)))
 
-  abbrev first_by : Option Node → Option ℕ → Parsed
+  abbrev first_by : Option Node → Option LineFault → Parsed
   first_by o fault = read_unless (record { nodes = done ++ cons_option o []; vars = vars }) (cons_option (fault_at number fault) [])
 
-  right_first : (more : List Node) (o : Option Node) (fault : Option ℕ) → (o ≡ None → fault ≡ Some 2) → first_by o fault ≡ Ok (record { nodes = more; vars = vars }) → whole_by o fault ≡ nodes_behind vars more rest
-  right_first more None None form e = absurd (none≢some 2 (form refl))
+  right_first : (more : List Node) (o : Option Node) (fault : Option LineFault) → (o ≡ None → fault ≡ Some WrongLine) → first_by o fault ≡ Ok (record { nodes = more; vars = vars }) → whole_by o fault ≡ nodes_behind vars more rest
+  right_first more None None form e = absurd (none≢some WrongLine (form refl))
   right_first more o (Some n) form e = let no : ⊥ = cc in absurd no
   right_first more (Some node) None form e =
       let read : graph_of (done ++ node ∷ []) ≡ graph_of more = cc in
@@ -58,11 +58,11 @@ module _ (vars number : ℕ) (done : List Node) (lines : List (List ℕ)) where
       longer : done ++ node ∷ [] ≡ more → done ++ node ∷ filter_map node_at_line rest ≡ more ++ filter_map node_at_line rest
       longer same = sym (append_assoc done (node ∷ []) (filter_map node_at_line rest)) ∙ ap (λ ns. ns ++ filter_map node_at_line rest) same
 
-  wrong_first : (o : Option Node) (fault : Option ℕ) (r : Refusal) → first_by o fault ≡ Err r → whole_by o fault ≡ Err r
+  wrong_first : (o : Option Node) (fault : Option LineFault) (r : Refusal) → first_by o fault ≡ Err r → whole_by o fault ≡ Err r
   wrong_first o None r e = let no : ⊥ = cc in absurd no
   wrong_first o (Some n) r e = e
 
-  no_form : (o : Option Node) → o ≡ None → node_fault vars (length done) o ≡ Some 2
+  no_form : (o : Option Node) → o ≡ None → node_fault vars (length done) o ≡ Some WrongLine
   no_form o e = ap (node_fault vars (length done)) e
 
   -- a line that was read goes to the nodes

@@ -14,7 +14,7 @@ use Rattle.graph_rules.specs.declared.TheConstants.{BITS_LIMIT, CHILD_LIMIT}
 use Rattle.graph_rules.specs.declared.NodeKind.{NodeKind}
 use Rattle.graph_rules.specs.declared.NodeKind.TheVariants.{Literal, And, Or}
 use Rattle.graph_rules.specs.Graphs.{Node, Graph, kind_fits, node_fits, nodes_fit}
-use Rattle.graph_rules.specs.GraphTexts.{small_number, great_number, numbers, number_before, literal_of, literal_with, counted, or_of, node_of, node_fault, variable_fits, line_fault, fault_at, node_at_line, has_words, filled_lines, edges, Header, header_of, header_from, differs, Refusal, read_unless, parsed_below, parsed_lines, parsed, TooLarge, all_shared, checked}
+use Rattle.graph_rules.specs.GraphTexts.{small_number, great_number, numbers, number_before, literal_of, literal_with, counted, or_of, node_of, node_fault, variable_fits, line_fault, fault_at, node_at_line, has_words, filled_lines, edges, Header, header_of, header_from, differs, LineFault, WrongLine, WrongChild, WrongVariable, Refusal, read_unless, parsed_below, parsed_lines, parsed, TooLarge, all_shared, checked}
 use Rattle.nnf_text.proofs.Options.{chosen, none≢some}
 
 -- ---- the node of a line
@@ -97,11 +97,11 @@ kind-from vars And kids shaped fits = lt-ltb (length kids) CHILD_LIMIT shaped.fe
 kind-from vars Or kids shaped fits = lt-ltb (length kids) CHILD_LIMIT shaped.few
 
 node-from : (vars own : ℕ) (node : Node) → IsShaped node → node_fault vars own (Some node) ≡ None → node_fits vars own node ≡ true
-node-from vars own node shaped e = elim (chosen (not (list_all (λ kid. nat_lt kid own) node.kids)) (Some 3) (cond (variable_fits vars node.what) None (Some 4)) None e) [
-  | inl child ↦ absurd (none≢some 3 (sym child.1))
-  | inr before ↦ elim (chosen (variable_fits vars node.what) None (Some 4) None before.1) [
+node-from vars own node shaped e = elim (chosen (not (list_all (λ kid. nat_lt kid own) node.kids)) (Some WrongChild) (cond (variable_fits vars node.what) None (Some WrongVariable)) None e) [
+  | inl child ↦ absurd (none≢some WrongChild (sym child.1))
+  | inr before ↦ elim (chosen (variable_fits vars node.what) None (Some WrongVariable) None before.1) [
     | inl fits ↦ and_from _ _ (not-false _ before.0) (kind-from vars node.what node.kids shaped fits.0)
-    | inr out ↦ absurd (none≢some 4 (sym out.1))
+    | inr out ↦ absurd (none≢some WrongVariable (sym out.1))
   ]
 ]
 
@@ -114,7 +114,7 @@ pub nothing_first : {A : Type 0} (o : Option A) (xs : List A) → cons_option o 
 nothing_first None xs e = record { first = refl; rest = e }
 nothing_first (Some x) xs e = absurd (let no : ⊥ = cc in no)
 
-no_fault : (line : ℕ) (o : Option ℕ) → fault_at line o ≡ None → o ≡ None
+no_fault : (line : ℕ) (o : Option LineFault) → fault_at line o ≡ None → o ≡ None
 no_fault line None e = refl
 no_fault line (Some n) e = absurd (let no : ⊥ = cc in no)
 
@@ -124,7 +124,7 @@ nodes-from vars own (l ∷ lines) e =
     let none = nothing_first (line_fault vars (own, l)) (filter_map (line_fault vars) (enumerate_from (own + 1) lines)) e in
     by_node (node_of l.1) refl (no_fault l.0 (node_fault vars own (node_of l.1)) none.first) (nodes-from vars (own + 1) lines none.rest) where
       by_node : (o : Option Node) → node_of l.1 ≡ o → node_fault vars own (node_of l.1) ≡ None → nodes_fit vars (own + 1) (filter_map node_at_line lines) ≡ true → nodes_fit vars own (cons_option o (filter_map node_at_line lines)) ≡ true
-      by_node None is right rest = absurd (none≢some 2 (sym right ∙ ap (node_fault vars own) is))
+      by_node None is right rest = absurd (none≢some WrongLine (sym right ∙ ap (node_fault vars own) is))
       by_node (Some node) is right rest = and_from _ _ (node-from vars own node (IsShaped-line l.1 node is) (ap (node_fault vars own) (sym is) ∙ right)) rest
 
 -- ---- a text

@@ -10,6 +10,12 @@ use Rattle.ranking.proofs.Lists.{list_any-map}
 
 -- ---- one bit
 
+pub same_bit-swap : (x y : Bool) → same_bit x y ≡ same_bit y x
+same_bit-swap true true = refl
+same_bit-swap true false = refl
+same_bit-swap false true = refl
+same_bit-swap false false = refl
+
 pub same_bit-refl : (x : Bool) → same_bit x x ≡ true
 same_bit-refl true = refl
 same_bit-refl false = refl

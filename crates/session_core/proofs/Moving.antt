@@ -17,9 +17,9 @@ use Rattle.script_lang.specs.Script.{Ask, Next, Several}
 use Rattle.session_rules.specs.GraphSystems.{Subject, system_of}
 use Rattle.session_rules.specs.declared.refusal.Refusal.TheVariants.{NoSession}
 use Rattle.session_rules.specs.Items.{Item, line}
-use Rattle.session_rules.specs.Replies.{Found as Reply, next_of, diagnosis_line, inconsistent, end_line}
+use Rattle.session_rules.specs.Replies.{Found as Reply, next_of, listing, diagnosis_line, inconsistent, end_line}
 use Rattle.session_rules.specs.Sessions.{Table, Entry, Step, Declined, entry_of, with_entry, carried, moved}
-use Rattle.session_rules.specs.Moves.{moves, listing, goes_on, listing_moves}
+use Rattle.session_rules.specs.Moves.{moves, goes_on, listing_moves}
 use Rattle.session_rules.specs.Spelling.{WritesPart, Replies}
 use Rattle.session_rules.specs.Carrying.{Makes, BreaksOff, CarriesOut}
 use Rattle.session_rules.proofs.Spellings.{writes_none, replies_one}

@@ -12,7 +12,7 @@ use Rattle.session_rules.specs.declared.refusal.Refusal.{Refusal}
 use Rattle.session_rules.specs.declared.refusal.Refusal.TheVariants.{OpenAlready, Full, NoWire, NoPart}
 use Rattle.session_rules.specs.Refusals.{refusal_number, refusal_text}
 use Rattle.session_rules.specs.Items.{Item, Plain, Projected, Whole, line}
-use Rattle.session_rules.specs.Replies.{next_of, repeat_steps, probe_line, if_any}
+use Rattle.session_rules.specs.Replies.{next_of, listing, point_after, probe_line, if_any}
 use Rattle.session_rules.specs.Sessions.{Table, Entry, Outcome, Declined, carried, step, entry_of, outcome, when_open, at_place, becomes, tells, with_seen, with_held, state_of, new_entry, replies}
 use Rattle.session_rules.specs.Moves.{line_step}
 use Rattle.session_rules.specs.Alone.{Answer, lines_of, dialogue, names_session, closes_session, own_answers, Opens, AreAnsweredAlone}
@@ -52,7 +52,9 @@ when_open-open system s entry (Unhold name) goes =
     at_place-open entry NoPart (λ part. becomes s (with_held entry part None) (codes "ok")) (place_of name system.parts) (λ i. (with_held entry i None, refl))
 when_open-open system s entry Min goes = (entry, refl)
 when_open-open system s entry Next goes = (record entry { point = (next_of system s (all_diagnoses system entry.known) entry.point).point }, refl)
-when_open-open system s entry (Several count) goes = (record entry { point = (repeat_steps (next_of system s (all_diagnoses system entry.known)) count entry.point).point }, refl)
+when_open-open system s entry (Several count) goes =
+    let found = listing (next_of system s (all_diagnoses system entry.known)) count entry.point in
+    (record entry { point = point_after entry.point found }, refl)
 when_open-open system s entry (After names) goes =
     either-open entry (list_all (λ name. is_among system.parts name) names) (becomes s (record entry { point = Some (state_of names system.parts) }) (codes "ok")) (Declined NoPart)
     (record entry { point = Some (state_of names system.parts) }, refl) (entry, refl)

@@ -1,5 +1,5 @@
 -- Every reply over a graph has a text, so what was written where a script broke off begins its replies.
-use Rattle.std.proofs.Common.{◌≡◌, ℕ, zero, suc, ◌+◌, ◌^◌, ◌<◌, ◌≤◌, Bool, true, false, List, [], ◌∷◌, ◌++◌, length, Option, Some, None, refl, sym, subst, arith}
+use Rattle.std.proofs.Common.{◌≡◌, ℕ, zero, suc, ◌+◌, ◌^◌, ◌<◌, ◌≤◌, Bool, true, false, List, [], ◌∷◌, ◌++◌, map, length, Option, Some, None, refl, sym, subst, arith}
 use Rattle.std.specs.Prelude.{nat_le, if◌then◌else◌, codes, is_some}
 use Rattle.std.specs.List.{list_all}
 use Rattle.text_rules.specs.Names.{Name, is_among}
@@ -14,7 +14,7 @@ use Rattle.script_lang.specs.Script.{Line, Blank, Refused, Ask, Request, Start, 
 use Rattle.session_rules.specs.declared.refusal.Refusal.{Refusal}
 use Rattle.session_rules.specs.declared.refusal.Refusal.TheVariants.{Full, NoWire, NoPart}
 use Rattle.session_rules.specs.Items.{Item, Projected}
-use Rattle.session_rules.specs.Replies.{Found, Listed, min_line, found, next_of, repeat_steps, seen_at, probe_line, probe_lines, blame_lines, if_any, end_line, diagnosis_line}
+use Rattle.session_rules.specs.Replies.{Found, min_line, found, next_of, listing, seen_at, probe_line, probe_lines, blame_lines, if_any, end_line, diagnosis_line}
 use Rattle.session_rules.specs.Sessions.{Table, Entry, Outcome, Declined, Done, at_place, becomes, tells, with_seen, with_held, new_entry, state_of, when_open, outcome, outcome_in, entry_of, carried, step, replies}
 use Rattle.session_rules.specs.Moves.{left_by, line_moves, script_moves}
 use Rattle.session_rules.specs.Spelling.{Spelled, WritesPart}
@@ -37,17 +37,18 @@ found-has s shown h point [] later = (_, refl)
 found-has s shown h point (d ∷ ds) [] = (_, refl)
 found-has s shown h point (d ∷ ds) (state ∷ later) = h state
 
-steps-have : (next : Option (List Bool) → Found) → ((point : Option (List Bool)) → HasText (next point).item) → (n : ℕ) (point : Option (List Bool)) → HaveSpellings (repeat_steps next n point).items
-steps-have next h zero point = tt
-steps-have next h (suc n) point =
+listing-have : (next : Option (List Bool) → Found) → ((point : Option (List Bool)) → HasText (next point).item)
+    → (n : ℕ) (point : Option (List Bool)) → HaveSpellings (map (λ f. f.item) (listing next n point))
+listing-have next h zero point = tt
+listing-have next h (suc n) point =
     let f = next point in
-    elim f.more as (λ more. HaveSpellings (elim more as (λ _. Listed) [
-      | true ↦ (let more = repeat_steps next n f.point in record { items = f.item ∷ more.items; point = more.point })
-      | false ↦ record { items = f.item ∷ []; point = f.point }
-    ]).items) [
-      | true ↦ (h point, steps-have next h n f.point)
-      | false ↦ (h point, tt)
-    ]
+    let later = listing next n f.point in (
+      h point,
+      elim f.more as (λ more. HaveSpellings (map (λ f. f.item) (elim more as (λ _. List Found) [ true ↦ later | false ↦ [] ]))) [
+        | true ↦ listing-have next h n f.point
+        | false ↦ tt
+      ],
+    )
 
 if_any-have : (s : Name) (states : List (List Bool)) (items : List Item) → HaveSpellings items → HaveSpellings (if_any s states items)
 if_any-have s [] items h = ((_, refl), tt)
@@ -108,7 +109,7 @@ module _ (system : System) where
     when_open-has s entry h Min = (min-has s (least_cost system entry.known) (all_diagnoses system entry.known), tt)
     when_open-has s entry h Next = (next-has s (all_diagnoses system entry.known) entry.point, tt)
     when_open-has s entry h (Several count) =
-        let ds = all_diagnoses system entry.known in steps-have (next_of system s ds) (next-has s ds) count entry.point
+        let ds = all_diagnoses system entry.known in listing-have (next_of system s ds) (next-has s ds) count entry.point
     when_open-has s entry h (After names) =
         chosen (list_all (λ name. is_among system.parts name) names) (becomes s (record entry { point = Some (state_of names system.parts) }) (codes "ok")) (Declined NoPart) ((_, refl), tt) tt
     when_open-has s entry h (Probe name) =

@@ -11,9 +11,9 @@ use Rattle.script_lang.specs.Script.{Line, Blank, Refused, Ask, Request, Start, 
 use Rattle.session_rules.specs.declared.refusal.Refusal.{Refusal}
 use Rattle.session_rules.specs.declared.refusal.Refusal.TheVariants.{NoWire}
 use Rattle.session_rules.specs.Items.{Item, Projected, line}
-use Rattle.session_rules.specs.Replies.{min_line, next_of, repeat_steps, least_at, seen_at, probe_line, probe_lines, count_text, if_any, end_line, blame_lines}
+use Rattle.session_rules.specs.Replies.{min_line, next_of, listing, point_after, least_at, seen_at, probe_line, probe_lines, count_text, if_any, end_line, blame_lines}
 use Rattle.session_rules.specs.Sessions.{Entry, Table, Step, Outcome, entry_of, carried, when_open, outcome, outcome_in, at_place, tells, moved, step, run, replies}
-use Rattle.session_rules.specs.Moves.{left_by, listing, goes_on, listing_moves, moves, line_moves, script_moves}
+use Rattle.session_rules.specs.Moves.{left_by, goes_on, listing_moves, moves, line_moves, script_moves}
 use Rattle.session_rules.proofs.CaseSizes.{IsCaseOf, HasCasesOf}
 use Rattle.session_rules.proofs.Keeping.{step-keeps}
 use Rattle.session_rules.proofs.Whole.{line_moves-whole}
@@ -74,7 +74,8 @@ module _ (system : System) (consistent : Case → List (List Bool)) (same : (kno
   when_open-same s entry Next h =
       ap (λ hs. let n = next_of system s (diagnoses system.costs hs) entry.point in moved entry n.point (n.item ∷ [])) (same entry.known h)
   when_open-same s entry (Several count) h =
-      ap (λ hs. let l = repeat_steps (next_of system s (diagnoses system.costs hs)) count entry.point in moved entry l.point l.items) (same entry.known h)
+      ap (λ found. moved entry (point_after entry.point found) (map (λ f. f.item) found))
+      (ap (λ hs. listing (next_of system s (diagnoses system.costs hs)) count entry.point) (same entry.known h))
   when_open-same s entry (After names) h = refl
   when_open-same s entry (Probe name) h =
       same_place NoWire

@@ -1,12 +1,12 @@
 -- Moves taken whole are steps.
-use Rattle.std.proofs.Common.{◌≡◌, ℕ, zero, suc, Bool, true, false, List, [], ◌∷◌, ◌++◌, map, refl, ap, ap₂, sym, ◌∙◌, Option, Some, None, append_assoc, append-nil}
+use Rattle.std.proofs.Common.{◌≡◌, ℕ, suc, Bool, List, [], ◌∷◌, ◌++◌, map, refl, ap, ap₂, sym, ◌∙◌, Option, Some, None, append_assoc, append-nil}
 use Rattle.std.specs.Prelude.{nat_le, length}
 use Rattle.text_rules.specs.Names.{Name}
 use Rattle.ranking.specs.Systems.{System, all_diagnoses}
 use Rattle.script_lang.specs.Script.{Line, Ask, Several, line_of}
-use Rattle.session_rules.specs.Replies.{Found, Listed, next_of, repeat_steps}
+use Rattle.session_rules.specs.Replies.{Found, next_of, point_after}
 use Rattle.session_rules.specs.Sessions.{Table, Entry, Step, with_entry, entry_of, carried, outcome, step, run, replies}
-use Rattle.session_rules.specs.Moves.{said, left_by, whole, listing, goes_on, listing_moves, moves, line_moves, line_step, script_moves}
+use Rattle.session_rules.specs.Moves.{said, left_by, whole, goes_on, listing_moves, moves, line_moves, line_step, script_moves}
 
 -- the table that lines leave which are answered one after the other
 abbrev pub after_lines : (Table → List ℕ → Step) → Table → List (List ℕ) → Table
@@ -16,34 +16,22 @@ after_lines step_by table (l ∷ lines) = after_lines step_by (step_by table l).
 one_move : (table : Table) (s : Step) → whole table (s ∷ []) ≡ s
 one_move table s = ap (λ items. record { table = s.table; items = items }) (append-nil s.items)
 
-module _ (table : Table) (session : Name) (entry : Entry) (next : Option (List Bool) → Found) where
-  -- a listing as one step
-  abbrev listed : Listed → Step
-  listed l = record { table = with_entry session (record entry { point = l.point }) table; items = l.items }
-
-  -- more steps, or none
-  abbrev later : Bool → ℕ → Option (List Bool) → List Found
-  later more n point = elim more as (λ _. List Found) [ true ↦ listing next n point | false ↦ [] ]
-
-  abbrev found_first : Bool → ℕ → Found → Listed
-  found_first more n f =
-      elim more as (λ _. Listed) [
-        | true ↦ (let more = repeat_steps next n f.point in record { items = f.item ∷ more.items; point = more.point })
-        | false ↦ record { items = f.item ∷ []; point = f.point }
-      ]
-
-  listing-whole : (n : ℕ) (more : Bool) (f : Found) (before : Table) → whole before (map (goes_on table session entry) (f ∷ later more n f.point)) ≡ listed (found_first more n f)
-  listing-whole n false f before = refl
-  listing-whole zero true f before = refl
-  listing-whole (suc n) true f before =
-      ap (λ s. record { table = s.table; items = f.item ∷ s.items }) (listing-whole n (next f.point).more (next f.point) (goes_on table session entry f).table)
+-- The moves of what was found come to one step.
+module _ (table : Table) (session : Name) (entry : Entry) where
+  goes_on-whole : (f : Found) (found : List Found) (before : Table) → whole before (map (goes_on table session entry) (f ∷ found))
+      ≡ record {
+        table = with_entry session (record entry { point = point_after f.point found }) table;
+        items = map (λ f. f.item) (f ∷ found);
+      }
+  goes_on-whole f [] before = refl
+  goes_on-whole f (g ∷ found) before =
+      ap (λ s. record { table = s.table; items = f.item ∷ s.items }) (goes_on-whole g found (goes_on table session entry f).table)
 
 listing_moves-whole : (system : System) (table : Table) (session : Name) (full : Bool) (n : ℕ) (entry : Option Entry)
     → whole table (listing_moves system table session (suc n) entry) ≡ carried table session (outcome system session full entry (Several (suc n)))
 listing_moves-whole system table session full n None = one_move table _
 listing_moves-whole system table session full n (Some entry) =
-    let next = next_of system session (all_diagnoses system entry.known) in
-    listing-whole table session entry next n (next entry.point).more (next entry.point) table
+    goes_on-whole table session entry (next_of system session (all_diagnoses system entry.known) entry.point) _ table
 
 moves-whole : (system : System) (limit : ℕ) (table : Table) (l : Line) → whole table (moves system limit table l) ≡ step system limit table l
 moves-whole system limit table (Ask session (Several (suc n))) = listing_moves-whole system table session (nat_le limit (length table)) n (entry_of session table)

@@ -1,11 +1,11 @@
 -- A line's step, reply by reply.
-use Rattle.std.specs.Prelude.{ℕ, zero, suc, Bool, true, false, List, [], ◌∷◌, ◌++◌, map, Option, Some, None}
+use Rattle.std.specs.Prelude.{ℕ, suc, List, [], ◌∷◌, ◌++◌, map, Option, Some, None}
 use Rattle.text_rules.specs.Names.{Name}
 use Rattle.ranking.specs.Systems.{System, all_diagnoses}
 use Rattle.script_lang.specs.Script.{Line, Ask, Several, line_of}
 use Rattle.session_rules.specs.declared.refusal.Refusal.TheVariants.{NoSession}
 use Rattle.session_rules.specs.Items.{Item}
-use Rattle.session_rules.specs.Replies.{Found, next_of}
+use Rattle.session_rules.specs.Replies.{Found, next_of, listing}
 use Rattle.session_rules.specs.Sessions.{Table, Entry, Step, Declined, with_entry, entry_of, carried, step}
 
 -- what moves say, one after the other
@@ -21,12 +21,6 @@ left_by table (move ∷ moves) = left_by move.table moves
 -- all of them as one step
 abbrev pub whole : Table → List Step → Step
 whole table moves = record { table = left_by table moves; items = said moves }
-
--- what at most so many steps find, up to the first that finds nothing
-abbrev pub listing : (Option (List Bool) → Found) → ℕ → Option (List Bool) → List Found
-listing next zero point = []
-listing next (suc n) point =
-    let f = next point in f ∷ (elim f.more as (λ _. List Found) [ true ↦ listing next n f.point | false ↦ [] ])
 
 -- the session goes on after what was found
 abbrev pub goes_on : Table → Name → Entry → Found → Step

@@ -50,20 +50,16 @@ diagnosis_line system session state = line (session ∷ codes "diag" ∷ faulty_
 abbrev pub next_of : System → Name → List (List Bool) → Option (List Bool) → Found
 next_of system session ds point = found session (diagnosis_line system session) point ds (rest ds point)
 
--- what some steps wrote, and the point after them
-pub record Listed : Type 0 where
-  pub items : List Item
-  pub point : Option (List Bool)
+-- what at most so many steps find, up to the first that finds nothing
+abbrev pub listing : (Option (List Bool) → Found) → ℕ → Option (List Bool) → List Found
+listing next zero point = []
+listing next (suc n) point =
+    let f = next point in f ∷ (elim f.more as (λ _. List Found) [ true ↦ listing next n f.point | false ↦ [] ])
 
--- at most so many steps, up to the first that finds nothing
-abbrev pub repeat_steps : (Option (List Bool) → Found) → ℕ → Option (List Bool) → Listed
-repeat_steps next zero point = record { items = []; point = point }
-repeat_steps next (suc n) point =
-    let f = next point in
-    elim f.more [
-      | true ↦ (let more = repeat_steps next n f.point in record { items = f.item ∷ more.items; point = more.point })
-      | false ↦ record { items = f.item ∷ []; point = f.point }
-    ]
+-- the point after what was found
+abbrev pub point_after : Option (List Bool) → List Found → Option (List Bool)
+point_after point [] = point
+point_after point (f ∷ found) = point_after f.point found
 
 -- the least cost where a wire is seen so too, if that is not against what was seen
 abbrev pub least_at : System → Case → ℕ → Bool → Option Bool → Option ℕ

@@ -15,7 +15,7 @@ use Rattle.session_rules.specs.declared.refusal.Refusal.{Refusal}
 use Rattle.session_rules.specs.declared.refusal.Refusal.TheVariants.{NoSession, OpenAlready, Full, NoWire, NoPart}
 use Rattle.session_rules.specs.Refusals.{refusal_number, refusal_text}
 use Rattle.session_rules.specs.Items.{Item, Projected, line}
-use Rattle.session_rules.specs.Replies.{end_line, min_line, next_of, repeat_steps, probe_line, probe_lines, blame_lines, if_any}
+use Rattle.session_rules.specs.Replies.{end_line, min_line, next_of, listing, point_after, probe_line, probe_lines, blame_lines, if_any}
 
 -- what a session knows, and the state after which it goes on
 pub record Entry : Type 0 where
@@ -96,8 +96,8 @@ when_open system s entry Min =
 when_open system s entry Next =
     let f = next_of system s (all_diagnoses system entry.known) entry.point in moved entry f.point (f.item ∷ [])
 when_open system s entry (Several count) =
-    let ds = all_diagnoses system entry.known in
-    let l = repeat_steps (next_of system s ds) count entry.point in moved entry l.point l.items
+    let found = listing (next_of system s (all_diagnoses system entry.known)) count entry.point in
+    moved entry (point_after entry.point found) (map (λ f. f.item) found)
 when_open system s entry (After names) =
     if list_all (λ name. is_among system.parts name) names
     then becomes s (record entry { point = Some (state_of names system.parts) }) (codes "ok")

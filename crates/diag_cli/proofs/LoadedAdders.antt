@@ -17,7 +17,7 @@ use Rattle.adder_load.specs.declared.sampling.Found.{Found}
 use Rattle.adder_load.specs.Readings.{adder_case}
 use Rattle.adder_load.proofs.Cases.{case_seen, case_held}
 use Rattle.session_rules.specs.GraphSystems.{case_words}
-use Rattle.session_rules.proofs.CaseSizes.{IsCaseOf}
+use Rattle.session_rules.specs.CaseSizes.{IsCaseOf}
 use Rattle.session_rules.proofs.Begun.{HaveSpellings}
 use Rattle.session_rules.proofs.Meaning.{same_consistent}
 use Rattle.diag_cli.specs.declared.loading.TheConstants.{LISTED_LIMIT}

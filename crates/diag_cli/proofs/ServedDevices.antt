@@ -1,5 +1,5 @@
 -- A service over a device's graph answers as the device's system does.
-use Rattle.std.proofs.Common.{◌≡◌, ◌≤◌, ◌+◌, ◌*◌, ℕ, List, ◌∷◌, length, sym, subst, arith}
+use Rattle.std.proofs.Common.{◌≡◌, ◌≤◌, ◌+◌, ◌*◌, ℕ, List, [], ◌∷◌, length, sym, subst, arith}
 use Rattle.std.specs.Prelude.{Result, Ok}
 use Rattle.std.proofs.lemmas.List.{length-map}
 use Rattle.graph_rules.specs.Graphs.{Graph, IsGraph}
@@ -16,6 +16,7 @@ use Rattle.dnnf_compiler.proofs.Laws.{graph_of_device}
 use Rattle.session_rules.specs.Items.{Item}
 use Rattle.session_rules.specs.GraphSystems.{compiled_system, system_of}
 use Rattle.session_rules.proofs.GraphReplies.{graph_replies}
+use Rattle.session_rules.proofs.Keeping.{HasCases-empty}
 use Rattle.session_core.specs.Services.{Shown}
 use Rattle.diag_cli.specs.Output.{Output}
 use Rattle.diag_cli.specs.Courses.{ready_line, answers_of, if_within, served_or_refused}
@@ -53,7 +54,7 @@ sound_of device sessions service of =
 -- ---- the same answers
 
 same_answers : (device : Device) (graph : Graph) → IsGraphOf device graph → (sessions : ℕ) → answers_of (compiled_system device graph) sessions ≡ answers_of (device_system device) sessions
-same_answers device graph is sessions = λ k lines. ready_line (device_system device) ∷ graph_replies device graph is sessions lines k
+same_answers device graph is sessions = λ k lines. ready_line (device_system device) ∷ graph_replies device graph is sessions [] (HasCases-empty (device_system device)) lines k
 
 -- What the service of a device answers is what the device's system does. So it follows the course of the device, where its
 -- sum is within the budget.

@@ -17,7 +17,7 @@ use Rattle.session_rules.specs.declared.refusal.Refusal.{Refusal}
 use Rattle.session_rules.specs.declared.refusal.Refusal.TheVariants.{Full, NoWire, NoPart}
 use Rattle.session_rules.specs.Replies.{probe_line, if_any}
 use Rattle.session_rules.specs.Sessions.{Entry, Table, Outcome, Declined, Done, Change, Stays, Becomes, Ends, entry_of, without, changed, carried, when_open, outcome, outcome_in, at_place, becomes, tells, step, with_seen, with_held, state_of, new_entry}
-use Rattle.session_rules.proofs.CaseSizes.{IsCaseOf, HasCasesOf}
+use Rattle.session_rules.specs.CaseSizes.{IsCaseOf, HasCasesOf}
 
 -- the empty table has no case
 pub HasCases-empty : (system : System) → HasCasesOf system []

@@ -6,7 +6,6 @@ pub mod ReplyTexts
 pub mod LineFronts
 pub mod Enumerated
 pub mod Meaning
-pub mod CaseSizes
 pub mod Keeping
 pub mod Same
 pub mod GraphReplies

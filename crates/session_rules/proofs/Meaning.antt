@@ -14,7 +14,7 @@ use Rattle.dnnf_compiler.specs.Compiled.{IsGraphOf}
 use Rattle.conditioner.specs.Words.{known_of}
 use Rattle.conditioner.specs.Models.{has_model, fits_words}
 use Rattle.session_rules.specs.GraphSystems.{word_of_known, case_words, compiled_system}
-use Rattle.session_rules.proofs.CaseSizes.{IsCaseOf}
+use Rattle.session_rules.specs.CaseSizes.{IsCaseOf}
 use Rattle.session_rules.proofs.Enumerated.{Agree, passing-same, any-same, any-split, any-and}
 
 -- what is known of some bits and of others behind them

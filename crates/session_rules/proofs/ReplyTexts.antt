@@ -20,7 +20,7 @@ use Rattle.session_rules.specs.Moves.{left_by, line_moves, script_moves}
 use Rattle.session_rules.specs.Spelling.{Spelled, WritesPart}
 use Rattle.session_rules.specs.Carrying.{BreaksOff}
 use Rattle.session_rules.specs.GraphSystems.{Subject, system_of, case_words}
-use Rattle.session_rules.proofs.CaseSizes.{IsCaseOf, HasCasesOf}
+use Rattle.session_rules.specs.CaseSizes.{IsCaseOf, HasCasesOf}
 use Rattle.session_rules.proofs.Begun.{HaveSpellings, have_both}
 use Rattle.session_rules.proofs.Broken.{breaks_before, script_moves-append, broken_replies}
 use Rattle.session_rules.proofs.CaseWords.{length-case_words}

@@ -14,7 +14,7 @@ use Rattle.session_rules.specs.Items.{Item, Projected, line}
 use Rattle.session_rules.specs.Replies.{min_line, next_of, listing, point_after, least_at, seen_at, probe_line, probe_lines, count_text, if_any, end_line, blame_lines}
 use Rattle.session_rules.specs.Sessions.{Entry, Table, Step, Outcome, entry_of, carried, when_open, outcome, outcome_in, at_place, tells, moved, step, run, replies}
 use Rattle.session_rules.specs.Moves.{left_by, goes_on, listing_moves, moves, line_moves, script_moves}
-use Rattle.session_rules.proofs.CaseSizes.{IsCaseOf, HasCasesOf}
+use Rattle.session_rules.specs.CaseSizes.{IsCaseOf, HasCasesOf}
 use Rattle.session_rules.proofs.Keeping.{step-keeps}
 use Rattle.session_rules.proofs.Whole.{line_moves-whole}
 

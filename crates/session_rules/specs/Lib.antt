@@ -5,6 +5,7 @@ pub mod Sessions
 pub mod Moves
 pub mod Spelling
 pub mod Carrying
+pub mod CaseSizes
 pub mod CaseWords
 pub mod GraphSystems
 pub mod Alone

@@ -1,5 +1,6 @@
 //! Laws about the definitions of this crate. Each is the contract of a function that does nothing.
-ghost use Rattle.std.specs.Prelude.{◌≡◌, ℕ, List, []};
+ghost use Rattle.std.specs.Prelude.{◌≡◌, ℕ, List};
+ghost use Rattle.ranking.specs.Cases.{Case};
 ghost use Rattle.ranking.specs.Systems.{System};
 ghost use Rattle.graph_rules.specs.Graphs.{Graph};
 ghost use Rattle.device_model.specs.Devices.{Device};
@@ -7,8 +8,9 @@ ghost use Rattle.device_model.specs.Diagnosis.{device_system};
 ghost use Rattle.dnnf_compiler.specs.Compiled.{IsGraphOf};
 ghost use Rattle.script_lang.specs.Script.{Line};
 ghost use Rattle.session_rules.specs.Alone.{AreAnsweredAlone, IsItsOwn};
+ghost use Rattle.session_rules.specs.CaseSizes.{IsCaseOf, HasCasesOf};
 ghost use Rattle.session_rules.specs.GraphSystems.{compiled_system};
-ghost use Rattle.session_rules.specs.Moves.{line_moves, script_moves};
+ghost use Rattle.session_rules.specs.Moves.{whole, line_moves, line_step, script_moves};
 ghost use Rattle.session_rules.specs.Sessions.{Table, replies};
 
 /// Each session is answered as if it were alone: wherever it opens among some lines, its own lines from there to its end have
@@ -24,12 +26,28 @@ pub fn is_its_own()
     ensures { (system : System) (limit : ℕ) (line : Line) → IsItsOwn system limit line }
 {}
 
+/// The moves of a line, taken whole, are its step, over any system.
+pub fn moves_are_steps()
+    ensures { (system : System) (limit : ℕ) (table : Table) (line : List ℕ)
+        → whole table (line_moves system limit table line) ≡ line_step system limit table line }
+{}
+
+/// Over a graph that is true exactly where a device fits, a case that has a place for each wire and each part of the device has
+/// the consistent states that it has over the device.
+pub fn same_states()
+    ensures { (device : Device) (graph : Graph) → IsGraphOf device graph → (known : Case)
+        → IsCaseOf (device_system device) known
+        → (compiled_system device graph).consistent known ≡ (device_system device).consistent known }
+{}
+
 /// Over a graph that is true exactly where a device fits every script has the replies that it has over the device, move by
-/// move.
+/// move, from any table on whose cases have a place for each wire and each part of the device. The empty table is one.
 pub fn graph_replies()
-    ensures replies { (device : Device) (graph : Graph) → IsGraphOf device graph → (limit : ℕ) (lines : List (List ℕ))
-        → replies (compiled_system device graph) limit [] lines ≡ replies (device_system device) limit [] lines }
-    ensures moves { (device : Device) (graph : Graph) → IsGraphOf device graph → (limit : ℕ) (lines : List (List ℕ))
-        → script_moves (line_moves (compiled_system device graph) limit) [] lines
-        ≡ script_moves (line_moves (device_system device) limit) [] lines }
+    ensures replies { (device : Device) (graph : Graph) → IsGraphOf device graph → (limit : ℕ) (table : Table)
+        → HasCasesOf (device_system device) table → (lines : List (List ℕ))
+        → replies (compiled_system device graph) limit table lines ≡ replies (device_system device) limit table lines }
+    ensures moves { (device : Device) (graph : Graph) → IsGraphOf device graph → (limit : ℕ) (table : Table)
+        → HasCasesOf (device_system device) table → (lines : List (List ℕ))
+        → script_moves (line_moves (compiled_system device graph) limit) table lines
+        ≡ script_moves (line_moves (device_system device) limit) table lines }
 {}

@@ -1,7 +1,7 @@
 //! The program `diag`.
 #![tactic(auto)]
 
-use diag_cli::{FileShelf, StdSink, StdSource, diag, say, words_of};
+use diag_cli::{FileShelf, Refusal, StdSink, StdSource, diag, tell, words_of};
 use std::io;
 use std::process::ExitCode;
 
@@ -10,7 +10,7 @@ fn main(rt: HostRuntime) -> ExitCode {
     let mut out = StdSink::new(io::writer(&rt));
     let mut input = StdSource::new(rt.reader());
     let Ok(words) = words_of(&rt, alloc) else {
-        return ExitCode::from(say(&mut out, b"error: memory\n", 6));
+        return ExitCode::from(tell(&mut out, Refusal::Memory));
     };
     let mut shelf = FileShelf::new(rt);
     ExitCode::from(diag(alloc, &words, &mut shelf, &mut input, &mut out))

@@ -1,6 +1,8 @@
--- Worked rows: what words ask for. Their check computes both sides.
-use Rattle.std.proofs.Common.{◌≡◌, [], ◌∷◌, Some, None, codes, refl}
+-- Worked rows: what words ask for, and how a script ends. Their check computes both sides.
+use Rattle.std.proofs.Common.{◌≡◌, ℕ, List, [], ◌∷◌, map, Some, None, codes, refl}
+use Rattle.session_rules.specs.Items.{Item, Plain}
 use Rattle.diag_cli.specs.Words.{Load, Over, Serve, Plan, Check, Compile, form_of}
+use Rattle.diag_cli.specs.Courses.{Ended, Failed, Cut, read_error, script_too_long, served}
 
 -- ---- words with a form
 
@@ -104,3 +106,23 @@ compile_with_sessions = refl
 
 plan_with_a_budget : form_of (codes "plan" ∷ codes "c.bench" ∷ codes "--budget" ∷ codes "5" ∷ []) ≡ None
 plan_with_a_budget = refl
+
+-- ---- scripts
+
+-- a script of one line and a half, where each line is answered by itself
+abbrev half : List ℕ
+half = codes "open S\nmin"
+
+abbrev itself : List (List ℕ) → List Item
+itself lines = map Plain lines
+
+-- at the end of the input the last line is answered too
+ended : served itself half Ended ≡ record { items = Plain (codes "open S") ∷ Plain (codes "min") ∷ []; status = 0 }
+ended = refl
+
+-- where a read fails, or at the limit, only those that a line feed had ended
+failed : served itself half Failed ≡ record { items = Plain (codes "open S") ∷ Plain read_error ∷ []; status = 4 }
+failed = refl
+
+cut : served itself half Cut ≡ record { items = Plain (codes "open S") ∷ Plain script_too_long ∷ []; status = 7 }
+cut = refl

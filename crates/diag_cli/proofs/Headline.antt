@@ -244,7 +244,7 @@ module _ (held : List ℕ → Holding) (shelf new_shelf input : Reading) (out ne
       read_fault = λ whole. ((λ four. inl moves), λ rises. (said.whole whole).0);
       usage = λ whole. ((λ two. absurd (known (says read_error 4) said 2 two (λ e. absurd (omega (arith, e))) (λ e. absurd (omega (arith, e))))), λ none. absurd (let never : ⊥ = cc in never));
       no_name = λ none. absurd (let never : ⊥ = cc in never);
-      absent_file = λ gone whole. (said.whole whole).0;
+      absent_file = λ gone. moves;
       no_file = λ rises. (idle, said);
       not_asked = λ asks. idle;
       no_script = some_all (told_bytes (held path)) (λ file output course. idle);

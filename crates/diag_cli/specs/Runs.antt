@@ -41,7 +41,7 @@ pub record IsRun (form : Option Form) (held : List ℕ → Holding) (shelf new_s
   -- Where no file is named, nothing is read of the shelf.
   pub no_name : named_file form ≡ None → IsIdle shelf new_shelf
   -- A file that is absent cannot be read. Where the file is not read, the script is not begun, and one line is written.
-  pub absent_file : IfSome (named_file form) (λ name. held name ≡ absent → status ≢ 5 → status ≡ 4)
+  pub absent_file : IfSome (named_file form) (λ name. held name ≡ absent → shelf.faults < new_shelf.faults)
   pub no_file : shelf.faults < new_shelf.faults → IsIdle input new_input × Gives (says read_error 4) status out.got new_out.got
   -- Where the words ask for no script, none is read, and where the file is refused neither.
   pub not_asked : asks_script form ≡ false → IsIdle input new_input

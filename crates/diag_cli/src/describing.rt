@@ -1,13 +1,11 @@
-ghost use Rattle.std.specs.Prelude.{◌≡◌, ◌≤◌, length, Some};
+ghost use Rattle.std.specs.Prelude.{◌≤◌, length};
 ghost use Rattle.bench_reader.specs.Netlists.{netlist};
 ghost use Rattle.component_lang.specs.Reading.{design};
 ghost use Rattle.flattener.specs.Flat.{flattened};
-ghost use Rattle.diag_edge.specs.ErrorLines.{above_line};
 ghost use Rattle.diag_cli.specs.Describing.{netlist_line, flatten_line, or_line, design_device, described};
-ghost use Rattle.diag_cli.specs.Output.{says};
-ghost use Rattle.diag_cli.specs.Refusals.{Finds, told_by};
+ghost use Rattle.diag_cli.specs.Refusals.{Finds};
 
-use crate::refusal::Refusal;
+use crate::refusal::{Refusal, above};
 use crate::words::is_design_path;
 use bench_reader::{BenchError, read_bench};
 use component_lang::{Design, LangError, read_lang};
@@ -29,17 +27,6 @@ pub(crate) fn netlist_device(alloc: Global, text: &[u8]) -> Result<Device, Refus
             name: what.name(),
         }),
         Err(BenchError::Memory) => Err(Refusal::Memory),
-    }
-}
-
-/// The refusal that tells a count above its limit.
-pub fn above(what: &'static str, count: u64, limit: usize) -> Refusal
-    ensures { told_by result ≡ Some (says (above_line what.now count limit) 1) }
-{
-    Refusal::Above {
-        what,
-        count,
-        limit: limit as u64,
     }
 }
 

@@ -30,7 +30,7 @@ pub(crate) fn graph_within(
     ensures vars { IfOk result (λ found. found.1.vars ≡ found.0.vars) }
     ensures few_nodes { IfOk result (λ found. length found.1.nodes ≤ 3 * sum_of found.0.clauses + 2 * found.0.vars + 2) }
 {
-    // parts and wires of a device are few
+    // Its contract says that a device has few parts and wires.
     let _parts = device.parts();
     let cnf = clauses_of(alloc, device)?;
     match compile_within(alloc, &cnf, budget) {

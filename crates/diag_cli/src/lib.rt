@@ -17,9 +17,9 @@ mod weighing;
 mod words;
 
 pub use adapters::{FileShelf, StdSink, StdSource, words_of};
-pub use describing::{above, described};
+pub use describing::described;
 pub use program::diag;
-pub use refusal::{Refusal, tell};
-pub use saying::{say, say_load_error};
+pub use refusal::{Refusal, above, tell};
+pub use saying::{say, say_load_error, say_usage};
 pub use weighing::clauses_of;
 pub use words::{is_design_path, is_device_path};

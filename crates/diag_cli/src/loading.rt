@@ -47,10 +47,8 @@ fn adder_device(alloc: Global, places: u32) -> Result<Device, Refusal>
     requires { places ≤ PLACE_LIMIT }
     ensures { Finds (or_line netlist_line (netlist (adder_text places))) result }
 {
-    match adder_text(alloc, places) {
-        Ok(text) => netlist_device(alloc, &text),
-        Err(_) => Err(Refusal::Memory),
-    }
+    let text = adder_text(alloc, places)?;
+    netlist_device(alloc, &text)
 }
 
 // The summary of an adder by its graph. All memory that it needs is taken here.
@@ -105,10 +103,7 @@ fn summary_within(alloc: Global, device: Device, places: u32) -> Result<Summary,
 {
     let (cnf, graph) = graph_within(alloc, &device, DEFAULT_BUDGET)?;
     let clauses = u64::from(cnf.len());
-    match summary_by::<Brand>(alloc, Blank::new(1), device, &graph, clauses, places) {
-        Ok(summary) => Ok(summary),
-        Err(_) => Err(Refusal::Memory),
-    }
+    Ok(summary_by::<Brand>(alloc, Blank::new(1), device, &graph, clauses, places)?)
 }
 
 // The summary of the adder of so many places.

@@ -5,7 +5,7 @@ ghost use Rattle.diag_cli.specs.inner.Forms.{command_meant, IsCommandWithin};
 
 use crate::loading::load_adder;
 use crate::run::run_file;
-use crate::saying::{say, say_load_error};
+use crate::saying::{say_load_error, say_usage};
 use crate::words::{Command, Form, form_of};
 use diag_edge::{Shelf, Sink, Source, load};
 use std::alloc::Global;
@@ -67,7 +67,7 @@ pub fn diag<H: Shelf, I: Source, O: Sink>(
         (record { got = O.got out.new; faults = O.faults out.new }) result }
 {
     match form_of(words) {
-        None => say(out, b"error: usage\n", 2),
+        None => say_usage(out),
         Some(Form::Load { places }) => load_adder(alloc, places, out),
         Some(Form::Over { path, command }) => run_over(alloc, path, command, shelf, input, out),
     }

@@ -1,10 +1,11 @@
-ghost use Rattle.std.specs.Prelude.{◌≡◌, ◌≢◌, ◌⊎◌, ◌-◌, ◌^◌, ◌<◌};
+ghost use Rattle.std.specs.Prelude.{◌≡◌, ◌≢◌, ◌⊎◌, ◌-◌, ◌^◌, ◌<◌, Some};
 ghost use Rattle.diag_edge.specs.Edge.{HasCause, RoseExactly, Puts};
+ghost use Rattle.diag_edge.specs.ErrorLines.{above_line};
 ghost use Rattle.graph_rules.specs.GraphTexts.{Counts, TooLarge, Shared};
 ghost use Rattle.diag_cli.specs.declared.refusal.Refusal.TheVariants.{Memory};
 ghost use Rattle.diag_cli.specs.Checking.{graph_fault_line};
 ghost use Rattle.diag_cli.specs.Planning.{sum_line};
-ghost use Rattle.diag_cli.specs.Output.{Gives};
+ghost use Rattle.diag_cli.specs.Output.{Gives, says};
 ghost use Rattle.diag_cli.specs.Refusals.{refusal_line, refusal_status, told_by, or_memory};
 
 use diag_edge::{Sink, WriteFailed, put_above, put_fault, put_line};
@@ -70,6 +71,17 @@ impl Refusal {
             Refusal::Memory => 6,
             _ => 1,
         }
+    }
+}
+
+/// The refusal that tells a count above its limit.
+pub fn above(what: &'static str, count: u64, limit: usize) -> Refusal
+    ensures { told_by result ≡ Some (says (above_line what.now count limit) 1) }
+{
+    Refusal::Above {
+        what,
+        count,
+        limit: limit as u64,
     }
 }
 

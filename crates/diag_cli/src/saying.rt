@@ -1,8 +1,9 @@
 ghost use Rattle.std.specs.Prelude.{◌≡◌, ◌≢◌, ◌⊎◌, ℕ, ◌-◌, ◌^◌, ◌<◌};
 ghost use Rattle.diag_edge.specs.Edge.{RoseExactly};
 ghost use Rattle.diag_cli.specs.Output.{Gives, says};
-ghost use Rattle.diag_cli.specs.Courses.{not_loaded};
+ghost use Rattle.diag_cli.specs.Courses.{read_error, usage_line, not_loaded};
 
+use crate::refusal::{Refusal, tell};
 use diag_edge::{LoadError, Sink};
 use text_rules::TEXT_LIMIT;
 
@@ -21,6 +22,26 @@ pub fn say<O: Sink>(out: &mut O, text: &[u8], status: u8) -> u8
     }
 }
 
+/// Tells that a read failed and answers 4, or 5 where the write failed.
+pub(crate) fn say_read_fault<O: Sink>(out: &mut O) -> u8
+    requires faults { O.faults out.old < 2 ^ 64 - 1 }
+    ensures write_fault { RoseExactly (O.faults out.old) (O.faults out.new) (result ≡ 5) }
+    ensures either { (result ≡ 4) ⊎ (result ≡ 5) }
+    ensures said { Gives (says read_error 4) result (O.got out.old) (O.got out.new) }
+{
+    say(out, b"error: read\n", 4)
+}
+
+/// Tells that the words of the command line have no form and answers 2, or 5 where the write failed.
+pub fn say_usage<O: Sink>(out: &mut O) -> u8
+    requires faults { O.faults out.old < 2 ^ 64 - 1 }
+    ensures write_fault { RoseExactly (O.faults out.old) (O.faults out.new) (result ≡ 5) }
+    ensures either { (result ≡ 2) ⊎ (result ≡ 5) }
+    ensures said { Gives (says usage_line 2) result (O.got out.old) (O.got out.new) }
+{
+    say(out, b"error: usage\n", 2)
+}
+
 /// Tells why a file of at most `TEXT_LIMIT` bytes was not read and answers the status, or 5 where the write failed.
 pub fn say_load_error<O: Sink>(out: &mut O, error: LoadError) -> u8
     requires limit { (limit : ℕ) → error ≡ LoadError.Long limit → limit ≡ TEXT_LIMIT }
@@ -29,8 +50,8 @@ pub fn say_load_error<O: Sink>(out: &mut O, error: LoadError) -> u8
     ensures said { Gives (not_loaded error) result (O.got out.old) (O.got out.new) }
 {
     match error {
-        LoadError::Failed => say(out, b"error: read\n", 4),
+        LoadError::Failed => say_read_fault(out),
         LoadError::Long { limit: _ } => say(out, b"error: file above 16777216 bytes\n", 1),
-        LoadError::Memory => say(out, b"error: memory\n", 6),
+        LoadError::Memory => tell(out, Refusal::Memory),
     }
 }

@@ -12,7 +12,7 @@ ghost use Rattle.diag_cli.specs.inner.Serving.{IsServable, IsServiceOf, IsSound}
 use crate::describing::described;
 use crate::graphs::{costs_of, graph_within};
 use crate::refusal::{Refusal, tell};
-use crate::saying::say;
+use crate::saying::{say, say_read_fault};
 use branch_states::BUDGET_LIMIT;
 use device_model::Device;
 use diag_edge::{Sink, Source, WriteFailed, put_line};
@@ -37,16 +37,10 @@ fn service_over(
     ensures service { IfOk result (IsServiceOf device sessions) }
     ensures memory { IfErr result (λ refusal. refusal ≡ Refusal.Memory) }
 {
-    // the names of a device rise, and are few
+    // Its contract says that the names of a device rise, and are few.
     let _parts = device.parts();
-    let costs = match costs_of(alloc, &device) {
-        Ok(costs) => costs,
-        Err(_) => return Err(Refusal::Memory),
-    };
-    let (parts, wires) = match device.take_names(alloc) {
-        Ok(names) => names,
-        Err(_) => return Err(Refusal::Memory),
-    };
+    let costs = costs_of(alloc, &device)?;
+    let (parts, wires) = device.take_names(alloc)?;
     match Service::over(alloc, parts, wires, costs, graph, sessions) {
         Ok(service) => Ok(service),
         Err(_) => Err(Refusal::Memory),
@@ -110,7 +104,7 @@ fn answer<I: Source, O: Sink>(service: &mut Service, input: &mut I, out: &mut O)
     match service.serve(input, out, SCRIPT_LIMIT) {
         ServeEnd::Done => 0,
         ServeEnd::WriteFault => 5,
-        ServeEnd::ReadFault => say(out, b"error: read\n", 4),
+        ServeEnd::ReadFault => say_read_fault(out),
         ServeEnd::Limit => say(out, b"error: script above 1099511627776 bytes\n", 7),
     }
 }

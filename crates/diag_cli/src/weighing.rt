@@ -5,8 +5,7 @@ ghost use Rattle.branch_states.specs.Branches.{sum_of};
 ghost use Rattle.diag_cli.specs.Planning.{within};
 ghost use Rattle.diag_cli.specs.Refusals.{told_by};
 
-use crate::describing::above;
-use crate::refusal::Refusal;
+use crate::refusal::{Refusal, above};
 use branch_states::{BUDGET_LIMIT, MeasureError, measure};
 use clause_encoder::{CLAUSE_LIMIT, Cnf, EncodeError, encode};
 use device_model::Device;

@@ -9,7 +9,7 @@ pub returns-in-None : goal.returns-in-None
 returns-in-None g c =
     let old = c.args.shelf.now in
     let shelf : Reading = record { left = g.H.Source.left old; taken = g.H.Source.taken old; faults = g.H.Source.faults old } in
-    rw (← c.in-None.ensures.form) (run_usage _ shelf shelf _ _ _ _ c.say.ensures.write_fault c.say.ensures.said)
+    rw (← c.in-None.ensures.form) (run_usage _ shelf shelf _ _ _ _ c.say_usage.ensures.write_fault c.say_usage.ensures.said)
 
 pub returns-in-Some-Load : goal.returns-in-Some-Load
 returns-in-Some-Load g c =

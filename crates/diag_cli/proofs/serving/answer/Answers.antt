@@ -75,7 +75,7 @@ pub returns-in-ReadFault-clause-served : goal.returns-in-ReadFault-clause-served
 returns-in-ReadFault-clause-served g c =
     let shown = c.args.service.now in
     let done = c.in-ReadFault.ensures.served in
-    let said = c.say.ensures.said in
+    let said = c.say_read_fault.ensures.said in
     record {
       answer = inr (inl (record {
         bytes = done.0;
@@ -92,7 +92,7 @@ pub returns-in-Limit-clause-served : goal.returns-in-Limit-clause-served
 returns-in-Limit-clause-served g c =
     let shown = c.args.service.now in
     let done = c.in-Limit.ensures.served in
-    let said = c.say-in-Limit.ensures.said in
+    let said = c.say.ensures.said in
     record {
       answer = inr (inl (record {
         bytes = done.0;

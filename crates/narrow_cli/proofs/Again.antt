@@ -1,5 +1,5 @@
 -- A text under new names is read as the device under these names.
-use Rattle.std.proofs.Common.{◌≡◌, ◌≤◌, ◌^◌, ℕ, Bool, true, false, List, length, Some, Ok, Err, Result, sym, ap, ◌∙◌}
+use Rattle.std.proofs.Common.{◌≡◌, ◌≤◌, ◌^◌, ℕ, Bool, true, false, List, ◌++◌, length, Option, Some, Ok, Err, Result, sym, ap, ◌∙◌}
 use Rattle.std.specs.Prelude.{if◌then◌else◌}
 use Rattle.device_model.specs.Devices.{Device, IsDevice}
 use Rattle.bench_reader.specs.Netlists.{netlist}
@@ -7,7 +7,7 @@ use Rattle.component_lang.specs.Designs.{Design}
 use Rattle.component_lang.specs.Reading.{Fault, design}
 use Rattle.flattener.specs.declared.flattening.FlattenError.{FlattenError}
 use Rattle.flattener.specs.Flat.{flattened}
-use Rattle.netlist_writer.specs.Writing.{netlist_text}
+use Rattle.netlist_writer.specs.Writing.{netlist_text, sums_line}
 use Rattle.netlist_writer.proofs.Gates.{read_netlist}
 use Rattle.netlist_writer.proofs.Renamed.{is_read_back}
 use Rattle.design_writer.specs.Writing.{design_text}
@@ -44,7 +44,7 @@ from_design (Err fault) device is = absurd (let never : ⊥ = cc in never)
 
 -- ---- by the path
 
-abbrev read_as : Bool → List ℕ → Result Device Output
+abbrev pub read_as : Bool → List ℕ → Result Device Output
 read_as is_design text = if is_design then design_device (design text) else or_line netlist_line (netlist text)
 
 again : (is_design : Bool) (device : Device) (text : List ℕ) (new : Device) → IsDevice device → IsRenamable is_design device → IsTextBy is_design device text new
@@ -54,6 +54,16 @@ again true device text new valid flat is =
     ∙ (is_design_back device is.parts is.wires valid flat.0 flat.1 is.each_part is.each_wire).bare ∙ ap Some (sym is.names))
 again false device text new valid net is =
     ap (or_line netlist_line) (ap netlist (is.is_text ∙ ap netlist_text is.names) ∙ (is_read_back is.order device valid net is.each_once).bare ∙ ap Ok (sym is.names))
+
+-- also behind the line of the sums
+pub again_behind : (is_design : Bool) (device : Device) (text : List ℕ) (new : Device) → IsDevice device → IsRenamable is_design device → IsTextBy is_design device text new
+    → (limit : ℕ) (before after : Option ℕ) → read_as is_design (sums_line limit before after ++ text) ≡ Ok new
+again_behind true device text new valid flat is limit before after =
+    by_design (design (sums_line limit before after ++ text)) new (ap (λ t. device_of_text (sums_line limit before after ++ t)) (is.is_text ∙ ap design_text is.names)
+    ∙ (is_design_back device is.parts is.wires valid flat.0 flat.1 is.each_part is.each_wire).whole limit before after ∙ ap Some (sym is.names))
+again_behind false device text new valid net is limit before after =
+    ap (or_line netlist_line) (ap (λ t. netlist (sums_line limit before after ++ t)) (is.is_text ∙ ap netlist_text is.names)
+    ∙ (is_read_back is.order device valid net is.each_once).whole limit before after ∙ ap Ok (sym is.names))
 
 pub read_again : (path : List ℕ) (device : Device) (text : List ℕ) (new : Device) → IsDevice device → IsRenamable (is_design_path path) device → IsTextOf path device text new
     → described path text ≡ Ok new

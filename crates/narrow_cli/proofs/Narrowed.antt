@@ -1,7 +1,7 @@
 -- From the steps of narrowing to what may be written.
-use Rattle.std.proofs.Common.{◌≡◌, ◌<◌, ◌≤◌, ℕ, Bool, true, false, cond, nat_lt, List, ◌++◌, length, Option, Some, None, IfSome, IfOk, IfErr, Ok, Err, Result, codes, refl, sym, ap, subst, ◌∙◌, arith}
-use Rattle.std.specs.Prelude.{is_some}
-use Rattle.std.proofs.lemmas.Bool.{ltb-false, le-ltb}
+use Rattle.std.proofs.Common.{◌≡◌, ◌<◌, ◌≤◌, ℕ, true, false, nat_lt, List, ◌++◌, length, Option, Some, None, IfSome, IfOk, IfErr, Ok, Err, Result, codes, refl, sym, ap, subst, ◌∙◌, arith}
+use Rattle.std.specs.List.{range_with_len}
+use Rattle.std.proofs.lemmas.Bool.{le-ltb}
 use Rattle.std.proofs.lemmas.Result.{IfOk-weaker}
 use Rattle.text_rules.specs.declared.text_lines.TheConstants.{TEXT_LIMIT}
 use Rattle.text_rules.specs.Expected.{IsExpectedFault}
@@ -12,7 +12,7 @@ use Rattle.branch_states.specs.Branches.{sum_of}
 use Rattle.clause_encoder.specs.declared.encoding.EncodeError.{EncodeError}
 use Rattle.clause_encoder.specs.Clauses.{ClauseList}
 use Rattle.clause_encoder.specs.Encoding.{encoded}
-use Rattle.renaming.specs.Renaming.{IsOrder, renamed, reordered}
+use Rattle.renaming.specs.Renaming.{IsOrder, IsNetlist, renamed, reordered}
 use Rattle.netlist_writer.specs.Writing.{netlist_text, sums_line}
 use Rattle.design_writer.specs.Writing.{design_text}
 use Rattle.diag_cli.specs.Output.{Output, says}
@@ -24,11 +24,34 @@ use Rattle.diag_cli.specs.Refusals.{told_by}
 use Rattle.diag_cli.proofs.Headline.{short_file}
 use Rattle.narrow_cli.specs.declared.candidates.Candidate.{Candidate}
 use Rattle.narrow_cli.specs.declared.candidates.TheConstants.{NARROWED_LIMIT}
-use Rattle.narrow_cli.specs.Narrowing.{encodable, if_encodable, narrowable, sum_within, sum_told, IsTextBy, IsTextOf, MayBe, narrowed, too_long, MayBeBy}
-use Rattle.narrow_cli.specs.inner.Candidates.{IsRenamable, IsText, IsCandidate, IsRefusedText}
+use Rattle.narrow_cli.specs.Narrowing.{encodable, if_encodable, narrowable, sum_told, IsTextBy, IsTextOf, IsNoGreater, MayBe, narrowed, too_long, MayBeBy}
+use Rattle.narrow_cli.specs.inner.Candidates.{IsRenamable, IsText, IsGivenText, IsCandidate, IsRefusedText}
 use Rattle.narrow_cli.proofs.Again.{read_again}
+use Rattle.narrow_cli.proofs.Sums.{no_greater_itself}
+use Rattle.narrow_cli.proofs.GivenOrder.{given, given_design, given_netlist}
+use Rattle.narrow_cli.proofs.Written.{is_narrowed}
 
 -- ---- the text under new names
+
+design_text_of : (path : List ℕ) (device : Device) (text parts wires : List ℕ) → is_design_path path ≡ true → IsOrder (length device.parts) parts → IsOrder (length device.wires) wires
+    → text ≡ design_text (reordered parts wires device) → IsTextOf path device text (reordered parts wires device)
+design_text_of path device text parts wires is each_part each_wire same = subst (λ b. IsTextBy b device text (reordered parts wires device)) (sym is) (record {
+  parts = parts;
+  wires = wires;
+  each_part = each_part;
+  each_wire = each_wire;
+  names = refl;
+  is_text = same;
+})
+
+netlist_text_of : (path : List ℕ) (device : Device) (text order : List ℕ) → is_design_path path ≡ false → IsOrder (length device.wires) order → text ≡ netlist_text (renamed order device)
+    → IsTextOf path device text (renamed order device)
+netlist_text_of path device text order is each_once same = subst (λ b. IsTextBy b device text (renamed order device)) (sym is) (record {
+  order = order;
+  each_once = each_once;
+  names = refl;
+  is_text = same;
+})
 
 -- what a call gives, as a text of the device
 pub is_design_text : {A E : Type 0} (items : A → List ℕ) (path : List ℕ) (device : Device) (parts wires old_parts old_wires : List ℕ) (result : Result A E)
@@ -37,14 +60,7 @@ pub is_design_text : {A E : Type 0} (items : A → List ℕ) (path : List ℕ) (
 is_design_text items path device parts wires old_parts old_wires result is each_part each_wire p w written =
     IfOk-weaker result _ _ (λ text same. (
       reordered parts wires device,
-      subst (λ b. IsTextBy b device (items text) (reordered parts wires device)) (sym is) (record {
-        parts = parts;
-        wires = wires;
-        each_part = subst (IsOrder (length device.parts)) (sym p) each_part;
-        each_wire = subst (IsOrder (length device.wires)) (sym w) each_wire;
-        names = refl;
-        is_text = same;
-      }),
+      design_text_of path device (items text) parts wires is (subst (IsOrder (length device.parts)) (sym p) each_part) (subst (IsOrder (length device.wires)) (sym w) each_wire) same,
     )) written
 
 pub is_netlist_text : {A E : Type 0} (items : A → List ℕ) (path : List ℕ) (device : Device) (order old_order : List ℕ) (result : Result A E)
@@ -53,23 +69,40 @@ pub is_netlist_text : {A E : Type 0} (items : A → List ℕ) (path : List ℕ) 
 is_netlist_text items path device order old_order result is each_once o written =
     IfOk-weaker result _ _ (λ text same. (
       renamed order device,
-      subst (λ b. IsTextBy b device (items text) (renamed order device)) (sym is) (record {
-        order = order;
-        each_once = subst (IsOrder (length device.wires)) (sym o) each_once;
-        names = refl;
-        is_text = same;
-      }),
+      netlist_text_of path device (items text) order is (subst (IsOrder (length device.wires)) (sym o) each_once) same,
+    )) written
+
+-- in the order of the old names
+pub is_given_design : {A E : Type 0} (items : A → List ℕ) (path : List ℕ) (device : Device) (parts wires : List ℕ) (result : Result A E)
+    → is_design_path path ≡ true → IsDevice device → parts ≡ range_with_len 0 (length device.parts) → wires ≡ range_with_len 0 (length device.wires)
+    → IfOk result (λ text. items text ≡ design_text (reordered parts wires device)) → IfOk result (λ text. IsGivenText path device (items text))
+is_given_design items path device parts wires result is valid p w written =
+    IfOk-weaker result _ _ (λ text same. (
+      reordered parts wires device,
+      design_text_of path device (items text) parts wires is (subst (IsOrder (length device.parts)) (sym p) (given (length device.parts)))
+          (subst (IsOrder (length device.wires)) (sym w) (given (length device.wires))) same,
+      (λ i. encoded (reordered (p i) (w i) device)) ∙ given_design device valid,
+    )) written
+
+pub is_given_netlist : {A E : Type 0} (items : A → List ℕ) (path : List ℕ) (device : Device) (order : List ℕ) (result : Result A E)
+    → is_design_path path ≡ false → IsDevice device → IsNetlist device → order ≡ range_with_len 0 (length device.wires)
+    → IfOk result (λ text. items text ≡ netlist_text (renamed order device)) → IfOk result (λ text. IsGivenText path device (items text))
+is_given_netlist items path device order result is valid net o written =
+    IfOk-weaker result _ _ (λ text same. (
+      renamed order device,
+      netlist_text_of path device (items text) order is (subst (IsOrder (length device.wires)) (sym o) (given (length device.wires))) same,
+      (λ i. encoded (renamed (o i) device)) ∙ given_netlist device valid net,
     )) written
 
 -- a text that was weighed
-pub candidate_of : (path : List ℕ) (device : Device) (text : List ℕ) (candidate : Candidate) → IsDevice device → IsRenamable (is_design_path path) device
-    → IsText path device text → candidate.text.items ≡ text → length candidate.text.items ≤ NARROWED_LIMIT
-    → ((new : Device) → described path text ≡ Ok new → candidate.sum ≡ sum_told new) → IsCandidate path device candidate
-candidate_of path device text candidate valid renamable is same short sum = record {
-  new = is.0;
-  text = subst (λ t. IsTextOf path device t is.0) (sym same) is.1;
+pub candidate_of : (path : List ℕ) (device : Device) (text : List ℕ) (new : Device) (candidate : Candidate) → IsTextOf path device text new → candidate.text.items ≡ text → length candidate.text.items ≤ NARROWED_LIMIT
+    → candidate.sum ≡ sum_told new → IsNoGreater (encoded new) (encoded device) → IsCandidate path device candidate
+candidate_of path device text new candidate is same short sum no_greater = record {
+  new = new;
+  text = subst (λ t. IsTextOf path device t new) (sym same) is;
   short = short;
-  sum = sum is.0 (read_again path device text is.0 valid renamable is.1);
+  sum = sum;
+  no_greater = no_greater;
 }
 
 -- a text that is too long
@@ -79,42 +112,20 @@ pub refused_text : (path : List ℕ) (device : Device) (text : List ℕ) (told :
 refused_text path device text None is h = tt
 refused_text path device text (Some output) is h = subst (MayBe path device) (sym h.1) (too_long text is.0 is.1 h.0)
 
--- the same of what was weighed without a smaller limit
+-- the same of what was weighed without a smaller limit, in the order of the old names
 pub weighed : {E : Type 0} (path : List ℕ) (device : Device) (text : List ℕ) (result : Result Candidate E) → IsDevice device → IsRenamable (is_design_path path) device
-    → IsText path device text → IfOk result (λ (c : Candidate). c.text.items ≡ text) → IfOk result (λ (c : Candidate). length c.text.items ≤ NARROWED_LIMIT)
+    → IsGivenText path device text → IfOk result (λ (c : Candidate). c.text.items ≡ text) → IfOk result (λ (c : Candidate). length c.text.items ≤ NARROWED_LIMIT)
     → IfOk result (λ (c : Candidate). (new : Device) → described path text ≡ Ok new → c.sum ≡ sum_told new) → IfOk result (IsCandidate path device)
-weighed path device text (Ok candidate) valid renamable is same short sum = candidate_of path device text candidate valid renamable is same short sum
+weighed path device text (Ok candidate) valid renamable is same short sum =
+    candidate_of path device text is.0 candidate is.1 same short (sum is.0 (read_again path device text is.0 valid renamable is.1))
+    (subst (IsNoGreater (encoded is.0)) is.2 (no_greater_itself (encoded is.0)))
 weighed path device text (Err refusal) valid renamable is same short sum = tt
 
-pub refused_weighed : {A : Type 0} (path : List ℕ) (device : Device) (text : List ℕ) (result : Result A Refusal) → IsText path device text
+pub refused_weighed : {A : Type 0} (path : List ℕ) (device : Device) (text : List ℕ) (result : Result A Refusal) → IsGivenText path device text
     → IfErr result (λ (refusal : Refusal). IfSome (told_by refusal) (λ output. (NARROWED_LIMIT < length text) × (output ≡ says (above_line (codes "text") (length text) NARROWED_LIMIT) 1)))
     → IfErr result (IsRefusedText path device)
 refused_weighed path device text (Ok candidate) is h = tt
-refused_weighed path device text (Err refusal) is h = refused_text path device text (told_by refusal) is h
-
--- ---- sums
-
--- a sum that is not above a limit is so above no greater one
-pub within_more : (top : ℕ) (clauses : Result ClauseList EncodeError) (sum : Option ℕ) → top ≤ BUDGET_LIMIT → sum ≡ sum_within top clauses → is_some sum ≡ true
-    → sum ≡ sum_within BUDGET_LIMIT clauses
-within_more top (Err error) sum few is there = absurd (let never : ⊥ = cc in never)
-within_more top (Ok cnf) sum few is there = by (nat_lt top (sum_of cnf.clauses)) refl is
-  where
-    by : (above : Bool) → nat_lt top (sum_of cnf.clauses) ≡ above → sum ≡ cond above None (Some (sum_of cnf.clauses)) → sum ≡ sum_within BUDGET_LIMIT (Ok cnf)
-    by true more none = absurd (let never : ⊥ = cc in never)
-    by false less some = some ∙ ap (λ b. cond b None (Some (sum_of cnf.clauses))) (sym (le-ltb BUDGET_LIMIT (sum_of cnf.clauses) (omega (arith, few, ltb-false top (sum_of cnf.clauses) less))))
-
--- what is told is not above the greatest budget
-pub told_few : (device : Device) (sum : ℕ) → Some sum ≡ sum_told device → sum ≤ BUDGET_LIMIT
-told_few device sum is = by (encoded device) is
-  where
-    by_sum : (n : ℕ) (above : Bool) → nat_lt BUDGET_LIMIT n ≡ above → Some sum ≡ cond above None (Some n) → sum ≤ BUDGET_LIMIT
-    by_sum n true more none = absurd (let never : ⊥ = cc in never)
-    by_sum n false less some = let same : sum ≡ n = cc in omega (arith, same, ltb-false BUDGET_LIMIT n less)
-
-    by : (clauses : Result ClauseList EncodeError) → Some sum ≡ sum_within BUDGET_LIMIT clauses → sum ≤ BUDGET_LIMIT
-    by (Ok cnf) some = by_sum (sum_of cnf.clauses) (nat_lt BUDGET_LIMIT (sum_of cnf.clauses)) refl some
-    by (Err error) none = absurd (let never : ⊥ = cc in never)
+refused_weighed path device text (Err refusal) is h = refused_text path device text (told_by refusal) (is.0, is.1) h
 
 -- ---- the file
 
@@ -155,10 +166,10 @@ module _ (path file : List ℕ) (device : Device) (short : length file ≤ TEXT_
   refused_names None h = tt
   refused_names (Some output) h = subst (λ e. MayBeBy path e output) (sym found) h
 
-  pub narrows : (before : Option ℕ) (best : Candidate) (text : List ℕ) → before ≡ sum_told device
+  pub narrows : (before : Option ℕ) (best : Candidate) (text : List ℕ) → IsDevice device → IsRenamable (is_design_path path) device → before ≡ sum_told device
       → IsCandidate path device best → text ≡ sums_line BUDGET_LIMIT before best.sum ++ best.text.items → MayBeBy path (narrowable path file) (says text 0)
-  narrows before best text sum is all =
+  narrows before best text valid renamable sum is all =
       let whole : text ≡ sums_line BUDGET_LIMIT (sum_told device) (sum_told is.new) ++ best.text.items =
       all ∙ (λ i. sums_line BUDGET_LIMIT (sum i) (is.sum i) ++ best.text.items) in
       subst (λ e. MayBeBy path e (says text 0)) (sym found)
-      (subst (λ t. MayBe path device (says t 0)) (sym whole) (narrowed best.text.items is.new is.text is.short))
+      (subst (λ t. MayBe path device (says t 0)) (sym whole) (narrowed best.text.items is.new (is_narrowed path device best.text.items is.new valid renamable is.text is.short is.no_greater)))

@@ -7,7 +7,8 @@ use Rattle.clause_encoder.specs.Clauses.{ClauseList}
 use Rattle.clause_encoder.specs.Encoding.{encoded}
 use Rattle.branch_states.specs.declared.measuring.TheConstants.{BUDGET_LIMIT}
 use Rattle.branch_states.specs.Branches.{sum_of}
-use Rattle.renaming.specs.Renaming.{IsOrder, renamed, reordered}
+use Rattle.renaming.specs.Renaming.{IsOrder, part_order, renamed, reordered}
+use Rattle.renaming.specs.Keeping.{KeepsDiagnoses}
 use Rattle.netlist_writer.specs.Writing.{netlist_text, sums_line}
 use Rattle.design_writer.specs.Writing.{design_text}
 use Rattle.diag_cli.specs.Words.{is_design_path}
@@ -71,11 +72,38 @@ IsTextOf path device text new = IsTextBy (is_design_path path) device text new
 
 -- ---- what is written
 
+-- the sums of a device and of that under new names, and the text
+abbrev pub narrowed_file : Device → List ℕ → Device → List ℕ
+narrowed_file device text new = sums_line BUDGET_LIMIT (sum_told device) (sum_told new) ++ text
+
+-- In the orders of its text the device under new names keeps the diagnoses of the old one.
+abbrev pub KeepsDiagnosesBy : (is_design : Bool) (device : Device) (text : List ℕ) (new : Device) → IsTextBy is_design device text new → Type 0
+KeepsDiagnosesBy true device text new is = KeepsDiagnoses is.parts is.wires device new
+KeepsDiagnosesBy false device text new is = KeepsDiagnoses (part_order device.parts is.order) is.order device new
+
+-- clauses whose sum is no greater than that of others, if there are others
+abbrev pub IsNoGreater : Result ClauseList EncodeError → Result ClauseList EncodeError → Type 0
+IsNoGreater new (Err error) = Unit {0}
+IsNoGreater (Err error) (Ok old) = ⊥
+IsNoGreater (Ok new) (Ok old) = sum_of new.clauses ≤ sum_of old.clauses
+
+-- what a user has of a text that is written
+pub record IsNarrowed (path : List ℕ) (device : Device) (text : List ℕ) (new : Device) : Type 0 where
+  -- The text is one of the device under new names, and no longer than such a text may be.
+  pub is_text : IsTextOf path device text new
+  pub short : length text ≤ NARROWED_LIMIT
+  -- Behind the line of the sums it is the file of a device again: of that under the new names.
+  pub read : device_in path (narrowed_file device text new) ≡ Ok new
+  -- This device keeps the diagnoses: the same states of the parts agree with a case, at the same cost, and the same are diagnoses.
+  pub diagnoses : KeepsDiagnosesBy (is_design_path path) device text new is_text
+  -- It has clauses where the old one has, and their sum is no greater.
+  pub sum : IsNoGreater (encoded new) (encoded device)
+
 -- What may be written of a device: its text under new names, behind the sums before and after; or that the text under some new
 -- names is too long to be read again behind such a line.
 pub data MayBe (path : List ℕ) (device : Device) : Output → Type 0 where
-  narrowed : (text : List ℕ) → (new : Device) → IsTextOf path device text new → length text ≤ NARROWED_LIMIT
-      → MayBe path device (says (sums_line BUDGET_LIMIT (sum_told device) (sum_told new) ++ text) 0)
+  narrowed : (text : List ℕ) → (new : Device) → IsNarrowed path device text new
+      → MayBe path device (says (narrowed_file device text new) 0)
   too_long : (text : List ℕ) → (new : Device) → IsTextOf path device text new → NARROWED_LIMIT < length text
       → MayBe path device (says (above_line (codes "text") (length text) NARROWED_LIMIT) 1)
 

@@ -7,7 +7,7 @@ ghost use Rattle.diag_cli.specs.Output.{says};
 ghost use Rattle.diag_cli.specs.Describing.{described};
 ghost use Rattle.diag_cli.specs.Refusals.{told_by};
 ghost use Rattle.narrow_cli.specs.Narrowing.{narrowable, sum_within, MayBeBy};
-ghost use Rattle.narrow_cli.specs.inner.Candidates.{IsRenamable, IsText, IsCandidate, IsRefusedText};
+ghost use Rattle.narrow_cli.specs.inner.Candidates.{IsRenamable, IsText, IsGivenText, IsCandidate, IsRefusedText};
 
 use crate::reading::sum_within;
 use branch_states::BUDGET_LIMIT;
@@ -19,8 +19,11 @@ use signal_order::{Start, find_order, find_part_order, given_order, wire_order};
 use std::alloc::{AllocError, Global};
 use text_rules::TEXT_LIMIT;
 
-/// The most bytes of a text under new names: the line of the sums, which has at most 48, stands before it in a file.
-pub const NARROWED_LIMIT: usize = TEXT_LIMIT - 48;
+/// The most bytes of the line of the sums: each of these has at most seven digits, or is above the greatest budget.
+pub const SUMS_LINE_LIMIT: usize = 48;
+
+/// The most bytes of a text under new names: the line of the sums stands before it in a file.
+pub const NARROWED_LIMIT: usize = TEXT_LIMIT - SUMS_LINE_LIMIT;
 
 /// A device under new names: its text, and its sum where that is known.
 #[derive(Drop)]
@@ -65,8 +68,9 @@ fn weigh(alloc: Global, path: &str, text: Vec<u8>, top: u32) -> Result<Candidate
 
 // The text of a device under new names that stand in the order of the old ones.
 fn given_text(alloc: Global, path: &str, device: &Device) -> Result<Vec<u8>, AllocError>
-    requires { IsRenamable (is_design_path path.now) device.now }
-    ensures { IfOk result (λ text. IsText path.now device.now text.items) }
+    requires device { IsDevice device.now }
+    requires renamable { IsRenamable (is_design_path path.now) device.now }
+    ensures { IfOk result (λ text. IsGivenText path.now device.now text.items) }
 {
     let wires = given_order(alloc, device.wires().len())?;
     if is_design_path(path) {

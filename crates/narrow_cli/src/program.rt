@@ -40,8 +40,11 @@ fn narrow_over<H: Shelf, O: Sink>(
     requires taken { H.taken shelf.old < 2 ^ 62 }
     requires reads { H.faults shelf.old < 2 ^ 64 - 1 }
     requires writes { O.faults out.old < 2 ^ 64 - 1 }
-    ensures { IsNarrowRun (Some (record { path = path.now; moves = moves })) (H.held shelf.old) (H.faults shelf.old) (H.faults shelf.new)
-        (O.faults out.old) (O.faults out.new) (O.got out.old) (O.got out.new) result }
+    ensures { IsNarrowRun (Some (record { path = path.now; moves = moves })) (H.held shelf.old)
+        (record { left = H.left shelf.old; taken = H.taken shelf.old; faults = H.faults shelf.old })
+        (record { left = H.left shelf.new; taken = H.taken shelf.new; faults = H.faults shelf.new })
+        (record { got = O.got out.old; faults = O.faults out.old })
+        (record { got = O.got out.new; faults = O.faults out.new }) result }
 {
     match load(alloc, shelf, path, TEXT_LIMIT) {
         Ok(file) => narrow_file(alloc, path, &file, moves, out),
@@ -58,8 +61,11 @@ pub fn narrow<H: Shelf, O: Sink>(alloc: Global, words: &[String], shelf: &mut H,
     requires taken { H.taken shelf.old < 2 ^ 62 }
     requires reads { H.faults shelf.old < 2 ^ 64 - 1 }
     requires writes { O.faults out.old < 2 ^ 64 - 1 }
-    ensures { IsNarrowRun (request_of (map string_bytes words.now)) (H.held shelf.old) (H.faults shelf.old) (H.faults shelf.new)
-        (O.faults out.old) (O.faults out.new) (O.got out.old) (O.got out.new) result }
+    ensures { IsNarrowRun (request_of (map string_bytes words.now)) (H.held shelf.old)
+        (record { left = H.left shelf.old; taken = H.taken shelf.old; faults = H.faults shelf.old })
+        (record { left = H.left shelf.new; taken = H.taken shelf.new; faults = H.faults shelf.new })
+        (record { got = O.got out.old; faults = O.faults out.old })
+        (record { got = O.got out.new; faults = O.faults out.new }) result }
 {
     match request_of(words) {
         None => say(out, b"error: usage\n", 2),

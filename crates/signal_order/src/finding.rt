@@ -48,11 +48,11 @@ fn search(alloc: Global, device: &Device, start: Start, moves: u32) -> Result<Ro
     improve(alloc, &mut arrangement, moves)
 }
 
-/// An order of all signals of a netlist's device, found by so many moves from a start. It is the same whenever it is asked for, and
-/// the only error is that there is no memory.
+/// An order of all signals of a netlist's device, found by so many moves from a start. The only error is that there is no memory.
 ///
-/// The signals that parts drive come in the order of these parts, and an input of the device comes right before the first part that
-/// has it. How small the sum then is, is not proved.
+/// Each signal stands once in it, and which order it is is left open. It is meant to be a good one, in which the sum is small, and
+/// the same whenever it is asked for: the signals that parts drive in the order of these parts, and an input of the device right
+/// before the first part that has it.
 pub fn find_order(
     alloc: Global,
     device: &Device,
@@ -79,8 +79,11 @@ pub fn find_part_order(
     parts_of(alloc, device.parts().len(), best.as_slice())
 }
 
-/// The wires of a device in the order in which parts of these numbers, one after the other, have them at their ports. Those of no
-/// part that is listed come last. The only error is that there is no memory.
+/// An order of all wires of a device. The only error is that there is no memory.
+///
+/// Each wire stands once in it, and which order it is is left open. It is meant to be the one that goes with an order of parts, which
+/// are given by their numbers: the wires as these parts, one after the other, have them at their ports, and those of no part that is
+/// listed at the end.
 pub fn wire_order(alloc: Global, device: &Device, parts: &[u32]) -> Result<Vec<u32>, AllocError>
     ensures { IfOk result (λ order. IsOrder (length device.now.wires) order.items) }
 {

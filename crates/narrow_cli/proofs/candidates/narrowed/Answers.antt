@@ -28,5 +28,7 @@ returns-in_err-extend_from_slice c =
 pub returns : goal.returns
 returns c =
     narrows c.args.path.now c.args.file.now c.in_ok-device.device c.requires c.in_ok-device.ensures c.in_ok-before.ensures.encodable
-    c.in_ok-before.before c.in_ok-best.best c.extend_from_slice.new.self.items c.in_ok-before.ensures.sum c.in_ok-best.ensures.candidate
+    c.in_ok-before.before c.in_ok-best.best c.extend_from_slice.new.self.items c.parts.ensures.valid
+    (renamable c.args.path.now c.args.file.now c.in_ok-device.device (omega (arith, c.type_count.ensures, c.type_count.type_inv)) c.in_ok-device.ensures)
+    c.in_ok-before.ensures.sum c.in_ok-best.ensures.candidate
     (c.in_ok-extend_from_slice.ensures.items ∙ (λ i. c.in_ok-text.ensures i ++ c.deref.ensures.value i))

@@ -9,6 +9,6 @@ say_load_error-requires-clause-limit g c = λ limit is. c.in-Err.ensures.that_li
 pub returns-in-Err : goal.returns-in-Err
 returns-in-Err g c =
     let read = c.in-Err.ensures in
-    run_unread _ _ _ _ _ _ _ _ (record { path = c.args.path.now; moves = c.args.moves }) c.in-Err.error
+    run_unread _ _ _ _ _ _ (record { path = c.args.path.now; moves = c.args.moves }) c.in-Err.error
     (unread c.in-Err.error _ _ _ c.requires.reads read.failed read.absent read.that_limit read.long_file)
     c.say_load_error.ensures.write_fault c.say_load_error.ensures.said

@@ -15,10 +15,10 @@ use Rattle.session_core.specs.inner.Telling.{told_of, HasPlace}
 use Rattle.session_core.proofs.Obeying.{IsOneMove, NeedsSession}
 
 pub question-move : (q : Question) → IsOneMove (asked_request q)
-question-move Minimum = λ system limit table session. refl
-question-move (Probe wire name) = λ system limit table session. refl
-question-move Probes = λ system limit table session. refl
-question-move Blame = λ system limit table session. refl
+question-move Minimum = λ shown table session. refl
+question-move (Probe wire name) = λ shown table session. refl
+question-move Probes = λ shown table session. refl
+question-move Blame = λ shown table session. refl
 
 pub question-needs : (q : Question) → NeedsSession (asked_request q)
 question-needs Minimum = λ system session full. refl

@@ -61,8 +61,8 @@ obeys_becomes subject old new session request entry word before after result one
 -- ---- wires that are seen, and parts that are held
 
 pub seen-move : (name : Name) (bit : Option Bool) → IsOneMove (seen_request name bit)
-seen-move name None = λ system limit table session. refl
-seen-move name (Some bit) = λ system limit table session. refl
+seen-move name None = λ shown table session. refl
+seen-move name (Some bit) = λ shown table session. refl
 
 pub seen-needs : (name : Name) (bit : Option Bool) → NeedsSession (seen_request name bit)
 seen-needs name None = λ system session full. refl
@@ -83,8 +83,8 @@ seen-nowhere system session entry name bit e =
     seen-open system session entry name bit ∙ ap (at_place NoWire (λ w. becomes session (with_seen entry w bit) (codes "ok"))) (sym e)
 
 pub held-move : (name : Name) (ok : Option Bool) → IsOneMove (held_request name ok)
-held-move name None = λ system limit table session. refl
-held-move name (Some ok) = λ system limit table session. refl
+held-move name None = λ shown table session. refl
+held-move name (Some ok) = λ shown table session. refl
 
 pub held-needs : (name : Name) (ok : Option Bool) → NeedsSession (held_request name ok)
 held-needs name None = λ system session full. refl

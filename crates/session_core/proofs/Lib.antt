@@ -11,4 +11,5 @@ pub mod Stepping
 pub mod Naming
 pub mod Asked
 pub mod Moving
+pub mod Exact
 pub mod OneText

@@ -6,9 +6,7 @@ use Rattle.std.proofs.lemmas.List.{take-take}
 use Rattle.text_rules.specs.TextLines.{cut, with_byte, whole_lines}
 use Rattle.script_lang.specs.Script.{line_of}
 use Rattle.script_lang.proofs.LineLemmas.{line_of-too_long}
-use Rattle.session_rules.specs.Moves.{moves}
-use Rattle.session_rules.specs.GraphSystems.{system_of}
-use Rattle.session_core.specs.Services.{Shown, moves_of}
+use Rattle.session_core.specs.Services.{Shown, exact_moves, moves_of}
 use Rattle.session_core.specs.inner.Gathering.{ended_from, rest_from, IsCut}
 
 onto : List ℕ → List (List ℕ) → List (List ℕ)
@@ -76,7 +74,7 @@ line_of-take line = elim (cases_lt 1048576 (length line)) [
 
 -- and so the moves of a service are the same
 pub moves_are_cut : (shown : Shown) → IsCut (moves_of shown)
-moves_are_cut shown = record { same = λ table line. ap (moves (system_of shown.subject) shown.limit table) (line_of-take line) }
+moves_are_cut shown = record { same = λ table line. ap (exact_moves shown table) (line_of-take line) }
 
 pub take-take-same : (m : ℕ) (line : List ℕ) → take m (take m line) ≡ take m line
 take-take-same m line = take-take m m line (omega arith)

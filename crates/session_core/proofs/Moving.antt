@@ -96,7 +96,7 @@ pub obeys_next : {T E : Type 0} (old new : Shown) (session : Name) (entry : Entr
     → new ≡ record old { table = with_entry session (next_entry old.subject session entry) old.table } → Obeys old new session Next before after result
 obeys_next old new session entry before after result there reply moves =
     let f = the_next old.subject session entry in
-    obeys_outcome old session Next (λ system limit table s. refl) before after result (moved entry f.point (f.item ∷ [])) new
+    obeys_outcome old session Next (λ shown table s. refl) before after result (moved entry f.point (f.item ∷ [])) new
     (asked_open old session Next entry there) moves reply
 
 -- ---- so many times

@@ -12,12 +12,11 @@ use Rattle.session_rules.specs.Refusals.{refusal_number, refusal_text}
 use Rattle.session_rules.specs.GraphSystems.{system_of}
 use Rattle.session_rules.specs.Items.{line}
 use Rattle.session_rules.specs.Sessions.{Table, Entry, Step, Outcome, Declined, outcome, when_open, outcome_in, entry_of, carried}
-use Rattle.session_rules.specs.Moves.{moves}
 use Rattle.session_rules.specs.Spelling.{Replies}
 use Rattle.session_rules.specs.Carrying.{CarriesOut}
 use Rattle.session_rules.proofs.Broken.{carries_step}
 use Rattle.session_rules.proofs.Spellings.{replies_one}
-use Rattle.session_core.specs.Services.{Shown, moves_of}
+use Rattle.session_core.specs.Services.{Shown, exact_moves, moves_of}
 use Rattle.session_core.specs.inner.Obeying.{Obeys}
 
 -- the table of a service is another
@@ -26,8 +25,8 @@ with_table shown table = record shown { table = table }
 
 -- a request is one move
 abbrev pub IsOneMove : Request → Type 0
-IsOneMove request = (system : System) (limit : ℕ) (table : Table) (session : Name)
-    → moves system limit table (Ask session request) ≡ carried table session (outcome_in system limit table session request) ∷ []
+IsOneMove request = (shown : Shown) (table : Table) (session : Name)
+    → exact_moves shown table (Ask session request) ≡ carried table session (outcome_in (system_of shown.subject) shown.limit table session request) ∷ []
 
 -- and is declined where the session is not open
 abbrev pub NeedsSession : Request → Type 0
@@ -37,16 +36,22 @@ NeedsSession request = (system : System) (session : Name) (full : Bool) → outc
 pub asked_open : (old : Shown) (session : Name) (request : Request) (entry : Entry) → entry_of session old.table ≡ Some entry → outcome_in (system_of old.subject) old.limit old.table session request ≡ when_open (system_of old.subject) session entry request
 asked_open old session request entry found = ap (λ (e : Option Entry). outcome (system_of old.subject) session (nat_le old.limit (length old.table)) e request) found
 
+-- a request that is one move was carried out
+pub obeys_move : {T E : Type 0} (old new : Shown) (session : Name) (request : Request) (move : Step) (before after : Option (List ℕ)) (result : Result T E) → exact_moves old old.table (Ask session request) ≡ move ∷ []
+    → new ≡ with_table old move.table → Replies before after result move.items → Obeys old new session request before after result
+obeys_move old new session request move before after result is becomes reply = record {
+  carried = subst (λ (ms : List Step). CarriesOut old.table new.table ms before after result) (sym is)
+      (carries_step old.table new.table move move before after result refl reply (ap (λ (s : Shown). s.table) becomes));
+  stays = becomes ∙ sym (ap (λ (s : Shown). with_table old s.table) becomes);
+}
+
 module _ {T E : Type 0} (old : Shown) (session : Name) (request : Request) (one : IsOneMove request) (before after : Option (List ℕ)) (result : Result T E) where
   -- what a request comes to
   pub obeys_outcome : (to : Outcome) (new : Shown) → outcome_in (system_of old.subject) old.limit old.table session request ≡ to
       → new ≡ with_table old (carried old.table session to).table → Replies before after result (carried old.table session to).items → Obeys old new session request before after result
-  obeys_outcome to new is becomes reply = record {
-    carried = subst (λ (ms : List Step). CarriesOut old.table new.table ms before after result) (sym (one (system_of old.subject) old.limit old.table session))
-        (carries_step old.table new.table (carried old.table session to) (carried old.table session (outcome_in (system_of old.subject) old.limit old.table session request)) before after result
-        (ap (carried old.table session) (sym is)) reply (ap (λ (s : Shown). s.table) becomes));
-    stays = becomes ∙ sym (ap (λ (s : Shown). with_table old s.table) becomes);
-  }
+  obeys_outcome to new is becomes reply =
+      obeys_move old new session request (carried old.table session to) before after result
+      (one old old.table session ∙ ap (λ (o : Outcome). carried old.table session o ∷ []) is) becomes reply
 
   -- a refusal
   pub obeys_refusal : (refusal : Refusal) → outcome_in (system_of old.subject) old.limit old.table session request ≡ Declined refusal
@@ -67,4 +72,4 @@ module _ {T E : Type 0} (old : Shown) (session : Name) (request : Request) (one 
 pub line_carried : {T E : Type 0} (old new : Shown) (session : Name) (request : Request) (bytes : List ℕ) (before after : Option (List ℕ)) (result : Result T E) → Ask session request ≡ line_of bytes
     → Obeys old new session request before after result → CarriesOut old.table new.table (moves_of old old.table bytes) before after result
 line_carried old new session request bytes before after result is obeys =
-    subst (λ (l : Line). CarriesOut old.table new.table (moves (system_of old.subject) old.limit old.table l) before after result) is obeys.carried
+    subst (λ (l : Line). CarriesOut old.table new.table (exact_moves old old.table l) before after result) is obeys.carried

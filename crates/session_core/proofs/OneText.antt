@@ -1,19 +1,189 @@
--- Sessions with one case are told one text of its graph, and so is a session that asks again.
-use Rattle.std.proofs.Common.{◌≡◌, ℕ, List, Option, Some, Result, subst}
-use Rattle.text_rules.specs.Names.{Name}
+-- What a service writes is one text: where the moves of a script were made twice after the same bytes, the same bytes stand.
+use Rattle.std.proofs.Common.{◌≡◌, ℕ, zero, suc, ◌+◌, Bool, true, false, List, [], ◌∷◌, ◌++◌, map, length, Option, Some, None, refl, ap, ap₂, sym, ◌∙◌, subst}
+use Rattle.std.specs.Prelude.{nat_le, if◌then◌else◌, codes, is_some}
+use Rattle.std.specs.List.{list_all}
+use Rattle.std.specs.Io.KnownBytes.{Appends}
+use Rattle.text_rules.specs.Names.{Name, is_among}
 use Rattle.ranking.specs.Cases.{Case}
-use Rattle.script_lang.specs.Script.{Ask, Dnnf}
-use Rattle.session_rules.specs.GraphSystems.{Subject}
-use Rattle.session_rules.specs.Sessions.{Entry, entry_of}
-use Rattle.session_core.specs.Services.{Shown, TellsGraph, TellsText, case_text}
+use Rattle.ranking.specs.Ranking.{rest}
+use Rattle.ranking.specs.Systems.{System, least_cost, all_diagnoses}
+use Rattle.device_model.specs.Devices.{place_of}
+use Rattle.script_lang.specs.Script.{Line, Blank, Refused, Ask, Request, Start, Stop, See, Unsee, Hold, Unhold, Min, Next, Several, After, Probe, Probes, Blame, Dnnf, line_of}
+use Rattle.session_rules.specs.declared.refusal.Refusal.{Refusal}
+use Rattle.session_rules.specs.declared.refusal.Refusal.TheVariants.{Full, NoWire, NoPart}
+use Rattle.session_rules.specs.Items.{Item, Plain, Projected, Whole}
+use Rattle.session_rules.specs.Replies.{Found, min_line, found, next_of, listing, seen_at, probe_line, probe_lines, blame_lines, if_any, end_line, diagnosis_line}
+use Rattle.session_rules.specs.Sessions.{Table, Entry, Step, Outcome, Declined, Done, at_place, becomes, tells, with_seen, with_held, new_entry, state_of, outcome, entry_of, carried, step}
+use Rattle.session_rules.specs.Moves.{said, left_by, line_moves, script_moves}
+use Rattle.session_rules.specs.Spelling.{Spells}
+use Rattle.session_rules.specs.Carrying.{Makes}
+use Rattle.session_rules.specs.GraphSystems.{system_of}
+use Rattle.session_rules.proofs.Whole.{line_moves-whole, said-append}
+use Rattle.session_core.specs.Services.{Shown, told_graph, with_graph, moves_of}
 
-pub one_text : {T E : Type 0} (first second : Shown) (session other : Name) (entry another : Entry) (a b c d : Option (List ℕ)) (result again : Result T E)
-    → second.subject ≡ first.subject → entry_of session first.table ≡ Some entry → entry_of other second.table ≡ Some another → another.known ≡ entry.known
-    → TellsGraph first (Ask session Dnnf) a b result → TellsGraph second (Ask other Dnnf) c d again
-    → (text : List ℕ) × TellsText session text a b result × TellsText other text c d again
-one_text first second session other entry another a b c d result again same there here known tells told = (
-  case_text first.subject entry.known,
-  tells entry there,
-  subst (λ (s : Subject). TellsText other (case_text s entry.known) c d again) same
-      (subst (λ (k : Case). TellsText other (case_text second.subject k) c d again) known (told another here)),
+-- items that are texts
+abbrev pub ArePlain : List Item → Type 0
+ArePlain [] = Unit {0}
+ArePlain (Plain bytes ∷ items) = ArePlain items
+ArePlain (Projected parts states ∷ items) = ⊥
+ArePlain (Whole device vars most ∷ items) = ⊥
+
+plain_both : (xs ys : List Item) → ArePlain xs → ArePlain ys → ArePlain (xs ++ ys)
+plain_both [] ys h k = k
+plain_both (Plain bytes ∷ xs) ys h k = plain_both xs ys h k
+plain_both (Projected parts states ∷ xs) ys h k = absurd h
+plain_both (Whole device vars most ∷ xs) ys h k = absurd h
+
+-- are spelled by one text
+one_spelling : (items : List Item) (a b : List ℕ) → ArePlain items → Spells items a → Spells items b → a ≡ b
+one_spelling [] a b h one other = one ∙ sym other
+one_spelling (Plain bytes ∷ items) a b h one other =
+    one.2 ∙ ap₂ (λ front rest. front ++ rest) (one.3 ∙ sym other.3) (one_spelling items one.1 other.1 h one.4 other.4) ∙ sym other.2
+one_spelling (Projected parts states ∷ items) a b h one other = absurd h
+one_spelling (Whole device vars most ∷ items) a b h one other = absurd h
+
+-- ---- every reply but a graph is a text
+
+found-plain : (s : Name) (shown : List Bool → Item) → ((state : List Bool) → ArePlain (shown state ∷ [])) → (point : Option (List Bool)) (ds later : List (List Bool)) → ArePlain ((found s shown point ds later).item ∷ [])
+found-plain s shown h point [] later = tt
+found-plain s shown h point (d ∷ ds) [] = tt
+found-plain s shown h point (d ∷ ds) (state ∷ later) = h state
+
+listing-plain : (next : Option (List Bool) → Found) → ((point : Option (List Bool)) → ArePlain ((next point).item ∷ []))
+    → (n : ℕ) (point : Option (List Bool)) → ArePlain (map (λ f. f.item) (listing next n point))
+listing-plain next h zero point = tt
+listing-plain next h (suc n) point =
+    let f = next point in
+    let later = listing next n f.point in
+    plain_both (f.item ∷ []) (map (λ f. f.item) (elim f.more as (λ _. List Found) [ true ↦ later | false ↦ [] ])) (h point)
+    (elim f.more as (λ more. ArePlain (map (λ f. f.item) (elim more as (λ _. List Found) [ true ↦ later | false ↦ [] ]))) [
+      | true ↦ listing-plain next h n f.point
+      | false ↦ tt
+    ])
+
+if_any-plain : (s : Name) (states : List (List Bool)) (items : List Item) → ArePlain items → ArePlain (if_any s states items)
+if_any-plain s [] items h = tt
+if_any-plain s (state ∷ states) items h = h
+
+blame_lines-plain : (s : Name) (ds : List (List Bool)) (part : ℕ) (names : List Name) → ArePlain (blame_lines s ds part names)
+blame_lines-plain s ds part [] = tt
+blame_lines-plain s ds part (name ∷ names) = blame_lines-plain s ds (part + 1) names
+
+min-plain : (system : System) (s : Name) (fewest : Option ℕ) (ds : List (List Bool)) → ArePlain (min_line system s fewest ds ∷ [])
+min-plain system s fewest [] = tt
+min-plain system s fewest (d ∷ ds) = tt
+
+next-plain : (system : System) (s : Name) (ds : List (List Bool)) (point : Option (List Bool)) → ArePlain ((next_of system s ds point).item ∷ [])
+next-plain system s ds point = found-plain s (diagnosis_line system s) (λ state. tt) point ds (rest ds point)
+
+probe_lines-plain : (system : System) (s : Name) (known : Case) (wire : ℕ) (names : List Name) → ArePlain (probe_lines system s known wire names)
+probe_lines-plain system s known wire [] = tt
+probe_lines-plain system s known wire (name ∷ names) =
+    let later = probe_lines system s known (wire + 1) names in
+    elim (is_some (seen_at known wire)) as (λ b. ArePlain (elim b as (λ _. List Item) [ true ↦ later | false ↦ probe_line system s known name wire ∷ later ])) [
+      | true ↦ probe_lines-plain system s known (wire + 1) names
+      | false ↦ probe_lines-plain system s known (wire + 1) names
+    ]
+
+abbrev IsPlain : Outcome → Type 0
+IsPlain (Declined refusal) = Unit {0}
+IsPlain (Done change items) = ArePlain items
+
+placed : (refusal : Refusal) (act : ℕ → Outcome) (place : Option ℕ) → ((i : ℕ) → IsPlain (act i)) → IsPlain (at_place refusal act place)
+placed refusal act None h = tt
+placed refusal act (Some i) h = h i
+
+chosen : (b : Bool) (one other : Outcome) → IsPlain one → IsPlain other → IsPlain (if b then one else other)
+chosen true one other h k = h
+chosen false one other h k = k
+
+carried-plain : (table : Table) (s : Name) (o : Outcome) → IsPlain o → ArePlain (carried table s o).items
+carried-plain table s (Declined refusal) h = tt
+carried-plain table s (Done change items) h = h
+
+-- where a graph is asked for, that is so of a session that is not open
+abbrev IsPlainFor : Request → Option Entry → Outcome → Type 0
+IsPlainFor Dnnf entry o = entry ≡ None → IsPlain o
+IsPlainFor request entry o = IsPlain o
+
+abbrev ArePlainFor : Table → Line → List Item → Type 0
+ArePlainFor table (Ask s Dnnf) items = entry_of s table ≡ None → ArePlain items
+ArePlainFor table l items = ArePlain items
+
+module _ (system : System) where
+  outcome-plain : (s : Name) (full : Bool) (entry : Option Entry) (request : Request) → IsPlainFor request entry (outcome system s full entry request)
+  outcome-plain s full (Some entry) Start = tt
+  outcome-plain s full (Some entry) Stop = tt
+  outcome-plain s full (Some entry) (See name bit) = placed NoWire (λ i. becomes s (with_seen entry i (Some bit)) (codes "ok")) (place_of name system.wires) (λ i. tt)
+  outcome-plain s full (Some entry) (Unsee name) = placed NoWire (λ i. becomes s (with_seen entry i None) (codes "ok")) (place_of name system.wires) (λ i. tt)
+  outcome-plain s full (Some entry) (Hold name ok) = placed NoPart (λ i. becomes s (with_held entry i (Some ok)) (codes "ok")) (place_of name system.parts) (λ i. tt)
+  outcome-plain s full (Some entry) (Unhold name) = placed NoPart (λ i. becomes s (with_held entry i None) (codes "ok")) (place_of name system.parts) (λ i. tt)
+  outcome-plain s full (Some entry) Min = min-plain system s (least_cost system entry.known) (all_diagnoses system entry.known)
+  outcome-plain s full (Some entry) Next = next-plain system s (all_diagnoses system entry.known) entry.point
+  outcome-plain s full (Some entry) (Several count) =
+      let ds = all_diagnoses system entry.known in listing-plain (next_of system s ds) (next-plain system s ds) count entry.point
+  outcome-plain s full (Some entry) (After names) =
+      chosen (list_all (λ name. is_among system.parts name) names) (becomes s (record entry { point = Some (state_of names system.parts) }) (codes "ok")) (Declined NoPart) tt tt
+  outcome-plain s full (Some entry) (Probe name) =
+      let states = system.consistent entry.known in
+      placed NoWire (λ wire. tells (if_any s states (probe_line system s entry.known name wire ∷ []))) (place_of name system.wires)
+      (λ wire. if_any-plain s states (probe_line system s entry.known name wire ∷ []) tt)
+  outcome-plain s full (Some entry) Probes =
+      let lines = probe_lines system s entry.known 0 system.wires in
+      if_any-plain s (system.consistent entry.known) (lines ++ end_line s ∷ []) (plain_both lines (end_line s ∷ []) (probe_lines-plain system s entry.known 0 system.wires) tt)
+  outcome-plain s full (Some entry) Blame =
+      let ds = all_diagnoses system entry.known in
+      let lines = blame_lines s ds 0 system.parts in
+      if_any-plain s ds (lines ++ end_line s ∷ []) (plain_both lines (end_line s ∷ []) (blame_lines-plain s ds 0 system.parts) tt)
+  outcome-plain s full (Some entry) Dnnf = λ none. absurd (let never : ⊥ = cc in never)
+  outcome-plain s full None Start = chosen full (Declined Full) (becomes s (new_entry system) (codes "open")) tt tt
+  outcome-plain s full None Dnnf = λ none. tt
+  outcome-plain s full None request = tt
+
+  step-plain : (limit : ℕ) (table : Table) (l : Line) → ArePlainFor table l (step system limit table l).items
+  step-plain limit table Blank = tt
+  step-plain limit table (Refused refusal) = tt
+  step-plain limit table (Ask s Dnnf) = λ none.
+      carried-plain table s (outcome system s (nat_le limit (length table)) (entry_of s table) Dnnf) (outcome-plain s (nat_le limit (length table)) (entry_of s table) Dnnf none)
+  step-plain limit table (Ask s request) =
+      carried-plain table s (outcome system s (nat_le limit (length table)) (entry_of s table) request) (outcome-plain s (nat_le limit (length table)) (entry_of s table) request)
+
+-- ---- and a graph is one too
+
+module _ (shown : Shown) where
+  told-plain : (table : Table) (s : Name) (entry : Option Entry) (moves : List Step) → (entry ≡ None → ArePlain (said moves)) → ArePlain (said (told_graph shown table s entry moves))
+  told-plain table s None moves h = h refl
+  told-plain table s (Some entry) moves h = tt
+
+  with-plain : (table : Table) (l : Line) (moves : List Step) → ArePlainFor table l (said moves) → ArePlain (said (with_graph shown table l moves))
+  with-plain table (Ask s Dnnf) moves h = told-plain table s (entry_of s table) moves h
+  with-plain table l moves h = h
+
+  line-plain : (table : Table) (bytes : List ℕ) → ArePlain (said (moves_of shown table bytes))
+  line-plain table bytes =
+      let system = system_of shown.subject in
+      with-plain table (line_of bytes) (line_moves system shown.limit table bytes)
+      (subst (ArePlainFor table (line_of bytes)) (sym (ap (λ (s : Step). s.items) (line_moves-whole system shown.limit table bytes))) (step-plain system shown.limit table (line_of bytes)))
+
+  -- all that a service answers to a script
+  pub script-plain : (table : Table) (lines : List (List ℕ)) → ArePlain (said (script_moves (moves_of shown) table lines))
+  script-plain table [] = tt
+  script-plain table (l ∷ lines) =
+      let first = moves_of shown table l in
+      let later = script_moves (moves_of shown) (left_by table first) lines in
+      subst ArePlain (sym (said-append first later)) (plain_both (said first) (said later) (line-plain table l) (script-plain (left_by table first) lines))
+
+grown_by : (bytes : List ℕ) (a b : Option (List ℕ)) (text other : List ℕ) → Appends (Some bytes) a text → Appends (Some bytes) b other → text ≡ other → a ≡ b
+grown_by bytes None b text other h k same = absurd h
+grown_by bytes (Some xs) None text other h k same = absurd k
+grown_by bytes (Some xs) (Some ys) text other h k same = ap (λ zs. Some zs) (h ∙ (ap (λ t. bytes ++ t) same ∙ sym k))
+
+-- so the bytes are the same, and the table, whenever the script is answered
+pub one_text : (shown : Shown) (old new other : Table) (lines : List (List ℕ)) (bytes : List ℕ) (a b : Option (List ℕ))
+    → Makes old new (script_moves (moves_of shown) old lines) (Some bytes) a → Makes old other (script_moves (moves_of shown) old lines) (Some bytes) b
+    → (a ≡ b) × (new ≡ other)
+one_text shown old new other lines bytes a b one again = (
+  grown_by bytes a b one.written.text again.written.text one.written.grown again.written.grown
+      (one_spelling (said (script_moves (moves_of shown) old lines)) one.written.text again.written.text (script-plain shown old lines) one.written.spelled again.written.spelled),
+  one.table ∙ sym again.table,
 )

@@ -1,13 +1,12 @@
 -- What contracts see of a service.
-use Rattle.std.specs.Prelude.{◌≡◌, ℕ, List, [], ◌∷◌, ◌++◌, length, Option, Some, Result, codes}
+use Rattle.std.specs.Prelude.{◌≡◌, ℕ, List, [], ◌∷◌, length, Option, Some, None, codes}
 use Rattle.text_rules.specs.Names.{Name}
-use Rattle.text_rules.specs.Tokens.{spaced}
-use Rattle.diag_edge.specs.Edge.{Puts}
 use Rattle.ranking.specs.Cases.{Case}
 use Rattle.projector.specs.Projecting.{projected_text}
-use Rattle.script_lang.specs.Script.{Line, Ask, Dnnf}
+use Rattle.script_lang.specs.Script.{Line, Ask, Dnnf, line_of}
+use Rattle.session_rules.specs.Items.{Plain, line}
 use Rattle.session_rules.specs.Sessions.{Table, Entry, Step, entry_of}
-use Rattle.session_rules.specs.Moves.{line_moves}
+use Rattle.session_rules.specs.Moves.{moves}
 use Rattle.session_rules.specs.GraphSystems.{Subject, system_of, case_words}
 
 -- what is asked over, how many sessions may be open, and those that are
@@ -16,25 +15,30 @@ pub record Shown : Type 0 where
   pub limit : ℕ
   pub table : Table
 
--- the moves of a line, from a table
-abbrev pub moves_of : Shown → Table → List ℕ → List Step
-moves_of shown table bytes = line_moves (system_of shown.subject) shown.limit table bytes
-
--- nothing but the table changed
-abbrev pub ChangesTable : Shown → Shown → Type 0
-ChangesTable old new = new ≡ record old { table = new.table }
-
 -- the text of the states that agree with a case: one for a graph and a case, whatever session asks and however often
 abbrev pub case_text : Subject → Case → List ℕ
 case_text subject known = projected_text subject.graph (case_words subject.graph.vars known) (length subject.parts)
 
--- a line that names the session, and then a text
-abbrev pub TellsText : {T E : Type 0} → Name → List ℕ → Option (List ℕ) → Option (List ℕ) → Result T E → Type 0
-TellsText session text before after result = Puts before after result (spaced (session ∷ codes "dnnf" ∷ []) ++ text)
+-- An open session that asks for its graph is told this text, in place of these moves.
+abbrev pub told_graph : Shown → Table → Name → Option Entry → List Step → List Step
+told_graph shown table session None moves = moves
+told_graph shown table session (Some entry) moves = record {
+  table = table;
+  items = line (session ∷ codes "dnnf" ∷ []) ∷ Plain (case_text shown.subject entry.known) ∷ [];
+} ∷ []
 
--- An open session that asks for its graph is answered by that text.
-abbrev pub TellsGraph : {T E : Type 0} → Shown → Line → Option (List ℕ) → Option (List ℕ) → Result T E → Type 0
-TellsGraph shown (Ask session Dnnf) before after result =
-    (entry : Entry) → entry_of session shown.table ≡ Some entry
-    → TellsText session (case_text shown.subject entry.known) before after result
-TellsGraph shown line before after result = Unit {0}
+-- Any other line keeps them.
+abbrev pub with_graph : Shown → Table → Line → List Step → List Step
+with_graph shown table (Ask session Dnnf) moves = told_graph shown table session (entry_of session table) moves
+with_graph shown table line moves = moves
+
+-- the moves of a line, from a table: those over the service's system, where a graph is told by its text
+abbrev pub exact_moves : Shown → Table → Line → List Step
+exact_moves shown table line = with_graph shown table line (moves (system_of shown.subject) shown.limit table line)
+
+abbrev pub moves_of : Shown → Table → List ℕ → List Step
+moves_of shown table bytes = exact_moves shown table (line_of bytes)
+
+-- nothing but the table changed
+abbrev pub ChangesTable : Shown → Shown → Type 0
+ChangesTable old new = new ≡ record old { table = new.table }

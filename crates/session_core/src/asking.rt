@@ -1,14 +1,13 @@
 //! Requests that leave every session as it is.
-ghost use Rattle.std.specs.Prelude.{◌≡◌, ◌<◌, ◌++◌, ◌∷◌, [], length, codes};
-ghost use Rattle.text_rules.specs.Tokens.{spaced};
-ghost use Rattle.diag_edge.specs.Edge.{HasCause, Puts};
-ghost use Rattle.script_lang.specs.Script.{Ask, Probe, Dnnf};
+ghost use Rattle.std.specs.Prelude.{◌≡◌, ◌<◌, ◌∷◌, [], length, codes};
+ghost use Rattle.diag_edge.specs.Edge.{HasCause};
+ghost use Rattle.script_lang.specs.Script.{Probe, Dnnf};
 ghost use Rattle.session_rules.specs.GraphSystems.{system_of};
-ghost use Rattle.session_rules.specs.Items.{Projected, line};
+ghost use Rattle.session_rules.specs.Items.{Plain, line};
 ghost use Rattle.session_rules.specs.Sessions.{Entry};
 ghost use Rattle.session_rules.specs.Spelling.{Replies};
 ghost use Rattle.session_table.specs.Tables.{StandsAt};
-ghost use Rattle.session_core.specs.Services.{TellsGraph, case_text};
+ghost use Rattle.session_core.specs.Services.{case_text};
 ghost use Rattle.session_core.specs.inner.Bases.{AreKnown, case_in};
 ghost use Rattle.session_core.specs.inner.Obeying.{Obeys, asked_request, NamesNoWire};
 ghost use Rattle.session_core.specs.inner.Telling.{told_of, HasPlace};
@@ -68,7 +67,6 @@ impl Sessions {
     // Tells the graph of the states that agree with a session's case.
     pub(crate) fn ask_graph<O: Sink>(&self, session: &[u8], out: &mut O) -> Result<(), WriteFailed>
         ensures obeys { Obeys self.now self.now session.now Dnnf (O.got out.old) (O.got out.new) result }
-        ensures text { TellsGraph self.now (Ask session.now Dnnf) (O.got out.old) (O.got out.new) result }
         ensures cause { HasCause (O.faults out.old) (O.faults out.new) result }
     {
         match self.open.find(session) {
@@ -121,11 +119,8 @@ fn tell_graph<O: Sink>(
     out: &mut O,
 ) -> Result<(), WriteFailed>
     requires { AreKnown basis.now known.now }
-    ensures text { Puts (O.got out.old) (O.got out.new) result
-        (spaced (session.now ∷ codes "dnnf" ∷ []) ++ case_text basis.now (case_in basis.now known.now)) }
-    ensures reply { let system = system_of basis.now in
-        Replies (O.got out.old) (O.got out.new) result
-        (line (session.now ∷ codes "dnnf" ∷ []) ∷ Projected (length system.parts) (system.consistent (case_in basis.now known.now)) ∷ []) }
+    ensures reply { Replies (O.got out.old) (O.got out.new) result
+        (line (session.now ∷ codes "dnnf" ∷ []) ∷ Plain (case_text basis.now (case_in basis.now known.now)) ∷ []) }
     ensures cause { HasCause (O.faults out.old) (O.faults out.new) result }
 {
     let graph = basis.graph();

@@ -2,9 +2,8 @@ ghost use Rattle.std.specs.Prelude.{◌≡◌, ◌≤◌, ◌<◌, ◌+◌, [], 
 ghost use Rattle.text_rules.specs.Names.{names_rise};
 ghost use Rattle.conditioner.specs.Models.{total_cost};
 ghost use Rattle.diag_edge.specs.Edge.{HasCause};
-ghost use Rattle.script_lang.specs.Script.{line_of};
 ghost use Rattle.session_rules.specs.Carrying.{CarriesOut};
-ghost use Rattle.session_core.specs.Services.{moves_of, ChangesTable, TellsGraph};
+ghost use Rattle.session_core.specs.Services.{moves_of, ChangesTable};
 
 use crate::basis::Basis;
 use crate::limits::{SERVED_NODES, SERVED_VARIABLES, SESSION_LIMIT};
@@ -103,7 +102,6 @@ impl Service {
         ensures carried { CarriesOut self.old.table self.new.table
             (moves_of self.old self.old.table line.now)
             (O.got out.old) (O.got out.new) result }
-        ensures graph { TellsGraph self.old (line_of line.now) (O.got out.old) (O.got out.new) result }
         ensures stays { ChangesTable self.old self.new }
         ensures cause { HasCause (O.faults out.old) (O.faults out.new) result }
     {

@@ -1,9 +1,9 @@
 ghost use Rattle.std.specs.Prelude.{◌≡◌, ◌≤◌, ◌<◌, [], Some, None, length, true, IfOk};
 ghost use Rattle.text_rules.specs.Names.{is_short_name};
 ghost use Rattle.diag_edge.specs.Edge.{HasCause};
-ghost use Rattle.script_lang.specs.Script.{Start, Stop, line_of};
+ghost use Rattle.script_lang.specs.Script.{Start, Stop};
 ghost use Rattle.session_rules.specs.Carrying.{CarriesOut};
-ghost use Rattle.session_core.specs.Services.{moves_of, ChangesTable, TellsGraph};
+ghost use Rattle.session_core.specs.Services.{moves_of, ChangesTable};
 ghost use Rattle.session_core.specs.inner.Obeying.{Obeys, seen_request, held_request};
 
 use crate::basis::Basis;
@@ -92,7 +92,6 @@ impl Sessions {
         ensures carried { CarriesOut self.old.table self.new.table
             (moves_of self.old self.old.table line.now)
             (O.got out.old) (O.got out.new) result }
-        ensures graph { TellsGraph self.old (line_of line.now) (O.got out.old) (O.got out.new) result }
         ensures stays { ChangesTable self.old self.new }
         ensures cause { HasCause (O.faults out.old) (O.faults out.new) result }
     {

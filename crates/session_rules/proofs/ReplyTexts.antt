@@ -150,15 +150,18 @@ module _ (subject : Subject) (is : IsGraph subject.graph) (room : length subject
   abbrev system : System
   system = system_of subject
 
-  projected-has : (known : Case) → IsCaseOf system known → HasText (Projected (length subject.parts) (system.consistent known))
-  projected-has known h =
+  -- the projected text under the words of a case spells its states
+  pub case-spelled : (known : Case) → IsCaseOf (system_of subject) known
+      → Spelled (Projected (length subject.parts) ((system_of subject).consistent known)) (projected_text subject.graph (case_words subject.graph.vars known) (length subject.parts))
+  case-spelled known h =
       let parts = length subject.parts in
       let words = case_words subject.graph.vars known in
       let long = length-case_words subject.graph.vars known (omega (arith, h.0, h.1, room)) in
-      let narrow : parts ≤ subject.graph.vars = omega (arith, room) in (
-        projected_text subject.graph words parts,
-        (projected_text-is_neat subject.graph words parts is long narrow few, projected_text-means subject.graph words parts is long narrow few),
-      )
+      let narrow : parts ≤ subject.graph.vars = omega (arith, room) in
+      (projected_text-is_neat subject.graph words parts is long narrow few, projected_text-means subject.graph words parts is long narrow few)
+
+  projected-has : (known : Case) → IsCaseOf system known → HasText (Projected (length subject.parts) (system.consistent known))
+  projected-has known h = (projected_text subject.graph (case_words subject.graph.vars known) (length subject.parts), case-spelled known h)
 
   -- each reply to a script has some text
   pub replies-have : (limit : ℕ) (table : Table) (lines : List (List ℕ)) → HasCasesOf (system_of subject) table → HaveSpellings (replies (system_of subject) limit table lines)

@@ -9,17 +9,16 @@ use Rattle.script_lang.specs.Script.{Request, Ask, See, Unsee, Hold, Unhold, Min
 use Rattle.session_rules.specs.GraphSystems.{Subject, system_of}
 use Rattle.session_rules.specs.Replies.{Found, next_of}
 use Rattle.session_rules.specs.Sessions.{Entry, Table, with_entry}
-use Rattle.session_rules.specs.Moves.{moves}
 use Rattle.session_rules.specs.Spelling.{Replies}
 use Rattle.session_rules.specs.Carrying.{CarriesOut}
 use Rattle.session_table.specs.Tables.{StandsAt}
-use Rattle.session_core.specs.Services.{Shown, ChangesTable}
+use Rattle.session_core.specs.Services.{Shown, exact_moves, ChangesTable}
 use Rattle.session_core.specs.declared.telling.Question.{Question}
 use Rattle.session_core.specs.declared.telling.Question.TheVariants.{Minimum, Probe, Probes, Blame}
 
 -- The moves of a request were made or broke off, and nothing but the table changed.
 pub record Obeys {T E : Type 0} (old new : Shown) (session : Name) (request : Request) (before after : Option (List ℕ)) (result : Result T E) : Type 0 where
-  pub carried : CarriesOut old.table new.table (moves (system_of old.subject) old.limit old.table (Ask session request)) before after result
+  pub carried : CarriesOut old.table new.table (exact_moves old old.table (Ask session request)) before after result
   pub stays : ChangesTable old new
 
 -- what is asked where a wire was seen, or is not seen any more

@@ -19,7 +19,7 @@ returns-in-Err-clause-served g c =
           reads = refl;
           lines = [];
           are = inl (omega arith, refl);
-          begun = ready_begun shown.subject c.requires.sound shown.limit _ _ _ _ c.parts.ensures c.wires.ensures c.in-Err.ensures.text;
+          begun = ready_begun shown c.requires.sound _ _ _ _ c.parts.ensures c.wires.ensures c.in-Err.ensures.text;
         },
       ));
       all_read = λ zero. absurd (omega (arith, zero));
@@ -40,7 +40,7 @@ returns-in-WriteFault-clause-served g c =
             reads = kept;
             lines = whole_lines done.0;
             are = inl (done.3.0, refl);
-            begun = lines_begun shown.subject c.requires.sound shown.limit _ _ (whole_lines done.0) _ _ _ _ _ c.requires.none_open c.parts.ensures c.wires.ensures c.in-Ok.ensures.text broke;
+            begun = lines_begun shown c.requires.sound _ _ (whole_lines done.0) _ _ _ _ _ c.requires.none_open c.parts.ensures c.wires.ensures c.in-Ok.ensures.text broke;
           }
           | inr broke ↦ record {
             bytes = done.0;
@@ -48,7 +48,7 @@ returns-in-WriteFault-clause-served g c =
             reads = kept;
             lines = all_lines done.0;
             are = inr (broke.0, broke.1, refl);
-            begun = lines_begun shown.subject c.requires.sound shown.limit _ _ (all_lines done.0) _ _ _ _ _ c.requires.none_open c.parts.ensures c.wires.ensures c.in-Ok.ensures.text broke.2;
+            begun = lines_begun shown c.requires.sound _ _ (all_lines done.0) _ _ _ _ _ c.requires.none_open c.parts.ensures c.wires.ensures c.in-Ok.ensures.text broke.2;
           }
         ],
       ));
@@ -66,7 +66,7 @@ returns-in-Done-clause-served g c =
         took = done.2;
         ends = (done.3.0, done.3.1, c.in-Done.ensures.read_fault.stayed (λ e. let never : ⊥ = cc in never));
         gives = gives_all _ _ _ _ (λ five. absurd (omega (arith, five))) refl
-            (ready_then (system_of shown.subject) shown.limit _ (all_lines done.0) _ _ _ _ _ c.requires.none_open c.parts.ensures c.wires.ensures c.in-Ok.ensures.text done.3.2.written);
+            (ready_then shown c.requires.sound _ _ (all_lines done.0) _ _ _ _ _ c.requires.none_open c.parts.ensures c.wires.ensures c.in-Ok.ensures.text done.3.2);
       }));
       all_read = λ _. done.3.0;
     }
@@ -83,7 +83,7 @@ returns-in-ReadFault-clause-served g c =
         took = done.2;
         ends = c.in-ReadFault.ensures.read_fault.rose refl;
         gives = gives_after (answers_of (system_of shown.subject) shown.limit (whole_lines done.0)) read_error _ _ _ _ _
-            (ready_then (system_of shown.subject) shown.limit _ (whole_lines done.0) _ _ _ _ _ c.requires.none_open c.parts.ensures c.wires.ensures c.in-Ok.ensures.text done.3.1.written) said;
+            (ready_then shown c.requires.sound _ _ (whole_lines done.0) _ _ _ _ _ c.requires.none_open c.parts.ensures c.wires.ensures c.in-Ok.ensures.text done.3.1) said;
       }));
       all_read = λ zero. absurd (let same = (said.whole (λ five. omega (arith, zero, five))).0 in omega (arith, zero, same));
     }
@@ -100,7 +100,7 @@ returns-in-Limit-clause-served g c =
         took = done.2;
         ends = (done.3.0, c.in-Limit.ensures.read_fault.stayed (λ e. let never : ⊥ = cc in never));
         gives = gives_after (answers_of (system_of shown.subject) shown.limit (whole_lines done.0)) script_too_long _ _ _ _ _
-            (ready_then (system_of shown.subject) shown.limit _ (whole_lines done.0) _ _ _ _ _ c.requires.none_open c.parts.ensures c.wires.ensures c.in-Ok.ensures.text done.3.1.written) said;
+            (ready_then shown c.requires.sound _ _ (whole_lines done.0) _ _ _ _ _ c.requires.none_open c.parts.ensures c.wires.ensures c.in-Ok.ensures.text done.3.1) said;
       }));
       all_read = λ zero. absurd (let same = (said.whole (λ five. omega (arith, zero, five))).0 in omega (arith, zero, same));
     }

@@ -20,7 +20,7 @@ returns-in_default-clause-obeys g c =
     let request = After (words c.args.names.now) in
     let shown = shown_of c.self.inside.basis c.self.inside.open in
     subst (λ (v : Shown). Obeys v v c.args.session.now request (g.O.Sink.got c.args.out.now) (g.O.Sink.got c.put_refusal.new.out) c.put_refusal.result) c.self.view_is
-    (obeys_closed shown c.args.session.now request (λ system limit table session. refl) _ _ _ (λ system session full. refl) c.in_default.ensures.none c.put_refusal.ensures.text)
+    (obeys_closed shown c.args.session.now request (λ shown table session. refl) _ _ _ (λ system session full. refl) c.in_default.ensures.none c.put_refusal.ensures.text)
 
 pub returns-then-point_at-clause-obeys : goal.returns-then-point_at-clause-obeys
 returns-then-point_at-clause-obeys g c =
@@ -33,7 +33,7 @@ returns-then-point_at-clause-obeys g c =
     let are : list_all (is_among old.subject.parts) (words c.args.names.now) ≡ true = sym c.point_at.ensures.named ∙ c.if-point_at.true in
     let new : c.point_at.new.self ≡ record old { table = with_entry s entry old.table } =
     c.point_at.ensures.point s there.0 here ∙ ap (λ (b : Bool). if b then record old { table = with_entry s entry old.table } else old) c.if-point_at.true in
-    obeys_outcome old s request (λ system limit table session. refl) _ _ _ (becomes s entry (codes "ok")) c.point_at.new.self
+    obeys_outcome old s request (λ shown table session. refl) _ _ _ (becomes s entry (codes "ok")) c.point_at.new.self
     (asked_open old s request there.0 here.found ∙ ap (λ (b : Bool). if b then becomes s entry (codes "ok") else Declined NoPart) are)
     new (replies_one _ _ _ (line (s ∷ codes "ok" ∷ [])) _ refl c.put_line.ensures.bytes)
 
@@ -49,6 +49,6 @@ returns-else-point_at-clause-obeys g c =
     let new : c.point_at.new.self ≡ old =
     c.point_at.ensures.point s there.0 here ∙ ap (λ (b : Bool). if b then record old { table = with_entry s entry old.table } else old) c.if-point_at.false in
     subst (λ (v : Shown). Obeys old v s request (g.O.Sink.got c.args.out.now) (g.O.Sink.got c.put_refusal-else-point_at.new.out) c.put_refusal-else-point_at.result) (sym new)
-    (obeys_refusal old s request (λ system limit table session. refl) _ _ _ NoPart
+    (obeys_refusal old s request (λ shown table session. refl) _ _ _ NoPart
     (asked_open old s request there.0 here.found ∙ ap (λ (b : Bool). if b then becomes s entry (codes "ok") else Declined NoPart) are)
     c.put_refusal-else-point_at.ensures.text)

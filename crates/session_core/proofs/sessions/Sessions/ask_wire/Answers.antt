@@ -16,7 +16,7 @@ returns-in_default-clause-obeys g c =
     let request = Probe c.args.name.now in
     let shown = shown_of c.self.inside.basis c.self.inside.open in
     subst (λ (v : Shown). Obeys v v c.args.session.now request (g.O.Sink.got c.args.out.now) (g.O.Sink.got c.put_refusal.new.out) c.put_refusal.result) c.self.view_is
-    (obeys_closed shown c.args.session.now request (λ system limit table session. refl) _ _ _ (λ system session full. refl) c.in_default.ensures.none c.put_refusal.ensures.text)
+    (obeys_closed shown c.args.session.now request (λ shown table session. refl) _ _ _ (λ system session full. refl) c.in_default.ensures.none c.put_refusal.ensures.text)
 
 pub returns-in-None-clause-obeys : goal.returns-in-None-clause-obeys
 returns-in-None-clause-obeys g c =
@@ -25,7 +25,7 @@ returns-in-None-clause-obeys g c =
     let shown = shown_of c.self.inside.basis c.self.inside.open in
     let there = c.in-Some.ensures.some in
     subst (λ (v : Shown). Obeys v v s request (g.O.Sink.got c.args.out.now) (g.O.Sink.got c.put_refusal-in-None.new.out) c.put_refusal-in-None.result) c.self.view_is
-    (obeys_refusal shown s request (λ system limit table session. refl) _ _ _ NoWire
+    (obeys_refusal shown s request (λ shown table session. refl) _ _ _ NoWire
     (asked_open shown s request there.0 there.1.found ∙ wire-nowhere (system_of c.self.inside.basis) s there.0 c.args.name.now c.in-None.ensures)
     c.put_refusal-in-None.ensures.text)
 
@@ -42,6 +42,6 @@ returns-in-Some-find_wire-clause-obeys g c =
     let there = c.in-Some.ensures.some in
     let here = subst (λ (v : Shown). StandsAt v.table c.in-Some.place s there.0) c.self.view_is there.1 in
     let at = c.in-Some-find_wire.ensures ∙ ap (λ (v : Shown). place_of name v.subject.wires) c.self.view_is in
-    obeys_outcome old s (Probe name) (λ system limit table session. refl) _ _ _ (tells_wire (system_of old.subject) s there.0 name wire) c.tell_at.new.self
+    obeys_outcome old s (Probe name) (λ shown table session. refl) _ _ _ (tells_wire (system_of old.subject) s there.0 name wire) c.tell_at.new.self
     (asked_open old s (Probe name) there.0 here.found ∙ wire-at (system_of old.subject) s there.0 name wire at)
     c.tell_at.ensures.same (c.tell_at.ensures.reply there.0 here)

@@ -6,9 +6,7 @@ use Rattle.script_lang.specs.declared.limits.TheConstants.{COUNT_LIMIT}
 use Rattle.script_lang.proofs.Asked.{is_well_asked}
 use Rattle.script_lang.proofs.AskedLemmas.{well_asked}
 use Rattle.script_lang.specs.Script.{Line}
-use Rattle.session_core.specs.Services.{TellsGraph}
-use Rattle.session_rules.specs.GraphSystems.{system_of}
-use Rattle.session_rules.specs.Moves.{moves}
+use Rattle.session_core.specs.Services.{exact_moves}
 use Rattle.session_rules.specs.Carrying.{Makes, CarriesOut}
 use Rattle.session_rules.proofs.Broken.{carries_step}
 use Rattle.session_rules.proofs.Spellings.{writes_none, replies_one}
@@ -29,13 +27,13 @@ pub returns-in-Blank-clause-carried : goal.returns-in-Blank-clause-carried
 returns-in-Blank-clause-carried g c =
     let old = c.args.self.now in
     let before = g.O.Sink.got c.args.out.now in
-    subst (λ (l : Line). Makes old.table old.table (moves (system_of old.subject) old.limit old.table l) before before) c.in-Blank.ensures
+    subst (λ (l : Line). Makes old.table old.table (exact_moves old old.table l) before before) c.in-Blank.ensures
     (record { written = writes_none before; table = refl })
 
 pub returns-in-Refused-clause-carried : goal.returns-in-Refused-clause-carried
 returns-in-Refused-clause-carried g c =
     let old = c.args.self.now in
-    subst (λ (l : Line). CarriesOut old.table old.table (moves (system_of old.subject) old.limit old.table l) (g.O.Sink.got c.args.out.now) (g.O.Sink.got c.put_line_refusal.new.out) c.put_line_refusal.result) c.in-Refused.ensures
+    subst (λ (l : Line). CarriesOut old.table old.table (exact_moves old old.table l) (g.O.Sink.got c.args.out.now) (g.O.Sink.got c.put_line_refusal.new.out) c.put_line_refusal.result) c.in-Refused.ensures
     (carries_step _ _ _ _ _ _ _ refl (replies_one _ _ _ _ _ refl c.put_line_refusal.ensures.text) refl)
 
 pub returns-in-Start-clause-carried : goal.returns-in-Start-clause-carried
@@ -79,6 +77,3 @@ returns-in-Blame-clause-carried g c = line_carried c.args.self.now c.ask-in-Blam
 
 pub returns-in-Dnnf-clause-carried : goal.returns-in-Dnnf-clause-carried
 returns-in-Dnnf-clause-carried g c = line_carried c.args.self.now c.args.self.now _ _ c.args.line.now _ _ _ c.in-Dnnf.ensures c.ask_graph.ensures.obeys
-
-pub returns-in-Dnnf-clause-graph : goal.returns-in-Dnnf-clause-graph
-returns-in-Dnnf-clause-graph g c = subst (λ (l : Line). TellsGraph c.args.self.now l (g.O.Sink.got c.args.out.now) (g.O.Sink.got c.ask_graph.new.out) c.ask_graph.result) c.in-Dnnf.ensures c.ask_graph.ensures.text

@@ -12,7 +12,7 @@ pub returns-in-None-clause-obeys : goal.returns-in-None-clause-obeys
 returns-in-None-clause-obeys g c =
     let shown = shown_of c.self.inside.basis c.self.inside.open in
     subst (λ (v : Shown). Obeys v v c.args.session.now Next (g.O.Sink.got c.args.out.now) (g.O.Sink.got c.put_refusal.new.out) c.put_refusal.result) c.self.view_is
-    (obeys_closed shown c.args.session.now Next (λ system limit table session. refl) _ _ _ (λ system session full. refl) c.in-None.ensures.none c.put_refusal.ensures.text)
+    (obeys_closed shown c.args.session.now Next (λ shown table session. refl) _ _ _ (λ system session full. refl) c.in-None.ensures.none c.put_refusal.ensures.text)
 
 pub returns-in_err-move_on-in-Some-clause-obeys : goal.returns-in_err-move_on-in-Some-clause-obeys
 returns-in_err-move_on-in-Some-clause-obeys g c =

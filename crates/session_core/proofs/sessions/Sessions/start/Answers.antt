@@ -19,7 +19,7 @@ returns-in-Some-clause-obeys g c =
     let s = c.args.session.now in
     let there = c.in-Some.ensures.some in
     subst (λ (v : Shown). Obeys v v s Start (g.O.Sink.got c.args.out.now) (g.O.Sink.got c.put_refusal.new.out) c.put_refusal.result) c.self.view_is
-    (obeys_refusal shown s Start (λ system limit table session. refl) _ _ _ OpenAlready (asked_open shown s Start there.0 there.1.found) c.put_refusal.ensures.text)
+    (obeys_refusal shown s Start (λ shown table session. refl) _ _ _ OpenAlready (asked_open shown s Start there.0 there.1.found) c.put_refusal.ensures.text)
 
 -- what opens a session comes to, where it is not open
 opened : (shown : Shown) (s : Name) (full : Bool) → entry_of s shown.table ≡ None → full ≡ nat_le shown.limit (length shown.table)
@@ -32,7 +32,7 @@ returns-in-None-clause-obeys g c =
     let shown = shown_of c.self.inside.basis c.self.inside.open in
     let s = c.args.session.now in
     subst (λ (v : Shown). Obeys v v s Start (g.O.Sink.got c.args.out.now) (g.O.Sink.got c.put_refusal-in-None.new.out) c.put_refusal-in-None.result) c.self.view_is
-    (obeys_refusal shown s Start (λ system limit table session. refl) _ _ _ Full (opened shown s true c.in-None.ensures.none c.if-is_full.ensures) c.put_refusal-in-None.ensures.text)
+    (obeys_refusal shown s Start (λ shown table session. refl) _ _ _ Full (opened shown s true c.in-None.ensures.none c.if-is_full.ensures) c.put_refusal-in-None.ensures.text)
 
 pub returns-in-None-2-clause-obeys : goal.returns-in-None-2-clause-obeys
 returns-in-None-2-clause-obeys g c =
@@ -42,7 +42,7 @@ returns-in-None-2-clause-obeys g c =
     let fresh : c.start.new.self ≡ opened_with sessions (with_entry s (new_entry (system_of subject)) sessions.table) =
     c.start.ensures ∙ (λ i. opened_with sessions (with_entry s (record { known = empty_case (c.self.invariant.wires i) (c.self.invariant.parts i); point = None }) sessions.table)) in
     subst (λ (v : Shown). Obeys v (shown_of subject c.start.new.self) s Start (g.O.Sink.got c.args.out.now) (g.O.Sink.got c.put_line.new.out) c.put_line.result) c.self.view_is
-    (obeys_becomes subject sessions c.start.new.self s Start (new_entry (system_of subject)) (codes "open") _ _ _ (λ system limit table session. refl)
+    (obeys_becomes subject sessions c.start.new.self s Start (new_entry (system_of subject)) (codes "open") _ _ _ (λ shown table session. refl)
     (opened (shown_of subject sessions) s false c.in-None-2.ensures.none c.if-is_full.ensures) fresh c.put_line.ensures.bytes)
 
 pub start-requires-clause-room : goal.start-requires-clause-room

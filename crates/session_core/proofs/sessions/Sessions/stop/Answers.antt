@@ -13,7 +13,7 @@ pub returns-in-None-clause-obeys : goal.returns-in-None-clause-obeys
 returns-in-None-clause-obeys g c =
     let s = c.args.session.now in
     subst (λ (v : Shown). Obeys v v s Stop (g.O.Sink.got c.args.out.now) (g.O.Sink.got c.put_refusal.new.out) c.put_refusal.result) c.self.view_is
-    (obeys_closed (shown_of c.self.inside.basis c.self.inside.open) s Stop (λ system limit table session. refl) _ _ _ (λ system session full. refl) c.in-None.ensures.none c.put_refusal.ensures.text)
+    (obeys_closed (shown_of c.self.inside.basis c.self.inside.open) s Stop (λ shown table session. refl) _ _ _ (λ system session full. refl) c.in-None.ensures.none c.put_refusal.ensures.text)
 
 pub returns-in-Some-clause-obeys : goal.returns-in-Some-clause-obeys
 returns-in-Some-clause-obeys g c =
@@ -22,7 +22,7 @@ returns-in-Some-clause-obeys g c =
     let s = c.args.session.now in
     let there = c.in-Some.ensures.some in
     subst (λ (v : Shown). Obeys v (shown_of subject c.stop.new.self) s Stop (g.O.Sink.got c.args.out.now) (g.O.Sink.got c.put_line.new.out) c.put_line.result) c.self.view_is
-    (obeys_outcome shown s Stop (λ system limit table session. refl) _ _ _ (Done Ends (line (s ∷ codes "closed" ∷ []) ∷ [])) (shown_of subject c.stop.new.self)
+    (obeys_outcome shown s Stop (λ shown table session. refl) _ _ _ (Done Ends (line (s ∷ codes "closed" ∷ []) ∷ [])) (shown_of subject c.stop.new.self)
     (asked_open shown s Stop there.0 there.1.found) (ap (shown_of subject) (c.stop.ensures s there.0 there.1))
     (replies_one _ _ _ (line (s ∷ codes "closed" ∷ [])) _ refl c.put_line.ensures.bytes))
 

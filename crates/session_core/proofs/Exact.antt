@@ -1,0 +1,169 @@
+-- What a service writes is one text of what its system answers: where its moves were made, or broke off, those over the
+-- system were.
+use Rattle.std.proofs.Common.{◌≡◌, ℕ, ◌+◌, ◌^◌, ◌<◌, ◌≤◌, List, [], ◌∷◌, ◌++◌, length, Option, Some, None, refl, ap, sym, ◌∙◌, subst, append_assoc}
+use Rattle.std.specs.Prelude.{nat_le}
+use Rattle.text_rules.specs.Names.{Name}
+use Rattle.ranking.specs.Systems.{System}
+use Rattle.graph_rules.specs.Graphs.{IsGraph}
+use Rattle.script_lang.specs.Script.{Line, Ask, Dnnf, line_of}
+use Rattle.session_rules.specs.Items.{Item, Projected}
+use Rattle.session_rules.specs.Spelling.{Spelled, Spells}
+use Rattle.session_rules.specs.Sessions.{Table, Entry, Step, entry_of, carried, outcome}
+use Rattle.session_rules.specs.Moves.{said, left_by, moves, line_moves, script_moves}
+use Rattle.session_rules.specs.Carrying.{Makes, BreaksOff}
+use Rattle.session_rules.specs.GraphSystems.{system_of}
+use Rattle.session_rules.specs.CaseSizes.{IsCaseOf, HasCasesOf}
+use Rattle.session_rules.proofs.Spellings.{spells_more}
+use Rattle.session_rules.proofs.Whole.{line_moves-whole}
+use Rattle.session_rules.proofs.Keeping.{step-keeps}
+use Rattle.session_rules.proofs.ReplyTexts.{case-spelled}
+use Rattle.session_core.specs.Services.{Shown, told_graph, exact_moves, moves_of}
+
+-- A move leads to the table of another, and a text that spells its items spells the other's.
+pub record IsExact (exact move : Step) : Type 0 where
+  pub table : exact.table ≡ move.table
+  pub spells : (text : List ℕ) → Spells exact.items text → Spells move.items text
+
+-- so does each of some moves, to those of others
+abbrev pub AreExact : List Step → List Step → Type 0
+AreExact [] [] = Unit {0}
+AreExact [] (m ∷ ms) = ⊥
+AreExact (e ∷ es) [] = ⊥
+AreExact (e ∷ es) (m ∷ ms) = IsExact e m × AreExact es ms
+
+are_same : (ms : List Step) → AreExact ms ms
+are_same [] = tt
+are_same (m ∷ ms) = (record { table = refl; spells = λ text is. is }, are_same ms)
+
+are_more : (es ms fs ns : List Step) → AreExact es ms → AreExact fs ns → AreExact (es ++ fs) (ms ++ ns)
+are_more [] [] fs ns h k = k
+are_more [] (m ∷ ms) fs ns h k = absurd h
+are_more (e ∷ es) [] fs ns h k = absurd h
+are_more (e ∷ es) (m ∷ ms) fs ns h k = (h.0, are_more es ms fs ns h.1 k)
+
+same_left : (t : Table) (es ms : List Step) → AreExact es ms → left_by t es ≡ left_by t ms
+same_left t [] [] h = refl
+same_left t [] (m ∷ ms) h = absurd h
+same_left t (e ∷ es) [] h = absurd h
+same_left t (e ∷ es) (m ∷ ms) h = ap (λ u. left_by u es) h.0.table ∙ same_left m.table es ms h.1
+
+-- a text of some items and of more is one of these and one of those
+parted : (xs ys : List Item) (text : List ℕ) → Spells (xs ++ ys) text → (front : List ℕ) × (rest : List ℕ) × (text ≡ front ++ rest) × Spells xs front × Spells ys rest
+parted [] ys text is = ([], text, refl, refl, is)
+parted (x ∷ xs) ys text (front, rest, all, one, more) =
+    let later = parted xs ys rest more in (
+      front ++ later.0,
+      later.1,
+      all ∙ ap (λ r. front ++ r) later.2 ∙ sym (append_assoc front later.0 later.1),
+      (front, later.0, refl, one, later.3),
+      later.4,
+    )
+
+same_said : (es ms : List Step) → AreExact es ms → (text : List ℕ) → Spells (said es) text → Spells (said ms) text
+same_said [] [] h text is = is
+same_said [] (m ∷ ms) h text is = absurd h
+same_said (e ∷ es) [] h text is = absurd h
+same_said (e ∷ es) (m ∷ ms) h text is =
+    let parts = parted e.items (said es) text is in
+    subst (Spells (m.items ++ said ms)) (sym parts.2)
+    (spells_more m.items (said ms) parts.0 parts.1 (h.0.spells parts.0 parts.3) (same_said es ms h.1 parts.1 parts.4))
+
+makes_same : (old new : Table) (es ms : List Step) (a b : Option (List ℕ)) → AreExact es ms → Makes old new es a b → Makes old new ms a b
+makes_same old new es ms a b h made = record {
+  written = record {
+    text = made.written.text;
+    spelled = same_said es ms h made.written.text made.written.spelled;
+    grown = made.written.grown;
+  };
+  table = made.table ∙ same_left old es ms h;
+}
+
+-- moves of which these are the first, another is the next, and those are the others
+record Splits (made others : List Step) (move : Step) (ms : List Step) : Type 0 where
+  first : List Step
+  next : Step
+  later : List Step
+  all : ms ≡ first ++ next ∷ later
+  exact : AreExact made first × IsExact move next
+
+splits : (made others : List Step) (move : Step) (ms : List Step) → AreExact (made ++ move ∷ others) ms → Splits made others move ms
+splits [] others move [] h = absurd h
+splits [] others move (m ∷ ms) h = record { first = []; next = m; later = ms; all = refl; exact = (tt, h.0) }
+splits (e ∷ made) others move [] h = absurd h
+splits (e ∷ made) others move (m ∷ ms) h =
+    let more = splits made others move ms h.1 in
+    record { first = m ∷ more.first; next = more.next; later = more.later; all = ap (λ xs. m ∷ xs) more.all; exact = ((h.0, more.exact.0), more.exact.1) }
+
+breaks_same : (new : Table) (es ms : List Step) (a b : Option (List ℕ)) → AreExact es ms → BreaksOff new es a b → BreaksOff new ms a b
+breaks_same new es ms a b h broke =
+    let parts = splits broke.made broke.others broke.move ms (subst (λ xs. AreExact xs ms) broke.split h) in
+    record {
+      made = parts.first;
+      move = parts.next;
+      others = parts.later;
+      split = parts.all;
+      middle = broke.middle;
+      written = record {
+        text = broke.written.text;
+        spelled = same_said broke.made parts.first parts.exact.0 broke.written.text broke.written.spelled;
+        grown = broke.written.grown;
+      };
+      begun = record {
+        text = broke.begun.text;
+        begun = (broke.begun.begun.0, parts.exact.1.spells (broke.begun.text ++ broke.begun.begun.0) broke.begun.begun.1);
+        grown = broke.begun.grown;
+      };
+      table = broke.table ∙ parts.exact.1.table;
+    }
+
+-- ---- over a graph whose cases have a text
+
+module _ (shown : Shown) (is : IsGraph shown.subject.graph) (room : length shown.subject.parts + length shown.subject.wires ≤ shown.subject.graph.vars) (few : length shown.subject.graph.nodes + length shown.subject.parts + 1 < 2 ^ 32) where
+  abbrev system : System
+  system = system_of shown.subject
+
+  -- a text of a session's graph is one of its states
+  told : (table : Table) (s : Name) (entry : Option Entry) → ((e : Entry) → entry ≡ Some e → IsCaseOf system e.known)
+      → let answer = carried table s (outcome system s (nat_le shown.limit (length table)) entry Dnnf) ∷ [] in
+      AreExact (told_graph shown table s entry answer) answer
+  told table s None h = are_same (carried table s (outcome system s (nat_le shown.limit (length table)) None Dnnf) ∷ [])
+  told table s (Some entry) h = (
+    record {
+      table = refl;
+      spells = λ text (head, rest, all, one, (graph, end, behind, is_text, none)). (
+        head,
+        rest,
+        all,
+        one,
+        (graph, end, behind, subst (Spelled (Projected (length shown.subject.parts) (system.consistent entry.known))) (sym is_text) (case-spelled shown.subject is room few entry.known (h entry refl)), none),
+      );
+    },
+    tt,
+  )
+
+  line_exact : (table : Table) (l : Line) → HasCasesOf system table → AreExact (exact_moves shown table l) (moves system shown.limit table l)
+  line_exact table (Ask s Dnnf) h = told table s (entry_of s table) (h s)
+  line_exact table l h = are_same (moves system shown.limit table l)
+
+  cases_kept : (table : Table) (bytes : List ℕ) → HasCasesOf system table → HasCasesOf system (left_by table (line_moves system shown.limit table bytes))
+  cases_kept table bytes h =
+      subst (λ (s : Step). HasCasesOf system s.table) (sym (line_moves-whole system shown.limit table bytes)) (step-keeps system shown.limit table (line_of bytes) h)
+
+  script_exact : (table : Table) (lines : List (List ℕ)) → HasCasesOf system table → AreExact (script_moves (moves_of shown) table lines) (script_moves (line_moves system shown.limit) table lines)
+  script_exact table [] h = tt
+  script_exact table (l ∷ lines) h =
+      let one = line_moves system shown.limit in
+      let first = line_exact table (line_of l) h in
+      are_more (moves_of shown table l) (one table l) (script_moves (moves_of shown) (left_by table (moves_of shown table l)) lines) (script_moves one (left_by table (one table l)) lines) first
+      (subst (λ (t : Table). AreExact (script_moves (moves_of shown) t lines) (script_moves one (left_by table (one table l)) lines)) (sym (same_left table (moves_of shown table l) (one table l) first))
+      (script_exact (left_by table (one table l)) lines (cases_kept table l h)))
+
+  -- where the moves of a script were made, those over the system were
+  pub makes_over : (old new : Table) (lines : List (List ℕ)) (a b : Option (List ℕ)) → HasCasesOf (system_of shown.subject) old
+      → Makes old new (script_moves (moves_of shown) old lines) a b → Makes old new (script_moves (line_moves (system_of shown.subject) shown.limit) old lines) a b
+  makes_over old new lines a b h = makes_same old new _ _ a b (script_exact old lines h)
+
+  -- and where they broke off, those over the system did
+  pub breaks_over : (old new : Table) (lines : List (List ℕ)) (a b : Option (List ℕ)) → HasCasesOf (system_of shown.subject) old
+      → BreaksOff new (script_moves (moves_of shown) old lines) a b → BreaksOff new (script_moves (line_moves (system_of shown.subject) shown.limit) old lines) a b
+  breaks_over old new lines a b h = breaks_same new _ _ a b (script_exact old lines h)

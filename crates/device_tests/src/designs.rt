@@ -1,19 +1,6 @@
-use component_lang::{Design, LangError, LangFault, UsedKind, read_lang};
+use component_lang::{Design, UsedKind, read_lang};
 use device_model::Kind;
-use std::alloc::Global;
-use std::process::Abort;
 use std::test::Fail;
-
-// What is wrong with a text: the line and the fault.
-fn fault_of(rt: &impl Abort, alloc: Global, text: &str) -> Result<(u32, LangFault), Fail> {
-    let bytes = text.as_bytes();
-    assert!(rt; bytes.len() < 200);
-    match read_lang(alloc, bytes) {
-        Err(LangError::Bad { line, what }) => Ok((line, what)),
-        Err(LangError::Memory) => Err("no memory".into()),
-        Ok(_) => Err("read".into()),
-    }
-}
 
 const PAIR: &str = "type T p q # two ports\nok 00\nok 11\nbad 01\nend\n
 type U p\nok 1\ncost 30\nend\nblock M a b\nwire c\npart u NOT a c\npart v T c b\nend
@@ -83,37 +70,5 @@ fn reads_types_and_blocks(rt: HostRuntime) -> Result<(), Fail> {
     assert!(rt; is_used(&design, 0, 1, "v", UsedKind::Shape(0), &[2, 1]));
     assert!(rt; is_used(&design, 1, 0, "m", UsedKind::Block(0), &[0, 0]));
     assert!(rt; is_used(&design, 1, 1, "w", UsedKind::Shape(1), &[0]));
-    Ok(())
-}
-
-#[test]
-fn refuses(rt: HostRuntime) -> Result<(), Fail> {
-    let rows = [
-        ("type U p\nok 00\nend\n", 2, LangFault::Row),
-        ("block M a\npart u NOT a\nend\ntop M\n", 2, LangFault::Ports),
-        // 65 inputs and an output
-        (
-            "block M a\npart u AND a a a a a a a a a a a a a a a a a a a a a a a a a a a a a a a a a a a a a a a a a a a a a a a a a a a a a a a a a a a a a a a a a a\n",
-            2,
-            LangFault::Ports,
-        ),
-        ("block M a\npart u V a\nend\ntop M\n", 2, LangFault::Unknown),
-        ("block M a\npart u a.b x\n", 2, LangFault::Name),
-        (
-            "block M a\npart u NOT a a\npart u BUFF a x\n",
-            3,
-            LangFault::Twice,
-        ),
-        ("block M a\nwire b a c.d\n", 2, LangFault::Name),
-        ("block M a\nwire b a\n", 2, LangFault::Twice),
-        ("block M a\nend\n", 0, LangFault::NoTop),
-        ("block M a\nend\ntop M\nend\n", 4, LangFault::AfterTop),
-        ("part u NOT a b\n", 1, LangFault::Line),
-        ("type C a\ncost 0\nend\n", 2, LangFault::Cost),
-        ("type C a\ncost 2\ncost 2\n", 3, LangFault::Twice),
-    ];
-    for (text, line, what) in rows {
-        assert_eq!(rt; fault_of(&rt, rt.alloc(), text)?, (line, what));
-    }
     Ok(())
 }

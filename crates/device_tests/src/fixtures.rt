@@ -1,5 +1,5 @@
 use device_model::{Component, Device, Kind, Name, Wires};
-use std::alloc::Global;
+use std::alloc::{AllocError, Global};
 use std::test::Fail;
 
 /// The name of a text.
@@ -95,4 +95,13 @@ pub fn has_parts(device: &Device, parts: &[(&str, Kind, &[u32])]) -> bool {
             && part.ports.as_slice() == *ports;
     }
     has_all
+}
+
+/// The words of a command line.
+pub fn owned(alloc: Global, words: &[&str]) -> Result<Vec<String>, AllocError> {
+    let mut owned = Vec::new(alloc);
+    for word in words {
+        owned.push(String::from_str(alloc, word)?)?;
+    }
+    Ok(owned)
 }

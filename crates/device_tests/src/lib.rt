@@ -1,4 +1,5 @@
-//! Tests over the devices, their texts and their clauses; and the devices that these and the tests above them are made of.
+//! Tests over the devices, their texts and their clauses; and what these and the tests above them are made of: devices, the truth of
+//! a graph, and the words of a command line.
 #![tactic(auto)]
 
 #[cfg(test)]
@@ -10,6 +11,7 @@ mod devices;
 mod fixtures;
 #[cfg(test)]
 mod flattening;
+mod graphs;
 #[cfg(test)]
 mod netlists;
 #[cfg(test)]
@@ -21,7 +23,8 @@ mod renamed;
 #[cfg(test)]
 mod sums;
 
-pub use fixtures::{adder, gates, has_parts, name_of};
+pub use fixtures::{adder, gates, has_parts, name_of, owned};
+pub use graphs::is_true;
 
 /// The netlist that the rows of these tests, and of those of the program, are worked out for.
 pub const C17: &str =

@@ -1,53 +1,63 @@
-use bench_reader::{BenchError, read_bench};
+use crate::{C17, has_parts};
+use bench_reader::read_bench;
+use device_model::Kind;
 use std::test::Fail;
 use text_rules::TEXT_LIMIT;
 
-// Netlists with their parts and wires.
-const DEVICES: [(&str, usize, usize); 3] = [
-    ("INPUT(a)\nOUTPUT(c)\nb = BUFF(a)\nc = BUFF(b)\n", 2, 3),
-    ("INPUT(a)\nINPUT(b)\ny = xor(a, b)\n", 1, 3),
+// A netlist, how many wires it has, and its parts. The ports are the inputs and then the output, and the wires stand by name.
+type Netlist = (
+    &'static str,
+    usize,
+    &'static [(&'static str, Kind, &'static [u32])],
+);
+
+const NETLISTS: [Netlist; 4] = [
+    // 1 10 11 16 19 2 22 23 3 6 7
+    (
+        C17,
+        11,
+        &[
+            ("10", Kind::Nand, &[0, 8, 1]),
+            ("11", Kind::Nand, &[8, 9, 2]),
+            ("16", Kind::Nand, &[5, 2, 3]),
+            ("19", Kind::Nand, &[2, 10, 4]),
+            ("22", Kind::Nand, &[1, 3, 6]),
+            ("23", Kind::Nand, &[3, 4, 7]),
+        ],
+    ),
+    (
+        "INPUT(a)\nOUTPUT(c)\nb = BUFF(a)\nc = BUFF(b)\n",
+        3,
+        &[("b", Kind::Buff, &[0, 1]), ("c", Kind::Buff, &[1, 2])],
+    ),
+    (
+        "INPUT(a)\nINPUT(b)\ny = xor(a, b)\n",
+        3,
+        &[("y", Kind::Xor, &[0, 1, 2])],
+    ),
     // 64 inputs
     (
         "INPUT(a)\ny = XOR(a,a,a,a,a,a,a,a,a,a,a,a,a,a,a,a,a,a,a,a,a,a,a,a,a,a,a,a,a,a,a,a,a,a,a,a,a,a,a,a,a,a,a,a,a,a,a,a,a,a,a,a,a,a,a,a,a,a,a,a,a,a,a,a)\n",
-        1,
         2,
+        &[(
+            "y",
+            Kind::Xor,
+            &[
+                0, 0, 0, 0, 0, 0, 0, 0, 0, 0, 0, 0, 0, 0, 0, 0, 0, 0, 0, 0, 0, 0, 0, 0, 0, 0, 0, 0,
+                0, 0, 0, 0, 0, 0, 0, 0, 0, 0, 0, 0, 0, 0, 0, 0, 0, 0, 0, 0, 0, 0, 0, 0, 0, 0, 0, 0,
+                0, 0, 0, 0, 0, 0, 0, 0, 1,
+            ],
+        )],
     ),
-];
-
-// Netlists with the line, the number and the name of their fault.
-const FAULTS: [(&str, u32, u32, &str); 3] = [
-    ("INPUT(a)\nq = DFF(a)\n", 2, 5, "sequential"),
-    // 65 inputs
-    (
-        "INPUT(a)\ny = AND(a,a,a,a,a,a,a,a,a,a,a,a,a,a,a,a,a,a,a,a,a,a,a,a,a,a,a,a,a,a,a,a,a,a,a,a,a,a,a,a,a,a,a,a,a,a,a,a,a,a,a,a,a,a,a,a,a,a,a,a,a,a,a,a,a)\n",
-        2,
-        4,
-        "inputs",
-    ),
-    ("OUTPUT(z)\nINPUT(a)\na = NOT(a)\n", 3, 6, "driven twice"),
 ];
 
 #[test]
 fn reads_netlists(rt: HostRuntime) -> Result<(), Fail> {
-    for (text, parts, wires) in DEVICES {
+    for (text, wires, parts) in NETLISTS {
         assert!(rt; text.len() <= TEXT_LIMIT);
         let device = read_bench(rt.alloc(), text.as_bytes())?;
-        assert_eq!(rt; device.parts().len(), parts, "{text}");
         assert_eq!(rt; device.wires().len(), wires, "{text}");
-    }
-    Ok(())
-}
-
-#[test]
-fn tells_faults(rt: HostRuntime) -> Result<(), Fail> {
-    for (text, in_line, number, name) in FAULTS {
-        assert!(rt; text.len() <= TEXT_LIMIT);
-        let Err(BenchError::Bad { line, what }) = read_bench(rt.alloc(), text.as_bytes()) else {
-            return Err("no fault".into());
-        };
-        assert_eq!(rt; line, in_line, "{text}");
-        assert_eq!(rt; what.number(), number, "{text}");
-        assert_eq!(rt; what.name(), name, "{text}");
+        assert!(rt; has_parts(&device, parts), "{text}");
     }
     Ok(())
 }

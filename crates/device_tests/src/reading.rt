@@ -1,26 +1,6 @@
-use crate::{C17, has_parts};
+use crate::C17;
 use bench_reader::{BenchError, BenchFault, read_bench};
-use device_model::Kind;
 use std::test::Fail;
-
-// The wires by name: 1 10 11 16 19 2 22 23 3 6 7. The ports are the inputs and then the output.
-const PARTS: [(&str, Kind, &[u32]); 6] = [
-    ("10", Kind::Nand, &[0, 8, 1]),
-    ("11", Kind::Nand, &[8, 9, 2]),
-    ("16", Kind::Nand, &[5, 2, 3]),
-    ("19", Kind::Nand, &[2, 10, 4]),
-    ("22", Kind::Nand, &[1, 3, 6]),
-    ("23", Kind::Nand, &[3, 4, 7]),
-];
-
-#[test]
-fn reads_a_netlist(rt: HostRuntime) -> Result<(), Fail> {
-    assert!(rt; C17.len() <= 4096);
-    let device = read_bench(rt.alloc(), C17.as_bytes())?;
-    assert_eq!(rt; device.wires().len(), 11);
-    assert!(rt; has_parts(&device, &PARTS));
-    Ok(())
-}
 
 // What a front of C17 has: nothing, or the line that is cut off, or else the first output whose gate is cut off.
 fn fault_of_front(front: &[u8]) -> Option<BenchError> {

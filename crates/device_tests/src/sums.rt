@@ -96,9 +96,12 @@ fn measures_gates_of_one_input(rt: HostRuntime) -> Result<(), Fail> {
 }
 
 #[test]
-fn measures_an_adder(rt: HostRuntime) -> Result<(), Fail> {
+fn measures_adders(rt: HostRuntime) -> Result<(), Fail> {
     let alloc = rt.alloc();
-    let cnf = encode(alloc, &adder(alloc, 800)?)?;
-    assert_sum(&rt, alloc, &cnf, 107_972);
+    // 107 for the first bit and 135 for each further one.
+    for (bits, sum) in [(1, 107), (2, 242), (800, 107_972)] {
+        let cnf = encode(alloc, &adder(alloc, bits)?)?;
+        assert_sum(&rt, alloc, &cnf, sum);
+    }
     Ok(())
 }

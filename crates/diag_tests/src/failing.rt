@@ -1,4 +1,6 @@
 use crate::running::{CHAIN, Meeting, NOTHING_FAILS, run};
+use std::alloc::Global;
+use std::process::Abort;
 use std::test::Fail;
 
 const WORDS: [&str; 2] = ["serve", "chain.bench"];
@@ -42,41 +44,36 @@ fn the_file_cannot_be_read(rt: HostRuntime) -> Result<(), Fail> {
     Ok(())
 }
 
-#[test]
-fn the_first_write_fails(rt: HostRuntime) -> Result<(), Fail> {
-    let meeting = Meeting {
-        failing_write: 1,
-        keep: 3,
-        ..NOTHING_FAILS
-    };
-    let ran = run(rt.alloc(), CHAIN, &WORDS, SCRIPT, &meeting)?;
-    assert!(rt; ran.out.as_slice().len() <= 3);
-    assert!(rt; OUT.as_bytes().starts_with(ran.out.as_slice()));
-    assert_eq!(rt; ran.status, 5);
-    Ok(())
-}
-
-// Each write in turn, until one past the last leaves the run whole.
-#[test]
-fn a_write_fails(rt: HostRuntime) -> Result<(), Fail> {
+// Each write in turn, until those past the last leave the run whole. Of the first one the sink keeps so many bytes at most.
+fn writes_fail(rt: &impl Abort, alloc: Global, keep: usize) -> Result<(), Fail> {
     let mut whole = 0;
     for failing_write in 1..=100 {
         let meeting = Meeting {
             failing_write,
-            keep: 1,
+            keep,
             ..NOTHING_FAILS
         };
-        let ran = run(rt.alloc(), CHAIN, &WORDS, SCRIPT, &meeting)?;
+        assert!(rt; 0 < meeting.piece);
+        let ran = run(alloc, CHAIN, &WORDS, SCRIPT, &meeting)?;
         let out = ran.out.as_slice();
+        assert!(rt; OUT.as_bytes().starts_with(out), "call {failing_write}");
+        assert!(rt; failing_write != 1 || out.len() <= keep);
         if ran.status == 0 {
-            assert_eq!(rt; out, OUT.as_bytes(), "call {failing_write}");
+            assert_eq!(rt; out.len(), OUT.len(), "call {failing_write}");
             whole = failing_write;
         } else {
             assert_eq!(rt; ran.status, 5, "call {failing_write}");
-            assert!(rt; OUT.as_bytes().starts_with(out), "call {failing_write}");
             assert_eq!(rt; whole, 0, "call {failing_write} after a whole run");
         }
     }
     assert_eq!(rt; whole, 100);
+    Ok(())
+}
+
+#[test]
+fn a_write_fails(rt: HostRuntime) -> Result<(), Fail> {
+    for keep in [0, 1, 3] {
+        writes_fail(&rt, rt.alloc(), keep)?;
+    }
     Ok(())
 }

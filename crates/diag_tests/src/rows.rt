@@ -1,4 +1,4 @@
-use crate::running::{CHAIN, File, Meeting, NOTHING_FAILS, run};
+use crate::running::{CHAIN, FREE, File, INPUT, Meeting, NOT, NOTHING_FAILS, VALVE, run};
 use device_tests::C17;
 use std::test::Fail;
 
@@ -10,27 +10,41 @@ struct Row {
     status: u8,
 }
 
+const C17_FILE: File = File {
+    name: "c17.bench",
+    text: C17,
+};
+
+// A gate that has one wire at both its inputs.
+const SAME: File = File {
+    name: "same.bench",
+    text: "INPUT(a)\ny = NAND(a, a)\n",
+};
+
 const ROWS: [Row; 23] = [
-    // The inputs are 0, so 22 and 23 are to be 0. One of 10 and 22 explains the 1, and the first of them is named.
+    // The inputs are 0, so 22 and 23 are to be 0.
     Row {
-        file: File {
-            name: "c17.bench",
-            text: C17,
-        },
+        file: C17_FILE,
         words: &["serve", "c17.bench"],
-        script: "open S\nsee S 1=0\nsee S 2=0\nsee S 3=0\nsee S 6=0\nsee S 7=0\nsee S 22=1\nsee S 23=0\nmin S\n",
-        out: "ready 6 11\nS open\nS ok\nS ok\nS ok\nS ok\nS ok\nS ok\nS ok\nS min 1 10\n",
+        script: "open S\nsee S 1=0\nsee S 2=0\nsee S 3=0\nsee S 6=0\nsee S 7=0\nsee S 22=0\nsee S 23=0\nmin S\nnext S\nnext S\n",
+        out: "ready 6 11\nS open\nS ok\nS ok\nS ok\nS ok\nS ok\nS ok\nS ok\nS min 0\nS diag\nS end\n",
+        status: 0,
+    },
+    // One of 10 and 22 explains the 1, and the first of them is named. A list that is full has no end. Where both are held to be ok
+    // it takes two.
+    Row {
+        file: C17_FILE,
+        words: &["serve", "c17.bench"],
+        script: "open S\nsee S 1=0\nsee S 2=0\nsee S 3=0\nsee S 6=0\nsee S 7=0\nsee S 22=1\nsee S 23=0\nmin S\nlist S 2\nsee S 23=0\nlist S 5\nprobe S 10\nprobe S 16\nprobe S 22\nprobes S\nblame S\nhold S 10=ok\nhold S 22=ok\nmin S\nlist S 5\n",
+        out: "ready 6 11\nS open\nS ok\nS ok\nS ok\nS ok\nS ok\nS ok\nS ok\nS min 1 10\nS diag 10\nS diag 22\nS ok\nS diag 10\nS diag 22\nS end\nS probe 10 1 1\nS probe 16 2 1\nS probe 22 - 1\nS probe 10 1 1\nS probe 11 2 1\nS probe 16 2 1\nS probe 19 3 1\nS end\nS blame 10 sometimes\nS blame 11 never\nS blame 16 never\nS blame 19 never\nS blame 22 sometimes\nS blame 23 never\nS end\nS ok\nS ok\nS min 2 16 23\nS diag 16 23\nS end\n",
         status: 0,
     },
     // Of the parts above both outputs only 16 explains two ones.
     Row {
-        file: File {
-            name: "c17.bench",
-            text: C17,
-        },
+        file: C17_FILE,
         words: &["serve", "c17.bench"],
-        script: "open S\nsee S 1=0\nsee S 2=0\nsee S 3=0\nsee S 6=0\nsee S 7=0\nsee S 22=1\nsee S 23=1\nmin S\n",
-        out: "ready 6 11\nS open\nS ok\nS ok\nS ok\nS ok\nS ok\nS ok\nS ok\nS min 1 16\n",
+        script: "open S\nsee S 1=0\nsee S 2=0\nsee S 3=0\nsee S 6=0\nsee S 7=0\nsee S 22=1\nsee S 23=1\nmin S\nlist S 5\nblame S\n",
+        out: "ready 6 11\nS open\nS ok\nS ok\nS ok\nS ok\nS ok\nS ok\nS ok\nS min 1 16\nS diag 16\nS end\nS blame 10 never\nS blame 11 never\nS blame 16 always\nS blame 19 never\nS blame 22 never\nS blame 23 never\nS end\n",
         status: 0,
     },
     Row {
@@ -49,13 +63,17 @@ const ROWS: [Row; 23] = [
         status: 0,
     },
     Row {
-        file: File {
-            name: "input.bench",
-            text: "INPUT(a)\n",
-        },
+        file: INPUT,
         words: &["serve", "input.bench"],
-        script: "open S\nmin S\n",
-        out: "ready 0 1\nS open\nS min 0\n",
+        script: "open S\nmin S\nnext S\nnext S\n",
+        out: "ready 0 1\nS open\nS min 0\nS diag\nS end\n",
+        status: 0,
+    },
+    Row {
+        file: INPUT,
+        words: &["plan", "input.bench"],
+        script: "",
+        out: "parts 0\nwires 1\nclauses 0\nsum 1\n",
         status: 0,
     },
     // Three ones are odd, so y is to be 1.
@@ -70,14 +88,18 @@ const ROWS: [Row; 23] = [
         status: 0,
     },
     Row {
-        file: File {
-            name: "twice.bench",
-            text: "INPUT(a)\nOUTPUT(z)\na = NOT(a)\n",
-        },
-        words: &["serve", "twice.bench"],
-        script: "open S\n",
-        out: "error: line 3: fault 6 driven twice\n",
-        status: 1,
+        file: SAME,
+        words: &["plan", "same.bench"],
+        script: "",
+        out: "parts 1\nwires 2\nclauses 3\nsum 7\n",
+        status: 0,
+    },
+    Row {
+        file: SAME,
+        words: &["serve", "same.bench"],
+        script: "open S\nsee S a=0\nsee S y=0\nmin S\n",
+        out: "ready 1 2\nS open\nS ok\nS ok\nS min 1 y\n",
+        status: 0,
     },
     // Nothing is asked of the wires, which are in no clause.
     Row {
@@ -90,26 +112,19 @@ const ROWS: [Row; 23] = [
         out: "ready 0 21\nS open\nS ok\nS min 0\n",
         status: 0,
     },
-    // Two instances of a block have a wire of their own each. The first inverts a, so u.w is to be 1.
+    // No clause has the part, whose failure costs 1 all the same.
     Row {
-        file: File {
-            name: "pair.dev",
-            text: "block B p q\nwire w\npart g NOT p w\npart h NOT w q\nend\nblock T a b c\npart u B a b\npart v B b c\nend\ntop T\n",
-        },
-        words: &["serve", "pair.dev"],
-        script: "open S\nsee S a=0\nsee S u.w=0\nsee S v.w=0\nmin S\n",
-        out: "ready 4 5\nS open\nS ok\nS ok\nS ok\nS min 1 u.g\n",
+        file: FREE,
+        words: &["serve", "free.dev"],
+        script: "open S\nsee S d=1\nhold S u=bad\nmin S\nnext S\nnext S\nhold S u=ok\nmin S\n",
+        out: "ready 1 2\nS open\nS ok\nS ok\nS min 1 u\nS diag u\nS end\nS ok\nS min 0\n",
         status: 0,
     },
-    // A valve that is stuck shut passes nothing on, and no valve makes pressure.
     Row {
-        file: File {
-            name: "valve.dev",
-            text: "type V in out\nok 00\nok 11\nbad 00\nbad 10\nend\nblock T a b\npart v V a b\nend\ntop T\n",
-        },
+        file: VALVE,
         words: &["serve", "valve.dev"],
-        script: "open S\nsee S a=1\nsee S b=0\nmin S\nsee S a=0\nsee S b=1\nmin S\n",
-        out: "ready 1 2\nS open\nS ok\nS ok\nS min 1 v\nS ok\nS ok\nS inconsistent\n",
+        script: "open S\nsee S a=0\nsee S y=1\nmin S\nnext S\nlist S 3\nprobe S y\nprobes S\nblame S\nunsee S y\nmin S\nsee S a=1\nsee S y=0\nmin S\n",
+        out: "ready 1 2\nS open\nS ok\nS ok\nS inconsistent\nS inconsistent\nS inconsistent\nS inconsistent\nS inconsistent\nS inconsistent\nS ok\nS min 0\nS ok\nS ok\nS min 1 u\n",
         status: 0,
     },
     // One failure of p costs as much as those of q and r together, so there are two diagnoses at the cost 2.
@@ -125,36 +140,6 @@ const ROWS: [Row; 23] = [
     },
     Row {
         file: File {
-            name: "free.dev",
-            text: "type C a\ncost 0\nend\n",
-        },
-        words: &["serve", "free.dev"],
-        script: "open S\n",
-        out: "error: line 2: fault 9 cost\n",
-        status: 1,
-    },
-    Row {
-        file: File {
-            name: "dotted.dev",
-            text: "block M a.b\nend\ntop M\n",
-        },
-        words: &["serve", "dotted.dev"],
-        script: "open S\n",
-        out: "error: line 1: fault 2 name\n",
-        status: 1,
-    },
-    Row {
-        file: File {
-            name: "long.dev",
-            text: "block A p\npart xxxxxxxxxxxxxxxxxxxxxxxxxxxxxxxxxxxxxxxxxxxxxxxxxxxxxxxxxxxxxxxx NOT p p\nend\nblock B p\npart xxxxxxxxxxxxxxxxxxxxxxxxxxxxxxxxxxxxxxxxxxxxxxxxxxxxxxxxxxxxxxxx A p\nend\nblock C p\npart xxxxxxxxxxxxxxxxxxxxxxxxxxxxxxxxxxxxxxxxxxxxxxxxxxxxxxxxxxxxxxxx B p\nend\nblock D p\npart xxxxxxxxxxxxxxxxxxxxxxxxxxxxxxxxxxxxxxxxxxxxxxxxxxxxxxxxxxxxxxxx C p\nend\ntop D\n",
-        },
-        words: &["serve", "long.dev"],
-        script: "open S\n",
-        out: "error: path 259 above 255\n",
-        status: 1,
-    },
-    Row {
-        file: File {
             name: "other.bench",
             text: "",
         },
@@ -163,42 +148,30 @@ const ROWS: [Row; 23] = [
         out: "error: read\n",
         status: 4,
     },
-    // Of the states of its levels one, two, two and two are living, of one word each.
+    // Of the states of its levels one, two, three and one are living, of one word each.
     Row {
-        file: File {
-            name: "not.bench",
-            text: "INPUT(a)\ny = NOT(a)\n",
-        },
+        file: NOT,
         words: &["plan", "not.bench"],
         script: "open S\n",
         out: "parts 1\nwires 2\nclauses 2\nsum 7\n",
         status: 0,
     },
     Row {
-        file: File {
-            name: "not.bench",
-            text: "INPUT(a)\ny = NOT(a)\n",
-        },
+        file: NOT,
         words: &["compile", "not.bench", "--budget", "6"],
         script: "open S\n",
         out: "error: sum above 6\n",
         status: 3,
     },
     Row {
-        file: File {
-            name: "not.bench",
-            text: "INPUT(a)\ny = NOT(a)\n",
-        },
+        file: NOT,
         words: &["serve", "not.bench", "--budget", "6"],
         script: "open S\n",
         out: "error: sum above 6\n",
         status: 3,
     },
     Row {
-        file: File {
-            name: "not.bench",
-            text: "INPUT(a)\ny = NOT(a)\n",
-        },
+        file: NOT,
         words: &["serve", "not.bench", "--sessions", "1024", "--budget", "7"],
         script: "open S\nsee S a=1\nsee S y=1\nmin S\n",
         out: "ready 1 2\nS open\nS ok\nS ok\nS min 1 y\n",
@@ -214,26 +187,15 @@ const ROWS: [Row; 23] = [
         out: "decomposable 3 2 1\n",
         status: 0,
     },
-    // Both children of the and are the literal of variable 1.
     Row {
         file: File {
-            name: "twice.nnf",
-            text: "nnf 2 2 1\nL 1\nA 2 0 0\n",
+            name: "never.nnf",
+            text: "nnf 1 0 0\nO 0 0\n",
         },
-        words: &["check", "twice.nnf"],
+        words: &["check", "never.nnf"],
         script: "open S\n",
-        out: "error: fault 7 shared node 1 variable 1\n",
-        status: 1,
-    },
-    Row {
-        file: File {
-            name: "late.nnf",
-            text: "nnf 2 1 1\nA 1 1\nL 1\n",
-        },
-        words: &["check", "late.nnf"],
-        script: "open S\n",
-        out: "error: line 2: fault 3 child\n",
-        status: 1,
+        out: "decomposable 1 0 0\n",
+        status: 0,
     },
     // The sum is 1 where all that is added is 0: its own gate is faulty, or the one that it reads.
     Row {
@@ -243,6 +205,177 @@ const ROWS: [Row; 23] = [
         out: "parts 5\nwires 8\nclauses 17\nminimum 1\nfirst 0000s\nlisted 2\nlast 0000x\n",
         status: 0,
     },
+    // Of 64 sums every sixteenth is 1, the first among them: that takes four faults. Twenty of the diagnoses are listed.
+    Row {
+        file: CHAIN,
+        words: &["load", "64"],
+        script: "min S\n",
+        out: "parts 320\nwires 449\nclauses 1088\nminimum 4\nfirst 0000s 0015g 0031g 0047g\nlisted 20\nlast 0000s 0015g 0032s 0048x\n",
+        status: 0,
+    },
+];
+
+// A file, what it holds, and the line that refuses it.
+const REFUSED: [(&str, &str, &str); 34] = [
+    (
+        "a.bench",
+        "INPUT(a)\ny = AND(a",
+        "error: line 2: fault 1 line\n",
+    ),
+    (
+        "a.bench",
+        "INPUT(a)\n\x7f = FOO(a)\n",
+        "error: line 2: fault 2 name\n",
+    ),
+    (
+        "a.bench",
+        "INPUT(a)\ny = MUX(a, a)\n",
+        "error: line 2: fault 3 kind\n",
+    ),
+    (
+        "a.bench",
+        "INPUT(a)\ny = AND(a, b)\nz = FOO(a)\n",
+        "error: line 3: fault 3 kind\n",
+    ),
+    (
+        "a.bench",
+        "INPUT(a)\ny = NOT(a, a)\n",
+        "error: line 2: fault 4 inputs\n",
+    ),
+    // 65 inputs
+    (
+        "a.bench",
+        "INPUT(a)\ny = AND(a,a,a,a,a,a,a,a,a,a,a,a,a,a,a,a,a,a,a,a,a,a,a,a,a,a,a,a,a,a,a,a,a,a,a,a,a,a,a,a,a,a,a,a,a,a,a,a,a,a,a,a,a,a,a,a,a,a,a,a,a,a,a,a,a)\n",
+        "error: line 2: fault 4 inputs\n",
+    ),
+    (
+        "a.bench",
+        "INPUT(a)\nq = DFF(a)\n",
+        "error: line 2: fault 5 sequential\n",
+    ),
+    (
+        "a.bench",
+        "INPUT(a)\ny = NOT(a)\ny = BUFF(a)\n",
+        "error: line 3: fault 6 driven twice\n",
+    ),
+    (
+        "a.bench",
+        "INPUT(a)\nOUTPUT(z)\na = NOT(a)\n",
+        "error: line 3: fault 6 driven twice\n",
+    ),
+    (
+        "a.bench",
+        "INPUT(a)\ny = AND(a, b)\n",
+        "error: line 2: fault 7 undriven\n",
+    ),
+    ("a.dev", "part u NOT a b\n", "error: line 1: fault 1 line\n"),
+    (
+        "a.dev",
+        "block M a.b\nend\ntop M\n",
+        "error: line 1: fault 2 name\n",
+    ),
+    (
+        "a.dev",
+        "block M a\npart u a.b x\n",
+        "error: line 2: fault 2 name\n",
+    ),
+    (
+        "a.dev",
+        "block M a\nwire b a c.d\n",
+        "error: line 2: fault 2 name\n",
+    ),
+    (
+        "a.dev",
+        "block M a\nwire b a\n",
+        "error: line 2: fault 3 twice\n",
+    ),
+    (
+        "a.dev",
+        "block M a\npart u NOT a a\npart u BUFF a x\n",
+        "error: line 3: fault 3 twice\n",
+    ),
+    (
+        "a.dev",
+        "type C a\ncost 2\ncost 2\n",
+        "error: line 3: fault 3 twice\n",
+    ),
+    (
+        "a.dev",
+        "block M a\npart u V a\nend\ntop M\n",
+        "error: line 2: fault 4 unknown\n",
+    ),
+    (
+        "a.dev",
+        "block M a\npart u NOT a\nend\ntop M\n",
+        "error: line 2: fault 5 ports\n",
+    ),
+    // 65 inputs and an output
+    (
+        "a.dev",
+        "block M a\npart u AND a a a a a a a a a a a a a a a a a a a a a a a a a a a a a a a a a a a a a a a a a a a a a a a a a a a a a a a a a a a a a a a a a a\n",
+        "error: line 2: fault 5 ports\n",
+    ),
+    (
+        "a.dev",
+        "type U p\nok 00\nend\n",
+        "error: line 2: fault 6 row\n",
+    ),
+    (
+        "a.dev",
+        "block M a\nend\n",
+        "error: line 0: fault 7 no top\n",
+    ),
+    (
+        "a.dev",
+        "block M a\nend\ntop M\nend\n",
+        "error: line 4: fault 8 after top\n",
+    ),
+    (
+        "a.dev",
+        "type C a\ncost 0\nend\n",
+        "error: line 2: fault 9 cost\n",
+    ),
+    // four names of 64 bytes with three dots between them
+    (
+        "a.dev",
+        "block A p\npart xxxxxxxxxxxxxxxxxxxxxxxxxxxxxxxxxxxxxxxxxxxxxxxxxxxxxxxxxxxxxxxx NOT p p\nend\nblock B p\npart xxxxxxxxxxxxxxxxxxxxxxxxxxxxxxxxxxxxxxxxxxxxxxxxxxxxxxxxxxxxxxxx A p\nend\nblock C p\npart xxxxxxxxxxxxxxxxxxxxxxxxxxxxxxxxxxxxxxxxxxxxxxxxxxxxxxxxxxxxxxxx B p\nend\nblock D p\npart xxxxxxxxxxxxxxxxxxxxxxxxxxxxxxxxxxxxxxxxxxxxxxxxxxxxxxxxxxxxxxxx C p\nend\ntop D\n",
+        "error: path 259 above 255\n",
+    ),
+    // each of twenty blocks has two of the one before it
+    (
+        "a.dev",
+        "type U p\nok 0\nend\nblock B0 p\npart u U p\nend\nblock B1 p\npart l B0 p\npart r B0 p\nend\nblock B2 p\npart l B1 p\npart r B1 p\nend\nblock B3 p\npart l B2 p\npart r B2 p\nend\nblock B4 p\npart l B3 p\npart r B3 p\nend\nblock B5 p\npart l B4 p\npart r B4 p\nend\nblock B6 p\npart l B5 p\npart r B5 p\nend\nblock B7 p\npart l B6 p\npart r B6 p\nend\nblock B8 p\npart l B7 p\npart r B7 p\nend\nblock B9 p\npart l B8 p\npart r B8 p\nend\nblock B10 p\npart l B9 p\npart r B9 p\nend\nblock B11 p\npart l B10 p\npart r B10 p\nend\nblock B12 p\npart l B11 p\npart r B11 p\nend\nblock B13 p\npart l B12 p\npart r B12 p\nend\nblock B14 p\npart l B13 p\npart r B13 p\nend\nblock B15 p\npart l B14 p\npart r B14 p\nend\nblock B16 p\npart l B15 p\npart r B15 p\nend\nblock B17 p\npart l B16 p\npart r B16 p\nend\nblock B18 p\npart l B17 p\npart r B17 p\nend\nblock B19 p\npart l B18 p\npart r B18 p\nend\nblock B20 p\npart l B19 p\npart r B19 p\nend\ntop B20\n",
+        "error: parts 1048576 above 4096\n",
+    ),
+    ("a.nnf", "", "error: fault 1 header\n"),
+    ("a.nnf", "nnf 1 0 1\nX 1\n", "error: line 2: fault 2 line\n"),
+    (
+        "a.nnf",
+        "nnf 2 1 1\nA 1 1\nL 1\n",
+        "error: line 2: fault 3 child\n",
+    ),
+    (
+        "a.nnf",
+        "nnf 1 0 1\nL 2\n",
+        "error: line 2: fault 4 variable\n",
+    ),
+    ("a.nnf", "nnf 2 0 1\nL 1\n", "error: fault 5 counts 2 1\n"),
+    (
+        "a.nnf",
+        "nnf 1 0 2147483649\nA 0\n",
+        "error: fault 6 bits 2147483649 above 2147483648\n",
+    ),
+    (
+        "a.nnf",
+        "nnf 3 2 1\nL 1\nL -1\nA 2 0 1\n",
+        "error: fault 7 shared node 2 variable 1\n",
+    ),
+    // both children of the and are the literal of variable 1
+    (
+        "a.nnf",
+        "nnf 2 2 1\nL 1\nA 2 0 0\n",
+        "error: fault 7 shared node 1 variable 1\n",
+    ),
 ];
 
 // Words that ask for nothing that the program does.
@@ -312,17 +445,15 @@ fn refuses_words(rt: HostRuntime) -> Result<(), Fail> {
     Ok(())
 }
 
-// The text of a compiled graph is left open, but for its header.
 #[test]
-fn compiles(rt: HostRuntime) -> Result<(), Fail> {
-    const COMPILED: [&[&str]; 2] = [
-        &["compile", "chain.bench"],
-        &["compile", "chain.bench", "--budget", "12"],
-    ];
-    for words in COMPILED {
-        let ran = run(rt.alloc(), CHAIN, words, b"open S\n", &NOTHING_FAILS)?;
-        assert!(rt; ran.out.as_slice().starts_with(b"nnf "), "{words:?}");
-        assert_eq!(rt; ran.status, 0, "{words:?}");
+fn refuses_files(rt: HostRuntime) -> Result<(), Fail> {
+    for (name, text, line) in REFUSED {
+        let command = if name == "a.nnf" { "check" } else { "serve" };
+        let file = File { name, text };
+        let words = [command, name];
+        let ran = run(rt.alloc(), file, &words, b"open S\n", &NOTHING_FAILS)?;
+        assert_eq!(rt; ran.out.as_slice(), line.as_bytes(), "{text}");
+        assert_eq!(rt; ran.status, 1, "{text}");
     }
     Ok(())
 }

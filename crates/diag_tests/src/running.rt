@@ -1,6 +1,7 @@
 //! One run of the program over ends in memory.
 ghost use Rattle.std.specs.Prelude.{◌≡◌, ◌<◌, IfOk};
 
+use device_tests::owned;
 use diag_cli::diag;
 use diag_edge::{MemShelf, MemSink, MemSource};
 use std::alloc::{AllocError, Global};
@@ -17,6 +18,30 @@ pub struct File {
 pub const CHAIN: File = File {
     name: "chain.bench",
     text: "INPUT(a)\nOUTPUT(c)\nb = BUFF(a)\nc = BUFF(b)\n",
+};
+
+/// A netlist of one input.
+pub const INPUT: File = File {
+    name: "input.bench",
+    text: "INPUT(a)\n",
+};
+
+/// An inverter.
+pub const NOT: File = File {
+    name: "not.bench",
+    text: "INPUT(a)\ny = NOT(a)\n",
+};
+
+/// The part says nothing of its wire, and no part has the other wire.
+pub const FREE: File = File {
+    name: "free.dev",
+    text: "type F a\nok 0\nok 1\nend\nblock M a d\npart u F a\nend\ntop M\n",
+};
+
+/// A valve that is stuck shut passes nothing on, and no valve makes pressure.
+pub const VALVE: File = File {
+    name: "valve.dev",
+    text: "type B a y\nok 00\nok 11\nbad 00\nbad 10\nend\nblock M a y\npart u B a y\nend\ntop M\n",
 };
 
 /// More room than any output here needs.
@@ -49,29 +74,13 @@ pub struct Ran {
     pub out: MemSink,
 }
 
-fn numbers(alloc: Global, number: u64) -> Result<Vec<u64>, AllocError> {
-    let mut numbers = Vec::new(alloc);
-    numbers.push(number)?;
-    Ok(numbers)
-}
-
 fn shelf_of(alloc: Global, file: File, failing: u64) -> Result<MemShelf, AllocError>
     ensures taken { IfOk result (λ shelf. shelf.taken ≡ 0) }
     ensures faults { IfOk result (λ shelf. shelf.faults ≡ 0) }
 {
-    let mut files = Vec::new(alloc);
     let bytes = Vec::from_slice(alloc, file.text.as_bytes())?;
-    files.push((String::from_str(alloc, file.name)?, bytes))?;
-    Ok(MemShelf::new(files, numbers(alloc, failing)?))
-}
-
-/// The words of a command line.
-pub fn owned(alloc: Global, words: &[&str]) -> Result<Vec<String>, AllocError> {
-    let mut owned = Vec::new(alloc);
-    for word in words {
-        owned.push(String::from_str(alloc, word)?)?;
-    }
-    Ok(owned)
+    let files = vec![in alloc; (String::from_str(alloc, file.name)?, bytes)]?;
+    Ok(MemShelf::new(files, vec![in alloc; failing]?))
 }
 
 /// Runs the program on these words and this script, over a shelf that has this one file.
@@ -87,13 +96,10 @@ pub fn run(
     let words = owned(alloc, words)?;
     let mut shelf = shelf_of(alloc, file, meeting.failing_pick_or_load)?;
     let script = Vec::from_slice(alloc, script)?;
-    let mut input = MemSource::new(script, meeting.piece, numbers(alloc, meeting.failing_read)?);
-    let mut out = MemSink::new(
-        alloc,
-        ROOM,
-        numbers(alloc, meeting.failing_write)?,
-        meeting.keep,
-    )?;
+    let failing_read = vec![in alloc; meeting.failing_read]?;
+    let mut input = MemSource::new(script, meeting.piece, failing_read);
+    let failing_write = vec![in alloc; meeting.failing_write]?;
+    let mut out = MemSink::new(alloc, ROOM, failing_write, meeting.keep)?;
     let status = diag(alloc, &words, &mut shelf, &mut input, &mut out);
     Ok(Ran { status, out })
 }

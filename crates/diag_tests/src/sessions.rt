@@ -213,28 +213,17 @@ fn replies(
 }
 
 #[test]
-fn answers_all_commands(rt: HostRuntime) -> Result<(), Fail> {
-    replies(&rt, rt.alloc(), CHAIN, "2", "ready 2 3\n", &ALL_COMMANDS)
-}
-
-#[test]
-fn goes_on_from_a_point(rt: HostRuntime) -> Result<(), Fail> {
-    replies(&rt, rt.alloc(), CHAIN, "16", "ready 2 3\n", &RESUMED)
-}
-
-#[test]
-fn opens_one_session(rt: HostRuntime) -> Result<(), Fail> {
-    replies(&rt, rt.alloc(), CHAIN, "1", "ready 2 3\n", &ONE_SESSION)
-}
-
-#[test]
-fn refuses_lines(rt: HostRuntime) -> Result<(), Fail> {
-    replies(&rt, rt.alloc(), CHAIN, "1", "ready 2 3\n", &LINES)
-}
-
-#[test]
-fn knows_paths(rt: HostRuntime) -> Result<(), Fail> {
-    replies(&rt, rt.alloc(), PAIR, "1", "ready 4 5\n", &PATHS)
+fn answers_scripts(rt: HostRuntime) -> Result<(), Fail> {
+    for (file, sessions, ready, exchanges) in [
+        (CHAIN, "2", "ready 2 3\n", ALL_COMMANDS.as_slice()),
+        (CHAIN, "16", "ready 2 3\n", RESUMED.as_slice()),
+        (CHAIN, "1", "ready 2 3\n", ONE_SESSION.as_slice()),
+        (CHAIN, "1", "ready 2 3\n", LINES.as_slice()),
+        (PAIR, "1", "ready 4 5\n", PATHS.as_slice()),
+    ] {
+        replies(&rt, rt.alloc(), file, sessions, ready, exchanges)?;
+    }
+    Ok(())
 }
 
 // A line of the greatest length is read, and one that has one byte more is dropped.

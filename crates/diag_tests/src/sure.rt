@@ -1,24 +1,11 @@
 //! Runs over ends whose calls never fail.
-use crate::running::{CHAIN, owned};
+use crate::running::CHAIN;
+use device_tests::owned;
 use diag_cli::diag;
 use diag_edge::{MemSink, SureShelf, SureSource, TallySink};
 use std::test::Fail;
 
 const WORDS: [&str; 2] = ["serve", "chain.bench"];
-
-#[test]
-fn completes(rt: HostRuntime) -> Result<(), Fail> {
-    let alloc = rt.alloc();
-    let words = owned(alloc, &WORDS)?;
-    let mut shelf = SureShelf::new(Vec::from_slice(alloc, CHAIN.text.as_bytes())?);
-    let script = Vec::from_slice(alloc, b"open S\nsee S a=0\nsee S c=1\nmin S\nlist S 5\n")?;
-    let mut input = SureSource::new(script, 5);
-    let mut out = MemSink::new(alloc, 4096, Vec::new(alloc), 0)?;
-    assert_eq!(rt; diag(alloc, &words, &mut shelf, &mut input, &mut out), 0);
-    let want = "ready 2 3\nS open\nS ok\nS ok\nS min 1 b\nS diag b\nS diag c\nS end\n";
-    assert_eq!(rt; out.as_slice(), want.as_bytes());
-    Ok(())
-}
 
 // Of each `min S` the reply has eight bytes, and the two lines before them have ten and seven.
 #[test]

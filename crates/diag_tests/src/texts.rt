@@ -1,119 +1,125 @@
-use crate::running::{CHAIN, File, Meeting, NOTHING_FAILS, run};
-use graph_rules::NodeKind;
+use crate::running::{CHAIN, FREE, File, INPUT, Meeting, NOT, NOTHING_FAILS, VALVE, run};
+use device_tests::is_true;
 use nnf_text::read_nnf;
-use node_store::Graph;
 use std::alloc::Global;
 use std::process::Abort;
 use std::test::Fail;
 
-// What is written before a text, which is the last reply to a script, and the states that the text allows: those of the
-// parts' bits, that of the first part being the lowest, where 1 says ok.
+// The words, the script, and what is written before a text, which comes last; its variables, how many nodes it has at most, and
+// the bits for the variables under which it is true, that for the first being the lowest. A part's bit is 1 where it is ok.
 struct Row {
     file: File,
+    words: &'static [&'static str],
     script: &'static str,
     before: &'static str,
-    parts: u32,
+    vars: u32,
+    nodes: u32,
     allowed: &'static [u32],
 }
 
-// The part says nothing of its wire.
-const FREE: File = File {
-    name: "free.dev",
-    text: "type F a\nok 0\nok 1\nend\nblock M a d\npart u F a\nend\ntop M\n",
-};
-
-// A valve that is stuck shut passes nothing on, and no valve makes pressure.
-const VALVE: File = File {
-    name: "valve.dev",
-    text: "type B a y\nok 00\nok 11\nbad 00\nbad 10\nend\nblock M a y\npart u B a y\nend\ntop M\n",
-};
-
-const ROWS: [Row; 5] = [
+// The sums are 7 of the inverter, 12 of the chain, 1 where there is no clause, and 8 of the valve. A graph that is compiled has at
+// most three nodes for each of the sum, two for each variable and two, and the text of what a session allows one more for each
+// part that is held, and one.
+const ROWS: [Row; 8] = [
+    // where the inverter is faulty each row is allowed, and where it is ok those in which its wires differ
+    Row {
+        file: NOT,
+        words: &["compile", "not.bench"],
+        script: "",
+        before: "",
+        vars: 3,
+        nodes: 29,
+        allowed: &[0b000, 0b010, 0b011, 0b100, 0b101, 0b110],
+    },
+    Row {
+        file: NOT,
+        words: &["compile", "not.bench", "--budget", "7"],
+        script: "",
+        before: "",
+        vars: 3,
+        nodes: 29,
+        allowed: &[0b000, 0b010, 0b011, 0b100, 0b101, 0b110],
+    },
+    Row {
+        file: INPUT,
+        words: &["compile", "input.bench"],
+        script: "",
+        before: "",
+        vars: 1,
+        nodes: 7,
+        allowed: &[0, 1],
+    },
     Row {
         file: CHAIN,
+        words: &["serve", "chain.bench"],
         script: "open S\ndnnf S\n",
         before: "ready 2 3\nS open\nS dnnf\n",
-        parts: 2,
+        vars: 2,
+        nodes: 49,
         allowed: &[0b00, 0b01, 0b10, 0b11],
     },
     Row {
         file: CHAIN,
+        words: &["serve", "chain.bench"],
         script: "open S\nsee S a=0\nsee S c=1\ndnnf S\n",
         before: "ready 2 3\nS open\nS ok\nS ok\nS dnnf\n",
-        parts: 2,
+        vars: 2,
+        nodes: 49,
         allowed: &[0b00, 0b01, 0b10],
     },
     Row {
         file: CHAIN,
+        words: &["serve", "chain.bench"],
         script: "open S\nsee S a=0\nsee S c=1\nhold S b=ok\ndnnf S\n",
         before: "ready 2 3\nS open\nS ok\nS ok\nS ok\nS dnnf\n",
-        parts: 2,
+        vars: 2,
+        nodes: 50,
         allowed: &[0b01],
     },
     Row {
         file: FREE,
+        words: &["serve", "free.dev"],
         script: "open S\nhold S u=bad\ndnnf S\n",
         before: "ready 1 2\nS open\nS ok\nS dnnf\n",
-        parts: 1,
+        vars: 1,
+        nodes: 13,
         allowed: &[0],
     },
     Row {
         file: VALVE,
+        words: &["serve", "valve.dev"],
         script: "open S\nsee S a=0\nsee S y=1\ndnnf S\n",
         before: "ready 1 2\nS open\nS ok\nS ok\nS dnnf\n",
-        parts: 1,
+        vars: 1,
+        nodes: 33,
         allowed: &[],
     },
 ];
 
-// Whether the root is true under bits for the variables, that of the first being the lowest.
-fn is_true(rt: &impl Abort, alloc: Global, graph: &Graph, bits: u32) -> Result<bool, Fail> {
-    let mut values = Vec::new(alloc);
-    for node in 0..graph.len() {
-        let mut all = true;
-        let mut any = false;
-        for kid in graph.kids(node) {
-            let value = *values
-                .get(*kid as usize)
-                .ok_or("a child that is not there")?;
-            all = all && value;
-            any = any || value;
-        }
-        values.push(match graph.what(node) {
-            NodeKind::Literal { var, positive } => {
-                assert!(rt; 1 <= var && var <= 32);
-                ((bits >> (var - 1)) & 1 == 1) == positive
-            }
-            NodeKind::And => all,
-            NodeKind::Or => any,
-        })?;
-    }
-    Ok(*values.last().ok_or("no node")?)
-}
-
 fn allows_row(rt: &impl Abort, alloc: Global, row: &Row) -> Result<(), Fail> {
-    let words = ["serve", row.file.name];
+    let words = row.words;
     let script = row.script;
-    let ran = run(alloc, row.file, &words, script.as_bytes(), &NOTHING_FAILS)?;
+    let ran = run(alloc, row.file, words, script.as_bytes(), &NOTHING_FAILS)?;
     let text = ran.out.as_slice().strip_prefix(row.before.as_bytes());
     let text = text.ok_or("another reply before the text")?;
     assert!(rt; text.len() <= 4096);
     let (graph, vars) = read_nnf(alloc, text)?;
-    assert_eq!(rt; vars, row.parts, "{script}");
-    for state in 0..1u32 << row.parts.min(8) {
-        let is_allowed = row.allowed.contains(&state);
+    assert_eq!(rt; vars, row.vars, "{words:?} {script}");
+    assert!(rt; graph.len() <= row.nodes, "{words:?} {script}");
+    for bits in 0..1u32 << row.vars.min(8) {
+        let is_allowed = row.allowed.contains(&bits);
         assert_eq!(rt;
-            is_true(rt, alloc, &graph, state)?,
+            is_true(alloc, &graph, bits)?,
             is_allowed,
-            "{script} {state}"
+            "{words:?} {script} {bits}"
         );
     }
-    assert_eq!(rt; ran.status, 0, "{script}");
+    assert_eq!(rt; ran.status, 0, "{words:?} {script}");
     Ok(())
 }
 
 #[test]
-fn writes_the_allowed_states(rt: HostRuntime) -> Result<(), Fail> {
+fn writes_what_is_allowed(rt: HostRuntime) -> Result<(), Fail> {
     for row in &ROWS {
         allows_row(&rt, rt.alloc(), row)?;
     }

@@ -3,7 +3,7 @@ ghost use Rattle.std.specs.Prelude.{◌<◌, length};
 use branch_states::{BUDGET_LIMIT, MeasureError, measure};
 use clause_encoder::{Cnf, encode};
 use device_model::Kind;
-use device_tests::gates;
+use device_tests::{gates, is_true};
 use dnnf_compiler::{Compiled, compile, compile_within};
 use graph_rules::NodeKind;
 use node_store::Graph;
@@ -23,31 +23,16 @@ fn is_constant(graph: &Graph, node: u32) -> bool
     !matches!(graph.what(node), NodeKind::Literal { .. }) && graph.kids(node).is_empty()
 }
 
-// Whether the root is true under bits for the variables, that of the first being the lowest. No constant stands below
-// another node.
-fn is_true(rt: &impl Abort, alloc: Global, graph: &Graph, bits: u32) -> Result<bool, Fail> {
-    let mut values = Vec::new(alloc);
+// Whether no constant stands below another node.
+fn is_plain(graph: &Graph) -> bool {
     for node in 0..graph.len() {
-        let mut all = true;
-        let mut any = false;
         for kid in graph.kids(node) {
-            assert!(rt; *kid < graph.len() && !is_constant(graph, *kid));
-            let value = *values
-                .get(*kid as usize)
-                .ok_or("a child that is not there")?;
-            all = all && value;
-            any = any || value;
-        }
-        values.push(match graph.what(node) {
-            NodeKind::Literal { var, positive } => {
-                assert!(rt; 1 <= var && var <= 32);
-                ((bits >> (var - 1)) & 1 == 1) == positive
+            if graph.len() <= *kid || is_constant(graph, *kid) {
+                return false;
             }
-            NodeKind::And => all,
-            NodeKind::Or => any,
-        })?;
+        }
     }
-    Ok(*values.last().ok_or("no node")?)
+    true
 }
 
 // Whether the graph of a gate is true where the part is faulty, and where it is ok just in these rows of bits for the inputs and
@@ -62,12 +47,12 @@ fn means(
     assert!(rt; 1 <= inputs && inputs <= 2);
     let cnf = encode(alloc, &gates(alloc, kind, inputs, 1, true)?)?;
     let graph = compiled(alloc, &cnf)?.graph;
-    let mut is_right = graph.vars() == inputs + 2;
+    let mut is_right = graph.vars() == inputs + 2 && is_plain(&graph);
     for row in 0..8u32 >> (2 - inputs) {
         let fits = (fitting >> row) & 1 == 1;
         is_right = is_right
-            && is_true(rt, alloc, &graph, 2 * row)?
-            && is_true(rt, alloc, &graph, 2 * row + 1)? == fits;
+            && is_true(alloc, &graph, 2 * row)?
+            && is_true(alloc, &graph, 2 * row + 1)? == fits;
     }
     Ok(is_right)
 }

@@ -1,8 +1,6 @@
-//! Tests over the graph: how it is made, kept, written and read, and what it is asked. A netlist is read, compiled and asked.
+//! Tests over the graph: how it is made, kept, written and read, and what it is asked.
 #![tactic(auto)]
 
-#[cfg(test)]
-mod asking;
 #[cfg(test)]
 mod compiling;
 #[cfg(test)]

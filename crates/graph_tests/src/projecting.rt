@@ -132,14 +132,3 @@ fn writes_held_parts_behind_the_nodes(rt: HostRuntime) -> Result<(), Fail> {
     }
     Ok(())
 }
-
-// The numbers of nodes, edges and variables are those of the graph as it is read.
-#[test]
-fn is_read_again(rt: HostRuntime) -> Result<(), Fail> {
-    let alloc = rt.alloc();
-    let text = projected(&rt, alloc, BUFFER.as_bytes(), &[1, 2, 0], 1)?;
-    assert!(rt; text.len() <= TEXT_LIMIT);
-    let (graph, vars) = read_nnf(alloc, &text)?;
-    assert_eq!(rt; (graph.len(), graph.edges(), vars), (13, 12, 1));
-    Ok(())
-}

@@ -2,14 +2,7 @@ use diag_edge::{
     LoadError, MemShelf, MemSink, MemSource, ReadFailed, Sink, Source, SureShelf, SureSource,
     TallySink, WriteFailed, load, put_line,
 };
-use std::alloc::{AllocError, Global};
 use std::test::Fail;
-
-fn numbers(alloc: Global, number: u64) -> Result<Vec<u64>, AllocError> {
-    let mut failing = Vec::new(alloc);
-    failing.push(number)?;
-    Ok(failing)
-}
 
 // The number of the failing call is 0 where none fails.
 struct Load {
@@ -67,7 +60,7 @@ fn loads(rt: HostRuntime) -> Result<(), Fail> {
             let bytes = Vec::from_slice(alloc, text.as_bytes())?;
             files.push((String::from_str(alloc, name)?, bytes))?;
         }
-        let mut shelf = MemShelf::new(files, numbers(alloc, row.failing)?);
+        let mut shelf = MemShelf::new(files, vec![in alloc; row.failing]?);
         assert!(rt; row.limit < 10);
         match (load(alloc, &mut shelf, row.name, row.limit), row.want) {
             (Ok(file), Ok(text)) => assert_eq!(rt; file.as_slice(), text.as_bytes()),
@@ -82,7 +75,7 @@ fn loads(rt: HostRuntime) -> Result<(), Fail> {
 fn reads_in_pieces(rt: HostRuntime) -> Result<(), Fail> {
     let alloc = rt.alloc();
     let bytes = Vec::from_slice(alloc, b"abc")?;
-    let mut source = MemSource::new(bytes, 2, numbers(alloc, 2)?);
+    let mut source = MemSource::new(bytes, 2, vec![in alloc; 2]?);
     let mut into = [0u8; 4];
     assert_eq!(rt; source.read(&mut into), Ok(2));
     assert_eq!(rt; into, *b"ab\0\0");
@@ -96,7 +89,7 @@ fn reads_in_pieces(rt: HostRuntime) -> Result<(), Fail> {
 #[test]
 fn keeps_what_is_put(rt: HostRuntime) -> Result<(), Fail> {
     let alloc = rt.alloc();
-    let Ok(mut sink) = MemSink::new(alloc, 8, numbers(alloc, 2)?, 2) else {
+    let Ok(mut sink) = MemSink::new(alloc, 8, vec![in alloc; 2]?, 2) else {
         assert!(rt; false, "no memory");
         return Ok(());
     };

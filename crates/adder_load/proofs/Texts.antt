@@ -1,5 +1,5 @@
 -- Texts that grow piece by piece, and how long that of an adder is.
-use Rattle.std.proofs.Common.{◌≡◌, ℕ, zero, suc, ◌+◌, ◌*◌, ◌-◌, ◌<◌, List, [], ◌++◌, length, refl, ◌∙◌, ap, arith, append_assoc, length-append, if◌then◌else◌}
+use Rattle.std.proofs.Common.{◌≡◌, ℕ, zero, suc, ◌+◌, ◌*◌, ◌-◌, ◌<◌, List, ◌++◌, length, refl, ◌∙◌, ap, arith, append_assoc, length-append, if◌then◌else◌}
 use Rattle.std.specs.Prelude.{Result, Ok, Err, OnOk, is_ok}
 use Rattle.std.specs.List.{flat_map, range_with_len}
 use Rattle.adder_load.specs.Adders.{place_lines, adder_text}

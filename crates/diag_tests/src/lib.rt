@@ -1,4 +1,4 @@
-//! Tests that cross crates: whole runs of the program over ends in memory.
+//! Tests that cross crates: whole runs of the program over ends in memory, and the real source and sink over memory.
 #![tactic(auto)]
 
 #[cfg(test)]

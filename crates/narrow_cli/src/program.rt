@@ -7,7 +7,7 @@ ghost use Rattle.narrow_cli.specs.Runs.{IsNarrowRun};
 
 use crate::candidates::narrowed;
 use crate::words::{Request, request_of};
-use diag_cli::{say, say_load_error, tell};
+use diag_cli::{say, say_load_error, say_usage, tell};
 use diag_edge::{Shelf, Sink, load};
 use std::alloc::Global;
 use text_rules::TEXT_LIMIT;
@@ -68,7 +68,7 @@ pub fn narrow<H: Shelf, O: Sink>(alloc: Global, words: &[String], shelf: &mut H,
         (record { got = O.got out.new; faults = O.faults out.new }) result }
 {
     match request_of(words) {
-        None => say(out, b"error: usage\n", 2),
+        None => say_usage(out),
         Some(Request { path, moves }) => narrow_over(alloc, path, moves, shelf, out),
     }
 }

@@ -3,6 +3,7 @@
 
 mod asking;
 mod basis;
+mod laws;
 mod limits;
 mod line_buffer;
 mod listing;
@@ -13,6 +14,7 @@ mod serving;
 mod sessions;
 mod telling;
 
+pub use laws::one_text;
 pub use limits::{SERVED_NODES, SERVED_VARIABLES, SESSION_LIMIT};
 pub use replies::put_faulty;
 pub use service::Service;

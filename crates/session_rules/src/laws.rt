@@ -41,7 +41,7 @@ pub fn same_states()
 {}
 
 /// Over a graph that is true exactly where a device fits every script has the replies that it has over the device, move by
-/// move, from any table on whose cases have a place for each wire and each part of the device. The empty table is one.
+/// move, from any table whose cases have a place for each wire and each part of the device. The empty table is one.
 pub fn graph_replies()
     ensures replies { (device : Device) (graph : Graph) → IsGraphOf device graph → (limit : ℕ) (table : Table)
         → HasCasesOf (device_system device) table → (lines : List (List ℕ))

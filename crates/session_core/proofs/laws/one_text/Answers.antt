@@ -1,0 +1,5 @@
+use Rattle.session_core.proofs.OneText.{one_text}
+use Rattle.session_core.proofs.laws.one_text.Goals as goal
+
+pub returns : goal.returns
+returns c = one_text

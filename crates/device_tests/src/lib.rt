@@ -19,8 +19,6 @@ mod orders;
 #[cfg(test)]
 mod reading;
 #[cfg(test)]
-mod renamed;
-#[cfg(test)]
 mod sums;
 
 pub use fixtures::{adder, gates, has_parts, name_of, owned};

@@ -1,34 +1,46 @@
 -- Worked rows: what words ask for, and how a script ends. Their check computes both sides.
-use Rattle.std.proofs.Common.{◌≡◌, ℕ, List, [], ◌∷◌, map, Some, None, codes, refl}
+use Rattle.std.proofs.Common.{◌≡◌, ℕ, List, [], ◌∷◌, map, true, false, Some, None, codes, refl}
 use Rattle.session_rules.specs.Items.{Item, Plain}
 use Rattle.diag_cli.specs.Words.{Load, Over, Serve, Plan, Check, Compile, form_of}
 use Rattle.diag_cli.specs.Courses.{Ended, Failed, Cut, read_error, script_too_long, served}
 
 -- ---- words with a form
 
-serve_a_netlist : form_of (codes "serve" ∷ codes "c17.bench" ∷ []) ≡ Some (Over (codes "c17.bench") (Serve 2097152 16))
+serve_a_netlist : form_of (codes "serve" ∷ codes "c17.bench" ∷ []) ≡ Some (Over (codes "c17.bench") (Serve 2097152 16 false))
 serve_a_netlist = refl
 
-serve_within_a_budget : form_of (codes "serve" ∷ codes "d/adder.dev" ∷ codes "--budget" ∷ codes "8388608" ∷ []) ≡ Some (Over (codes "d/adder.dev") (Serve 8388608 16))
+serve_within_a_budget : form_of (codes "serve" ∷ codes "d/adder.dev" ∷ codes "--budget" ∷ codes "8388608" ∷ []) ≡ Some (Over (codes "d/adder.dev") (Serve 8388608 16 false))
 serve_within_a_budget = refl
 
-serve_many_sessions : form_of (codes "serve" ∷ codes "c.bench" ∷ codes "--sessions" ∷ codes "1024" ∷ []) ≡ Some (Over (codes "c.bench") (Serve 2097152 1024))
+serve_many_sessions : form_of (codes "serve" ∷ codes "c.bench" ∷ codes "--sessions" ∷ codes "1024" ∷ []) ≡ Some (Over (codes "c.bench") (Serve 2097152 1024 false))
 serve_many_sessions = refl
 
-budget_before_sessions : form_of (codes "serve" ∷ codes "c.bench" ∷ codes "--budget" ∷ codes "7" ∷ codes "--sessions" ∷ codes "1" ∷ []) ≡ Some (Over (codes "c.bench") (Serve 7 1))
+budget_before_sessions : form_of (codes "serve" ∷ codes "c.bench" ∷ codes "--budget" ∷ codes "7" ∷ codes "--sessions" ∷ codes "1" ∷ []) ≡ Some (Over (codes "c.bench") (Serve 7 1 false))
 budget_before_sessions = refl
 
-sessions_before_budget : form_of (codes "serve" ∷ codes "c.bench" ∷ codes "--sessions" ∷ codes "1" ∷ codes "--budget" ∷ codes "7" ∷ []) ≡ Some (Over (codes "c.bench") (Serve 7 1))
+sessions_before_budget : form_of (codes "serve" ∷ codes "c.bench" ∷ codes "--sessions" ∷ codes "1" ∷ codes "--budget" ∷ codes "7" ∷ []) ≡ Some (Over (codes "c.bench") (Serve 7 1 false))
 sessions_before_budget = refl
 
-compile_a_design : form_of (codes "compile" ∷ codes "adder.dev" ∷ []) ≡ Some (Over (codes "adder.dev") (Compile 2097152))
+compile_a_design : form_of (codes "compile" ∷ codes "adder.dev" ∷ []) ≡ Some (Over (codes "adder.dev") (Compile 2097152 false))
 compile_a_design = refl
 
-compile_within_a_budget : form_of (codes "compile" ∷ codes "c.bench" ∷ codes "--budget" ∷ codes "6" ∷ []) ≡ Some (Over (codes "c.bench") (Compile 6))
+compile_within_a_budget : form_of (codes "compile" ∷ codes "c.bench" ∷ codes "--budget" ∷ codes "6" ∷ []) ≡ Some (Over (codes "c.bench") (Compile 6 false))
 compile_within_a_budget = refl
 
-plan_a_netlist : form_of (codes "plan" ∷ codes "c.bench" ∷ []) ≡ Some (Over (codes "c.bench") Plan)
+plan_a_netlist : form_of (codes "plan" ∷ codes "c.bench" ∷ []) ≡ Some (Over (codes "c.bench") (Plan false))
 plan_a_netlist = refl
+
+serve_in_another_order : form_of (codes "serve" ∷ codes "c.bench" ∷ codes "--narrow" ∷ []) ≡ Some (Over (codes "c.bench") (Serve 2097152 16 true))
+serve_in_another_order = refl
+
+another_order_between_others : form_of (codes "serve" ∷ codes "c.bench" ∷ codes "--budget" ∷ codes "7" ∷ codes "--narrow" ∷ codes "--sessions" ∷ codes "1" ∷ []) ≡ Some (Over (codes "c.bench") (Serve 7 1 true))
+another_order_between_others = refl
+
+another_order_before_others : form_of (codes "compile" ∷ codes "c.bench" ∷ codes "--narrow" ∷ codes "--budget" ∷ codes "7" ∷ []) ≡ Some (Over (codes "c.bench") (Compile 7 true))
+another_order_before_others = refl
+
+plan_in_another_order : form_of (codes "plan" ∷ codes "c.bench" ∷ codes "--narrow" ∷ []) ≡ Some (Over (codes "c.bench") (Plan true))
+plan_in_another_order = refl
 
 check_a_graph : form_of (codes "check" ∷ codes "g.nnf" ∷ []) ≡ Some (Over (codes "g.nnf") Check)
 check_a_graph = refl
@@ -85,6 +97,18 @@ budget_above_its_limit = refl
 
 budget_twice : form_of (codes "serve" ∷ codes "c.bench" ∷ codes "--budget" ∷ codes "5" ∷ codes "--budget" ∷ codes "5" ∷ []) ≡ None
 budget_twice = refl
+
+another_order_twice : form_of (codes "serve" ∷ codes "c.bench" ∷ codes "--narrow" ∷ codes "--narrow" ∷ []) ≡ None
+another_order_twice = refl
+
+check_in_another_order : form_of (codes "check" ∷ codes "g.nnf" ∷ codes "--narrow" ∷ []) ≡ None
+check_in_another_order = refl
+
+load_in_another_order : form_of (codes "load" ∷ codes "1" ∷ codes "--narrow" ∷ []) ≡ None
+load_in_another_order = refl
+
+another_order_as_a_value : form_of (codes "serve" ∷ codes "c.bench" ∷ codes "--budget" ∷ codes "--narrow" ∷ []) ≡ None
+another_order_as_a_value = refl
 
 sessions_behind_a_zero : form_of (codes "serve" ∷ codes "c.bench" ∷ codes "--sessions" ∷ codes "01" ∷ []) ≡ None
 sessions_behind_a_zero = refl

@@ -11,6 +11,8 @@ use Rattle.diag_edge.specs.declared.loading.LoadError.TheVariants.{Failed as Loa
 use Rattle.session_rules.specs.Items.{Item}
 use Rattle.session_rules.specs.Spelling.{Writes}
 use Rattle.device_model.specs.Devices.{Device}
+use Rattle.clause_encoder.specs.declared.encoding.EncodeError.{EncodeError}
+use Rattle.clause_encoder.specs.Clauses.{ClauseList}
 use Rattle.diag_cli.specs.declared.serving.TheConstants.{SCRIPT_LIMIT}
 use Rattle.diag_cli.specs.Words.{Form, Load, Over, Command, Serve, Plan, Check, Compile, asks_script}
 use Rattle.diag_cli.specs.Describing.{long_file_line, described, device_in}
@@ -34,10 +36,10 @@ pub short_file : (path file : List ℕ) → length file ≤ TEXT_LIMIT → devic
 short_file path file short = let few : nat_le (length file) TEXT_LIMIT ≡ true = grind arith in rw few
 
 -- what is said of a short text is said of its file
-pub refused_in : (fault : Option Output) (path file : List ℕ) (budget : ℕ) → length file ≤ TEXT_LIMIT → IsExpectedFault fault (described path file)
-    → IsExpectedFault fault (if_within budget (device_in path file))
-refused_in None path file budget short is = tt
-refused_in (Some output) path file budget short is = ap (if_within budget) (short_file path file short ∙ is)
+pub refused_in : (fault : Option Output) (path file : List ℕ) (budget : ℕ) (clauses : Device → Result ClauseList EncodeError) → length file ≤ TEXT_LIMIT → IsExpectedFault fault (described path file)
+    → IsExpectedFault fault (if_within budget clauses (device_in path file))
+refused_in None path file budget clauses short is = tt
+refused_in (Some output) path file budget clauses short is = ap (if_within budget clauses) (short_file path file short ∙ is)
 
 -- words with a form may run out of memory
 with_form : (form : Form) {output : Output} {status : ℕ} {a b : Option (List ℕ)} → GivesUnlessMemory output status a b → GivesUnlessShort (Some form) output status a b
@@ -146,13 +148,13 @@ module _ (input new_input : Reading) (out new_out : Writing) (status : ℕ) wher
 
   -- ---- runs
 
-  module _ (path : List ℕ) (command : Command) (held : List ℕ → Holding) (shelf new_shelf : Reading) where
+  module _ (order : ClauseList → ClauseList) (path : List ℕ) (command : Command) (held : List ℕ → Holding) (shelf new_shelf : Reading) where
     -- The file was read.
     pub run_loaded : (file : List ℕ) → IfSome (told_bytes (held path)) (λ bytes. file ≡ bytes) → held path ≢ absent → new_shelf.faults ≡ shelf.faults
         → RoseExactly out.faults new_out.faults (status ≡ 5) → (status ≢ 5 → RoseExactly input.faults new_input.faults (status ≡ 4)) → status ≢ 2
-        → Follows (course_by path command file) input new_input out new_out status → (status ≡ 7 → new_input.taken ≡ input.taken + SCRIPT_LIMIT)
+        → Follows (course_by order path command file) input new_input out new_out status → (status ≡ 7 → new_input.taken ≡ input.taken + SCRIPT_LIMIT)
         → (status ≢ 5 → status ≢ 7 → new_input.taken < input.taken + SCRIPT_LIMIT)
-        → IsRun (Some (Over path command)) held shelf new_shelf input new_input out new_out status
+        → IsRun order (Some (Over path command)) held shelf new_shelf input new_input out new_out status
     run_loaded file is there kept writes reads other done cut short = record {
       write_fault = writes;
       read_fault = λ whole. ((λ four. inr ((reads whole).rose four)), λ rises. elim rises [ inl moves ↦ absurd (omega (arith, kept, moves)) | inr moves ↦ four_of whole moves ]);
@@ -162,57 +164,57 @@ module _ (input new_input : Reading) (out new_out : Writing) (status : ℕ) wher
       no_file = λ moves. absurd (omega (arith, kept, moves));
       not_asked = idle_by command done;
       no_script = some_map (told_bytes (held path)) (λ bytes same output course.
-          (told_of (course_by path command file) output (ap (course_by path command) same ∙ course) done).0) is;
+          (told_of (course_by order path command file) output (ap (course_by order path command) same ∙ course) done).0) is;
       output = given;
-      complete = all_complete (Some (Over path command)) shelf new_shelf input new_input out new_out status writes (told_bytes (held path)) (λ bytes. whole_output (course_by path command bytes) input.left) given;
+      complete = all_complete (Some (Over path command)) shelf new_shelf input new_input out new_out status writes (told_bytes (held path)) (λ bytes. whole_output (course_by order path command bytes) input.left) given;
       script_fault = some_map (told_bytes (held path)) (λ bytes same answers course rises.
-          fault_of answers rises (served_of (course_by path command file) answers (ap (course_by path command) same ∙ course) done)) is;
+          fault_of answers rises (served_of (course_by order path command file) answers (ap (course_by order path command) same ∙ course) done)) is;
       all_read = some_map (told_bytes (held path)) (λ bytes same answers course zero.
-          (served_of (course_by path command file) answers (ap (course_by path command) same ∙ course) done).all_read zero) is;
+          (served_of (course_by order path command file) answers (ap (course_by order path command) same ∙ course) done).all_read zero) is;
       cut = λ whole. (cut, λ taken. elim (cases_eq status 7) [ inl seven ↦ seven | inr other ↦ absurd (omega (arith, short whole other, taken)) ]);
     }
       where
-        idle_by : (any : Command) → Follows (course_by path any file) input new_input out new_out status → asks_script (Some (Over path any)) ≡ false → IsIdle input new_input
-        idle_by (Serve budget sessions) done asks = absurd (let never : ⊥ = cc in never)
-        idle_by Plan done asks = done.0
+        idle_by : (any : Command) → Follows (course_by order path any file) input new_input out new_out status → asks_script (Some (Over path any)) ≡ false → IsIdle input new_input
+        idle_by (Serve budget sessions narrow) done asks = absurd (let never : ⊥ = cc in never)
+        idle_by (Plan narrow) done asks = done.0
         idle_by Check done asks = done.0
-        idle_by (Compile budget) done asks = done.0
+        idle_by (Compile budget narrow) done asks = done.0
 
         four_of : status ≢ 5 → input.faults < new_input.faults → status ≡ 4
         four_of whole moves = elim (cases_eq status 4) [ inl four ↦ four | inr not_four ↦ absurd (omega (arith, (reads whole).stayed not_four, moves)) ]
 
-        given : IfSome (told_bytes (held path)) (λ bytes. IfSome (whole_output (course_by path command bytes) input.left) (IsGiven (Some (Over path command)) shelf new_shelf input new_input out new_out status))
+        given : IfSome (told_bytes (held path)) (λ bytes. IfSome (whole_output (course_by order path command bytes) input.left) (IsGiven (Some (Over path command)) shelf new_shelf input new_input out new_out status))
         given = some_map (told_bytes (held path)) (λ bytes same.
-            subst (λ text. IfSome (whole_output (course_by path command text) input.left) (IsGiven (Some (Over path command)) shelf new_shelf input new_input out new_out status)) same
-            (some_map (whole_output (course_by path command file) input.left) (λ output gives read taken. with_form (Over path command) (gives taken)) (output_of (course_by path command file) input.left refl done))) is
+            subst (λ text. IfSome (whole_output (course_by order path command text) input.left) (IsGiven (Some (Over path command)) shelf new_shelf input new_input out new_out status)) same
+            (some_map (whole_output (course_by order path command file) input.left) (λ output gives read taken. with_form (Over path command) (gives taken)) (output_of (course_by order path command file) input.left refl done))) is
 
 -- ---- what may be told without a look at the script
 
 -- an output that tells that memory ran out, or the one that the file comes to
-abbrev pub IsRight : List ℕ → Command → Output → List ℕ → Type 0
-IsRight path command output file = (output ≡ no_memory) ⊎ (course_by path command file ≡ Tells output)
+abbrev pub IsRight : (ClauseList → ClauseList) → List ℕ → Command → Output → List ℕ → Type 0
+IsRight order path command output file = (output ≡ no_memory) ⊎ (course_by order path command file ≡ Tells output)
 
 -- a file that is too long has this output
-long_course : (path : List ℕ) (command : Command) (file : List ℕ) → TEXT_LIMIT < length file → course_by path command file ≡ Tells (says long_file_line 1)
-long_course path command file long = by command
+long_course : (order : ClauseList → ClauseList) (path : List ℕ) (command : Command) (file : List ℕ) → TEXT_LIMIT < length file → course_by order path command file ≡ Tells (says long_file_line 1)
+long_course order path command file long = by command
   where
     no_more : nat_le (length file) TEXT_LIMIT ≡ false
     no_more = grind arith
 
-    by : (any : Command) → course_by path any file ≡ Tells (says long_file_line 1)
-    by (Serve budget sessions) = rw no_more
-    by Plan = rw no_more
+    by : (any : Command) → course_by order path any file ≡ Tells (says long_file_line 1)
+    by (Serve budget sessions narrow) = rw no_more
+    by (Plan narrow) = rw no_more
     by Check = rw no_more
-    by (Compile budget) = rw no_more
+    by (Compile budget narrow) = rw no_more
 
 -- and so it is right to tell that
-long_is_right : (path : List ℕ) (command : Command) (told : Option (List ℕ)) → IfSome told (λ file. TEXT_LIMIT < length file) → IfSome told (IsRight path command (says long_file_line 1))
-long_is_right path command None long = tt
-long_is_right path command (Some file) long = inr (long_course path command file long)
+long_is_right : (order : ClauseList → ClauseList) (path : List ℕ) (command : Command) (told : Option (List ℕ)) → IfSome told (λ file. TEXT_LIMIT < length file) → IfSome told (IsRight order path command (says long_file_line 1))
+long_is_right order path command None long = tt
+long_is_right order path command (Some file) long = inr (long_course order path command file long)
 
 -- ---- runs in which the script is not begun
 
-module _ (held : List ℕ → Holding) (shelf new_shelf input : Reading) (out new_out : Writing) (status : ℕ) where
+module _ (order : ClauseList → ClauseList) (held : List ℕ → Holding) (shelf new_shelf input : Reading) (out new_out : Writing) (status : ℕ) where
   idle : IsIdle input input
   idle = record { taken = refl; faults = refl }
 
@@ -224,7 +226,7 @@ module _ (held : List ℕ → Holding) (shelf new_shelf input : Reading) (out ne
 
   module _ (path : List ℕ) (command : Command) where
     abbrev output_by : List ℕ → Option Output
-    output_by file = whole_output (course_by path command file) input.left
+    output_by file = whole_output (course_by order path command file) input.left
 
     abbrev OutputsGiven : Type 0
     OutputsGiven = IfSome (told_bytes (held path)) (λ file. IfSome (output_by file) (IsGiven (Some (Over path command)) shelf new_shelf input input out new_out status))
@@ -238,7 +240,7 @@ module _ (held : List ℕ → Holding) (shelf new_shelf input : Reading) (out ne
 
     -- The file could not be read.
     run_failed : shelf.faults < new_shelf.faults → RoseExactly out.faults new_out.faults (status ≡ 5)
-        → Gives (says read_error 4) status out.got new_out.got → IsRun (Some (Over path command)) held shelf new_shelf input input out new_out status
+        → Gives (says read_error 4) status out.got new_out.got → IsRun order (Some (Over path command)) held shelf new_shelf input input out new_out status
     run_failed moves writes said = record {
       write_fault = writes;
       read_fault = λ whole. ((λ four. inl moves), λ rises. (said.whole whole).0);
@@ -259,9 +261,9 @@ module _ (held : List ℕ → Holding) (shelf new_shelf input : Reading) (out ne
         given = some_all (told_bytes (held path)) (λ file. some_all (output_by file) (λ output kept same. absurd (omega (arith, kept, moves))))
 
     -- One output was given without a look at the script.
-    run_told : (output : Output) → output.status ≢ 0 → output.status ≢ 2 → output.status ≢ 4 → output.status ≢ 7 → IfSome (told_bytes (held path)) (IsRight path command output)
+    run_told : (output : Output) → output.status ≢ 0 → output.status ≢ 2 → output.status ≢ 4 → output.status ≢ 7 → IfSome (told_bytes (held path)) (IsRight order path command output)
         → held path ≢ absent → new_shelf.faults ≡ shelf.faults → RoseExactly out.faults new_out.faults (status ≡ 5)
-        → Gives output status out.got new_out.got → IsRun (Some (Over path command)) held shelf new_shelf input input out new_out status
+        → Gives output status out.got new_out.got → IsRun order (Some (Over path command)) held shelf new_shelf input input out new_out status
     run_told output no0 no2 no4 no7 right there kept writes said = record {
       write_fault = writes;
       read_fault = λ whole. ((λ four. absurd (no4 (sym (said.whole whole).0 ∙ four))), λ rises. elim rises [ inl moves ↦ absurd (omega (arith, kept, moves)) | inr moves ↦ never_rises moves ]);
@@ -278,7 +280,7 @@ module _ (held : List ℕ → Holding) (shelf new_shelf input : Reading) (out ne
       cut = λ whole. ((λ seven. absurd (known output said 7 seven (λ e. absurd (omega (arith, e))) no7)), not_cut);
     }
       where
-        given_by : (file : List ℕ) → IsRight path command output file → IfSome (output_by file) (IsGiven (Some (Over path command)) shelf new_shelf input input out new_out status)
+        given_by : (file : List ℕ) → IsRight order path command output file → IfSome (output_by file) (IsGiven (Some (Over path command)) shelf new_shelf input input out new_out status)
         given_by file (inl memory) = some_all (output_by file) (λ other read taken. inl (refl, subst (λ o. Gives o status out.got new_out.got) memory said))
         given_by file (inr is) =
             subst (λ course. IfSome (whole_output course input.left) (IsGiven (Some (Over path command)) shelf new_shelf input input out new_out status)) (sym is) (λ read taken. inr said)
@@ -288,18 +290,18 @@ module _ (held : List ℕ → Holding) (shelf new_shelf input : Reading) (out ne
 
     -- The file was not read.
     pub run_unread : (error : LoadError) → IsUnread error (held path) shelf.faults new_shelf.faults → RoseExactly out.faults new_out.faults (status ≡ 5)
-        → Gives (not_loaded error) status out.got new_out.got → IsRun (Some (Over path command)) held shelf new_shelf input input out new_out status
+        → Gives (not_loaded error) status out.got new_out.got → IsRun order (Some (Over path command)) held shelf new_shelf input input out new_out status
     run_unread LoadFailed rises writes said = run_failed rises writes said
     run_unread (Long limit) is writes said =
         run_told (says long_file_line 1) (λ e. omega (arith, e)) (λ e. omega (arith, e)) (λ e. omega (arith, e)) (λ e. omega (arith, e))
-        (long_is_right path command (told_bytes (held path)) is.0) is.1 is.2 writes said
+        (long_is_right order path command (told_bytes (held path)) is.0) is.1 is.2 writes said
     run_unread Memory is writes said =
         run_told no_memory (λ e. omega (arith, e)) (λ e. omega (arith, e)) (λ e. omega (arith, e)) (λ e. omega (arith, e))
         (some_all (told_bytes (held path)) (λ file. inl refl)) is.0 is.1 writes said
 
   -- The words have no form.
   pub run_usage : RoseExactly out.faults new_out.faults (status ≡ 5) → Gives (says usage_line 2) status out.got new_out.got
-      → IsRun None held shelf shelf input input out new_out status
+      → IsRun order None held shelf shelf input input out new_out status
   run_usage writes said = record {
     write_fault = writes;
     read_fault = λ whole. ((λ four. absurd (let two = (said.whole whole).0 in omega (arith, four, two))), λ rises. elim rises [ inl moves ↦ absurd (omega (arith, moves)) | inr moves ↦ never_rises moves ]);
@@ -318,7 +320,7 @@ module _ (held : List ℕ → Holding) (shelf new_shelf input : Reading) (out ne
 
   -- An adder is made, and no file is named.
   pub run_load : (places : ℕ) → RoseExactly out.faults new_out.faults (status ≡ 5) → status ≢ 2 → status ≢ 4 → status ≢ 7 → GivesUnlessMemory (loaded places) status out.got new_out.got
-      → IsRun (Some (Load places)) held shelf shelf input input out new_out status
+      → IsRun order (Some (Load places)) held shelf shelf input input out new_out status
   run_load places writes no2 no4 no7 said = record {
     write_fault = writes;
     read_fault = λ whole. ((λ four. absurd (no4 four)), λ rises. elim rises [ inl moves ↦ absurd (omega (arith, moves)) | inr moves ↦ never_rises moves ]);

@@ -5,7 +5,9 @@ pub mod ServedDevices
 pub mod Failing
 pub mod Unread
 pub mod Scripts
+pub mod Ordering
 pub mod Headline
+pub mod PlannedDevices
 pub mod Adapting
 pub mod WholeGraphs
 pub mod LoadedAdders

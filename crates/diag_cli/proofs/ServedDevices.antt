@@ -10,7 +10,7 @@ use Rattle.clause_encoder.specs.Clauses.{ClauseList}
 use Rattle.clause_encoder.specs.Encoding.{encoded, Describes}
 use Rattle.clause_encoder.proofs.Sizes.{encoded-few_vars}
 use Rattle.branch_states.specs.declared.measuring.TheConstants.{BUDGET_LIMIT}
-use Rattle.branch_states.specs.Branches.{sum_of}
+use Rattle.clause_encoder.specs.declared.encoding.EncodeError.{EncodeError}
 use Rattle.dnnf_compiler.specs.Compiled.{IsGraphOf, SaysAll}
 use Rattle.dnnf_compiler.proofs.Laws.{graph_of_device}
 use Rattle.session_rules.specs.Items.{Item}
@@ -27,9 +27,9 @@ use Rattle.diag_cli.specs.inner.Serving.{IsServable, IsSound, IsServiceOf}
 -- ---- the graph of a device is such as a service takes
 
 module _ (device : Device) (cnf : ClauseList) (is : encoded device ≡ Ok cnf) where
-  pub servable : (graph : Graph) (made : ℕ) → IsDevice device → Describes cnf device → sum_of cnf.clauses ≤ BUDGET_LIMIT
-      → IsGraph graph → graph.vars ≡ cnf.vars → SaysAll cnf.clauses graph → made ≤ 3 * sum_of cnf.clauses + 2 → length graph.nodes ≤ made + 2 * cnf.vars → IsServable device graph
-  servable graph made valid describes small decomposable vars says few_made few_nodes = record {
+  pub servable : (graph : Graph) (made sum : ℕ) → IsDevice device → Describes cnf device → sum ≤ BUDGET_LIMIT
+      → IsGraph graph → graph.vars ≡ cnf.vars → SaysAll cnf.clauses graph → made ≤ 3 * sum + 2 → length graph.nodes ≤ made + 2 * cnf.vars → IsServable device graph
+  servable graph made sum valid describes small decomposable vars says few_made few_nodes = record {
     valid = decomposable;
     meaning = graph_of_device device cnf graph is describes vars says;
     few_vars = omega (arith, listed, vars);
@@ -58,10 +58,10 @@ same_answers device graph is sessions = λ k lines. ready_line (device_system de
 
 -- What the service of a device answers is what the device's system does. So it follows the course of the device, where its
 -- sum is within the budget.
-pub device_served : (budget sessions : ℕ) (device : Device) (service : Shown) (input new_input : Reading) (out new_out : Writing) (status : ℕ) → IsServiceOf device sessions service
-    → if_within budget (Ok device) ≡ Ok device → IsServed (answers_of (system_of service.subject) service.limit) input new_input out new_out status
-    → Follows (served_or_refused sessions (if_within budget (Ok device))) input new_input out new_out status
-device_served budget sessions device service input new_input out new_out status of within_it done =
+pub device_served : (budget sessions : ℕ) (clauses : Device → Result ClauseList EncodeError) (device : Device) (service : Shown) (input new_input : Reading) (out new_out : Writing) (status : ℕ) → IsServiceOf device sessions service
+    → if_within budget clauses (Ok device) ≡ Ok device → IsServed (answers_of (system_of service.subject) service.limit) input new_input out new_out status
+    → Follows (served_or_refused sessions (if_within budget clauses (Ok device))) input new_input out new_out status
+device_served budget sessions clauses device service input new_input out new_out status of within_it done =
     subst (λ (expected : Result Device Output). Follows (served_or_refused sessions expected) input new_input out new_out status) (sym within_it)
     (subst (λ (answers : List (List ℕ) → List Item). IsServed answers input new_input out new_out status) (same_answers device of.graph of.servable.meaning sessions)
     (subst (λ (s : Shown). IsServed (answers_of (system_of s.subject) s.limit) input new_input out new_out status) of.shown done))

@@ -10,7 +10,7 @@ use Rattle.graph_rules.specs.WrittenGraphs.{graph_text}
 use Rattle.diag_edge.specs.Edge.{Puts}
 use Rattle.device_model.specs.Devices.{Device}
 use Rattle.clause_encoder.specs.Clauses.{ClauseList}
-use Rattle.clause_encoder.specs.Encoding.{encoded}
+use Rattle.clause_encoder.specs.declared.encoding.EncodeError.{EncodeError}
 use Rattle.branch_states.specs.Branches.{sum_of}
 use Rattle.session_rules.specs.Items.{Whole}
 use Rattle.session_rules.specs.Spelling.{IsWholeOf}
@@ -32,32 +32,32 @@ in_file path file device short is = rw few is
     few = grind arith
 
 -- there are too many clauses, or their sum is above the budget
-pub not_compiled : (fault : Option Output) (path file : List ℕ) (budget : ℕ) (device : Device) (status : ℕ) (a b : Option (List ℕ)) → length file ≤ TEXT_LIMIT → described path file ≡ Ok device
-    → IsExpectedFault fault (within budget (encoded device)) → Gives (or_memory fault) status a b → GivesUnlessMemory (compiled budget (device_in path file)) status a b
-not_compiled None path file budget device status a b short is fault said = inl said
-not_compiled (Some output) path file budget device status a b short is fault said =
-    inr (subst (λ (o : Output). Gives o status a b) (sym (ap (compiled budget) (in_file path file device short is) ∙ ap (graph_by device) fault)) said)
+pub not_compiled : (fault : Option Output) (path file : List ℕ) (budget : ℕ) (clauses : Device → Result ClauseList EncodeError) (device : Device) (status : ℕ) (a b : Option (List ℕ)) → length file ≤ TEXT_LIMIT → described path file ≡ Ok device
+    → IsExpectedFault fault (within budget (clauses device)) → Gives (or_memory fault) status a b → GivesUnlessMemory (compiled budget clauses (device_in path file)) status a b
+not_compiled None path file budget clauses device status a b short is fault said = inl said
+not_compiled (Some output) path file budget clauses device status a b short is fault said =
+    inr (subst (λ (o : Output). Gives o status a b) (sym (ap (compiled budget clauses) (in_file path file device short is) ∙ ap (graph_by device) fault)) said)
 
-module _ (path file : List ℕ) (budget : ℕ) (device : Device) (cnf : ClauseList) (graph : Graph) (status : ℕ) (a b : Option (List ℕ)) where
+module _ (path file : List ℕ) (budget : ℕ) (clauses : Device → Result ClauseList EncodeError) (device : Device) (cnf : ClauseList) (graph : Graph) (status : ℕ) (a b : Option (List ℕ)) where
   abbrev most : ℕ
   most = 3 * sum_of cnf.clauses + 2 * cnf.vars + 2
 
   abbrev output : Output
   output = record { items = Whole device cnf.vars most ∷ []; status = 0 }
 
-  output_is : length file ≤ TEXT_LIMIT → described path file ≡ Ok device → within budget (encoded device) ≡ Ok cnf → compiled budget (device_in path file) ≡ output
-  output_is short is list = ap (compiled budget) (in_file path file device short is) ∙ ap (graph_by device) list
+  output_is : length file ≤ TEXT_LIMIT → described path file ≡ Ok device → within budget (clauses device) ≡ Ok cnf → compiled budget clauses (device_in path file) ≡ output
+  output_is short is list = ap (compiled budget clauses) (in_file path file device short is) ∙ ap (graph_by device) list
 
   is_whole : IsServable device graph → graph.vars ≡ cnf.vars → length graph.nodes ≤ most → IsWholeOf device cnf.vars most (Ok graph)
   is_whole is vars few_nodes = (vars, is.valid.nodes.apart, few_nodes, is.meaning)
 
   -- its text, with its own number of variables said again, was written, or a write failed
   pub graph_gives : {T E : Type 0} (result : Result T E) (vars : ℕ) → vars ≡ graph.vars
-      → length file ≤ TEXT_LIMIT → described path file ≡ Ok device → within budget (encoded device) ≡ Ok cnf
+      → length file ≤ TEXT_LIMIT → described path file ≡ Ok device → within budget (clauses device) ≡ Ok cnf
       → IsServable device graph → graph.vars ≡ cnf.vars → length graph.nodes ≤ most
       → is_neat (graph_text (record graph { vars = vars })) ≡ true → parsed (graph_text (record graph { vars = vars })) ≡ Ok (record graph { vars = vars })
       → Puts a b result (graph_text (record graph { vars = vars })) → MatchResult result (λ _. status ≡ 0) (λ _. status ≡ 5)
-      → GivesUnlessMemory (compiled budget (device_in path file)) status a b
+      → GivesUnlessMemory (compiled budget clauses (device_in path file)) status a b
   graph_gives result vars same short is list servable of_cnf few_nodes neat reads puts ends =
       inr (subst (λ (o : Output). Gives o status a b) (sym (output_is short is list))
       (replies_give output status a b result (λ five. absurd (omega (arith, five))) (replies_one a b result (Whole device cnf.vars most) _ (neat, spelled) puts) ends))

@@ -11,24 +11,48 @@ use Rattle.session_core.specs.declared.limits.TheConstants.{SESSION_LIMIT}
 use Rattle.diag_cli.specs.declared.words.TheConstants.{DEFAULT_BUDGET, DEFAULT_SESSIONS}
 use Rattle.diag_cli.specs.declared.words.Options.{Options}
 use Rattle.diag_cli.specs.declared.words.Form.{Form as FormRead}
-use Rattle.diag_cli.specs.Words.{Form, Load, Over, Serve, Plan, Check, Compile, no_options, given_once, with_budget, with_sessions, and_option, and_options, form_by, form_over, form_load, form_of, is_device_path, is_graph_path, are_none, only_if}
+use Rattle.diag_cli.specs.Words.{Form, Load, Over, Serve, Plan, Check, Compile, no_options, given_once, with_budget, with_sessions, with_order, asks_order, has_no_number, and_option, and_options, form_by, form_over, form_load, form_of, is_device_path, is_graph_path, are_none, only_if}
 use Rattle.diag_cli.specs.inner.Forms.{meant, IsWithinLimits}
 
 -- ---- words of the code and words of the definition
 
-pub one_word : {S : Type 0} (given : Options) (f : S → List ℕ) (words : List S) → 1 ≤ length words → length words < 2 → None ≡ and_options given (map f words)
-one_word given f [] one short = absurd (omega (arith, one))
-one_word given f (option ∷ []) one short = refl
-one_word given f (option ∷ value ∷ words) one short = absurd (omega (arith, short))
+-- `--narrow` stands before all other words
+then_all : (o : Option Options) → o ≡ option_and_then (λ more. Some more) o
+then_all None = refl
+then_all (Some given) = refl
 
-pub two_words : {S : Type 0} (given : Options) (f : S → List ℕ) (words : List S) (option value : S) (found : Option Options) → 2 ≤ length words
-    → option ≡ get_or words 0 option → value ≡ get_or words 1 value → and_option given (f option) (f value) ≡ found
+order_word : (given : Options) (option : List ℕ) (words : List (List ℕ)) → asks_order option ≡ true
+    → and_options given (option ∷ words) ≡ option_and_then (λ more. and_options more words) (with_order given)
+order_word given option [] is = ap (λ b. if b then with_order given else None) is ∙ then_all (with_order given)
+order_word given option (value ∷ words) is =
+    ap (λ b. if b then option_and_then (λ more. and_options more (value ∷ words)) (with_order given)
+    else option_and_then (λ more. and_options more words) (and_option given option value)) is
+
+pub order_first : {S : Type 0} (given : Options) (f : S → List ℕ) (words : List S) (option : S) (found : Option Options) → 1 ≤ length words → option ≡ get_or words 0 option
+    → asks_order (f option) ≡ true → with_order given ≡ found
+    → and_options given (map f words) ≡ option_and_then (λ more. and_options more (map f (take (length words - 1) (drop 1 words)))) found
+order_first given f [] option found one o asks is = absurd (omega (arith, one))
+order_first given f (x ∷ words) option found one o asks is =
+    let rest : take (length (x ∷ words) - 1) words ≡ words = take_all (length (x ∷ words) - 1) words (omega arith) in
+    order_word given (f x) (map f words) (ap (λ w. asks_order (f w)) (sym o) ∙ asks)
+    ∙ (λ k. option_and_then (λ more. and_options more (map f (sym rest k))) (is k))
+
+pub one_word : {S : Type 0} (given : Options) (f : S → List ℕ) (words : List S) (option : S) → 1 ≤ length words → length words < 2 → option ≡ get_or words 0 option
+    → asks_order (f option) ≡ false → None ≡ and_options given (map f words)
+one_word given f [] option one short o is = absurd (omega (arith, one))
+one_word given f (x ∷ []) option one short o is = sym (ap (λ b. if b then with_order given else None) (ap (λ w. asks_order (f w)) (sym o) ∙ is))
+one_word given f (x ∷ value ∷ words) option one short o is = absurd (omega (arith, short))
+
+pub two_words : {S : Type 0} (given : Options) (f : S → List ℕ) (words : List S) (asked option value : S) (found : Option Options) → 2 ≤ length words
+    → option ≡ get_or words 0 option → value ≡ get_or words 1 value → asked ≡ get_or words 0 asked → asks_order (f asked) ≡ false → and_option given (f option) (f value) ≡ found
     → and_options given (map f words) ≡ option_and_then (λ more. and_options more (map f (take (length words - 2) (drop 2 words)))) found
-two_words given f [] option value found long o v is = absurd (omega (arith, long))
-two_words given f (x ∷ []) option value found long o v is = absurd (omega (arith, long))
-two_words given f (x ∷ y ∷ words) option value found long o v is =
+two_words given f [] asked option value found long o v w not_order is = absurd (omega (arith, long))
+two_words given f (x ∷ []) asked option value found long o v w not_order is = absurd (omega (arith, long))
+two_words given f (x ∷ y ∷ words) asked option value found long o v w not_order is =
     let rest : take (length (x ∷ y ∷ words) - 2) words ≡ words = take_all (length (x ∷ y ∷ words) - 2) words (omega arith) in
-    sym (λ k. option_and_then (λ more. and_options more (map f (rest k))) (and_option given (f (o k)) (f (v k))))
+    ap (λ b. if b then option_and_then (λ more. and_options more (map f (y ∷ words))) (with_order given)
+    else option_and_then (λ more. and_options more (map f words)) (and_option given (f x) (f y))) (ap (λ s. asks_order (f s)) (sym w) ∙ not_order)
+    ∙ sym (λ k. option_and_then (λ more. and_options more (map f (rest k))) (and_option given (f (o k)) (f (v k))))
     ∙ ap (option_and_then (λ more. and_options more (map f (take (length (x ∷ y ∷ words) - 2) words)))) is
 
 -- the words behind the first two
@@ -59,10 +83,10 @@ over_words f words command next long c p is =
     form_behind f words command next long c p ∙ ap (λ b. if b then form_load (f next) rest else form_over (f command) (f next) rest) is
 
 -- no options yet
-pub over_options : (given : Options) (command path : List ℕ) (words : List (List ℕ)) (found : Option Options) → (given.budget ≡ None) × (given.sessions ≡ None)
+pub over_options : (given : Options) (command path : List ℕ) (words : List (List ℕ)) (found : Option Options) → (given.budget ≡ None) × ((given.sessions ≡ None) × (given.narrow ≡ false))
     → and_options given words ≡ found → form_over command path words ≡ option_and_then (form_by command path) found
 over_options given command path words found none is =
-    let no_more : no_options ≡ given = λ k. record { budget = sym none.0 k; sessions = sym none.1 k } in
+    let no_more : no_options ≡ given = λ k. record { budget = sym none.0 k; sessions = sym none.1.0 k; narrow = sym none.1.1 k } in
     ap (λ options. option_and_then (form_by command path) (and_options options words)) no_more ∙ ap (option_and_then (form_by command path)) is
 
 -- ---- the order of options does not matter
@@ -74,65 +98,79 @@ one_more is_budget is_sessions budget sessions given =
     else if is_sessions then with_sessions given sessions
     else None
 
-abbrev as_options : Option ℕ → Option ℕ → Options
-as_options x y = record { budget = x; sessions = y }
+abbrev as_options : Bool → Option ℕ → Option ℕ → Options
+as_options w x y = record { budget = x; sessions = y; narrow = w }
 
-two_budgets : (s t : Bool) (m l x y n k : Option ℕ) → option_and_then (one_more true t k l) (one_more true s n m (as_options x y)) ≡ option_and_then (one_more true s n m) (one_more true t k l (as_options x y))
-two_budgets s t m l (Some x) y n k = refl
-two_budgets s t m l None y None None = refl
-two_budgets s t m l None y None (Some k) = refl
-two_budgets s t m l None y (Some n) None = refl
-two_budgets s t m l None y (Some n) (Some k) = refl
+two_budgets : (w s t : Bool) (m l x y n k : Option ℕ) → option_and_then (one_more true t k l) (one_more true s n m (as_options w x y)) ≡ option_and_then (one_more true s n m) (one_more true t k l (as_options w x y))
+two_budgets w s t m l (Some x) y n k = refl
+two_budgets w s t m l None y None None = refl
+two_budgets w s t m l None y None (Some k) = refl
+two_budgets w s t m l None y (Some n) None = refl
+two_budgets w s t m l None y (Some n) (Some k) = refl
 
-two_sessions : (n k x y m l : Option ℕ) → option_and_then (one_more false true k l) (one_more false true n m (as_options x y)) ≡ option_and_then (one_more false true n m) (one_more false true k l (as_options x y))
-two_sessions n k x (Some y) m l = refl
-two_sessions n k x None None None = refl
-two_sessions n k x None None (Some l) = refl
-two_sessions n k x None (Some m) None = refl
-two_sessions n k x None (Some m) (Some l) = refl
+two_sessions : (w : Bool) (n k x y m l : Option ℕ) → option_and_then (one_more false true k l) (one_more false true n m (as_options w x y)) ≡ option_and_then (one_more false true n m) (one_more false true k l (as_options w x y))
+two_sessions w n k x (Some y) m l = refl
+two_sessions w n k x None None None = refl
+two_sessions w n k x None None (Some l) = refl
+two_sessions w n k x None (Some m) None = refl
+two_sessions w n k x None (Some m) (Some l) = refl
 
-one_of_each : (s : Bool) (m k x y n l : Option ℕ) → option_and_then (one_more false true k l) (one_more true s n m (as_options x y)) ≡ option_and_then (one_more true s n m) (one_more false true k l (as_options x y))
-one_of_each s m k (Some x) (Some y) n l = refl
-one_of_each s m k (Some x) None n None = refl
-one_of_each s m k (Some x) None n (Some l) = refl
-one_of_each s m k None (Some y) None l = refl
-one_of_each s m k None (Some y) (Some n) l = refl
-one_of_each s m k None None None None = refl
-one_of_each s m k None None None (Some l) = refl
-one_of_each s m k None None (Some n) None = refl
-one_of_each s m k None None (Some n) (Some l) = refl
+one_of_each : (w s : Bool) (m k x y n l : Option ℕ) → option_and_then (one_more false true k l) (one_more true s n m (as_options w x y)) ≡ option_and_then (one_more true s n m) (one_more false true k l (as_options w x y))
+one_of_each w s m k (Some x) (Some y) n l = refl
+one_of_each w s m k (Some x) None n None = refl
+one_of_each w s m k (Some x) None n (Some l) = refl
+one_of_each w s m k None (Some y) None l = refl
+one_of_each w s m k None (Some y) (Some n) l = refl
+one_of_each w s m k None None None None = refl
+one_of_each w s m k None None None (Some l) = refl
+one_of_each w s m k None None (Some n) None = refl
+one_of_each w s m k None None (Some n) (Some l) = refl
 
 neither : (k l : Option ℕ) (o : Option Options) → option_and_then (one_more false false k l) o ≡ None
 neither k l None = refl
 neither k l (Some given) = refl
 
-either_first : (b s c t : Bool) (n m k l x y : Option ℕ) → option_and_then (one_more c t k l) (one_more b s n m (as_options x y)) ≡ option_and_then (one_more b s n m) (one_more c t k l (as_options x y))
-either_first true s true t n m k l x y = two_budgets s t m l x y n k
-either_first true s false true n m k l x y = one_of_each s m k x y n l
-either_first true s false false n m k l x y = neither k l (one_more true s n m (as_options x y))
-either_first false true true t n m k l x y = sym (one_of_each t l n x y k m)
-either_first false true false true n m k l x y = two_sessions n k x y m l
-either_first false true false false n m k l x y = neither k l (one_more false true n m (as_options x y))
-either_first false false true t n m k l x y = sym (neither n m (one_more true t k l (as_options x y)))
-either_first false false false true n m k l x y = sym (neither n m (one_more false true k l (as_options x y)))
-either_first false false false false n m k l x y = refl
+either_first : (w b s c t : Bool) (n m k l x y : Option ℕ) → option_and_then (one_more c t k l) (one_more b s n m (as_options w x y)) ≡ option_and_then (one_more b s n m) (one_more c t k l (as_options w x y))
+either_first w true s true t n m k l x y = two_budgets w s t m l x y n k
+either_first w true s false true n m k l x y = one_of_each w s m k x y n l
+either_first w true s false false n m k l x y = neither k l (one_more true s n m (as_options w x y))
+either_first w false true true t n m k l x y = sym (one_of_each w t l n x y k m)
+either_first w false true false true n m k l x y = two_sessions w n k x y m l
+either_first w false true false false n m k l x y = neither k l (one_more false true n m (as_options w x y))
+either_first w false false true t n m k l x y = sym (neither n m (one_more true t k l (as_options w x y)))
+either_first w false false false true n m k l x y = sym (neither n m (one_more false true k l (as_options w x y)))
+either_first w false false false false n m k l x y = refl
 
 then_then : {A B C : Type 0} (f : B → Option C) (g : A → Option B) (o : Option A) → option_and_then (λ x. option_and_then f (g x)) o ≡ option_and_then f (option_and_then g o)
 then_then f g None = refl
 then_then f g (Some x) = refl
 
-pub options_in_either_order : (given : Options) (a x b y : List ℕ) (words : List (List ℕ))
+-- the words of an option and its value
+valued : (given : Options) (a x : List ℕ) (words : List (List ℕ)) → asks_order a ≡ false
+    → and_options given (a ∷ x ∷ words) ≡ option_and_then (λ more. and_options more words) (and_option given a x)
+valued given a x words is =
+    ap (λ b. if b then option_and_then (λ more. and_options more (x ∷ words)) (with_order given)
+    else option_and_then (λ more. and_options more words) (and_option given a x)) is
+
+both_valued : (given : Options) (a x b y : List ℕ) (words : List (List ℕ)) → asks_order a ≡ false → asks_order b ≡ false
+    → and_options given (a ∷ x ∷ b ∷ y ∷ words) ≡ option_and_then (λ more. and_options more words) (option_and_then (λ more. and_option more b y) (and_option given a x))
+both_valued given a x b y words is other =
+    valued given a x (b ∷ y ∷ words) is
+    ∙ (λ k. option_and_then (λ more. valued more b y words other k) (and_option given a x))
+    ∙ then_then (λ more. and_options more words) (λ more. and_option more b y) (and_option given a x)
+
+pub options_in_either_order : (given : Options) (a x b y : List ℕ) (words : List (List ℕ)) → asks_order a ≡ false → asks_order b ≡ false
     → and_options given (a ∷ x ∷ b ∷ y ∷ words) ≡ and_options given (b ∷ y ∷ a ∷ x ∷ words)
-options_in_either_order given a x b y words =
-    then_then (λ more. and_options more words) (λ more. and_option more b y) (and_option given a x)
-    ∙ ap (option_and_then (λ more. and_options more words)) (either_first _ _ _ _ _ _ _ _ given.budget given.sessions)
-    ∙ sym (then_then (λ more. and_options more words) (λ more. and_option more a x) (and_option given b y))
+options_in_either_order given a x b y words is other =
+    both_valued given a x b y words is other
+    ∙ ap (option_and_then (λ more. and_options more words)) (either_first given.narrow _ _ _ _ _ _ _ _ given.budget given.sessions)
+    ∙ sym (both_valued given b y a x words other is)
 
 -- words ask for the same in whatever order their options stand
-pub form_in_either_order : (command path a x b y : List ℕ) (words : List (List ℕ))
+pub form_in_either_order : (command path a x b y : List ℕ) (words : List (List ℕ)) → asks_order a ≡ false → asks_order b ≡ false
     → form_of (command ∷ path ∷ a ∷ x ∷ b ∷ y ∷ words) ≡ form_of (command ∷ path ∷ b ∷ y ∷ a ∷ x ∷ words)
-form_in_either_order command path a x b y words =
-    ap (λ options. if same_name command (codes "load") then None else option_and_then (form_by command path) options) (options_in_either_order no_options a x b y words)
+form_in_either_order command path a x b y words is other =
+    ap (λ options. if same_name command (codes "load") then None else option_and_then (form_by command path) options) (options_in_either_order no_options a x b y words is other)
 
 -- ---- the numbers of a form lie within their limits
 
@@ -184,17 +222,30 @@ one_more_within true s n m given are small few = budget_more given _ are (once_w
 one_more_within false true n m given are small few = sessions_more given _ are (once_within _ given.sessions m few)
 one_more_within false false n m given are small few = tt
 
+order_within : (given : Options) → AreWithin given → IfSome (with_order given) AreWithin
+order_within given are =
+    elim given.narrow as (λ b. IfSome (if b then None else Some (record given { narrow = true })) AreWithin) [
+      | true ↦ tt
+      | false ↦ record { budget = are.budget; sessions = are.sessions }
+    ]
+
 and_then_holds : {A B : Type 0} (P : A → Type 0) (Q : B → Type 0) (f : A → Option B) (o : Option A) → IfSome o P → ((x : A) → P x → IfSome (f x) Q) → IfSome (option_and_then f o) Q
 and_then_holds P Q f None is each = tt
 and_then_holds P Q f (Some x) is each = each x is
 
 all_within : (given : Options) (words : List (List ℕ)) → AreWithin given → IfSome (and_options given words) AreWithin
 all_within given [] are = are
-all_within given (option ∷ []) are = tt
+all_within given (option ∷ []) are =
+    elim (asks_order option) as (λ b. IfSome (if b then with_order given else None) AreWithin) [ true ↦ order_within given are | false ↦ tt ]
 all_within given (option ∷ value ∷ words) are =
-    and_then_holds AreWithin AreWithin (λ more. and_options more words) (and_option given option value)
-    (one_more_within _ _ _ _ given are (plain_number_in-range 7 1 BUDGET_LIMIT value) (plain_number_in-range 4 1 SESSION_LIMIT value))
-    (λ more. all_within more words)
+    elim (asks_order option) as (λ b. IfSome (if b then option_and_then (λ more. and_options more (value ∷ words)) (with_order given)
+    else option_and_then (λ more. and_options more words) (and_option given option value)) AreWithin) [
+      | true ↦ and_then_holds AreWithin AreWithin (λ more. and_options more (value ∷ words)) (with_order given) (order_within given are) (λ more. all_within more (value ∷ words))
+      | false ↦ (
+          and_then_holds AreWithin AreWithin (λ more. and_options more words) (and_option given option value)
+          (one_more_within _ _ _ _ given are (plain_number_in-range 7 1 BUDGET_LIMIT value) (plain_number_in-range 4 1 SESSION_LIMIT value))
+          (λ more. all_within more words))
+    ]
 
 or_default : (P : ℕ → Type 0) (given : Option ℕ) (number : ℕ) → IfSome given P → P number → P (unwrap_or given number)
 or_default P None number is fits = fits
@@ -213,9 +264,9 @@ form_by_within : (command path : List ℕ) (options : Options) → AreWithin opt
 form_by_within command path options are =
     let budget = or_default (IsWithin 1 BUDGET_LIMIT) options.budget DEFAULT_BUDGET are.budget (lit≤ tt, lit≤ tt) in
     let sessions = or_default (IsWithin 1 SESSION_LIMIT) options.sessions DEFAULT_SESSIONS are.sessions (lit≤ tt, lit≤ tt) in
-    one_form (same_name command (codes "serve")) (is_device_path path) (Over path (Serve _ _)) _ (budget.1, sessions.0, sessions.1)
-    (one_form (same_name command (codes "compile")) (is_device_path path && is_none options.sessions) (Over path (Compile _)) _ budget.1
-    (one_form (same_name command (codes "plan")) (is_device_path path && are_none options) (Over path Plan) _ tt
+    one_form (same_name command (codes "serve")) (is_device_path path) (Over path (Serve _ _ _)) _ (budget.1, sessions.0, sessions.1)
+    (one_form (same_name command (codes "compile")) (is_device_path path && is_none options.sessions) (Over path (Compile _ _)) _ budget.1
+    (one_form (same_name command (codes "plan")) (is_device_path path && has_no_number options) (Over path (Plan _)) _ tt
     (one_form (same_name command (codes "check")) (is_graph_path path && are_none options) (Over path Check) None tt (record { given = tt }))))
 
 form_over_within : (command path : List ℕ) (words : List (List ℕ)) → IfSome (form_over command path words) IsWithinLimits

@@ -8,7 +8,7 @@ use Rattle.device_model.specs.Devices.{Device}
 use Rattle.ranking.specs.Systems.{System}
 use Rattle.device_model.specs.Diagnosis.{device_system}
 use Rattle.clause_encoder.specs.Clauses.{ClauseList}
-use Rattle.clause_encoder.specs.Encoding.{encoded}
+use Rattle.clause_encoder.specs.declared.encoding.EncodeError.{EncodeError}
 use Rattle.branch_states.specs.Branches.{sum_of}
 use Rattle.session_rules.specs.Items.{Item, Plain, Whole, line}
 use Rattle.session_rules.specs.Sessions.{replies}
@@ -16,6 +16,7 @@ use Rattle.diag_cli.specs.declared.serving.TheConstants.{SCRIPT_LIMIT}
 use Rattle.diag_cli.specs.Words.{Form, Load, Over, Command, Serve, Plan, Check, Compile}
 use Rattle.diag_cli.specs.Output.{Output, says, no_memory}
 use Rattle.diag_cli.specs.Describing.{long_file_line, device_in}
+use Rattle.diag_cli.specs.Orders.{clauses_by}
 use Rattle.diag_cli.specs.Planning.{within, sizes_in, planned}
 use Rattle.diag_cli.specs.Checking.{graph_in, checked}
 use Rattle.diag_cli.specs.Loads.{loaded}
@@ -75,9 +76,10 @@ graph_by device (Ok cnf) =
     record { items = Whole device cnf.vars (3 * sum_of cnf.clauses + 2 * cnf.vars + 2) ∷ []; status = 0 }
 graph_by device (Err output) = output
 
-abbrev pub compiled : ℕ → Result Device Output → Output
-compiled budget (Ok device) = graph_by device (within budget (encoded device))
-compiled budget (Err output) = output
+-- by what the clauses of devices are
+abbrev pub compiled : ℕ → (Device → Result ClauseList EncodeError) → Result Device Output → Output
+compiled budget clauses (Ok device) = graph_by device (within budget (clauses device))
+compiled budget clauses (Err output) = output
 
 -- ---- all forms
 
@@ -90,9 +92,9 @@ abbrev pub device_by : Device → Result ClauseList Output → Result Device Out
 device_by device (Ok cnf) = Ok device
 device_by device (Err output) = Err output
 
-abbrev pub if_within : ℕ → Result Device Output → Result Device Output
-if_within budget (Ok device) = device_by device (within budget (encoded device))
-if_within budget (Err output) = Err output
+abbrev pub if_within : ℕ → (Device → Result ClauseList EncodeError) → Result Device Output → Result Device Output
+if_within budget clauses (Ok device) = device_by device (within budget (clauses device))
+if_within budget clauses (Err output) = Err output
 
 -- the script is answered over the device, with at most so many sessions open
 abbrev pub served_or_refused : ℕ → Result Device Output → Course
@@ -105,14 +107,15 @@ whole_output (Tells output) left = Some output
 whole_output (Serves answers) None = None
 whole_output (Serves answers) (Some script) = Some (wholly_served answers script)
 
--- by the command, over a file
-abbrev pub course_by : List ℕ → Command → List ℕ → Course
-course_by path (Serve budget sessions) file = served_or_refused sessions (if_within budget (device_in path file))
-course_by path Plan file = Tells (planned (sizes_in (device_in path file)))
-course_by path Check file = Tells (checked (graph_in file))
-course_by path (Compile budget) file = Tells (compiled budget (device_in path file))
+-- by the command, over a file, and by the order of clauses that is used where another one is asked for
+abbrev pub course_by : (ClauseList → ClauseList) → List ℕ → Command → List ℕ → Course
+course_by order path (Serve budget sessions narrow) file =
+    served_or_refused sessions (if_within budget (clauses_by narrow order) (device_in path file))
+course_by order path (Plan narrow) file = Tells (planned (sizes_in (clauses_by narrow order) (device_in path file)))
+course_by order path Check file = Tells (checked (graph_in file))
+course_by order path (Compile budget narrow) file = Tells (compiled budget (clauses_by narrow order) (device_in path file))
 
-abbrev pub course_of : Option Form → List ℕ → Course
-course_of None file = Tells (says usage_line 2)
-course_of (Some (Load places)) file = Tells (loaded places)
-course_of (Some (Over path command)) file = course_by path command file
+abbrev pub course_of : (ClauseList → ClauseList) → Option Form → List ℕ → Course
+course_of order None file = Tells (says usage_line 2)
+course_of order (Some (Load places)) file = Tells (loaded places)
+course_of order (Some (Over path command)) file = course_by order path command file

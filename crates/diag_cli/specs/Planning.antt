@@ -7,7 +7,6 @@ use Rattle.clause_encoder.specs.declared.limits.TheConstants.{CLAUSE_LIMIT}
 use Rattle.clause_encoder.specs.declared.encoding.EncodeError.{EncodeError}
 use Rattle.clause_encoder.specs.declared.encoding.EncodeError.TheVariants.{TooManyClauses, Memory}
 use Rattle.clause_encoder.specs.Clauses.{ClauseList}
-use Rattle.clause_encoder.specs.Encoding.{encoded}
 use Rattle.branch_states.specs.declared.measuring.TheConstants.{BUDGET_LIMIT}
 use Rattle.branch_states.specs.Branches.{sum_of}
 use Rattle.session_rules.specs.Items.{Item, line}
@@ -43,9 +42,10 @@ sizes_by device (Ok cnf) =
     Ok (record { parts = length device.parts; wires = length device.wires; clauses = length cnf.clauses; sum = sum_of cnf.clauses })
 sizes_by device (Err output) = Err output
 
-abbrev pub sizes_in : Result Device Output → Result Sizes Output
-sizes_in (Ok device) = sizes_by device (within BUDGET_LIMIT (encoded device))
-sizes_in (Err output) = Err output
+-- by what the clauses of devices are
+abbrev pub sizes_in : (Device → Result ClauseList EncodeError) → Result Device Output → Result Sizes Output
+sizes_in clauses (Ok device) = sizes_by device (within BUDGET_LIMIT (clauses device))
+sizes_in clauses (Err output) = Err output
 
 abbrev pub planned : Result Sizes Output → Output
 planned (Ok sizes) = record { items = size_lines sizes; status = 0 }

@@ -3,6 +3,7 @@ use Rattle.std.specs.Prelude.{◌≡◌, ◌≢◌, ◌⊎◌, ◌↔◌, ◌+�
 use Rattle.std.specs.Option.{IsSome}
 use Rattle.std.specs.Io.KnownBytes.{Consumes, IsAtEnd}
 use Rattle.diag_edge.specs.Edge.{RoseExactly, Holding, absent}
+use Rattle.clause_encoder.specs.Clauses.{ClauseList}
 use Rattle.session_rules.specs.Items.{Item}
 use Rattle.session_rules.specs.Spelling.{Writes}
 use Rattle.diag_cli.specs.declared.serving.TheConstants.{SCRIPT_LIMIT}
@@ -30,8 +31,9 @@ pub record IsIdle (before after : Reading) : Type 0 where
 abbrev pub GivesUnlessShort : Option Form → Output → ℕ → Option (List ℕ) → Option (List ℕ) → Type 0
 GivesUnlessShort form output status before after = (IsSome form × Gives no_memory status before after) ⊎ Gives output status before after
 
--- What a run does by its words, over a shelf that holds this, with its input and its output.
-pub record IsRun (form : Option Form) (held : List ℕ → Holding) (shelf new_shelf input new_input : Reading) (out new_out : Writing) (status : ℕ) : Type 0 where
+-- What a run does by its words, over a shelf that holds this, with its input and its output. Clauses are put into an order, where words
+-- ask for another one.
+pub record IsRun (order : ClauseList → ClauseList) (form : Option Form) (held : List ℕ → Holding) (shelf new_shelf input new_input : Reading) (out new_out : Writing) (status : ℕ) : Type 0 where
   -- The status is 5 exactly where a write failed.
   pub write_fault : RoseExactly out.faults new_out.faults (status ≡ 5)
   -- Otherwise it is 4 exactly where a read failed.
@@ -45,21 +47,21 @@ pub record IsRun (form : Option Form) (held : List ℕ → Holding) (shelf new_s
   pub no_file : shelf.faults < new_shelf.faults → IsIdle input new_input × Gives (says read_error 4) status out.got new_out.got
   -- Where the words ask for no script, none is read, and where the file is refused neither.
   pub not_asked : asks_script form ≡ false → IsIdle input new_input
-  pub no_script : IfSome (told_file held (named_file form)) (λ file. (output : Output) → course_of form file ≡ Tells output → IsIdle input new_input)
+  pub no_script : IfSome (told_file held (named_file form)) (λ file. (output : Output) → course_of order form file ≡ Tells output → IsIdle input new_input)
   -- Where no read failed, what is written is the output for the words, the file and the script, or memory ran out for words
   -- with a form.
-  pub output : IfSome (told_file held (named_file form)) (λ file. IfSome (whole_output (course_of form file) input.left) (λ output.
+  pub output : IfSome (told_file held (named_file form)) (λ file. IfSome (whole_output (course_of order form file) input.left) (λ output.
       new_shelf.faults ≡ shelf.faults → new_input.faults ≡ input.faults → GivesUnlessShort form output status out.got new_out.got))
   -- Where that output has status 0 and no write failed either, the status is 0 and all of it was written, or it is 6, with the
   -- one line of want of memory.
-  pub complete : IfSome (told_file held (named_file form)) (λ file. IfSome (whole_output (course_of form file) input.left) (λ output.
+  pub complete : IfSome (told_file held (named_file form)) (λ file. IfSome (whole_output (course_of order form file) input.left) (λ output.
       output.status ≡ 0 → new_shelf.faults ≡ shelf.faults → new_input.faults ≡ input.faults → new_out.faults ≡ out.faults →
       ((status ≡ 0) × Writes out.got new_out.got output.items) ⊎ ((status ≡ 6) × Writes out.got new_out.got no_memory.items)))
   -- Where a read of the script failed, the lines that a line feed had ended were answered before.
-  pub script_fault : IfSome (told_file held (named_file form)) (λ file. (answers : List (List ℕ) → List Item) → course_of form file ≡ Serves answers →
+  pub script_fault : IfSome (told_file held (named_file form)) (λ file. (answers : List (List ℕ) → List Item) → course_of order form file ≡ Serves answers →
       input.faults < new_input.faults →
       (bytes : List ℕ) × Consumes input.left new_input.left bytes × Gives (served answers bytes Failed) status out.got new_out.got)
   -- With status 0 a script that is answered was read to its end.
-  pub all_read : IfSome (told_file held (named_file form)) (λ file. (answers : List (List ℕ) → List Item) → course_of form file ≡ Serves answers → status ≡ 0 → IsAtEnd new_input.left)
+  pub all_read : IfSome (told_file held (named_file form)) (λ file. (answers : List (List ℕ) → List Item) → course_of order form file ≡ Serves answers → status ≡ 0 → IsAtEnd new_input.left)
   -- With status 7 exactly the limit was taken of the script, and with no other one, unless a write failed.
   pub cut : status ≢ 5 → (status ≡ 7) ↔ (new_input.taken ≡ input.taken + SCRIPT_LIMIT)

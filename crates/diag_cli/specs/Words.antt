@@ -1,5 +1,5 @@
 -- What the words of the command line ask for.
-use Rattle.std.specs.Prelude.{ℕ, Bool, true, false, ◌&&◌, ◌||◌, is_none, nat_lt, ◌-◌, List, [], ◌∷◌, length, drop, Option, Some, None, unwrap_or, option_and_then, if◌then◌else◌, codes}
+use Rattle.std.specs.Prelude.{ℕ, Bool, true, false, not, ◌&&◌, ◌||◌, is_none, nat_lt, ◌-◌, List, [], ◌∷◌, length, drop, Option, Some, None, unwrap_or, option_and_then, if◌then◌else◌, codes}
 use Rattle.std.specs.Option.{option_map, option_map_or}
 use Rattle.text_rules.specs.Names.{same_name}
 use Rattle.text_rules.specs.Numbers.{plain_number_in}
@@ -14,10 +14,10 @@ use Rattle.diag_cli.specs.declared.words.TheConstants.{DEFAULT_BUDGET, DEFAULT_S
 
 -- what is done over a file
 pub data Command : Type 0 where
-  Serve : (budget sessions : ℕ) → Command
-  Plan : Command
+  Serve : (budget sessions : ℕ) (narrow : Bool) → Command
+  Plan : (narrow : Bool) → Command
   Check : Command
-  Compile : (budget : ℕ) → Command
+  Compile : (budget : ℕ) (narrow : Bool) → Command
 
 -- the forms of the command line: an adder of so many places is made, or a file is named
 pub data Form : Type 0 where
@@ -39,7 +39,7 @@ told_file held name = option_map_or (λ path. told_bytes (held path)) name (Some
 
 -- only `serve` asks for a script
 abbrev pub asks_script : Option Form → Bool
-asks_script (Some (Over path (Serve budget sessions))) = true
+asks_script (Some (Over path (Serve budget sessions narrow))) = true
 asks_script form = false
 
 -- ---- files by their endings
@@ -63,10 +63,14 @@ is_graph_path path = ends_in (codes ".nnf") path
 -- ---- options
 
 abbrev pub no_options : Options
-no_options = record { budget = None; sessions = None }
+no_options = record { budget = None; sessions = None; narrow = false }
+
+-- a device is planned in another order, or in its own
+abbrev pub has_no_number : Options → Bool
+has_no_number options = is_none options.budget && is_none options.sessions
 
 abbrev pub are_none : Options → Bool
-are_none options = is_none options.budget && is_none options.sessions
+are_none options = has_no_number options && not options.narrow
 
 -- a number, where none was given before
 abbrev pub given_once : Option ℕ → Option ℕ → Option ℕ
@@ -81,18 +85,27 @@ with_budget given number = option_map (λ n. record given { budget = Some n }) (
 abbrev pub with_sessions : Options → Option ℕ → Option Options
 with_sessions given number = option_map (λ n. record given { sessions = Some n }) (given_once given.sessions number)
 
--- the options that were given, and one more
+-- the options that were given, with another order
+abbrev pub with_order : Options → Option Options
+with_order given = if given.narrow then None else Some (record given { narrow = true })
+
+-- the options that were given, and one more with its value
 abbrev pub and_option : Options → List ℕ → List ℕ → Option Options
 and_option given option value =
     if same_name option (codes "--budget") then with_budget given (plain_number_in 7 1 BUDGET_LIMIT value)
     else if same_name option (codes "--sessions") then with_sessions given (plain_number_in 4 1 SESSION_LIMIT value)
     else None
 
--- and those of further words: an option and its value, one after the other
+abbrev pub asks_order : List ℕ → Bool
+asks_order word = same_name word (codes "--narrow")
+
+-- and those of further words, one after the other: `--narrow`, or an option and its value
 abbrev pub and_options : Options → List (List ℕ) → Option Options
 and_options given [] = Some given
-and_options given (option ∷ []) = None
-and_options given (option ∷ value ∷ words) = option_and_then (λ more. and_options more words) (and_option given option value)
+and_options given (option ∷ []) = if asks_order option then with_order given else None
+and_options given (option ∷ value ∷ words) =
+    if asks_order option then option_and_then (λ more. and_options more (value ∷ words)) (with_order given)
+    else option_and_then (λ more. and_options more words) (and_option given option value)
 
 -- ---- words
 
@@ -105,9 +118,9 @@ abbrev pub form_by : List ℕ → List ℕ → Options → Option Form
 form_by command path options =
     let budget = unwrap_or options.budget DEFAULT_BUDGET in
     let sessions = unwrap_or options.sessions DEFAULT_SESSIONS in
-    if same_name command (codes "serve") then only_if (is_device_path path) (Over path (Serve budget sessions))
-    else if same_name command (codes "compile") then only_if (is_device_path path && is_none options.sessions) (Over path (Compile budget))
-    else if same_name command (codes "plan") then only_if (is_device_path path && are_none options) (Over path Plan)
+    if same_name command (codes "serve") then only_if (is_device_path path) (Over path (Serve budget sessions options.narrow))
+    else if same_name command (codes "compile") then only_if (is_device_path path && is_none options.sessions) (Over path (Compile budget options.narrow))
+    else if same_name command (codes "plan") then only_if (is_device_path path && has_no_number options) (Over path (Plan options.narrow))
     else if same_name command (codes "check") then only_if (is_graph_path path && are_none options) (Over path Check)
     else None
 

@@ -3,3 +3,4 @@ pub mod Forms
 pub mod Loading
 pub mod Courses
 pub mod Serving
+pub mod Ordering

@@ -1,6 +1,7 @@
 ghost use Rattle.std.specs.Prelude.{◌≡◌, ◌≢◌, ◌-◌, ◌^◌, ◌<◌, ◌≤◌, length};
 ghost use Rattle.diag_edge.specs.Edge.{RoseExactly};
 ghost use Rattle.diag_cli.specs.Describing.{device_in};
+ghost use Rattle.diag_cli.specs.Orders.{ByClauses};
 ghost use Rattle.diag_cli.specs.Courses.{compiled};
 ghost use Rattle.diag_cli.specs.inner.Courses.{GivesUnlessMemory};
 
@@ -19,6 +20,7 @@ pub(crate) fn compile_file<O: Sink>(
     path: &str,
     file: &[u8],
     budget: u32,
+    is_narrow: bool,
     out: &mut O,
 ) -> u8
     requires budget { budget ≤ BUDGET_LIMIT }
@@ -28,14 +30,14 @@ pub(crate) fn compile_file<O: Sink>(
     ensures not_usage { result ≢ 2 }
     ensures not_read { result ≢ 4 }
     ensures not_cut { result ≢ 7 }
-    ensures said { GivesUnlessMemory (compiled budget (device_in path.now file.now)) result
-        (O.got out.old) (O.got out.new) }
+    ensures said { ByClauses is_narrow (λ clauses.
+        GivesUnlessMemory (compiled budget clauses (device_in path.now file.now)) result (O.got out.old) (O.got out.new)) }
 {
     let device = match described(alloc, path, file) {
         Ok(device) => device,
         Err(refusal) => return tell(out, refusal),
     };
-    let graph = match graph_within(alloc, &device, budget) {
+    let graph = match graph_within(alloc, &device, budget, is_narrow) {
         Ok((_, graph)) => graph,
         Err(refusal) => return tell(out, refusal),
     };

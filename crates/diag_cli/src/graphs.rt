@@ -3,14 +3,14 @@ ghost use Rattle.std.specs.Prelude.{◌≡◌, ◌+◌, ◌*◌, ◌<◌, ◌≤
 ghost use Rattle.std.specs.List.{sum};
 ghost use Rattle.text_rules.specs.Expected.{Fulfils};
 ghost use Rattle.device_model.specs.Devices.{part_costs};
-ghost use Rattle.clause_encoder.specs.Encoding.{encoded};
 ghost use Rattle.branch_states.specs.Branches.{sum_of};
+ghost use Rattle.diag_cli.specs.Orders.{ByClauses};
 ghost use Rattle.diag_cli.specs.Planning.{within};
 ghost use Rattle.diag_cli.specs.Refusals.{told_by};
 ghost use Rattle.diag_cli.specs.inner.Serving.{IsServable};
 
 use crate::refusal::Refusal;
-use crate::weighing::clauses_of;
+use crate::weighing::ordered_clauses;
 use branch_states::{BUDGET_LIMIT, MeasureError};
 use clause_encoder::Cnf;
 use device_model::{COST_LIMIT, Device, PART_LIMIT};
@@ -23,16 +23,18 @@ pub(crate) fn graph_within(
     alloc: Global,
     device: &Device,
     budget: u32,
+    is_narrow: bool,
 ) -> Result<(Cnf, Graph), Refusal>
     requires { budget ≤ BUDGET_LIMIT }
-    ensures list { Fulfils (λ found. found.0) told_by (within budget (encoded device.now)) result }
+    ensures list { ByClauses is_narrow (λ clauses.
+        Fulfils (λ found. found.0) told_by (within budget (clauses device.now)) result) }
     ensures servable { IfOk result (λ found. IsServable device.now found.1) }
     ensures vars { IfOk result (λ found. found.1.vars ≡ found.0.vars) }
     ensures few_nodes { IfOk result (λ found. length found.1.nodes ≤ 3 * sum_of found.0.clauses + 2 * found.0.vars + 2) }
 {
     // Its contract says that a device has few parts and wires.
     let _parts = device.parts();
-    let cnf = clauses_of(alloc, device)?;
+    let cnf = ordered_clauses(alloc, device, is_narrow)?;
     match compile_within(alloc, &cnf, budget) {
         Ok(compiled) => Ok((cnf, compiled.graph)),
         Err(MeasureError::Above) => Err(Refusal::Sum { budget }),

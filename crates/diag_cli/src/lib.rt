@@ -21,5 +21,4 @@ pub use describing::described;
 pub use program::diag;
 pub use refusal::{Refusal, above, tell};
 pub use saying::{say, say_load_error, say_usage};
-pub use weighing::clauses_of;
 pub use words::{is_design_path, is_device_path};

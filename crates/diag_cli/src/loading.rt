@@ -101,7 +101,7 @@ fn summary_within(alloc: Global, device: Device, places: u32) -> Result<Summary,
     ensures summary { Loads (summary_of places (Ok device)) result }
     ensures in_step { IfOk result IsInStep }
 {
-    let (cnf, graph) = graph_within(alloc, &device, DEFAULT_BUDGET)?;
+    let (cnf, graph) = graph_within(alloc, &device, DEFAULT_BUDGET, false)?;
     let clauses = u64::from(cnf.len());
     Ok(summary_by::<Brand>(alloc, Blank::new(1), device, &graph, clauses, places)?)
 }

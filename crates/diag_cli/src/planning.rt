@@ -1,8 +1,8 @@
 ghost use Rattle.std.specs.Prelude.{◌≡◌, ◌≢◌, ◌⊎◌, ◌-◌, ◌^◌, ◌<◌, ◌≤◌, [], ◌∷◌, length, Ok};
 ghost use Rattle.diag_edge.specs.Edge.{HasCause, RoseExactly};
-ghost use Rattle.clause_encoder.specs.Encoding.{encoded};
 ghost use Rattle.diag_cli.specs.Describing.{device_in};
 ghost use Rattle.diag_cli.specs.Output.{Gives};
+ghost use Rattle.diag_cli.specs.Orders.{ByClauses};
 ghost use Rattle.diag_cli.specs.Planning.{count_line, size_lines, within, sizes_by, sizes_in, planned};
 ghost use Rattle.session_rules.specs.Spelling.{Replies};
 ghost use Rattle.diag_cli.specs.Refusals.{Finds};
@@ -27,10 +27,10 @@ pub(crate) struct Sizes {
     pub(crate) sum: u64,
 }
 
-fn sizes_of(alloc: Global, device: &Device) -> Result<Sizes, Refusal>
-    ensures { Finds (sizes_by device.now (within BUDGET_LIMIT (encoded device.now))) result }
+fn sizes_of(alloc: Global, device: &Device, is_narrow: bool) -> Result<Sizes, Refusal>
+    ensures { ByClauses is_narrow (λ clauses. Finds (sizes_by device.now (within BUDGET_LIMIT (clauses device.now))) result) }
 {
-    let (cnf, sum) = clauses_within(alloc, device, BUDGET_LIMIT)?;
+    let (cnf, sum) = clauses_within(alloc, device, BUDGET_LIMIT, is_narrow)?;
     Ok(Sizes {
         parts: device.parts().len() as u64,
         wires: device.wires().len() as u64,
@@ -39,12 +39,12 @@ fn sizes_of(alloc: Global, device: &Device) -> Result<Sizes, Refusal>
     })
 }
 
-fn sizes_in(alloc: Global, path: &str, file: &[u8]) -> Result<Sizes, Refusal>
+fn sizes_in(alloc: Global, path: &str, file: &[u8], is_narrow: bool) -> Result<Sizes, Refusal>
     requires { length file.now ≤ TEXT_LIMIT }
-    ensures { Finds (sizes_in (device_in path.now file.now)) result }
+    ensures { ByClauses is_narrow (λ clauses. Finds (sizes_in clauses (device_in path.now file.now)) result) }
 {
     let device = described(alloc, path, file)?;
-    sizes_of(alloc, &device)
+    sizes_of(alloc, &device, is_narrow)
 }
 
 // Puts a line of a word and a number.
@@ -82,17 +82,23 @@ fn tell_sizes<O: Sink>(out: &mut O, sizes: Sizes) -> u8
 }
 
 /// Tells how large the device of a file is, or why it cannot be told, and answers the status.
-pub(crate) fn plan_file<O: Sink>(alloc: Global, path: &str, file: &[u8], out: &mut O) -> u8
+pub(crate) fn plan_file<O: Sink>(
+    alloc: Global,
+    path: &str,
+    file: &[u8],
+    is_narrow: bool,
+    out: &mut O,
+) -> u8
     requires short { length file.now ≤ TEXT_LIMIT }
     requires faults { O.faults out.old < 2 ^ 64 - 1 }
     ensures write_fault { RoseExactly (O.faults out.old) (O.faults out.new) (result ≡ 5) }
     ensures not_usage { result ≢ 2 }
     ensures not_read { result ≢ 4 }
     ensures not_cut { result ≢ 7 }
-    ensures said { GivesUnlessMemory (planned (sizes_in (device_in path.now file.now))) result
-        (O.got out.old) (O.got out.new) }
+    ensures said { ByClauses is_narrow (λ clauses.
+        GivesUnlessMemory (planned (sizes_in clauses (device_in path.now file.now))) result (O.got out.old) (O.got out.new)) }
 {
-    match sizes_in(alloc, path, file) {
+    match sizes_in(alloc, path, file, is_narrow) {
         Ok(sizes) => tell_sizes(out, sizes),
         Err(refusal) => tell(out, refusal),
     }

@@ -1,5 +1,6 @@
 ghost use Rattle.std.specs.Prelude.{◌-◌, ◌^◌, ◌<◌, map, string_bytes, Some, IfSome};
 ghost use Rattle.diag_cli.specs.Words.{form_of, named_file, Over};
+ghost use Rattle.diag_cli.specs.Orders.{ByOrder};
 ghost use Rattle.diag_cli.specs.Runs.{IsRun};
 ghost use Rattle.diag_cli.specs.inner.Forms.{command_meant, IsCommandWithin};
 
@@ -27,13 +28,13 @@ fn run_over<H: Shelf, I: Source, O: Sink>(
     requires shelf_faults { H.faults shelf.old < 2 ^ 64 - 1 }
     requires input_faults { I.faults input.old < 2 ^ 64 - 1 }
     requires out_faults { O.faults out.old < 2 ^ 64 - 1 }
-    ensures { IsRun (Some (Over path.now (command_meant command))) (H.held shelf.old)
+    ensures { ByOrder (λ order. IsRun order (Some (Over path.now (command_meant command))) (H.held shelf.old)
         (record { left = H.left shelf.old; taken = H.taken shelf.old; faults = H.faults shelf.old })
         (record { left = H.left shelf.new; taken = H.taken shelf.new; faults = H.faults shelf.new })
         (record { left = I.left input.old; taken = I.taken input.old; faults = I.faults input.old })
         (record { left = I.left input.new; taken = I.taken input.new; faults = I.faults input.new })
         (record { got = O.got out.old; faults = O.faults out.old })
-        (record { got = O.got out.new; faults = O.faults out.new }) result }
+        (record { got = O.got out.new; faults = O.faults out.new }) result) }
 {
     match load(alloc, shelf, path, TEXT_LIMIT) {
         Ok(file) => run_file(alloc, path, command, &file, input, out),
@@ -44,7 +45,8 @@ fn run_over<H: Shelf, I: Source, O: Sink>(
 /// Does all that the program does: reads the file that the words name, if they name one, does what they ask for, and gives
 /// the status.
 ///
-/// `words` are those behind the program's name. `IsRun` says, clause by clause, what holds of each run.
+/// `words` are those behind the program's name. `IsRun` says, clause by clause, what holds of each run, by some order of clauses where
+/// words ask for another one.
 pub fn diag<H: Shelf, I: Source, O: Sink>(
     alloc: Global,
     words: &[String],
@@ -58,13 +60,13 @@ pub fn diag<H: Shelf, I: Source, O: Sink>(
     requires shelf_faults { H.faults shelf.old < 2 ^ 64 - 1 }
     requires input_faults { I.faults input.old < 2 ^ 64 - 1 }
     requires out_faults { O.faults out.old < 2 ^ 64 - 1 }
-    ensures { IsRun (form_of (map string_bytes words.now)) (H.held shelf.old)
+    ensures { ByOrder (λ order. IsRun order (form_of (map string_bytes words.now)) (H.held shelf.old)
         (record { left = H.left shelf.old; taken = H.taken shelf.old; faults = H.faults shelf.old })
         (record { left = H.left shelf.new; taken = H.taken shelf.new; faults = H.faults shelf.new })
         (record { left = I.left input.old; taken = I.taken input.old; faults = I.faults input.old })
         (record { left = I.left input.new; taken = I.taken input.new; faults = I.faults input.new })
         (record { got = O.got out.old; faults = O.faults out.old })
-        (record { got = O.got out.new; faults = O.faults out.new }) result }
+        (record { got = O.got out.new; faults = O.faults out.new }) result) }
 {
     match form_of(words) {
         None => say_usage(out),

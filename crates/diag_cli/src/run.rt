@@ -1,5 +1,6 @@
 ghost use Rattle.std.specs.Prelude.{◌≡◌, ◌≢◌, ◌+◌, ◌-◌, ◌^◌, ◌<◌, ◌≤◌, length};
 ghost use Rattle.diag_edge.specs.Edge.{RoseExactly};
+ghost use Rattle.diag_cli.specs.Orders.{ByOrder};
 ghost use Rattle.diag_cli.specs.Courses.{course_by};
 ghost use Rattle.diag_cli.specs.inner.Courses.{Follows};
 ghost use Rattle.diag_cli.specs.inner.Forms.{command_meant, IsCommandWithin};
@@ -30,20 +31,24 @@ pub(crate) fn run_file<I: Source, O: Sink>(
     ensures write_fault { RoseExactly (O.faults out.old) (O.faults out.new) (result ≡ 5) }
     ensures read_fault { result ≢ 5 → RoseExactly (I.faults input.old) (I.faults input.new) (result ≡ 4) }
     ensures not_usage { result ≢ 2 }
-    ensures follows { Follows (course_by path.now (command_meant command) file.now)
+    ensures follows { ByOrder (λ order. Follows (course_by order path.now (command_meant command) file.now)
         (record { left = I.left input.old; taken = I.taken input.old; faults = I.faults input.old })
         (record { left = I.left input.new; taken = I.taken input.new; faults = I.faults input.new })
         (record { got = O.got out.old; faults = O.faults out.old })
-        (record { got = O.got out.new; faults = O.faults out.new }) result }
+        (record { got = O.got out.new; faults = O.faults out.new }) result) }
     ensures cut { result ≡ 7 → I.taken input.new ≡ I.taken input.old + SCRIPT_LIMIT }
     ensures short { result ≢ 5 → result ≢ 7 → I.taken input.new < I.taken input.old + SCRIPT_LIMIT }
 {
     match command {
-        Command::Serve { budget, sessions } => {
-            serve_file(alloc, path, file, budget, sessions, input, out)
-        }
-        Command::Plan => plan_file(alloc, path, file, out),
+        Command::Serve {
+            budget,
+            sessions,
+            narrow,
+        } => serve_file(alloc, path, file, budget, narrow, sessions, input, out),
+        Command::Plan { narrow } => plan_file(alloc, path, file, narrow, out),
         Command::Check => check_file(alloc, file, out),
-        Command::Compile { budget } => compile_file(alloc, path, file, budget, out),
+        Command::Compile { budget, narrow } => {
+            compile_file(alloc, path, file, budget, narrow, out)
+        }
     }
 }

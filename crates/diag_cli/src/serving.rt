@@ -3,6 +3,7 @@ ghost use Rattle.text_rules.specs.Tokens.{spaced};
 ghost use Rattle.text_rules.specs.Expected.{Fulfils};
 ghost use Rattle.diag_edge.specs.Edge.{HasCause, Puts, RoseExactly};
 ghost use Rattle.session_rules.specs.GraphSystems.{system_of};
+ghost use Rattle.diag_cli.specs.Orders.{ByClauses};
 ghost use Rattle.diag_cli.specs.Courses.{answers_of, if_within, served_or_refused};
 ghost use Rattle.diag_cli.specs.Describing.{device_in};
 ghost use Rattle.diag_cli.specs.Refusals.{told_by};
@@ -52,14 +53,15 @@ fn service_within(
     alloc: Global,
     device: Device,
     budget: u32,
+    is_narrow: bool,
     sessions: u32,
 ) -> Result<Service, Refusal>
     requires budget { budget ≤ BUDGET_LIMIT }
     requires few { sessions ≤ SESSION_LIMIT }
     ensures service { IfOk result (IsServiceOf device sessions) }
-    ensures within { Fulfils (λ _. device) told_by (if_within budget (Ok device)) result }
+    ensures within { ByClauses is_narrow (λ clauses. Fulfils (λ _. device) told_by (if_within budget clauses (Ok device)) result) }
 {
-    let (_, graph) = graph_within(alloc, &device, budget)?;
+    let (_, graph) = graph_within(alloc, &device, budget, is_narrow)?;
     service_over(alloc, device, graph, sessions)
 }
 
@@ -114,6 +116,7 @@ fn serve_device<I: Source, O: Sink>(
     alloc: Global,
     device: Device,
     budget: u32,
+    is_narrow: bool,
     sessions: u32,
     input: &mut I,
     out: &mut O,
@@ -126,15 +129,15 @@ fn serve_device<I: Source, O: Sink>(
     ensures write_fault { RoseExactly (O.faults out.old) (O.faults out.new) (result ≡ 5) }
     ensures read_fault { result ≢ 5 → RoseExactly (I.faults input.old) (I.faults input.new) (result ≡ 4) }
     ensures not_usage { result ≢ 2 }
-    ensures follows { Follows (served_or_refused sessions (if_within budget (Ok device)))
+    ensures follows { ByClauses is_narrow (λ clauses. Follows (served_or_refused sessions (if_within budget clauses (Ok device)))
         (record { left = I.left input.old; taken = I.taken input.old; faults = I.faults input.old })
         (record { left = I.left input.new; taken = I.taken input.new; faults = I.faults input.new })
         (record { got = O.got out.old; faults = O.faults out.old })
-        (record { got = O.got out.new; faults = O.faults out.new }) result }
+        (record { got = O.got out.new; faults = O.faults out.new }) result) }
     ensures cut { result ≡ 7 → I.taken input.new ≡ I.taken input.old + SCRIPT_LIMIT }
     ensures short { result ≢ 5 → result ≢ 7 → I.taken input.new < I.taken input.old + SCRIPT_LIMIT }
 {
-    match service_within(alloc, device, budget, sessions) {
+    match service_within(alloc, device, budget, is_narrow, sessions) {
         Ok(mut service) => {
             let status = answer(&mut service, input, out);
             service.finish();
@@ -150,6 +153,7 @@ pub(crate) fn serve_file<I: Source, O: Sink>(
     path: &str,
     file: &[u8],
     budget: u32,
+    is_narrow: bool,
     sessions: u32,
     input: &mut I,
     out: &mut O,
@@ -163,16 +167,16 @@ pub(crate) fn serve_file<I: Source, O: Sink>(
     ensures write_fault { RoseExactly (O.faults out.old) (O.faults out.new) (result ≡ 5) }
     ensures read_fault { result ≢ 5 → RoseExactly (I.faults input.old) (I.faults input.new) (result ≡ 4) }
     ensures not_usage { result ≢ 2 }
-    ensures follows { Follows (served_or_refused sessions (if_within budget (device_in path.now file.now)))
+    ensures follows { ByClauses is_narrow (λ clauses. Follows (served_or_refused sessions (if_within budget clauses (device_in path.now file.now)))
         (record { left = I.left input.old; taken = I.taken input.old; faults = I.faults input.old })
         (record { left = I.left input.new; taken = I.taken input.new; faults = I.faults input.new })
         (record { got = O.got out.old; faults = O.faults out.old })
-        (record { got = O.got out.new; faults = O.faults out.new }) result }
+        (record { got = O.got out.new; faults = O.faults out.new }) result) }
     ensures cut { result ≡ 7 → I.taken input.new ≡ I.taken input.old + SCRIPT_LIMIT }
     ensures short { result ≢ 5 → result ≢ 7 → I.taken input.new < I.taken input.old + SCRIPT_LIMIT }
 {
     match described(alloc, path, file) {
-        Ok(device) => serve_device(alloc, device, budget, sessions, input, out),
+        Ok(device) => serve_device(alloc, device, budget, is_narrow, sessions, input, out),
         Err(refusal) => tell(out, refusal),
     }
 }

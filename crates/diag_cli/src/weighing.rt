@@ -1,22 +1,26 @@
-ghost use Rattle.std.specs.Prelude.{◌≡◌, ◌≤◌, ℕ, Ok, IfOk, IfErr};
+ghost use Rattle.std.specs.Prelude.{◌≡◌, ◌≤◌, ℕ, Bool, Ok, IfOk, IfErr};
 ghost use Rattle.text_rules.specs.Expected.{IsExpectedFault, Fulfils};
+ghost use Rattle.clause_encoder.specs.Clauses.{ClauseList};
 ghost use Rattle.clause_encoder.specs.Encoding.{encoded, Describes};
 ghost use Rattle.branch_states.specs.Branches.{sum_of};
+ghost use Rattle.diag_cli.specs.Orders.{clauses_by, ByClauses};
 ghost use Rattle.diag_cli.specs.Planning.{within};
 ghost use Rattle.diag_cli.specs.Refusals.{told_by};
+ghost use Rattle.diag_cli.specs.inner.Ordering.{IsListOf};
 
 use crate::refusal::{Refusal, above};
 use branch_states::{BUDGET_LIMIT, MeasureError, measure};
 use clause_encoder::{CLAUSE_LIMIT, Cnf, EncodeError, encode};
+use clause_order::narrow;
 use device_model::Device;
 use std::alloc::Global;
 
-/// The clauses of a device, unless there are too many, whatever the budget.
-pub fn clauses_of(alloc: Global, device: &Device) -> Result<Cnf, Refusal>
+// The clauses of a device, unless there are too many, whatever the budget.
+fn clauses_of(alloc: Global, device: &Device) -> Result<Cnf, Refusal>
     ensures encoded { IfOk result (λ cnf. encoded device.now ≡ Ok cnf) }
     ensures describes { IfOk result (λ cnf. Describes cnf device.now) }
-    ensures fault { IfErr result (λ refusal. (budget : ℕ)
-        → IsExpectedFault (told_by refusal) (within budget (encoded device.now))) }
+    ensures fault { IfErr result (λ refusal. (is_narrow : Bool) (order : ClauseList → ClauseList) (budget : ℕ)
+        → IsExpectedFault (told_by refusal) (within budget (clauses_by is_narrow order device.now))) }
 {
     match encode(alloc, device) {
         Ok(cnf) => Ok(cnf),
@@ -27,17 +31,37 @@ pub fn clauses_of(alloc: Global, device: &Device) -> Result<Cnf, Refusal>
     }
 }
 
+/// The same in a better order, where that is asked for.
+pub(crate) fn ordered_clauses(
+    alloc: Global,
+    device: &Device,
+    is_narrow: bool,
+) -> Result<Cnf, Refusal>
+    ensures list { IfOk result (IsListOf is_narrow device.now) }
+    ensures fault { IfErr result (λ refusal. (order : ClauseList → ClauseList) (budget : ℕ)
+        → IsExpectedFault (told_by refusal) (within budget (clauses_by is_narrow order device.now))) }
+{
+    let cnf = clauses_of(alloc, device)?;
+    if is_narrow {
+        Ok(narrow(alloc, cnf)?)
+    } else {
+        Ok(cnf)
+    }
+}
+
 /// The clauses of a device and their sum, where it is within a budget.
 pub(crate) fn clauses_within(
     alloc: Global,
     device: &Device,
     budget: u32,
+    is_narrow: bool,
 ) -> Result<(Cnf, u32), Refusal>
     requires { budget ≤ BUDGET_LIMIT }
-    ensures list { Fulfils (λ found. found.0) told_by (within budget (encoded device.now)) result }
+    ensures list { ByClauses is_narrow (λ clauses.
+        Fulfils (λ found. found.0) told_by (within budget (clauses device.now)) result) }
     ensures sum { IfOk result (λ found. found.1 ≡ sum_of found.0.clauses) }
 {
-    let cnf = clauses_of(alloc, device)?;
+    let cnf = ordered_clauses(alloc, device, is_narrow)?;
     match measure(alloc, &cnf, budget) {
         Ok(sum) => Ok((cnf, sum)),
         Err(MeasureError::Above) => Err(Refusal::Sum { budget }),

@@ -1,7 +1,7 @@
 ghost use Rattle.std.specs.Prelude.{◌≡◌, map, string_bytes, IfSome};
 ghost use Rattle.std.specs.Option.{option_map};
 ghost use Rattle.text_rules.specs.Numbers.{plain_number_in};
-ghost use Rattle.diag_cli.specs.Words.{form_of, form_over, form_load, form_by, are_none, given_once, and_option, and_options, ends_in, is_design_path, is_device_path, is_graph_path};
+ghost use Rattle.diag_cli.specs.Words.{form_of, form_over, form_load, form_by, has_no_number, are_none, given_once, with_order, and_option, and_options, ends_in, is_design_path, is_device_path, is_graph_path};
 ghost use Rattle.diag_cli.specs.inner.Forms.{meant, IsWithinLimits};
 
 use adder_load::PLACE_LIMIT;
@@ -19,14 +19,23 @@ pub const DEFAULT_SESSIONS: u32 = 16;
 #[derive(Clone, Copy, Debug)]
 pub enum Command {
     /// `serve`: answers the script on the input over the device of the file, whose sum is within a budget, with at most so
-    /// many sessions open at a time.
-    Serve { budget: u32, sessions: u32 },
+    /// many sessions open at a time. Its clauses may be put into a better order.
+    Serve {
+        budget: u32,
+        sessions: u32,
+        narrow: bool,
+    },
     /// `plan`: tells how large a device is, and the sum that the budget limits.
-    Plan,
+    Plan {
+        narrow: bool,
+    },
     /// `check`: tells whether the text of the file is a decomposable graph.
     Check,
     /// `compile`: writes the graph of a device whose sum is within a budget.
-    Compile { budget: u32 },
+    Compile {
+        budget: u32,
+        narrow: bool,
+    },
 }
 
 /// What the words of the command line ask for.
@@ -45,17 +54,39 @@ pub struct Options {
     pub budget: Option<u32>,
     /// `--sessions N`, from 1 to `SESSION_LIMIT`.
     pub sessions: Option<u32>,
+    /// `--narrow`: clauses are put into a better order.
+    pub narrow: bool,
 }
 
 impl Options {
-    // Whether no option is given.
-    fn are_none(self) -> bool
-        ensures { result ≡ are_none self }
+    // Whether no option with a number is given.
+    fn has_no_number(self) -> bool
+        ensures { result ≡ has_no_number self }
     {
         self.budget.is_none() && self.sessions.is_none()
     }
 
-    // These options and one more.
+    // Whether no option is given.
+    fn are_none(self) -> bool
+        ensures { result ≡ are_none self }
+    {
+        self.has_no_number() && !self.narrow
+    }
+
+    // These options and a better order.
+    fn and_order(self) -> Option<Options>
+        ensures { result ≡ with_order self }
+    {
+        if self.narrow {
+            return None;
+        }
+        Some(Options {
+            narrow: true,
+            ..self
+        })
+    }
+
+    // These options and one more with its value.
     fn and(self, option: &str, value: &str) -> Option<Options>
         ensures { result ≡ and_option self option.now value.now }
     {
@@ -105,6 +136,10 @@ fn and_options(given: Options, words: &[String]) -> Option<Options>
 {
     match words {
         [] => Some(given),
+        [option, rest @ ..] if option.as_str() == "--narrow" => {
+            let more = given.and_order()?;
+            and_options(more, rest)
+        }
         [option, value, rest @ ..] => {
             let more = given.and(option.as_str(), value.as_str())?;
             and_options(more, rest)
@@ -147,12 +182,17 @@ fn form_by<'a>(command: &str, path: &'a str, options: Options) -> Option<Form<'a
 {
     let budget = options.budget.unwrap_or(DEFAULT_BUDGET);
     let sessions = options.sessions.unwrap_or(DEFAULT_SESSIONS);
+    let narrow = options.narrow;
     let command = match command {
-        "serve" if is_device_path(path) => Command::Serve { budget, sessions },
+        "serve" if is_device_path(path) => Command::Serve {
+            budget,
+            sessions,
+            narrow,
+        },
         "compile" if is_device_path(path) && options.sessions.is_none() => {
-            Command::Compile { budget }
+            Command::Compile { budget, narrow }
         }
-        "plan" if is_device_path(path) && options.are_none() => Command::Plan,
+        "plan" if is_device_path(path) && options.has_no_number() => Command::Plan { narrow },
         "check" if is_graph_path(path) && options.are_none() => Command::Check,
         _ => return None,
     };

@@ -1,10 +1,8 @@
-//! Tests over the ends of the program, the memory and the table of its sessions, how much of a script is answered, and `narrow`.
+//! Tests over the ends of the program, the memory and the table of its sessions, and how much of a script is answered.
 #![tactic(auto)]
 
 #[cfg(test)]
 mod edges;
-#[cfg(test)]
-mod narrowing;
 #[cfg(test)]
 mod pools;
 #[cfg(test)]

@@ -10,10 +10,10 @@ use Rattle.diag_cli.specs.declared.words.Form.TheVariants.{Load as LoadRead, Ove
 use Rattle.diag_cli.specs.Words.{Form, Load, Over, Command, Serve, Plan, Check, Compile}
 
 abbrev pub command_meant : CommandRead → Command
-command_meant (ServeRead budget sessions) = Serve budget sessions
-command_meant PlanRead = Plan
+command_meant (ServeRead budget sessions narrow) = Serve budget sessions narrow
+command_meant (PlanRead narrow) = Plan narrow
 command_meant CheckRead = Check
-command_meant (CompileRead budget) = Compile budget
+command_meant (CompileRead budget narrow) = Compile budget narrow
 
 abbrev pub meant : FormRead → Form
 meant (LoadRead places) = Load places
@@ -21,10 +21,10 @@ meant (OverRead path command) = Over path.now (command_meant command)
 
 -- its numbers are such as may be asked for
 abbrev pub IsCommandWithin : Command → Type 0
-IsCommandWithin (Serve budget sessions) = (budget ≤ BUDGET_LIMIT) × (1 ≤ sessions) × (sessions ≤ SESSION_LIMIT)
-IsCommandWithin Plan = Unit {0}
+IsCommandWithin (Serve budget sessions narrow) = (budget ≤ BUDGET_LIMIT) × (1 ≤ sessions) × (sessions ≤ SESSION_LIMIT)
+IsCommandWithin (Plan narrow) = Unit {0}
 IsCommandWithin Check = Unit {0}
-IsCommandWithin (Compile budget) = budget ≤ BUDGET_LIMIT
+IsCommandWithin (Compile budget narrow) = budget ≤ BUDGET_LIMIT
 
 abbrev pub IsWithinLimits : Form → Type 0
 IsWithinLimits (Load places) = places ≤ PLACE_LIMIT

@@ -1,6 +1,7 @@
 use Rattle.std.proofs.Common.{Err, ap}
 use Rattle.diag_cli.specs.inner.Forms.{command_meant}
 use Rattle.diag_cli.proofs.Headline.{same_file, run_loaded, run_unread}
+use Rattle.diag_cli.proofs.Ordering.{by_any, by_same}
 use Rattle.diag_cli.proofs.Unread.{unread}
 use Rattle.diag_cli.proofs.program.run_over.Goals as goal
 
@@ -8,10 +9,11 @@ pub returns-in-Ok : goal.returns-in-Ok
 returns-in-Ok g c =
     let read = c.in-Ok.ensures in
     let done = c.run_file.ensures in
-    run_loaded _ _ _ _ _ c.args.path.now (command_meant c.args.command) _ _ _ c.deref.result.now (same_file c.deref.result.now c.in-Ok.file.items _ c.deref.ensures.value read.bytes)
+    by_same done.follows (λ order follows.
+    run_loaded _ _ _ _ _ order c.args.path.now (command_meant c.args.command) _ _ _ c.deref.result.now (same_file c.deref.result.now c.in-Ok.file.items _ c.deref.ensures.value read.bytes)
     (λ gone. let is = read.absent gone in let never : ⊥ = cc in never)
     (read.failed.stayed (λ is. let never : ⊥ = cc in never))
-    done.write_fault done.read_fault done.not_usage done.follows done.cut done.short
+    done.write_fault done.read_fault done.not_usage follows done.cut done.short)
 
 pub say_load_error-requires-clause-limit : goal.say_load_error-requires-clause-limit
 say_load_error-requires-clause-limit g c = λ limit is. c.in-Err.ensures.that_limit limit (ap Err is)
@@ -19,6 +21,7 @@ say_load_error-requires-clause-limit g c = λ limit is. c.in-Err.ensures.that_li
 pub returns-in-Err : goal.returns-in-Err
 returns-in-Err g c =
     let read = c.in-Err.ensures in
-    run_unread _ _ _ _ _ _ _ c.args.path.now (command_meant c.args.command) c.in-Err.error
+    by_any (λ order.
+    run_unread order _ _ _ _ _ _ _ c.args.path.now (command_meant c.args.command) c.in-Err.error
     (unread c.in-Err.error _ _ _ c.requires.shelf_faults read.failed read.absent read.that_limit read.long_file)
-    c.say_load_error.ensures.write_fault c.say_load_error.ensures.said
+    c.say_load_error.ensures.write_fault c.say_load_error.ensures.said)

@@ -1,4 +1,0 @@
-pub mod Words
-pub mod Narrowing
-pub mod Runs
-pub mod inner

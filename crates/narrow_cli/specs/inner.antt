@@ -1,3 +1,0 @@
--- What only private contracts cite.
-pub mod Requests
-pub mod Candidates

@@ -1,9 +1,0 @@
-use Rattle.std.proofs.Common.{◌≡◌, length}
-use Rattle.signal_order.specs.inner.Sweeping.{AreParted}
-use Rattle.signal_order.proofs.sweep.place_all.Given as goal
-
-abbrev pub invariant-loop-number : goal.invariant-loop-number
-invariant-loop-number l = record {
-  long : length l.unplaced ≡ length l.initial.unplaced;
-  parted : AreParted l.order.items l.unplaced;
-}

@@ -5,6 +5,7 @@ pub mod Checking
 pub mod Planning
 pub mod Loads
 pub mod Courses
+pub mod Following
 pub mod Runs
 pub mod Refusals
 pub mod inner

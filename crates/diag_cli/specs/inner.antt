@@ -1,5 +1,4 @@
 -- What only the private contracts of this crate cite.
 pub mod Forms
 pub mod Loading
-pub mod Courses
 pub mod Serving

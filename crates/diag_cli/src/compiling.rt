@@ -2,7 +2,7 @@ ghost use Rattle.std.specs.Prelude.{◌≡◌, ◌≢◌, ◌-◌, ◌^◌, ◌<
 ghost use Rattle.diag_edge.specs.Edge.{RoseExactly};
 ghost use Rattle.diag_cli.specs.Describing.{device_in};
 ghost use Rattle.diag_cli.specs.Courses.{compiled};
-ghost use Rattle.diag_cli.specs.inner.Courses.{GivesUnlessMemory};
+ghost use Rattle.diag_cli.specs.Following.{GivesUnlessMemory};
 
 use crate::describing::described;
 use crate::graphs::graph_within;
@@ -28,6 +28,7 @@ pub(crate) fn compile_file<O: Sink>(
     ensures not_usage { result ≢ 2 }
     ensures not_read { result ≢ 4 }
     ensures not_cut { result ≢ 7 }
+    ensures few { result ≤ 7 }
     ensures said { GivesUnlessMemory (compiled budget (device_in path.now file.now)) result
         (O.got out.old) (O.got out.new) }
 {

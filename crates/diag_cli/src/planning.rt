@@ -6,7 +6,7 @@ ghost use Rattle.diag_cli.specs.Output.{Gives};
 ghost use Rattle.diag_cli.specs.Planning.{count_line, size_lines, within, sizes_by, sizes_in, planned};
 ghost use Rattle.session_rules.specs.Spelling.{Replies};
 ghost use Rattle.diag_cli.specs.Refusals.{Finds};
-ghost use Rattle.diag_cli.specs.inner.Courses.{GivesUnlessMemory};
+ghost use Rattle.diag_cli.specs.Following.{GivesUnlessMemory};
 
 use crate::describing::described;
 use crate::refusal::{Refusal, tell};
@@ -89,6 +89,7 @@ pub(crate) fn plan_file<O: Sink>(alloc: Global, path: &str, file: &[u8], out: &m
     ensures not_usage { result ≢ 2 }
     ensures not_read { result ≢ 4 }
     ensures not_cut { result ≢ 7 }
+    ensures few { result ≤ 7 }
     ensures said { GivesUnlessMemory (planned (sizes_in (device_in path.now file.now))) result
         (O.got out.old) (O.got out.new) }
 {

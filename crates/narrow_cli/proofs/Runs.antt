@@ -9,7 +9,7 @@ use Rattle.diag_edge.specs.declared.loading.LoadError.TheVariants.{Failed, Long,
 use Rattle.diag_cli.specs.Output.{Output, Gives, says, no_memory}
 use Rattle.diag_cli.specs.Courses.{read_error, not_loaded}
 use Rattle.diag_cli.specs.Describing.{long_file_line, device_in}
-use Rattle.diag_cli.specs.Runs.{Reading, Writing}
+use Rattle.diag_cli.specs.Following.{Reading, Writing}
 use Rattle.diag_cli.proofs.Headline.{some_all}
 use Rattle.diag_cli.proofs.Unread.{IsUnread}
 use Rattle.narrow_cli.specs.Words.{Request}

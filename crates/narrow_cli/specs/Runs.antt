@@ -4,7 +4,7 @@ use Rattle.diag_edge.specs.Edge.{RoseExactly, Holding, absent}
 use Rattle.diag_cli.specs.Output.{Output, Gives, says, no_memory}
 use Rattle.diag_cli.specs.Words.{told_file}
 use Rattle.diag_cli.specs.Courses.{usage_line, read_error}
-use Rattle.diag_cli.specs.Runs.{Reading, Writing, IsIdle}
+use Rattle.diag_cli.specs.Following.{Reading, Writing, IsIdle}
 use Rattle.narrow_cli.specs.Words.{Request, named_file}
 use Rattle.narrow_cli.specs.Narrowing.{narrowable, MayBeBy}
 

@@ -1,8 +1,5 @@
-use Rattle.diag_cli.proofs.ServedDevices.{sound_of, device_served}
+use Rattle.diag_cli.proofs.ServedDevices.{device_served}
 use Rattle.diag_cli.proofs.serving.serve_device.Goals as goal
-
-pub answer-status-requires-clause-sound : goal.answer-status-requires-clause-sound
-answer-status-requires-clause-sound g c = sound_of c.args.device c.args.sessions _ c.in-Ok.ensures.service
 
 pub returns-in-Ok-clause-follows : goal.returns-in-Ok-clause-follows
 returns-in-Ok-clause-follows g c =

@@ -9,4 +9,4 @@ pub returns-in-Err-clause-follows : goal.returns-in-Err-clause-follows
 returns-in-Err-clause-follows g c =
     let fault = told_by c.in-Err.refusal in
     follows_refusal _ _ _ _ _ c.args.sessions (if_within c.args.budget (device_in c.args.path.now c.args.file.now)) fault
-    (refused_in fault c.args.path.now c.args.file.now c.args.budget c.requires.short c.in-Err.ensures) (record { taken = refl; faults = refl }) c.tell.ensures.said
+    (refused_in fault c.args.path.now c.args.file.now c.args.budget c.requires.short c.in-Err.ensures) (record { left = refl; taken = refl; faults = refl }) c.tell.ensures.said

@@ -1,7 +1,9 @@
 -- From what was done by a course to what holds of a run.
-use Rattle.std.proofs.Common.{◌≡◌, ◌≢◌, ◌⊎◌, ◌<◌, ◌≤◌, ◌+◌, ℕ, true, false, List, length, Option, Some, None, IfSome, inl, inr, refl, ◌∙◌, ap, subst, sym, arith, nat_le}
+use Rattle.std.proofs.Common.{◌≡◌, ◌≢◌, ◌⊎◌, ◌<◌, ◌≤◌, ◌+◌, ℕ, true, false, List, [], length, replicate, Option, Some, None, IfSome, inl, inr, refl, ◌∙◌, ap, subst, sym, arith, nat_le}
 use Rattle.std.specs.Prelude.{Result, Ok, Err}
 use Rattle.std.specs.Io.KnownBytes.{Consumes, IsAtEnd}
+use Rattle.std.specs.Option.{IsSome}
+use Rattle.std.proofs.lemmas.List.{length-replicate}
 use Rattle.std.proofs.lemmas.Bool.{cases_eq}
 use Rattle.text_rules.specs.declared.text_lines.TheConstants.{TEXT_LIMIT}
 use Rattle.text_rules.specs.Expected.{IsExpectedFault}
@@ -20,8 +22,8 @@ use Rattle.diag_cli.specs.Output.{Output, Gives, says, no_memory}
 use Rattle.diag_cli.specs.Courses.{End, Ended, Failed, Cut, Course, Tells, Serves, usage_line, read_error, not_loaded, served, wholly_served, whole_output, if_within, served_or_refused, course_by}
 use Rattle.diag_cli.specs.Loads.{loaded}
 use Rattle.diag_cli.specs.Refusals.{or_memory}
-use Rattle.diag_cli.specs.Runs.{Reading, Writing, IsIdle, GivesUnlessShort, IsRun}
-use Rattle.diag_cli.specs.inner.Courses.{EndsAs, CameTo, IsServed, GivesUnlessMemory, Follows}
+use Rattle.diag_cli.specs.Runs.{GivesUnlessShort, IsDone, IsRun}
+use Rattle.diag_cli.specs.Following.{Reading, Writing, IsIdle, EndsAs, AreTaken, CameTo, IsServed, GivesUnlessMemory, Follows}
 use Rattle.diag_cli.proofs.Failing.{gives_part}
 use Rattle.diag_cli.proofs.Unread.{IsUnread}
 use Rattle.diag_cli.proofs.Scripts.{taken_all, broken_begins_all}
@@ -128,38 +130,80 @@ module _ (input new_input : Reading) (out new_out : Writing) (status : ℕ) wher
 
   -- a read failed
   fault_of : (answers : List (List ℕ) → List Item) → input.faults < new_input.faults → IsServed answers input new_input out new_out status
-      → (bytes : List ℕ) × Consumes input.left new_input.left bytes × Gives (served answers bytes Failed) status out.got new_out.got
+      → (bytes : List ℕ) × (new_input.taken ≡ input.taken + length bytes) × Consumes input.left new_input.left bytes × Gives (served answers bytes Failed) status out.got new_out.got
   fault_of answers rises done = by done.answer
     where
       never : new_input.faults ≡ input.faults → ⊥
       never kept = omega (arith, kept, rises)
 
-      at : (bytes : List ℕ) (end : End) → Consumes input.left new_input.left bytes → EndsAs end bytes (IsAtEnd new_input.left) (input.faults < new_input.faults) (new_input.faults ≡ input.faults)
+      at : (bytes : List ℕ) (end : End) → new_input.taken ≡ input.taken + length bytes → Consumes input.left new_input.left bytes → EndsAs end bytes (IsAtEnd new_input.left) (input.faults < new_input.faults) (new_input.faults ≡ input.faults)
           → Gives (served answers bytes end) status out.got new_out.got
-          → (taken : List ℕ) × Consumes input.left new_input.left taken × Gives (served answers taken Failed) status out.got new_out.got
-      at bytes Ended took ends gives = absurd (never ends.2)
-      at bytes Failed took ends gives = (bytes, took, gives)
-      at bytes Cut took ends gives = absurd (never ends.1)
+          → (taken : List ℕ) × (new_input.taken ≡ input.taken + length taken) × Consumes input.left new_input.left taken × Gives (served answers taken Failed) status out.got new_out.got
+      at bytes Ended counted took ends gives = absurd (never ends.2)
+      at bytes Failed counted took ends gives = (bytes, counted, took, gives)
+      at bytes Cut counted took ends gives = absurd (never ends.1)
 
-      by : CameTo answers input new_input out new_out status → (bytes : List ℕ) × Consumes input.left new_input.left bytes × Gives (served answers bytes Failed) status out.got new_out.got
+      by : CameTo answers input new_input out new_out status → (bytes : List ℕ) × (new_input.taken ≡ input.taken + length bytes) × Consumes input.left new_input.left bytes × Gives (served answers bytes Failed) status out.got new_out.got
       by (inl memory) = absurd (never memory.0.faults)
-      by (inr (inl answered)) = at answered.bytes answered.end answered.took answered.ends answered.gives
+      by (inr (inl answered)) = at answered.bytes answered.end answered.counted answered.took answered.ends answered.gives
       by (inr (inr broken)) = absurd (never broken.1.reads)
+
+  -- no more than the limit was taken
+  few_taken : (course : Course) → Follows course input new_input out new_out status → new_input.taken ≤ input.taken + SCRIPT_LIMIT
+  few_taken (Tells output) done = omega (arith, done.0.taken)
+  few_taken (Serves answers) done = by done.answer
+    where
+      few : (bytes : List ℕ) (end : End) → EndsAs end bytes (IsAtEnd new_input.left) (input.faults < new_input.faults) (new_input.faults ≡ input.faults) → length bytes ≤ SCRIPT_LIMIT
+      few bytes Ended ends = omega (arith, ends.1)
+      few bytes Failed ends = omega (arith, ends.0)
+      few bytes Cut ends = omega (arith, ends.0)
+
+      few_lines : (lines : List (List ℕ)) (bytes : List ℕ) → AreTaken lines bytes (IsAtEnd new_input.left) → length bytes ≤ SCRIPT_LIMIT
+      few_lines lines bytes (inl whole) = whole.0
+      few_lines lines bytes (inr all) = omega (arith, all.1)
+
+      by : CameTo answers input new_input out new_out status → new_input.taken ≤ input.taken + SCRIPT_LIMIT
+      by (inl memory) = omega (arith, memory.0.taken)
+      by (inr (inl answered)) = omega (arith, answered.counted, few answered.bytes answered.end answered.ends)
+      by (inr (inr broken)) = omega (arith, broken.1.counted, few_lines broken.1.lines broken.1.bytes broken.1.are)
+
+  -- memory ran out before the script was begun
+  idle_at_six : status ≡ 6 → (course : Course) → Follows course input new_input out new_out status → IsIdle input new_input
+  idle_at_six six (Tells output) done = done.0
+  idle_at_six six (Serves answers) done = by done.answer
+    where
+      other : (output : Output) → output.status ≢ 6 → Gives output status out.got new_out.got → ⊥
+      other output no6 gives = no6 (sym (gives.whole (λ five. omega (arith, six, five))).0 ∙ six)
+
+      at : (bytes : List ℕ) (end : End) → Gives (served answers bytes end) status out.got new_out.got → ⊥
+      at bytes Ended gives = other (served answers bytes Ended) (λ e. omega (arith, e)) gives
+      at bytes Failed gives = other (served answers bytes Failed) (λ e. omega (arith, e)) gives
+      at bytes Cut gives = other (served answers bytes Cut) (λ e. omega (arith, e)) gives
+
+      by : CameTo answers input new_input out new_out status → IsIdle input new_input
+      by (inl memory) = memory.0
+      by (inr (inl answered)) = absurd (at answered.bytes answered.end answered.gives)
+      by (inr (inr broken)) = absurd (omega (arith, six, broken.0))
 
   -- ---- runs
 
   module _ (order : ClauseList → ClauseList) (path : List ℕ) (command : Command) (held : List ℕ → Holding) (shelf new_shelf : Reading) where
     -- The file was read.
     pub run_loaded : (file : List ℕ) → IfSome (told_bytes (held path)) (λ bytes. file ≡ bytes) → held path ≢ absent → new_shelf.faults ≡ shelf.faults
+        → new_shelf.taken ≡ shelf.taken + length file → length file ≤ TEXT_LIMIT → status ≤ 7
         → RoseExactly out.faults new_out.faults (status ≡ 5) → (status ≢ 5 → RoseExactly input.faults new_input.faults (status ≡ 4)) → status ≢ 2
         → Follows (course_by order path command file) input new_input out new_out status → (status ≡ 7 → new_input.taken ≡ input.taken + SCRIPT_LIMIT)
         → (status ≢ 5 → status ≢ 7 → new_input.taken < input.taken + SCRIPT_LIMIT)
         → IsRun order (Some (Over path command)) held shelf new_shelf input new_input out new_out status
-    run_loaded file is there kept writes reads other done cut short = record {
+    run_loaded file is there kept taken small few writes reads other done cut short = record {
+      done = λ _. inl (record { file = file; is_told = is; taken = omega (arith, taken, small); follows = done });
+      few = few;
       write_fault = writes;
       read_fault = λ whole. ((λ four. inr ((reads whole).rose four)), λ rises. elim rises [ inl moves ↦ absurd (omega (arith, kept, moves)) | inr moves ↦ four_of whole moves ]);
+      no_fault = λ not_four whole. (kept, (reads whole).stayed not_four);
       usage = λ whole. ((λ two. absurd (other two)), λ none. absurd (let never : ⊥ = cc in never));
       no_name = λ none. absurd (let never : ⊥ = cc in never);
+      file_taken = omega (arith, taken, small);
       absent_file = λ gone. absurd (there gone);
       no_file = λ moves. absurd (omega (arith, kept, moves));
       not_asked = idle_by command done;
@@ -169,8 +213,10 @@ module _ (input new_input : Reading) (out new_out : Writing) (status : ℕ) wher
       complete = all_complete (Some (Over path command)) shelf new_shelf input new_input out new_out status writes (told_bytes (held path)) (λ bytes. whole_output (course_by order path command bytes) input.left) given;
       script_fault = some_map (told_bytes (held path)) (λ bytes same answers course rises.
           fault_of answers rises (served_of (course_by order path command file) answers (ap (course_by order path command) same ∙ course) done)) is;
+      memory = λ six. idle_at_six six (course_by order path command file) done;
       all_read = some_map (told_bytes (held path)) (λ bytes same answers course zero.
           (served_of (course_by order path command file) answers (ap (course_by order path command) same ∙ course) done).all_read zero) is;
+      script_taken = few_taken (course_by order path command file) done;
       cut = λ whole. (cut, λ taken. elim (cases_eq status 7) [ inl seven ↦ seven | inr other ↦ absurd (omega (arith, short whole other, taken)) ]);
     }
       where
@@ -207,6 +253,14 @@ long_course order path command file long = by command
     by Check = rw no_more
     by (Compile budget narrow) = rw no_more
 
+-- some bytes are too many, those that are told where any are
+too_many : (limit : ℕ) → (file : List ℕ) × (limit < length file)
+too_many limit = (replicate (limit + 1) 0, omega (arith, length-replicate {A = ℕ} (limit + 1) 0))
+
+long_file : (limit : ℕ) (told : Option (List ℕ)) → IfSome told (λ bytes. limit < length bytes) → (file : List ℕ) × IfSome told (λ bytes. file ≡ bytes) × (limit < length file)
+long_file limit None long = let some = too_many limit in (some.0, tt, some.1)
+long_file limit (Some file) long = (file, refl, long)
+
 -- and so it is right to tell that
 long_is_right : (order : ClauseList → ClauseList) (path : List ℕ) (command : Command) (told : Option (List ℕ)) → IfSome told (λ file. TEXT_LIMIT < length file) → IfSome told (IsRight order path command (says long_file_line 1))
 long_is_right order path command None long = tt
@@ -216,13 +270,19 @@ long_is_right order path command (Some file) long = inr (long_course order path 
 
 module _ (order : ClauseList → ClauseList) (held : List ℕ → Holding) (shelf new_shelf input : Reading) (out new_out : Writing) (status : ℕ) where
   idle : IsIdle input input
-  idle = record { taken = refl; faults = refl }
+  idle = record { left = refl; taken = refl; faults = refl }
 
   never_rises : {P : Type 0} → input.faults < input.faults → P
   never_rises moves = absurd (omega (arith, moves))
 
   known : (output : Output) → Gives output status out.got new_out.got → (s : ℕ) → status ≡ s → s ≢ 5 → output.status ≢ s → ⊥
   known output said s is whole other = other (sym ((said.whole (λ five. whole (sym is ∙ five))).0) ∙ is)
+
+  few_of : (output : Output) → output.status ≤ 7 → Gives output status out.got new_out.got → status ≤ 7
+  few_of output small said = elim (cases_eq status 5) [
+    | inl five ↦ omega (arith, five)
+    | inr whole ↦ omega (arith, (said.whole whole).0, small)
+  ]
 
   module _ (path : List ℕ) (command : Command) where
     abbrev output_by : List ℕ → Option Output
@@ -234,18 +294,38 @@ module _ (order : ClauseList → ClauseList) (held : List ℕ → Holding) (shel
     completed : RoseExactly out.faults new_out.faults (status ≡ 5) → OutputsGiven → IfSome (told_bytes (held path)) (λ file. IfSome (output_by file) (IsComplete (Some (Over path command)) shelf new_shelf input input out new_out status))
     completed writes given = all_complete (Some (Over path command)) shelf new_shelf input input out new_out status writes (told_bytes (held path)) output_by given
 
+    abbrev DoneOrShort : Type 0
+    DoneOrShort = IsDone order (Some (Over path command)) (told_bytes (held path)) shelf new_shelf input input out new_out status
+        ⊎ (IsSome (Some (Over path command)) × IsIdle input input × Gives no_memory status out.got new_out.got)
+
+    -- a file that is too long
+    long_done : (told : Option (List ℕ)) → IfSome told (λ bytes. TEXT_LIMIT < length bytes) → new_shelf.taken ≡ shelf.taken + TEXT_LIMIT + 1
+        → Gives (says long_file_line 1) status out.got new_out.got → IsDone order (Some (Over path command)) told shelf new_shelf input input out new_out status
+    long_done told long taken said =
+        let some = long_file TEXT_LIMIT told long in
+        record {
+          file = some.0;
+          is_told = some.1;
+          taken = omega (arith, taken, some.2);
+          follows = subst (λ course. Follows course input input out new_out status) (sym (long_course order path command some.0 some.2)) (idle, inr said);
+        }
+
     -- the limit was not taken
     not_cut : {P : Type 0} → input.taken ≡ input.taken + SCRIPT_LIMIT → P
     not_cut taken = absurd (omega (arith, taken))
 
     -- The file could not be read.
-    run_failed : shelf.faults < new_shelf.faults → RoseExactly out.faults new_out.faults (status ≡ 5)
+    run_failed : shelf.faults < new_shelf.faults → new_shelf.taken ≤ shelf.taken + TEXT_LIMIT + 1 → RoseExactly out.faults new_out.faults (status ≡ 5)
         → Gives (says read_error 4) status out.got new_out.got → IsRun order (Some (Over path command)) held shelf new_shelf input input out new_out status
-    run_failed moves writes said = record {
+    run_failed moves bounded writes said = record {
+      done = λ kept. absurd (omega (arith, kept, moves));
+      few = few_of (says read_error 4) (omega arith) said;
       write_fault = writes;
       read_fault = λ whole. ((λ four. inl moves), λ rises. (said.whole whole).0);
+      no_fault = λ not_four whole. absurd (not_four (said.whole whole).0);
       usage = λ whole. ((λ two. absurd (known (says read_error 4) said 2 two (λ e. absurd (omega (arith, e))) (λ e. absurd (omega (arith, e))))), λ none. absurd (let never : ⊥ = cc in never));
       no_name = λ none. absurd (let never : ⊥ = cc in never);
+      file_taken = bounded;
       absent_file = λ gone. moves;
       no_file = λ rises. (idle, said);
       not_asked = λ asks. idle;
@@ -253,7 +333,9 @@ module _ (order : ClauseList → ClauseList) (held : List ℕ → Holding) (shel
       output = given;
       complete = completed writes given;
       script_fault = some_all (told_bytes (held path)) (λ file answers course rises. never_rises rises);
+      memory = λ six. idle;
       all_read = some_all (told_bytes (held path)) (λ file answers course zero. absurd (known (says read_error 4) said 0 zero (λ e. absurd (omega (arith, e))) (λ e. absurd (omega (arith, e)))));
+      script_taken = omega arith;
       cut = λ whole. ((λ seven. absurd (known (says read_error 4) said 7 seven (λ e. absurd (omega (arith, e))) (λ e. absurd (omega (arith, e))))), not_cut);
     }
       where
@@ -261,14 +343,18 @@ module _ (order : ClauseList → ClauseList) (held : List ℕ → Holding) (shel
         given = some_all (told_bytes (held path)) (λ file. some_all (output_by file) (λ output kept same. absurd (omega (arith, kept, moves))))
 
     -- One output was given without a look at the script.
-    run_told : (output : Output) → output.status ≢ 0 → output.status ≢ 2 → output.status ≢ 4 → output.status ≢ 7 → IfSome (told_bytes (held path)) (IsRight order path command output)
-        → held path ≢ absent → new_shelf.faults ≡ shelf.faults → RoseExactly out.faults new_out.faults (status ≡ 5)
+    run_told : (output : Output) → output.status ≤ 7 → DoneOrShort → output.status ≢ 0 → output.status ≢ 2 → output.status ≢ 4 → output.status ≢ 7 → IfSome (told_bytes (held path)) (IsRight order path command output)
+        → held path ≢ absent → new_shelf.faults ≡ shelf.faults → new_shelf.taken ≤ shelf.taken + TEXT_LIMIT + 1 → RoseExactly out.faults new_out.faults (status ≡ 5)
         → Gives output status out.got new_out.got → IsRun order (Some (Over path command)) held shelf new_shelf input input out new_out status
-    run_told output no0 no2 no4 no7 right there kept writes said = record {
+    run_told output small done no0 no2 no4 no7 right there kept bounded writes said = record {
+      done = λ _. done;
+      few = few_of output small said;
       write_fault = writes;
       read_fault = λ whole. ((λ four. absurd (no4 (sym (said.whole whole).0 ∙ four))), λ rises. elim rises [ inl moves ↦ absurd (omega (arith, kept, moves)) | inr moves ↦ never_rises moves ]);
+      no_fault = λ not_four whole. (kept, refl);
       usage = λ whole. ((λ two. absurd (no2 (sym (said.whole whole).0 ∙ two))), λ none. absurd (let never : ⊥ = cc in never));
       no_name = λ none. absurd (let never : ⊥ = cc in never);
+      file_taken = bounded;
       absent_file = λ gone. absurd (there gone);
       no_file = λ moves. absurd (omega (arith, kept, moves));
       not_asked = λ asks. idle;
@@ -276,7 +362,9 @@ module _ (order : ClauseList → ClauseList) (held : List ℕ → Holding) (shel
       output = given;
       complete = completed writes given;
       script_fault = some_all (told_bytes (held path)) (λ file answers course rises. never_rises rises);
+      memory = λ six. idle;
       all_read = some_all (told_bytes (held path)) (λ file answers course zero. absurd (known output said 0 zero (λ e. absurd (omega (arith, e))) no0));
+      script_taken = omega arith;
       cut = λ whole. ((λ seven. absurd (known output said 7 seven (λ e. absurd (omega (arith, e))) no7)), not_cut);
     }
       where
@@ -289,24 +377,29 @@ module _ (order : ClauseList → ClauseList) (held : List ℕ → Holding) (shel
         given = some_map (told_bytes (held path)) given_by right
 
     -- The file was not read.
-    pub run_unread : (error : LoadError) → IsUnread error (held path) shelf.faults new_shelf.faults → RoseExactly out.faults new_out.faults (status ≡ 5)
+    pub run_unread : (error : LoadError) → IsUnread error (held path) shelf.faults new_shelf.faults → new_shelf.taken ≤ shelf.taken + TEXT_LIMIT + 1
+        → ((limit : ℕ) → error ≡ Long limit → new_shelf.taken ≡ shelf.taken + TEXT_LIMIT + 1) → RoseExactly out.faults new_out.faults (status ≡ 5)
         → Gives (not_loaded error) status out.got new_out.got → IsRun order (Some (Over path command)) held shelf new_shelf input input out new_out status
-    run_unread LoadFailed rises writes said = run_failed rises writes said
-    run_unread (Long limit) is writes said =
-        run_told (says long_file_line 1) (λ e. omega (arith, e)) (λ e. omega (arith, e)) (λ e. omega (arith, e)) (λ e. omega (arith, e))
-        (long_is_right order path command (told_bytes (held path)) is.0) is.1 is.2 writes said
-    run_unread Memory is writes said =
-        run_told no_memory (λ e. omega (arith, e)) (λ e. omega (arith, e)) (λ e. omega (arith, e)) (λ e. omega (arith, e))
-        (some_all (told_bytes (held path)) (λ file. inl refl)) is.0 is.1 writes said
+    run_unread LoadFailed rises bounded taken writes said = run_failed rises bounded writes said
+    run_unread (Long limit) is bounded taken writes said =
+        run_told (says long_file_line 1) (omega arith) (inl (long_done (told_bytes (held path)) is.0 (taken limit refl) said)) (λ e. omega (arith, e)) (λ e. omega (arith, e)) (λ e. omega (arith, e)) (λ e. omega (arith, e))
+        (long_is_right order path command (told_bytes (held path)) is.0) is.1 is.2 bounded writes said
+    run_unread Memory is bounded taken writes said =
+        run_told no_memory (omega arith) (inr (refl, idle, said)) (λ e. omega (arith, e)) (λ e. omega (arith, e)) (λ e. omega (arith, e)) (λ e. omega (arith, e))
+        (some_all (told_bytes (held path)) (λ file. inl refl)) is.0 is.1 bounded writes said
 
   -- The words have no form.
   pub run_usage : RoseExactly out.faults new_out.faults (status ≡ 5) → Gives (says usage_line 2) status out.got new_out.got
       → IsRun order None held shelf shelf input input out new_out status
   run_usage writes said = record {
+    done = λ _. inl (record { file = []; is_told = refl; taken = omega arith; follows = (idle, inr said) });
+    few = few_of (says usage_line 2) (omega arith) said;
     write_fault = writes;
     read_fault = λ whole. ((λ four. absurd (let two = (said.whole whole).0 in omega (arith, four, two))), λ rises. elim rises [ inl moves ↦ absurd (omega (arith, moves)) | inr moves ↦ never_rises moves ]);
+    no_fault = λ not_four whole. (refl, refl);
     usage = λ whole. ((λ two. refl), λ none. (said.whole whole).0);
-    no_name = λ none. record { taken = refl; faults = refl };
+    no_name = λ none. record { left = refl; taken = refl; faults = refl };
+    file_taken = omega arith;
     absent_file = tt;
     no_file = λ moves. absurd (omega (arith, moves));
     not_asked = λ asks. idle;
@@ -314,18 +407,24 @@ module _ (order : ClauseList → ClauseList) (held : List ℕ → Holding) (shel
     output = λ read taken. inr said;
     complete = completes None shelf shelf input input out new_out status writes (says usage_line 2) (λ read taken. inr said);
     script_fault = λ answers course rises. never_rises rises;
+    memory = λ six. idle;
     all_read = λ answers course zero. absurd (let never : ⊥ = cc in never);
+    script_taken = omega arith;
     cut = λ whole. ((λ seven. absurd (known (says usage_line 2) said 7 seven (λ e. absurd (omega (arith, e))) (λ e. absurd (omega (arith, e))))), λ taken. absurd (omega (arith, taken)));
   }
 
   -- An adder is made, and no file is named.
-  pub run_load : (places : ℕ) → RoseExactly out.faults new_out.faults (status ≡ 5) → status ≢ 2 → status ≢ 4 → status ≢ 7 → GivesUnlessMemory (loaded places) status out.got new_out.got
+  pub run_load : (places : ℕ) → status ≤ 7 → RoseExactly out.faults new_out.faults (status ≡ 5) → status ≢ 2 → status ≢ 4 → status ≢ 7 → GivesUnlessMemory (loaded places) status out.got new_out.got
       → IsRun order (Some (Load places)) held shelf shelf input input out new_out status
-  run_load places writes no2 no4 no7 said = record {
+  run_load places few writes no2 no4 no7 said = record {
+    done = λ _. inl (record { file = []; is_told = refl; taken = omega arith; follows = (idle, said) });
+    few = few;
     write_fault = writes;
     read_fault = λ whole. ((λ four. absurd (no4 four)), λ rises. elim rises [ inl moves ↦ absurd (omega (arith, moves)) | inr moves ↦ never_rises moves ]);
+    no_fault = λ not_four whole. (refl, refl);
     usage = λ whole. ((λ two. absurd (no2 two)), λ none. absurd (let never : ⊥ = cc in never));
-    no_name = λ none. record { taken = refl; faults = refl };
+    no_name = λ none. record { left = refl; taken = refl; faults = refl };
+    file_taken = omega arith;
     absent_file = tt;
     no_file = λ moves. absurd (omega (arith, moves));
     not_asked = λ asks. idle;
@@ -333,6 +432,8 @@ module _ (order : ClauseList → ClauseList) (held : List ℕ → Holding) (shel
     output = λ read taken. with_form (Load places) said;
     complete = completes (Some (Load places)) shelf shelf input input out new_out status writes (loaded places) (λ read taken. with_form (Load places) said);
     script_fault = λ answers course rises. never_rises rises;
+    memory = λ six. idle;
     all_read = λ answers course zero. absurd (let never : ⊥ = cc in never);
+    script_taken = omega arith;
     cut = λ whole. ((λ seven. absurd (no7 seven)), λ taken. absurd (omega (arith, taken)));
   }

@@ -15,11 +15,10 @@ use Rattle.session_rules.proofs.Whole.{said-replies}
 use Rattle.session_rules.proofs.Begun.{part_more, part_after}
 use Rattle.session_rules.proofs.Keeping.{HasCases-empty}
 use Rattle.session_rules.proofs.ReplyTexts.{replies-have, broken_begins_more}
-use Rattle.session_core.specs.Services.{Shown, moves_of}
+use Rattle.session_core.specs.Services.{Shown, moves_of, IsSound}
 use Rattle.session_core.proofs.Exact.{makes_over, breaks_over}
 use Rattle.diag_edge.specs.Edge.{AppendsPrefix}
 use Rattle.diag_cli.specs.Courses.{ready_line, answers_of}
-use Rattle.diag_cli.specs.inner.Serving.{IsSound}
 
 -- the line `ready` was put
 ready_put : (system : System) (parts wires : ℕ) (a b : Option (List ℕ)) → parts ≡ length system.parts → wires ≡ length system.wires
@@ -30,7 +29,7 @@ ready_put system parts wires a b p w grown = record {
   grown = grown;
 }
 
-module _ (shown : Shown) (sound : IsSound shown.subject) where
+module _ (shown : Shown) (sound : IsSound shown) where
   abbrev system : System
   system = system_of shown.subject
 

@@ -11,7 +11,7 @@ use Rattle.session_rules.proofs.Begun.{part_more}
 use Rattle.session_rules.proofs.LineFronts.{whole_lines-front, all_lines-front}
 use Rattle.diag_cli.specs.declared.serving.TheConstants.{SCRIPT_LIMIT}
 use Rattle.diag_cli.specs.Courses.{End, Ended, Failed, Cut, script_too_long, served, wholly_served, end_of}
-use Rattle.diag_cli.specs.inner.Courses.{EndsAs, AreTaken}
+use Rattle.diag_cli.specs.Following.{EndsAs, AreTaken}
 
 -- ---- what was taken is what was there, up to the limit
 
@@ -33,7 +33,7 @@ pub taken_all : (script : List ℕ) (after : Option (List ℕ)) (bytes : List �
     → (bytes ≡ take SCRIPT_LIMIT script) × (end ≡ end_of script)
 taken_all script None bytes end i j same took is = absurd took
 taken_all script (Some left) bytes Ended i j same took is = taken_to_end SCRIPT_LIMIT script bytes left took is.0 is.1
-taken_all script (Some left) bytes Failed i j same took is = absurd (let never : ⊥ = omega (arith, is, same) in never)
+taken_all script (Some left) bytes Failed i j same took is = absurd (let never : ⊥ = omega (arith, is.1, same) in never)
 taken_all script (Some left) bytes Cut i j same took is = taken_to_limit SCRIPT_LIMIT script bytes left took is.0
 
 -- ---- what begins the answers to lines and to any that follow begins the output of the whole script

@@ -20,9 +20,8 @@ use Rattle.session_rules.proofs.Keeping.{HasCases-empty}
 use Rattle.session_core.specs.Services.{Shown}
 use Rattle.diag_cli.specs.Output.{Output}
 use Rattle.diag_cli.specs.Courses.{ready_line, answers_of, if_within, served_or_refused}
-use Rattle.diag_cli.specs.Runs.{Reading, Writing}
-use Rattle.diag_cli.specs.inner.Courses.{IsServed, Follows}
-use Rattle.diag_cli.specs.inner.Serving.{IsServable, IsSound, IsServiceOf}
+use Rattle.diag_cli.specs.Following.{Reading, Writing, IsServed, Follows}
+use Rattle.diag_cli.specs.inner.Serving.{IsServable, IsServiceOf}
 
 -- ---- the graph of a device is such as a service takes
 
@@ -38,18 +37,6 @@ module _ (device : Device) (cnf : ClauseList) (is : encoded device ≡ Ok cnf) w
     where
       listed : cnf.vars ≤ 107861
       listed = encoded-few_vars device cnf valid is
-
--- every reply of the service of a device has a text
-pub sound_of : (device : Device) (sessions : ℕ) (service : Shown) → IsServiceOf device sessions service → IsSound service.subject
-sound_of device sessions service of =
-    subst (λ (s : Shown). IsSound s.subject) (sym of.shown) (record {
-      valid = of.servable.valid;
-      room = room;
-      few = omega (arith, room, of.servable.few_vars, of.servable.few_nodes);
-    })
-  where
-    room : length (part_names device.parts) + length device.wires ≤ of.graph.vars
-    room = omega (arith, of.servable.meaning.room, length-map device.parts (λ (part : Component). part.name))
 
 -- ---- the same answers
 

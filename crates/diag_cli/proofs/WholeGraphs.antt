@@ -16,7 +16,7 @@ use Rattle.session_rules.specs.Items.{Whole}
 use Rattle.session_rules.specs.Spelling.{IsWholeOf}
 use Rattle.session_rules.proofs.Spellings.{replies_one}
 use Rattle.diag_cli.specs.Output.{Output, Gives}
-use Rattle.diag_cli.specs.inner.Courses.{GivesUnlessMemory}
+use Rattle.diag_cli.specs.Following.{GivesUnlessMemory}
 use Rattle.diag_cli.specs.Describing.{described, device_in}
 use Rattle.diag_cli.specs.Planning.{within}
 use Rattle.diag_cli.specs.Courses.{graph_by, compiled}

@@ -14,7 +14,7 @@ use Rattle.session_rules.specs.Items.{Item, Plain, Whole, line}
 use Rattle.session_rules.specs.Sessions.{replies}
 use Rattle.diag_cli.specs.declared.serving.TheConstants.{SCRIPT_LIMIT}
 use Rattle.diag_cli.specs.Words.{Form, Load, Over, Command, Serve, Plan, Check, Compile}
-use Rattle.diag_cli.specs.Output.{Output, says, no_memory}
+use Rattle.diag_cli.specs.Output.{Output, says, too_long_line, no_memory}
 use Rattle.diag_cli.specs.Describing.{long_file_line, device_in}
 use Rattle.diag_cli.specs.Orders.{clauses_by}
 use Rattle.diag_cli.specs.Planning.{within, sizes_in, planned}
@@ -44,7 +44,7 @@ pub data End : Type 0 where
   Cut : End
 
 abbrev pub script_too_long : List ℕ
-script_too_long = codes "error: script above 1099511627776 bytes\n"
+script_too_long = too_long_line (codes "script") SCRIPT_LIMIT
 
 abbrev pub ready_line : System → Item
 ready_line system = line (codes "ready" ∷ decimal (length system.parts) ∷ decimal (length system.wires) ∷ [])

@@ -14,7 +14,7 @@ use Rattle.flattener.specs.declared.flattening.TheConstants.{INSTANCE_LIMIT}
 use Rattle.flattener.specs.Flat.{flattened}
 use Rattle.diag_edge.specs.ErrorLines.{fault_line, above_line}
 use Rattle.diag_cli.specs.Words.{is_design_path}
-use Rattle.diag_cli.specs.Output.{Output, says, no_memory_line}
+use Rattle.diag_cli.specs.Output.{Output, says, too_long_line, no_memory_line}
 
 abbrev pub netlist_line : NetlistFault → List ℕ
 netlist_line fault = fault_line fault.line (netlist_number fault.what) (netlist_name fault.what)
@@ -30,7 +30,7 @@ flatten_line (PathTooLong count) = above_line (codes "path") count NAME_LIMIT
 flatten_line Memory = no_memory_line
 
 abbrev pub long_file_line : List ℕ
-long_file_line = codes "error: file above 16777216 bytes\n"
+long_file_line = too_long_line (codes "file") TEXT_LIMIT
 
 -- a device, or the line that refuses its file
 abbrev pub or_line : {F : Type 0} → (F → List ℕ) → Result Device F → Result Device Output

@@ -6,6 +6,7 @@ pub mod Orders
 pub mod Planning
 pub mod Loads
 pub mod Courses
+pub mod Following
 pub mod Runs
 pub mod Refusals
 pub mod inner

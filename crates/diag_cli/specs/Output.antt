@@ -1,5 +1,7 @@
 -- What a run writes, and the status that it ends with.
 use Rattle.std.specs.Prelude.{◌≡◌, ◌≢◌, ℕ, List, [], ◌∷◌, Option, codes}
+use Rattle.std.specs.Fmt.{decimal}
+use Rattle.text_rules.specs.Tokens.{spaced}
 use Rattle.session_rules.specs.Items.{Item, Plain}
 use Rattle.session_rules.specs.Spelling.{Writes, WritesPart}
 
@@ -10,6 +12,10 @@ pub record Output : Type 0 where
 -- one line and a status
 abbrev pub says : List ℕ → ℕ → Output
 says text status = record { items = Plain text ∷ []; status = status }
+
+-- the line that tells that something has more bytes than may be
+abbrev pub too_long_line : List ℕ → ℕ → List ℕ
+too_long_line what limit = spaced (codes "error:" ∷ what ∷ codes "above" ∷ decimal limit ∷ codes "bytes" ∷ [])
 
 abbrev pub no_memory_line : List ℕ
 no_memory_line = codes "error: memory\n"

@@ -1,7 +1,8 @@
 -- What holds of each run of the program.
-use Rattle.std.specs.Prelude.{◌≡◌, ◌≢◌, ◌⊎◌, ◌↔◌, ◌+◌, ◌<◌, ℕ, false, List, Option, None, IfSome}
+use Rattle.std.specs.Prelude.{◌≡◌, ◌≢◌, ◌⊎◌, ◌↔◌, ◌+◌, ◌<◌, ◌≤◌, ℕ, min, false, List, length, Option, None, IfSome}
 use Rattle.std.specs.Option.{IsSome}
 use Rattle.std.specs.Io.KnownBytes.{Consumes, IsAtEnd}
+use Rattle.text_rules.specs.declared.text_lines.TheConstants.{TEXT_LIMIT}
 use Rattle.diag_edge.specs.Edge.{RoseExactly, Holding, absent}
 use Rattle.clause_encoder.specs.Clauses.{ClauseList}
 use Rattle.session_rules.specs.Items.{Item}
@@ -9,39 +10,42 @@ use Rattle.session_rules.specs.Spelling.{Writes}
 use Rattle.diag_cli.specs.declared.serving.TheConstants.{SCRIPT_LIMIT}
 use Rattle.diag_cli.specs.Words.{Form, named_file, told_file, asks_script}
 use Rattle.diag_cli.specs.Output.{Output, Gives, no_memory, says}
+use Rattle.diag_cli.specs.Following.{Reading, Writing, IsIdle, Follows}
 use Rattle.diag_cli.specs.Courses.{Failed, Tells, Serves, read_error, served, whole_output, course_of}
-
--- what a source of bytes shows at a time: the bytes still to come, where they are told, how many were taken, and its faults
-pub record Reading : Type 0 where
-  pub left : Option (List ℕ)
-  pub taken : ℕ
-  pub faults : ℕ
-
--- what a sink shows at a time: the bytes accepted, where they are told, and its faults
-pub record Writing : Type 0 where
-  pub got : Option (List ℕ)
-  pub faults : ℕ
-
--- nothing was taken, and no call failed
-pub record IsIdle (before after : Reading) : Type 0 where
-  pub taken : after.taken ≡ before.taken
-  pub faults : after.faults ≡ before.faults
 
 -- the output was given, or memory ran out, which it cannot where the words have no form
 abbrev pub GivesUnlessShort : Option Form → Output → ℕ → Option (List ℕ) → Option (List ℕ) → Type 0
 GivesUnlessShort form output status before after = (IsSome form × Gives no_memory status before after) ⊎ Gives output status before after
 
+-- What was done by the bytes of a file: those that are told, where any are. They were taken, and of a file that is too long one
+-- byte more than the limit.
+pub record IsDone (order : ClauseList → ClauseList) (form : Option Form) (told : Option (List ℕ)) (shelf new_shelf input new_input : Reading) (out new_out : Writing) (status : ℕ) : Type 0 where
+  pub file : List ℕ
+  pub is_told : IfSome told (λ bytes. file ≡ bytes)
+  pub taken : new_shelf.taken ≡ shelf.taken + min (length file) (TEXT_LIMIT + 1)
+  pub follows : Follows (course_of order form file) input new_input out new_out status
+
 -- What a run does by its words, over a shelf that holds this, with its input and its output. Clauses are put into an order, where words
 -- ask for another one.
 pub record IsRun (order : ClauseList → ClauseList) (form : Option Form) (held : List ℕ → Holding) (shelf new_shelf input new_input : Reading) (out new_out : Writing) (status : ℕ) : Type 0 where
+  -- Whatever is told of the file, the input and the output: where no read of the file failed, it has bytes by which all was done;
+  -- or memory ran out before the script was begun.
+  pub done : new_shelf.faults ≡ shelf.faults → IsDone order form (told_file held (named_file form)) shelf new_shelf input new_input out new_out status
+      ⊎ (IsSome form × IsIdle input new_input × Gives no_memory status out.got new_out.got)
+  -- There is no other status.
+  pub few : status ≤ 7
   -- The status is 5 exactly where a write failed.
   pub write_fault : RoseExactly out.faults new_out.faults (status ≡ 5)
   -- Otherwise it is 4 exactly where a read failed.
   pub read_fault : status ≢ 5 → (status ≡ 4) ↔ ((shelf.faults < new_shelf.faults) ⊎ (input.faults < new_input.faults))
+  -- With any other status no read failed.
+  pub no_fault : status ≢ 4 → status ≢ 5 → (new_shelf.faults ≡ shelf.faults) × (new_input.faults ≡ input.faults)
   -- Otherwise it is 2 exactly where the words have no form.
   pub usage : status ≢ 5 → (status ≡ 2) ↔ (form ≡ None)
   -- Where no file is named, nothing is read of the shelf.
   pub no_name : named_file form ≡ None → IsIdle shelf new_shelf
+  -- Of the shelf at most one byte more than the limit of a file is taken.
+  pub file_taken : new_shelf.taken ≤ shelf.taken + TEXT_LIMIT + 1
   -- A file that is absent cannot be read. Where the file is not read, the script is not begun, and one line is written.
   pub absent_file : IfSome (named_file form) (λ name. held name ≡ absent → shelf.faults < new_shelf.faults)
   pub no_file : shelf.faults < new_shelf.faults → IsIdle input new_input × Gives (says read_error 4) status out.got new_out.got
@@ -60,8 +64,12 @@ pub record IsRun (order : ClauseList → ClauseList) (form : Option Form) (held 
   -- Where a read of the script failed, the lines that a line feed had ended were answered before.
   pub script_fault : IfSome (told_file held (named_file form)) (λ file. (answers : List (List ℕ) → List Item) → course_of order form file ≡ Serves answers →
       input.faults < new_input.faults →
-      (bytes : List ℕ) × Consumes input.left new_input.left bytes × Gives (served answers bytes Failed) status out.got new_out.got)
+      (bytes : List ℕ) × (new_input.taken ≡ input.taken + length bytes) × Consumes input.left new_input.left bytes × Gives (served answers bytes Failed) status out.got new_out.got)
+  -- Where memory ran out, the script was not begun.
+  pub memory : status ≡ 6 → IsIdle input new_input
   -- With status 0 a script that is answered was read to its end.
   pub all_read : IfSome (told_file held (named_file form)) (λ file. (answers : List (List ℕ) → List Item) → course_of order form file ≡ Serves answers → status ≡ 0 → IsAtEnd new_input.left)
+  -- At most the limit is taken of the script.
+  pub script_taken : new_input.taken ≤ input.taken + SCRIPT_LIMIT
   -- With status 7 exactly the limit was taken of the script, and with no other one, unless a write failed.
   pub cut : status ≢ 5 → (status ≡ 7) ↔ (new_input.taken ≡ input.taken + SCRIPT_LIMIT)

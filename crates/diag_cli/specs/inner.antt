@@ -1,6 +1,5 @@
 -- What only the private contracts of this crate cite.
 pub mod Forms
 pub mod Loading
-pub mod Courses
 pub mod Serving
 pub mod Ordering

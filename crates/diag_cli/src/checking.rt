@@ -5,7 +5,7 @@ ghost use Rattle.nnf_text.specs.Refusals.{told};
 ghost use Rattle.diag_cli.specs.Output.{Gives, says};
 ghost use Rattle.diag_cli.specs.Checking.{checked, graph_fault_line, graph_in};
 ghost use Rattle.diag_cli.specs.Refusals.{Finds, told_by};
-ghost use Rattle.diag_cli.specs.inner.Courses.{GivesUnlessMemory};
+ghost use Rattle.diag_cli.specs.Following.{GivesUnlessMemory};
 
 use crate::refusal::{Refusal, tell};
 use diag_edge::{Sink, put_line};
@@ -97,6 +97,7 @@ pub(crate) fn check_file<O: Sink>(alloc: Global, file: &[u8], out: &mut O) -> u8
     ensures not_usage { result ≢ 2 }
     ensures not_read { result ≢ 4 }
     ensures not_cut { result ≢ 7 }
+    ensures few { result ≤ 7 }
     ensures said { GivesUnlessMemory (checked (graph_in file.now)) result (O.got out.old) (O.got out.new) }
 {
     match graph_sizes(alloc, file) {

@@ -3,7 +3,7 @@ ghost use Rattle.diag_edge.specs.Edge.{RoseExactly};
 ghost use Rattle.diag_cli.specs.Describing.{device_in};
 ghost use Rattle.diag_cli.specs.Orders.{ByClauses};
 ghost use Rattle.diag_cli.specs.Courses.{compiled};
-ghost use Rattle.diag_cli.specs.inner.Courses.{GivesUnlessMemory};
+ghost use Rattle.diag_cli.specs.Following.{GivesUnlessMemory};
 
 use crate::describing::described;
 use crate::graphs::graph_within;
@@ -30,6 +30,7 @@ pub(crate) fn compile_file<O: Sink>(
     ensures not_usage { result ≢ 2 }
     ensures not_read { result ≢ 4 }
     ensures not_cut { result ≢ 7 }
+    ensures few { result ≤ 7 }
     ensures said { ByClauses is_narrow (λ clauses.
         GivesUnlessMemory (compiled budget clauses (device_in path.now file.now)) result (O.got out.old) (O.got out.new)) }
 {

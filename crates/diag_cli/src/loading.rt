@@ -11,7 +11,7 @@ ghost use Rattle.diag_cli.specs.Output.{Gives};
 ghost use Rattle.diag_cli.specs.Refusals.{Finds};
 ghost use Rattle.diag_cli.specs.inner.Loading.{IsSummaryOf, IsInStep, Loads, listed_items, inconsistent_items, found_items, summary_items, summary_output};
 ghost use Rattle.diag_cli.specs.inner.Serving.{IsServable};
-ghost use Rattle.diag_cli.specs.inner.Courses.{GivesUnlessMemory};
+ghost use Rattle.diag_cli.specs.Following.{GivesUnlessMemory};
 
 use crate::describing::netlist_device;
 use crate::graphs::{costs_of, graph_within};
@@ -206,6 +206,7 @@ pub(crate) fn load_adder<O: Sink>(alloc: Global, places: u32, out: &mut O) -> u8
     ensures not_usage { result ≢ 2 }
     ensures not_read { result ≢ 4 }
     ensures not_cut { result ≢ 7 }
+    ensures few { result ≤ 7 }
     ensures said { GivesUnlessMemory (loaded places) result (O.got out.old) (O.got out.new) }
 {
     match summary_at(alloc, places) {

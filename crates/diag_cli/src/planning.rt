@@ -6,7 +6,7 @@ ghost use Rattle.diag_cli.specs.Orders.{ByClauses};
 ghost use Rattle.diag_cli.specs.Planning.{count_line, size_lines, within, sizes_by, sizes_in, planned};
 ghost use Rattle.session_rules.specs.Spelling.{Replies};
 ghost use Rattle.diag_cli.specs.Refusals.{Finds};
-ghost use Rattle.diag_cli.specs.inner.Courses.{GivesUnlessMemory};
+ghost use Rattle.diag_cli.specs.Following.{GivesUnlessMemory};
 
 use crate::describing::described;
 use crate::refusal::{Refusal, tell};
@@ -95,6 +95,7 @@ pub(crate) fn plan_file<O: Sink>(
     ensures not_usage { result ≢ 2 }
     ensures not_read { result ≢ 4 }
     ensures not_cut { result ≢ 7 }
+    ensures few { result ≤ 7 }
     ensures said { ByClauses is_narrow (λ clauses.
         GivesUnlessMemory (planned (sizes_in clauses (device_in path.now file.now))) result (O.got out.old) (O.got out.new)) }
 {

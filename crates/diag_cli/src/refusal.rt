@@ -1,4 +1,4 @@
-ghost use Rattle.std.specs.Prelude.{◌≡◌, ◌≢◌, ◌⊎◌, ◌-◌, ◌^◌, ◌<◌, Some};
+ghost use Rattle.std.specs.Prelude.{◌≡◌, ◌≢◌, ◌⊎◌, ◌-◌, ◌^◌, ◌<◌, ◌≤◌, Some};
 ghost use Rattle.diag_edge.specs.Edge.{HasCause, RoseExactly, Puts};
 ghost use Rattle.diag_edge.specs.ErrorLines.{above_line};
 ghost use Rattle.graph_rules.specs.GraphTexts.{Counts, TooLarge, Shared};
@@ -183,6 +183,7 @@ pub fn tell<O: Sink>(out: &mut O, refusal: Refusal) -> u8
     ensures not_usage { result ≢ 2 }
     ensures not_read { result ≢ 4 }
     ensures not_cut { result ≢ 7 }
+    ensures few { result ≤ 7 }
     ensures said { Gives (or_memory (told_by refusal)) result (O.got out.old) (O.got out.new) }
 {
     match put_refusal(out, refusal) {

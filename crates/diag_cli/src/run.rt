@@ -2,7 +2,7 @@ ghost use Rattle.std.specs.Prelude.{◌≡◌, ◌≢◌, ◌+◌, ◌-◌, ◌^
 ghost use Rattle.diag_edge.specs.Edge.{RoseExactly};
 ghost use Rattle.diag_cli.specs.Orders.{ByOrder};
 ghost use Rattle.diag_cli.specs.Courses.{course_by};
-ghost use Rattle.diag_cli.specs.inner.Courses.{Follows};
+ghost use Rattle.diag_cli.specs.Following.{Follows};
 ghost use Rattle.diag_cli.specs.inner.Forms.{command_meant, IsCommandWithin};
 
 use crate::checking::check_file;
@@ -31,6 +31,7 @@ pub(crate) fn run_file<I: Source, O: Sink>(
     ensures write_fault { RoseExactly (O.faults out.old) (O.faults out.new) (result ≡ 5) }
     ensures read_fault { result ≢ 5 → RoseExactly (I.faults input.old) (I.faults input.new) (result ≡ 4) }
     ensures not_usage { result ≢ 2 }
+    ensures few { result ≤ 7 }
     ensures follows { ByOrder (λ order. Follows (course_by order path.now (command_meant command) file.now)
         (record { left = I.left input.old; taken = I.taken input.old; faults = I.faults input.old })
         (record { left = I.left input.new; taken = I.taken input.new; faults = I.faults input.new })

@@ -1,10 +1,11 @@
 ghost use Rattle.std.specs.Prelude.{◌≡◌, ◌≢◌, ◌⊎◌, ℕ, ◌-◌, ◌^◌, ◌<◌};
 ghost use Rattle.diag_edge.specs.Edge.{RoseExactly};
-ghost use Rattle.diag_cli.specs.Output.{Gives, says};
+ghost use Rattle.diag_cli.specs.Output.{Gives, says, too_long_line};
 ghost use Rattle.diag_cli.specs.Courses.{read_error, usage_line, not_loaded};
 
 use crate::refusal::{Refusal, tell};
-use diag_edge::{LoadError, Sink};
+use diag_edge::{LoadError, Sink, WriteFailed, put_line};
+use itoa::Buffer;
 use text_rules::TEXT_LIMIT;
 
 /// Writes a text and answers the status, or 5 where the write failed.
@@ -42,6 +43,31 @@ pub fn say_usage<O: Sink>(out: &mut O) -> u8
     say(out, b"error: usage\n", 2)
 }
 
+/// Tells that something has more bytes than may be and answers the status, or 5 where the write failed.
+#[tactic(auto, using(crate::proofs::Failing::gives_line))]
+pub(crate) fn say_too_long<O: Sink>(out: &mut O, what: &[u8], limit: u64, status: u8) -> u8
+    requires faults { O.faults out.old < 2 ^ 64 - 1 }
+    requires status { status ≢ 5 }
+    ensures write_fault { RoseExactly (O.faults out.old) (O.faults out.new) (result ≡ 5) }
+    ensures either { (result ≡ status) ⊎ (result ≡ 5) }
+    ensures said { Gives (says (too_long_line what.now limit) status) result
+        (O.got out.old) (O.got out.new) }
+{
+    match put_line(
+        out,
+        &[
+            b"error:",
+            what,
+            b"above",
+            Buffer::new().format(limit).as_bytes(),
+            b"bytes",
+        ],
+    ) {
+        Ok(()) => status,
+        Err(WriteFailed) => 5,
+    }
+}
+
 /// Tells why a file of at most `TEXT_LIMIT` bytes was not read and answers the status, or 5 where the write failed.
 pub fn say_load_error<O: Sink>(out: &mut O, error: LoadError) -> u8
     requires limit { (limit : ℕ) → error ≡ LoadError.Long limit → limit ≡ TEXT_LIMIT }
@@ -51,7 +77,7 @@ pub fn say_load_error<O: Sink>(out: &mut O, error: LoadError) -> u8
 {
     match error {
         LoadError::Failed => say_read_fault(out),
-        LoadError::Long { limit: _ } => say(out, b"error: file above 16777216 bytes\n", 1),
+        LoadError::Long { limit: _ } => say_too_long(out, b"file", TEXT_LIMIT as u64, 1),
         LoadError::Memory => tell(out, Refusal::Memory),
     }
 }

@@ -7,13 +7,13 @@ ghost use Rattle.diag_cli.specs.Orders.{ByClauses};
 ghost use Rattle.diag_cli.specs.Courses.{answers_of, if_within, served_or_refused};
 ghost use Rattle.diag_cli.specs.Describing.{device_in};
 ghost use Rattle.diag_cli.specs.Refusals.{told_by};
-ghost use Rattle.diag_cli.specs.inner.Courses.{Follows, IsServed};
-ghost use Rattle.diag_cli.specs.inner.Serving.{IsServable, IsServiceOf, IsSound};
+ghost use Rattle.diag_cli.specs.Following.{Follows, IsServed};
+ghost use Rattle.diag_cli.specs.inner.Serving.{IsServable, IsServiceOf};
 
 use crate::describing::described;
 use crate::graphs::{costs_of, graph_within};
 use crate::refusal::{Refusal, tell};
-use crate::saying::{say, say_read_fault};
+use crate::saying::{say_read_fault, say_too_long};
 use branch_states::BUDGET_LIMIT;
 use device_model::Device;
 use diag_edge::{Sink, Source, WriteFailed, put_line};
@@ -34,6 +34,7 @@ fn service_over(
     sessions: u32,
 ) -> Result<Service, Refusal>
     requires graph { IsServable device graph }
+    requires some { 1 ≤ sessions }
     requires few { sessions ≤ SESSION_LIMIT }
     ensures service { IfOk result (IsServiceOf device sessions) }
     ensures memory { IfErr result (λ refusal. refusal ≡ Refusal.Memory) }
@@ -57,6 +58,7 @@ fn service_within(
     sessions: u32,
 ) -> Result<Service, Refusal>
     requires budget { budget ≤ BUDGET_LIMIT }
+    requires some { 1 ≤ sessions }
     requires few { sessions ≤ SESSION_LIMIT }
     ensures service { IfOk result (IsServiceOf device sessions) }
     ensures within { ByClauses is_narrow (λ clauses. Fulfils (λ _. device) told_by (if_within budget clauses (Ok device)) result) }
@@ -84,13 +86,13 @@ fn put_ready<O: Sink>(out: &mut O, parts: u64, wires: u64) -> Result<(), WriteFa
 // Answers the script by a service in which no session is open.
 fn answer<I: Source, O: Sink>(service: &mut Service, input: &mut I, out: &mut O) -> u8
     requires none_open { service.old.table ≡ [] }
-    requires sound { IsSound service.old.subject }
     requires taken { I.taken input.old < 2 ^ 62 }
     requires reads { I.faults input.old < 2 ^ 64 - 1 }
     requires writes { O.faults out.old < 2 ^ 64 - 1 }
     ensures write_fault { RoseExactly (O.faults out.old) (O.faults out.new) (result ≡ 5) }
     ensures read_fault { result ≢ 5 → RoseExactly (I.faults input.old) (I.faults input.new) (result ≡ 4) }
     ensures not_usage { result ≢ 2 }
+    ensures few { result ≤ 7 }
     ensures served { IsServed (answers_of (system_of service.old.subject) service.old.limit)
         (record { left = I.left input.old; taken = I.taken input.old; faults = I.faults input.old })
         (record { left = I.left input.new; taken = I.taken input.new; faults = I.faults input.new })
@@ -107,7 +109,7 @@ fn answer<I: Source, O: Sink>(service: &mut Service, input: &mut I, out: &mut O)
         ServeEnd::Done => 0,
         ServeEnd::WriteFault => 5,
         ServeEnd::ReadFault => say_read_fault(out),
-        ServeEnd::Limit => say(out, b"error: script above 1099511627776 bytes\n", 7),
+        ServeEnd::Limit => say_too_long(out, b"script", SCRIPT_LIMIT, 7),
     }
 }
 
@@ -122,6 +124,7 @@ fn serve_device<I: Source, O: Sink>(
     out: &mut O,
 ) -> u8
     requires budget { budget ≤ BUDGET_LIMIT }
+    requires some { 1 ≤ sessions }
     requires few { sessions ≤ SESSION_LIMIT }
     requires taken { I.taken input.old < 2 ^ 62 }
     requires reads { I.faults input.old < 2 ^ 64 - 1 }
@@ -129,6 +132,7 @@ fn serve_device<I: Source, O: Sink>(
     ensures write_fault { RoseExactly (O.faults out.old) (O.faults out.new) (result ≡ 5) }
     ensures read_fault { result ≢ 5 → RoseExactly (I.faults input.old) (I.faults input.new) (result ≡ 4) }
     ensures not_usage { result ≢ 2 }
+    ensures few { result ≤ 7 }
     ensures follows { ByClauses is_narrow (λ clauses. Follows (served_or_refused sessions (if_within budget clauses (Ok device)))
         (record { left = I.left input.old; taken = I.taken input.old; faults = I.faults input.old })
         (record { left = I.left input.new; taken = I.taken input.new; faults = I.faults input.new })
@@ -159,6 +163,7 @@ pub(crate) fn serve_file<I: Source, O: Sink>(
     out: &mut O,
 ) -> u8
     requires budget { budget ≤ BUDGET_LIMIT }
+    requires some { 1 ≤ sessions }
     requires few { sessions ≤ SESSION_LIMIT }
     requires short { length file.now ≤ TEXT_LIMIT }
     requires taken { I.taken input.old < 2 ^ 62 }
@@ -167,6 +172,7 @@ pub(crate) fn serve_file<I: Source, O: Sink>(
     ensures write_fault { RoseExactly (O.faults out.old) (O.faults out.new) (result ≡ 5) }
     ensures read_fault { result ≢ 5 → RoseExactly (I.faults input.old) (I.faults input.new) (result ≡ 4) }
     ensures not_usage { result ≢ 2 }
+    ensures few { result ≤ 7 }
     ensures follows { ByClauses is_narrow (λ clauses. Follows (served_or_refused sessions (if_within budget clauses (device_in path.now file.now)))
         (record { left = I.left input.old; taken = I.taken input.old; faults = I.faults input.old })
         (record { left = I.left input.new; taken = I.taken input.new; faults = I.faults input.new })

@@ -1,5 +1,5 @@
 //! Bytes that are gathered before they are put.
-ghost use Rattle.std.specs.Prelude.{◌≡◌, ◌≤◌, ◌+◌, ◌++◌, ◌∷◌, [], length, map, take, OnOk};
+ghost use Rattle.std.specs.Prelude.{◌≡◌, ◌⊎◌, ◌≤◌, ◌+◌, ◌++◌, ◌∷◌, [], length, map, take, OnOk, OnErr};
 ghost use Rattle.std.specs.List.{flat_map};
 ghost use Rattle.text_rules.specs.Tokens.{spaced};
 ghost use Rattle.diag_edge.specs.Edge.{HasCause, Puts};
@@ -51,9 +51,11 @@ impl Chunk {
         out.put(&self.bytes[..self.len])
     }
 
-    /// Adds a text. What was gathered before is put where there is no room for both.
+    /// Adds a text. What was gathered before is put where there is no room for both. After a failed write it is still gathered,
+    /// or all of it was put and nothing is.
     pub fn add<O: Sink>(&mut self, out: &mut O, text: &[u8]) -> Result<(), WriteFailed>
         ensures bytes { Adds (O.got out.old) (O.got out.new) self.old self.new result text.now }
+        ensures err { OnErr result ((self.new ≡ self.old) ⊎ (self.new ≡ [])) }
         ensures cause { HasCause (O.faults out.old) (O.faults out.new) result }
     {
         if text.len() > CHUNK_LIMIT {
@@ -130,6 +132,7 @@ impl Chunk {
         requires { needed ≤ CHUNK_LIMIT }
         ensures bytes { Adds (O.got out.old) (O.got out.new) self.old self.new result [] }
         ensures room { OnOk result (length self.new + needed ≤ CHUNK_LIMIT) }
+        ensures err { OnErr result (self.new ≡ self.old) }
         ensures cause { HasCause (O.faults out.old) (O.faults out.new) result }
     {
         if needed > CHUNK_LIMIT - self.len {
@@ -142,6 +145,7 @@ impl Chunk {
     // Puts what is gathered, and then a text that no chunk has room for.
     fn pass_on<O: Sink>(&mut self, out: &mut O, text: &[u8]) -> Result<(), WriteFailed>
         ensures bytes { Adds (O.got out.old) (O.got out.new) self.old self.new result text.now }
+        ensures err { OnErr result ((self.new ≡ self.old) ⊎ (self.new ≡ [])) }
         ensures cause { HasCause (O.faults out.old) (O.faults out.new) result }
     {
         self.put(out)?;

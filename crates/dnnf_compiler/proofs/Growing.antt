@@ -3,7 +3,7 @@ use Rattle.std.proofs.Common.{◌≡◌, ℕ, zero, suc, ◌<◌, Bool, true, fa
 use Rattle.std.proofs.lemmas.Option.{slice_get_within}
 use Rattle.graph_rules.specs.declared.NodeKind.TheVariants.{And}
 use Rattle.graph_rules.specs.declared.NodeKind.{NodeKind}
-use Rattle.graph_rules.specs.Graphs.{Node, is_true}
+use Rattle.graph_rules.specs.Graphs.{Node, is_true, mentions}
 use Rattle.node_store.specs.Stores.{Stored, Makes, Means, AddsAtMost}
 use Rattle.dnnf_compiler.specs.inner.Joining.{Grows, IsConstant, IsBoth}
 
@@ -35,6 +35,7 @@ made_both old new literal node both makes means = record {
   within = slice_get_within new.nodes both (record { what = And; kids = literal ∷ node ∷ [] }) makes.there;
   truth = λ a. means.truth a ∙ ap (λ b. is_true old.nodes literal a && b) (and_true (is_true old.nodes node a));
   variables = λ v lit no. means.variables v ∙ (λ j. lit j || (no j || false));
+  names = λ v lit. means.variables v ∙ ap (λ b. b || (mentions old.nodes v node || false)) lit;
 } where
   and_true : (b : Bool) → (b && true) ≡ b
   and_true true = refl

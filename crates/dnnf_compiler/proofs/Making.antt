@@ -2,12 +2,13 @@
 use Rattle.std.proofs.Common.{◌≡◌, ℕ, zero, suc, ◌+◌, ◌<◌, ◌≤◌, Bool, true, false, ◌&&◌, ◌||◌, List, [], ◌∷◌, ◌++◌, length, Some, None, Option, refl, ap, sym, ◌∙◌, subst, arith, inl, inr}
 use Rattle.std.specs.Prelude.{slice_get, slice_index, IfSome, ◌==◌, ◌⊎◌}
 use Rattle.std.proofs.lemmas.Option.{slice_get_within}
-use Rattle.std.proofs.lemmas.Bool.{eqb-true}
+use Rattle.std.proofs.lemmas.Bool.{eqb-true, eq-eqb}
 use Rattle.ranking.specs.Bits.{same_bit}
 use Rattle.ranking.specs.Assignments.{Assignment}
 use Rattle.graph_rules.specs.declared.NodeKind.TheVariants.{And, Or}
-use Rattle.graph_rules.specs.Graphs.{Node, at_most_one, is_true, mentions}
-use Rattle.node_store.specs.Stores.{Stored, IsStore, Makes, Means}
+use Rattle.graph_rules.specs.Graphs.{Node, true_node, at_most_one, is_true, mentions}
+use Rattle.node_store.specs.Stores.{Stored, IsStore, Makes, Means, AddsAtMost, HasNoBareKid}
+use Rattle.node_store.proofs.Literals.{slice_get-before}
 use Rattle.dnnf_compiler.specs.declared.forks.Fork.{Fork}
 use Rattle.dnnf_compiler.specs.declared.maker.Maker.{Maker}
 use Rattle.dnnf_compiler.specs.inner.Forks.{way}
@@ -15,9 +16,13 @@ use Rattle.dnnf_compiler.specs.inner.Joining.{Grows, AddsBoth}
 use Rattle.dnnf_compiler.specs.inner.Making.{IsMaker, AreFree, Adds, may_be_true, may_mention, node_at, IsApart, IsBranch, IsJoin, IsDecision, IsMade}
 use Rattle.dnnf_compiler.proofs.Growing.{grows_not, grows_then, constant_grows, grows_by}
 
-pub new_maker : (s s' : Stored) (s0 : Stored) (top bottom : ℕ) → Makes s0 s And [] top → Means s0.nodes s.nodes And [] top → Makes s s' Or [] bottom → Means s.nodes s'.nodes Or [] bottom → IsStore s'
+pub kept_in : (old new : List Node) (node : Node) → AddsAtMost old node new → (k : ℕ) (n : Node) → slice_get old k ≡ Some n → slice_get new k ≡ Some n
+kept_in old new node (inl e) k n there = ap (λ ns. slice_get ns k) e ∙ there
+kept_in old new node (inr e) k n there = ap (λ ns. slice_get ns k) e ∙ slice_get-before old (node ∷ []) k n there
+
+pub new_maker : (s s' : Stored) (s0 : Stored) (top bottom : ℕ) → Makes s0 s And [] top → Means s0.nodes s.nodes And [] top → Makes s s' Or [] bottom → Means s.nodes s'.nodes Or [] bottom → IsStore s' → HasNoBareKid s'.nodes
     → IsMaker (record { store = s'; yes = top; no = bottom })
-new_maker s s' s0 top bottom make_yes mean_yes make_no mean_no store = record {
+new_maker s s' s0 top bottom make_yes mean_yes make_no mean_no store bare = record {
   store = store;
   yes = constant_grows s.nodes s'.nodes true top (grows_by s.nodes s'.nodes Or [] bottom make_no.nodes mean_no) (record {
     within = slice_get_within s.nodes top (record { what = And; kids = [] }) make_yes.there;
@@ -29,6 +34,9 @@ new_maker s s' s0 top bottom make_yes mean_yes make_no mean_no store = record {
     truth = λ a. mean_no.truth a;
     variables = λ v. mean_no.variables v;
   };
+  yes_node = kept_in s.nodes s'.nodes (record { what = Or; kids = [] }) make_no.nodes top (record { what = And; kids = [] }) make_yes.there;
+  no_node = make_no.there;
+  bare = bare;
 }
 
 -- ---- nodes come
@@ -46,9 +54,9 @@ adds_then old mid new more kids more' kids' all all_kids a b e f = record {
   handed = omega (arith, a.handed, b.handed, f);
 }
 
-adds_store : (m : Maker) (s : Stored) → IsMaker m → IsStore s → Grows m.store.nodes s.nodes → s.vars ≡ m.store.vars → s.made ≤ m.store.made + 1 → s.handed ≤ m.store.handed + 2 → Adds m (record m { store = s }) 1 2
-adds_store m s is store g vars made handed = record {
-  maker = record { store = store; yes = constant_grows m.store.nodes s.nodes true m.yes g is.yes; no = constant_grows m.store.nodes s.nodes false m.no g is.no };
+pub adds_store : (m : Maker) (s : Stored) → IsMaker m → IsStore s → ((k : ℕ) (n : Node) → slice_get m.store.nodes k ≡ Some n → slice_get s.nodes k ≡ Some n) → HasNoBareKid s.nodes → Grows m.store.nodes s.nodes → s.vars ≡ m.store.vars → s.made ≤ m.store.made + 1 → s.handed ≤ m.store.handed + 2 → Adds m (record m { store = s }) 1 2
+adds_store m s is store kept bare g vars made handed = record {
+  maker = record { store = store; yes = constant_grows m.store.nodes s.nodes true m.yes g is.yes; no = constant_grows m.store.nodes s.nodes false m.no g is.no; yes_node = kept m.yes true_node is.yes_node; no_node = kept m.no (record { what = Or; kids = [] }) is.no_node; bare = bare };
   grows = g;
   vars = vars;
   yes = refl;
@@ -89,11 +97,15 @@ or_nothing : (b : Bool) → b ≡ (b || false)
 or_nothing true = refl
 or_nothing false = refl
 
+pub eqb-same : (n : ℕ) → (n == n) ≡ true
+eqb-same n = eq-eqb n n refl
+
 pub branch_both : (m : Maker) (var : ℕ) (bit : Bool) (below : List ℕ) (place literal both : ℕ) (s : Stored) → IsMaker m → AreFree m.store.nodes var below → place < length below
     → ((a : Assignment) → is_true m.store.nodes literal a ≡ same_bit bit (a var)) → ((v : ℕ) → mentions m.store.nodes v literal ≡ (var == v))
     → AddsBoth m.store s literal (slice_index below place) both → IsBranch m (record m { store = s }) var bit below (Some place) (Some both)
 branch_both m var bit below place literal both s is free low lit lit_vars adds = record {
-  adds = adds_store m s is adds.store adds.means.grows adds.vars adds.made adds.handed;
+  names = adds.means.names var (lit_vars var ∙ eqb-same var);
+  adds = adds_store m s is adds.store adds.kept adds.bare adds.means.grows adds.vars adds.made adds.handed;
   within = adds.means.within;
   truth = λ a. adds.means.truth a ∙ ap (λ b. b && is_true m.store.nodes (slice_index below place) a) (lit a);
   variables = λ v apart. adds.means.variables v (lit_vars v ∙ apart.other) (apart.none place (slice_index below place) (read_below below place low));

@@ -10,7 +10,7 @@ use Rattle.dnnf_compiler.specs.inner.Joining.{Grows, IsBoth}
 use Rattle.dnnf_compiler.specs.inner.Making.{IsMaker, IsBranch}
 use Rattle.dnnf_compiler.specs.inner.Noting.{Keeps, IsNoting}
 use Rattle.dnnf_compiler.proofs.Growing.{grows_not}
-use Rattle.dnnf_compiler.proofs.Making.{adds_not, read_below}
+use Rattle.dnnf_compiler.proofs.Making.{adds_not, eqb-same, read_below}
 
 -- what was made of two nodes says the same later on
 both_later : (old mid new : List Node) (literal node both : ℕ) → literal < length old → node < length old → IsBoth old mid literal node both → Grows old new → Grows mid new → IsBoth new new literal node both
@@ -19,6 +19,7 @@ both_later old mid new literal node both lit_in node_in is g h = record {
   within = omega (arith, is.within, h.longer);
   truth = λ a. h.truth both a is.within ∙ is.truth a ∙ (λ j. sym (g.truth literal a lit_in) j && sym (g.truth node a node_in) j);
   variables = λ v lit no. h.variables both v is.within ∙ is.variables v (sym (g.variables literal v lit_in) ∙ lit) (sym (g.variables node v node_in) ∙ no);
+  names = λ v lit. h.variables both v is.within ∙ is.names v (sym (g.variables literal v lit_in) ∙ lit);
 }
 
 pub noting_first : (nodes : List Node) (var : ℕ) (bit : Bool) (ands : Ands) (literal : ℕ) → ands.literal ≡ literal → literal < length nodes → ((a : Assignment) → is_true nodes literal a ≡ same_bit bit (a var)) → ((v : ℕ) → mentions nodes v literal ≡ (var == v))
@@ -67,6 +68,7 @@ pub branch_noted : (m : Maker) (var : ℕ) (bit : Bool) (below : List ℕ) (plac
     → IsBranch m m var bit below (Some place) (Some both)
 branch_noted m var bit below place both ands is low notes kept = record {
   adds = adds_not m 1 2 is;
+  names = made.names var (notes.variables var ∙ eqb-same var);
   within = made.within;
   truth = λ a. made.truth a ∙ ap (λ b. b && is_true m.store.nodes (slice_index below place) a) (notes.truth a);
   variables = λ v apart. made.variables v (notes.variables v ∙ apart.other) (apart.none place (slice_index below place) (read_below below place low));

@@ -157,6 +157,7 @@ the_root cnf levels m numbers node valid is e =
     record {
       within = right.within;
       vars = is.vars;
+      bare = is.maker.bare;
       truth = λ a. right.truth (left cnf.clauses []) (first_has cnf valid) a ∙ all_left cnf.clauses a;
       made = omega (arith, is.made);
       handed = omega (arith, is.handed);

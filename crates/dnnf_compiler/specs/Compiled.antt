@@ -8,6 +8,7 @@ use Rattle.graph_rules.specs.GraphTexts.{edges}
 use Rattle.device_model.specs.Devices.{Device, fits}
 use Rattle.clause_encoder.specs.Clauses.{Clause, ClauseList, all_hold}
 use Rattle.branch_states.specs.Branches.{sum_of}
+use Rattle.node_store.specs.Stores.{HasNoBareKid}
 use Rattle.dnnf_compiler.specs.declared.compiling.Compiled.{Compiled}
 
 -- The root, which is the last node, is true exactly under the assignments that make all clauses true.
@@ -20,6 +21,8 @@ pub record IsCompiled (list : ClauseList) (compiled : Compiled) : Type 0 where
   pub decomposable : IsGraph compiled.graph
   pub vars : compiled.graph.vars ≡ list.vars
   pub truth : SaysAll list.clauses compiled.graph
+  -- No and or or without children, which is a constant, is a child.
+  pub no_bare_kid : HasNoBareKid compiled.graph.nodes
   pub few_made : compiled.made ≤ 3 * sum_of list.clauses + 2
   pub few_nodes : length compiled.graph.nodes ≤ compiled.made + 2 * list.vars
   pub few_edges : edges compiled.graph.nodes ≤ 6 * (sum_of list.clauses + 1)

@@ -57,9 +57,8 @@ fn frozen(cnf: &Cnf, store: Store, root: u32) -> Result<Compiled, AllocError>
     requires { IsRoot cnf.now store root }
     ensures { IfOk result (IsCompiled cnf.now) }
 {
-    let made = store.made();
     match store.freeze(root) {
-        Ok(graph) => Ok(Compiled { graph, made }),
+        Ok((graph, made)) => Ok(Compiled { graph, made }),
         Err((_, error)) => Err(error),
     }
 }

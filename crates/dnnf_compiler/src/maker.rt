@@ -1,8 +1,8 @@
-ghost use Rattle.std.specs.Prelude.{◌≡◌, ℕ, ◌+◌, ◌*◌, ◌<◌, ◌≤◌, true, false, Option, [], ◌∷◌, All, map, length, IfOk, OnOk, IfSome};
+ghost use Rattle.std.specs.Prelude.{◌≡◌, ◌≢◌, ℕ, ◌+◌, ◌*◌, ◌<◌, ◌≤◌, true, false, Option, [], ◌∷◌, All, map, length, IfOk, OnOk, IfSome};
 ghost use Rattle.graph_rules.specs.Graphs.{at_most_one, mentions};
 ghost use Rattle.node_store.specs.declared.store.TheConstants.{MADE_LIMIT, VARIABLE_LIMIT};
-ghost use Rattle.node_store.specs.Stores.{IsStore};
-ghost use Rattle.dnnf_compiler.specs.inner.Joining.{IsConstant, AddsBoth};
+ghost use Rattle.node_store.specs.Stores.{IsStore, HasNoBareKid};
+ghost use Rattle.dnnf_compiler.specs.inner.Joining.{IsConstant, IsPlain, AddsBoth};
 ghost use Rattle.dnnf_compiler.specs.inner.Noting.{IsNoting};
 ghost use Rattle.dnnf_compiler.specs.inner.Making.{IsMaker, IsVariable, AreFree, AreWithin, IsBranch, IsJoin, IsMade, AreMade};
 
@@ -124,6 +124,8 @@ impl Maker {
         requires maker { IsMaker self.old }
         requires zero { IfSome zero (λ node. node < length self.old.store.nodes) }
         requires one { IfSome one (λ node. node < length self.old.store.nodes) }
+        requires plain_zero { IfSome zero (IsPlain self.old.store.nodes) }
+        requires plain_one { IfSome one (IsPlain self.old.store.nodes) }
         requires few { self.old.store.made < MADE_LIMIT }
         ensures { IfOk result (IsJoin self.old self.new zero one) }
     {
@@ -146,6 +148,9 @@ fn conjoin(store: &mut Store, literal: u32, node: u32, yes: u32) -> Result<u32, 
     requires apart { (v : ℕ) → at_most_one (map (mentions store.old.nodes v) (literal ∷ node ∷ [])) ≡ true }
     requires few { store.old.made < MADE_LIMIT }
     requires yes { IsConstant store.old.nodes true yes }
+    requires bare { HasNoBareKid store.old.nodes }
+    requires literal { IsPlain store.old.nodes literal }
+    requires other { node ≢ yes → IsPlain store.old.nodes node }
     ensures { IfOk result (λ both. AddsBoth store.old store.new literal node both) }
 {
     if node == yes {

@@ -26,9 +26,9 @@ fn shared(alloc: Global) -> Result<(Graph, [u32; 3], (u64, u64)), Fail> {
     store.reserve(8)?;
     let kids = [store.literal(1, true), store.literal(2, false)];
     let nodes = [store.or(&kids)?, store.or(&kids)?, store.and(&[])?];
-    let counts = (store.made(), store.handed());
-    let graph = store.freeze(nodes[0]).ok().ok_or("no memory")?;
-    Ok((graph, nodes, counts))
+    let handed = store.handed();
+    let (graph, made) = store.freeze(nodes[0]).ok().ok_or("no memory")?;
+    Ok((graph, nodes, (made, handed)))
 }
 
 #[test]

@@ -1,13 +1,14 @@
 -- Marks of the nodes below a root.
-use Rattle.std.proofs.Common.{◌≡◌, ℕ, zero, suc, ◌+◌, ◌<◌, ◌≤◌, Bool, true, List, [], ◌∷◌, ◌++◌, map, length, take, drop, get_or, Some, All, refl, ap, sym, ◌∙◌, subst, arith, inl, inr}
-use Rattle.std.specs.Prelude.{slice_get, ◌⊎◌}
-use Rattle.std.proofs.lemmas.List.{take_all, append-nil}
+use Rattle.std.proofs.Common.{◌≡◌, ℕ, zero, suc, ◌+◌, ◌<◌, ◌≤◌, Bool, true, false, List, [], ◌∷◌, ◌++◌, map, length, take, drop, get_or, set, replicate, Some, All, refl, ap, sym, ◌∙◌, subst, arith, inl, inr}
+use Rattle.std.specs.Prelude.{slice_get, Contains, ◌⊎◌}
+use Rattle.std.proofs.lemmas.Bool.{cases_eq}
+use Rattle.std.proofs.lemmas.List.{take_all, append-nil, get_or-set_other}
 use Rattle.std.proofs.Math.ListN.{drop_of_length-le, length-map}
 use Rattle.ranking.specs.Bits.{bit_in}
 use Rattle.graph_rules.specs.Graphs.{Node}
 use Rattle.node_store.specs.declared.store.Kept.{Kept}
 use Rattle.node_store.specs.inner.Keeping.{shown}
-use Rattle.node_store.specs.inner.Freezing.{AreBefore, IsClosedFrom, Marks}
+use Rattle.node_store.specs.inner.Freezing.{AreBefore, IsClosedFrom, IsKidOfMarked, Marks}
 
 pub written_bits : (len : ℕ) (new old : List Bool) → length new ≡ length old → len ≡ length old → take len (new ++ drop (length new) old) ≡ new
 written_bits len new old e f =
@@ -38,6 +39,30 @@ marks_more nodes old new from at root kids node e there same marks closed before
       let same_node : node ≡ n = cc in
       subst (λ (x : Node). All (λ k. bit_in new k ≡ true) x.kids) same_node (subst (All (λ k. bit_in new k ≡ true)) same (marks.marked (sym (marks.above at (omega arith)) ∙ ap (bit_in new) q ∙ m)))
   by (inr h) = let old_all = closed i n (omega arith) (sym (marks.above i (omega arith)) ∙ m) f in λ k d lt. marks.kept (get_or n.kids k d) (old_all k d lt)
+
+-- nothing is marked but the root and the kids of what is
+pub only_more : (nodes : List Node) (old new : List Bool) (at root : ℕ) (kids : List ℕ) (node : Node) → slice_get nodes at ≡ Some node → kids ≡ node.kids → Marks old at kids new
+    → ((i : ℕ) → bit_in old i ≡ true → (i ≡ root) ⊎ IsKidOfMarked nodes old i) → (i : ℕ) → bit_in new i ≡ true → (i ≡ root) ⊎ IsKidOfMarked nodes new i
+only_more nodes old new at root kids node there same marks only i m = by (marks.only i m) where
+  keep : (i ≡ root) ⊎ IsKidOfMarked nodes old i → (i ≡ root) ⊎ IsKidOfMarked nodes new i
+  keep (inl is) = inl is
+  keep (inr (j, n, marked, e, has)) = inr (j, n, marks.kept j marked, e, has)
+
+  by : (bit_in old i ≡ true) ⊎ ((bit_in old at ≡ true) × Contains kids i) → (i ≡ root) ⊎ IsKidOfMarked nodes new i
+  by (inl was) = keep (only i was)
+  by (inr (marked, has)) = inr (at, node, marks.kept at marked, there, subst (λ ks. Contains ks i) same has)
+
+-- one bit was written
+pub one_marked : (marks : List Bool) (at i : ℕ) → bit_in (set marks at true) i ≡ true → (i ≡ at) ⊎ (bit_in marks i ≡ true)
+one_marked marks at i m = elim (cases_eq i at) [
+  | inl same ↦ inl same
+  | inr other ↦ inr (sym (get_or-set_other marks at i true false other) ∙ m)
+]
+
+pub none_marked : (n i : ℕ) → bit_in (replicate n false) i ≡ true → ⊥
+none_marked zero i m = cc
+none_marked (suc n) zero m = cc
+none_marked (suc n) (suc i) m = none_marked n i m
 
 pub shown_get : (xs : List Kept) (i : ℕ) (r : Kept) → i < length xs → slice_get (map shown xs) i ≡ Some (shown (get_or xs i r))
 shown_get [] i r h = absurd (omega arith)

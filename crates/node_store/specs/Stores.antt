@@ -1,8 +1,9 @@
 -- Nodes that are shared: what a store holds and counts, and what one more node adds.
-use Rattle.std.specs.Prelude.{◌≡◌, ℕ, zero, suc, ◌+◌, ◌-◌, ◌*◌, ◌<◌, ◌≤◌, Bool, true, false, List, [], ◌∷◌, ◌++◌, map, length, slice_get, Some, ◌⊎◌, if◌then◌else◌}
+use Rattle.std.specs.Prelude.{◌≡◌, ℕ, zero, suc, ◌+◌, ◌-◌, ◌*◌, ◌<◌, ◌≤◌, Bool, true, false, List, [], ◌∷◌, ◌++◌, map, length, slice_get, Some, Contains, ◌==◌, ◌⊎◌, if◌then◌else◌}
 use Rattle.ranking.specs.Assignments.{Assignment}
 use Rattle.graph_rules.specs.declared.TheConstants.{CHILD_LIMIT}
 use Rattle.graph_rules.specs.declared.NodeKind.{NodeKind}
+use Rattle.graph_rules.specs.declared.NodeKind.TheVariants.{Literal, And, Or}
 use Rattle.graph_rules.specs.Graphs.{Node, Graph, literal_node, truth_by, is_true, mention_by, mentions, AreNodes}
 use Rattle.graph_rules.specs.GraphTexts.{edges}
 use Rattle.node_store.specs.declared.store.TheConstants.{MADE_LIMIT, VARIABLE_LIMIT}
@@ -58,9 +59,29 @@ pub record Means (old new : List Node) (kind : NodeKind) (kids : List ℕ) (numb
   pub true_before : (k : ℕ) (a : Assignment) → k < length old → is_true new k a ≡ is_true old k a
   pub variables_before : (k v : ℕ) → k < length old → mentions new v k ≡ mentions old v k
 
+-- a node is a kid of another
+abbrev pub IsUsed : List Node → ℕ → Type 0
+IsUsed nodes number = (parent : ℕ) × (node : Node) × (slice_get nodes parent ≡ Some node) × Contains node.kids number
+
+-- an and or an or without kids, which is a constant
+abbrev pub is_bare : NodeKind → List ℕ → Bool
+is_bare (Literal var positive) kids = false
+is_bare And kids = length kids == 0
+is_bare Or kids = length kids == 0
+
+-- none of them is a kid
+abbrev pub HasNoBareKid : List Node → Type 0
+HasNoBareKid nodes = (parent child : ℕ) (node kid : Node) → slice_get nodes parent ≡ Some node → Contains node.kids child
+    → slice_get nodes child ≡ Some kid → is_bare kid.what kid.kids ≡ false
+
 -- The graph of a node and of those below it: its root is true where the node is.
 pub record IsFrozen (store : Stored) (root : ℕ) (graph : Graph) : Type 0 where
   pub vars : graph.vars ≡ store.vars
   pub truth : (a : Assignment) → is_true graph.nodes (length graph.nodes - 1) a ≡ is_true store.nodes root a
   pub few : length graph.nodes ≤ store.made + 2 * store.vars
   pub few_edges : edges graph.nodes ≤ store.handed
+  -- No node stands in it in vain: each but the root is a kid of another, and no two are equal.
+  pub used : (number : ℕ) → number + 1 < length graph.nodes → IsUsed graph.nodes number
+  pub once : EachOnce graph.nodes
+  -- Where no constant is a kid in the store, none is in the graph.
+  pub no_bare_kid : HasNoBareKid store.nodes → HasNoBareKid graph.nodes

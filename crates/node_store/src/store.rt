@@ -143,15 +143,17 @@ impl Store {
         self.handed
     }
 
-    /// The graph of a node and of those below it, which is its root. Where there is no memory the store comes back.
-    pub fn freeze(self, root: u32) -> Result<Graph, (Store, AllocError)>
+    /// The graph of a node and of those below it, which is its root, and how often a node was made. Where there is no memory the
+    /// store comes back.
+    pub fn freeze(self, root: u32) -> Result<(Graph, u64), (Store, AllocError)>
         requires { root < length self.nodes }
-        ensures ok { IfOk result (λ graph. IsFrozen self root graph) }
-        ensures valid { IfOk result IsGraph }
+        ensures ok { IfOk result (λ found. IsFrozen self root found.0) }
+        ensures made { IfOk result (λ found. found.1 ≡ self.made) }
+        ensures valid { IfOk result (λ found. IsGraph found.0) }
         ensures err { IfErr result (λ e. e.0 ≡ self) }
     {
         match self.frozen(root) {
-            Ok(graph) => Ok(graph),
+            Ok(graph) => Ok((graph, self.made)),
             Err(error) => Err((self, error)),
         }
     }

@@ -13,3 +13,5 @@ pub mod Asked
 pub mod Moving
 pub mod Exact
 pub mod OneText
+pub mod Declining
+pub mod ToldAlone

@@ -1,3 +1,4 @@
 pub mod Services
+pub mod Dialogues
 pub mod Serving
 pub mod inner

@@ -1,12 +1,15 @@
 -- What contracts see of a service.
-use Rattle.std.specs.Prelude.{◌≡◌, ℕ, List, [], ◌∷◌, length, Option, Some, None, codes}
+use Rattle.std.specs.Prelude.{◌≡◌, ◌+◌, ◌^◌, ◌<◌, ◌≤◌, ℕ, List, [], ◌∷◌, length, Option, Some, None, codes}
 use Rattle.text_rules.specs.Names.{Name}
 use Rattle.ranking.specs.Cases.{Case}
+use Rattle.graph_rules.specs.Graphs.{IsGraph}
 use Rattle.projector.specs.Projecting.{projected_text}
-use Rattle.script_lang.specs.Script.{Line, Ask, Dnnf, line_of}
+use Rattle.script_lang.specs.Script.{Line, Blank, Refused, Ask, Dnnf, line_of}
+use Rattle.session_rules.specs.declared.refusal.Refusal.{Refusal}
 use Rattle.session_rules.specs.Items.{Plain, line}
-use Rattle.session_rules.specs.Sessions.{Table, Entry, Step, entry_of}
+use Rattle.session_rules.specs.Sessions.{Table, Entry, Step, Declined, entry_of, outcome_in}
 use Rattle.session_rules.specs.Moves.{moves}
+use Rattle.session_rules.specs.CaseSizes.{HasCasesOf}
 use Rattle.session_rules.specs.GraphSystems.{Subject, system_of, case_words}
 
 -- what is asked over, how many sessions may be open, and those that are
@@ -14,6 +17,14 @@ pub record Shown : Type 0 where
   pub subject : Subject
   pub limit : ℕ
   pub table : Table
+
+-- What holds of every service. Its graph is one, with variables for the parts and the wires and with few nodes, and the case of each
+-- open session fits, so that the moves that tell a graph by its text spell the replies of its system.
+pub record IsSound (shown : Shown) : Type 0 where
+  pub valid : IsGraph shown.subject.graph
+  pub room : length shown.subject.parts + length shown.subject.wires ≤ shown.subject.graph.vars
+  pub few : length shown.subject.graph.nodes + length shown.subject.parts + 1 < 2 ^ 32
+  pub cases : HasCasesOf (system_of shown.subject) shown.table
 
 -- the text of the states that agree with a case: one for a graph and a case, whatever session asks and however often
 abbrev pub case_text : Subject → Case → List ℕ
@@ -38,6 +49,13 @@ exact_moves shown table line = with_graph shown table line (moves (system_of sho
 
 abbrev pub moves_of : Shown → Table → List ℕ → List Step
 moves_of shown table bytes = exact_moves shown table (line_of bytes)
+
+-- a line is refused as it stands, or for what it asks of the sessions that are open
+abbrev pub IsRefused : Shown → Line → Type 0
+IsRefused shown Blank = ⊥
+IsRefused shown (Refused refusal) = Unit {0}
+IsRefused shown (Ask session request) =
+    (refusal : Refusal) × (outcome_in (system_of shown.subject) shown.limit shown.table session request ≡ Declined refusal)
 
 -- nothing but the table changed
 abbrev pub ChangesTable : Shown → Shown → Type 0

@@ -1,8 +1,9 @@
-//! A law about what a service writes. It is the contract of a function that does nothing.
+//! Laws about what a service writes. Each is the contract of a function that does nothing.
 ghost use Rattle.std.specs.Prelude.{◌≡◌, ℕ, List, Option, Some};
 ghost use Rattle.session_rules.specs.Sessions.{Table};
 ghost use Rattle.session_rules.specs.Moves.{script_moves};
 ghost use Rattle.session_rules.specs.Carrying.{Makes};
+ghost use Rattle.session_core.specs.Dialogues.{AreToldAlone};
 ghost use Rattle.session_core.specs.Services.{Shown, moves_of};
 
 /// What a service writes is one text: where the moves of a script were made twice, from one table and after the same bytes, the
@@ -12,4 +13,10 @@ pub fn one_text()
         → Makes old new (script_moves (moves_of shown) old lines) (Some bytes) a
         → Makes old other (script_moves (moves_of shown) old lines) (Some bytes) b
         → (a ≡ b) × (new ≡ other) }
+{}
+
+/// What a service tells a session, byte for byte, is what it tells it alone: wherever it opens among some lines, its own lines from
+/// there to its end are told what they are told with no other line before, between or behind them, where one session may be open.
+pub fn told_alone()
+    ensures { (shown : Shown) (table : Table) (lines : List (List ℕ)) → AreToldAlone shown table lines }
 {}

@@ -2,8 +2,9 @@ ghost use Rattle.std.specs.Prelude.{◌≡◌, ◌≤◌, ◌<◌, ◌+◌, [], 
 ghost use Rattle.text_rules.specs.Names.{names_rise};
 ghost use Rattle.conditioner.specs.Models.{total_cost};
 ghost use Rattle.diag_edge.specs.Edge.{HasCause};
+ghost use Rattle.script_lang.specs.Script.{line_of};
 ghost use Rattle.session_rules.specs.Carrying.{CarriesOut};
-ghost use Rattle.session_core.specs.Services.{moves_of, ChangesTable};
+ghost use Rattle.session_core.specs.Services.{moves_of, ChangesTable, IsRefused, IsSound};
 
 use crate::basis::Basis;
 use crate::limits::{SERVED_NODES, SERVED_VARIABLES, SESSION_LIMIT};
@@ -33,7 +34,7 @@ impl Model for Service {
 
 impl Service {
     /// A service over the names of parts and wires, what the failure of each part costs, and a graph whose variables are the
-    /// parts, the wires, and inner ones. No session is open, and at most so many may be. `Err` means that memory ran out.
+    /// parts, the wires, and inner ones. No session is open, and at most so many may be, from 1 to `SESSION_LIMIT`. `Err` means that memory ran out.
     pub fn over(
         alloc: Global,
         parts: Vec<Name>,
@@ -52,6 +53,7 @@ impl Service {
         requires vars { length parts.items + length wires.items ≤ graph.vars }
         requires few_vars { graph.vars ≤ SERVED_VARIABLES }
         requires few_nodes { length graph.nodes < SERVED_NODES }
+        requires some { 1 ≤ sessions }
         requires sessions { sessions ≤ SESSION_LIMIT }
         ensures { IfOk result (λ service. service
             ≡ record {
@@ -83,7 +85,8 @@ impl Service {
 
     /// The number of parts.
     pub fn parts(&self) -> usize
-        ensures { result ≡ length self.now.subject.parts }
+        ensures parts { result ≡ length self.now.subject.parts }
+        ensures sound { IsSound self.now }
     {
         self.sessions.parts()
     }
@@ -103,6 +106,8 @@ impl Service {
             (moves_of self.old self.old.table line.now)
             (O.got out.old) (O.got out.new) result }
         ensures stays { ChangesTable self.old self.new }
+        // A line that is refused leaves every session as it was.
+        ensures refused { IsRefused self.old (line_of line.now) → self.new ≡ self.old }
         ensures cause { HasCause (O.faults out.old) (O.faults out.new) result }
     {
         self.sessions.line(line, out)

@@ -3,7 +3,7 @@ ghost use Rattle.text_rules.specs.Names.{is_short_name};
 ghost use Rattle.diag_edge.specs.Edge.{HasCause};
 ghost use Rattle.script_lang.specs.Script.{Start, Stop};
 ghost use Rattle.session_rules.specs.Carrying.{CarriesOut};
-ghost use Rattle.session_core.specs.Services.{moves_of, ChangesTable};
+ghost use Rattle.session_core.specs.Services.{moves_of, ChangesTable, IsSound};
 ghost use Rattle.session_core.specs.inner.Obeying.{Obeys, seen_request, held_request};
 
 use crate::basis::Basis;
@@ -74,8 +74,11 @@ impl Sessions {
 
     /// The number of parts.
     pub(crate) fn parts(&self) -> usize
-        ensures { result ≡ length self.now.subject.parts }
+        ensures parts { result ≡ length self.now.subject.parts }
+        ensures sound { IsSound self.now }
     {
+        // The case of each open session fits.
+        let _full = self.open.is_full();
         self.basis.parts().len()
     }
 

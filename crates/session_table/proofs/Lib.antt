@@ -4,3 +4,4 @@ mod Mapping
 mod Noting
 mod Keeping
 mod Changes
+mod Fitting

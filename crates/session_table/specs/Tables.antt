@@ -1,5 +1,5 @@
 -- What contracts see of the open sessions.
-use Rattle.std.specs.Prelude.{◌≡◌, ℕ, Some, None, slice_get}
+use Rattle.std.specs.Prelude.{◌≡◌, ℕ, length, Some, None, slice_get}
 use Rattle.text_rules.specs.Names.{Name}
 use Rattle.ranking.specs.Cases.{empty_case}
 use Rattle.session_rules.specs.Sessions.{Entry, Table, entry_of, with_entry}
@@ -15,6 +15,10 @@ pub record Opened : Type 0 where
 -- a session as it is when it opens
 abbrev pub fresh_entry : Opened → Entry
 fresh_entry opened = record { known = empty_case opened.wires opened.parts; point = None }
+
+-- the case of a session has a place for each wire and each part
+abbrev pub Fits : (parts wires : ℕ) → Entry → Type 0
+Fits parts wires entry = (length entry.known.seen ≡ wires) × (length entry.known.held ≡ parts)
 
 -- the session stands at this place of the table, with this entry, and nothing changes where that is put there again
 pub record StandsAt (table : Table) (place : ℕ) (session : Name) (entry : Entry) : Type 0 where

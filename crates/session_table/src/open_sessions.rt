@@ -5,7 +5,7 @@ ghost use Rattle.diagnosis_lister.specs.Listing.{bits_of};
 ghost use Rattle.scratch_pool.specs.declared.pool.TheConstants.{POOL_LIMIT};
 ghost use Rattle.session_rules.specs.Sessions.{Entry, entry_of, with_entry, without, with_seen, with_held};
 ghost use Rattle.session_rules.specs.CaseWords.{case_of_words, AreWords};
-ghost use Rattle.session_table.specs.Tables.{StandsAt, fresh_entry};
+ghost use Rattle.session_table.specs.Tables.{StandsAt, fresh_entry, Fits};
 
 use crate::block::Layout;
 use crate::in_order::{Open, find_place};
@@ -69,7 +69,9 @@ impl OpenSessions {
 
     /// Whether as many sessions are open as may be.
     pub fn is_full(&self) -> bool
-        ensures { result ≡ nat_le self.now.limit (length self.now.table) }
+        ensures full { result ≡ nat_le self.now.limit (length self.now.table) }
+        ensures cases { (session : Name) (entry : Entry) → entry_of session self.now.table ≡ Some entry
+            → Fits self.now.parts self.now.wires entry }
     {
         self.limit as usize <= self.open.len()
     }

@@ -1,9 +1,8 @@
 -- The service that a device is served by.
-use Rattle.std.specs.Prelude.{◌≡◌, ◌<◌, ◌≤◌, ◌+◌, ◌^◌, ℕ, [], length}
+use Rattle.std.specs.Prelude.{◌≡◌, ◌<◌, ◌≤◌, ℕ, [], length}
 use Rattle.graph_rules.specs.Graphs.{Graph, IsGraph}
 use Rattle.device_model.specs.Devices.{Device, part_names, part_costs}
 use Rattle.dnnf_compiler.specs.Compiled.{IsGraphOf}
-use Rattle.session_rules.specs.GraphSystems.{Subject}
 use Rattle.session_core.specs.declared.limits.TheConstants.{SERVED_VARIABLES, SERVED_NODES}
 use Rattle.session_core.specs.Services.{Shown}
 
@@ -13,12 +12,6 @@ pub record IsServable (device : Device) (graph : Graph) : Type 0 where
   pub meaning : IsGraphOf device graph
   pub few_vars : graph.vars ≤ SERVED_VARIABLES
   pub few_nodes : length graph.nodes < SERVED_NODES
-
--- what is such that every reply over it has a text
-pub record IsSound (subject : Subject) : Type 0 where
-  pub valid : IsGraph subject.graph
-  pub room : length subject.parts + length subject.wires ≤ subject.graph.vars
-  pub few : length subject.graph.nodes + length subject.parts + 1 < 2 ^ 32
 
 -- It is over the names of the device and such a graph. So many sessions may be open, and none is.
 pub record IsServiceOf (device : Device) (sessions : ℕ) (service : Shown) : Type 0 where

@@ -1,9 +1,10 @@
 -- Nodes that are made of a variable's bits and nodes below.
-use Rattle.std.specs.Prelude.{◌≡◌, ℕ, ◌+◌, ◌*◌, ◌<◌, ◌≤◌, Bool, true, false, ◌&&◌, ◌||◌, List, length, Option, Some, None, IfSome, slice_get, slice_index, ◌==◌}
+use Rattle.std.specs.Prelude.{◌≡◌, ℕ, ◌+◌, ◌*◌, ◌<◌, ◌≤◌, Bool, true, false, ◌&&◌, ◌||◌, List, [], length, Option, Some, None, IfSome, slice_get, slice_index, ◌==◌}
 use Rattle.ranking.specs.Bits.{same_bit}
 use Rattle.ranking.specs.Assignments.{Assignment}
-use Rattle.graph_rules.specs.Graphs.{Node, is_true, mentions}
-use Rattle.node_store.specs.Stores.{IsStore}
+use Rattle.graph_rules.specs.declared.NodeKind.TheVariants.{Or}
+use Rattle.graph_rules.specs.Graphs.{Node, true_node, is_true, mentions}
+use Rattle.node_store.specs.Stores.{IsStore, HasNoBareKid}
 use Rattle.dnnf_compiler.specs.declared.forks.Fork.{Fork}
 use Rattle.dnnf_compiler.specs.declared.maker.Maker.{Maker}
 use Rattle.dnnf_compiler.specs.inner.Forks.{way}
@@ -14,6 +15,9 @@ pub record IsMaker (m : Maker) : Type 0 where
   pub store : IsStore m.store
   pub yes : IsConstant m.store.nodes true m.yes
   pub no : IsConstant m.store.nodes false m.no
+  pub yes_node : slice_get m.store.nodes m.yes ≡ Some true_node
+  pub no_node : slice_get m.store.nodes m.no ≡ Some (record { what = Or; kids = [] })
+  pub bare : HasNoBareKid m.store.nodes
 
 -- a variable that has literals
 abbrev pub IsVariable : Maker → ℕ → Type 0
@@ -58,6 +62,7 @@ pub record IsApart (nodes : List Node) (var : ℕ) (below : List ℕ) (v : ℕ) 
 pub record IsBranch (old new : Maker) (var : ℕ) (bit : Bool) (below : List ℕ) (to node : Option ℕ) : Type 0 where
   pub adds : Adds old new 1 2
   pub within : IfSome node (λ n. n < length new.store.nodes)
+  pub names : IfSome node (λ n. mentions new.store.nodes var n ≡ true)
   pub truth : (a : Assignment) → may_be_true new.store.nodes a node ≡ (same_bit bit (a var) && may_be_true old.store.nodes a (node_at below to))
   pub variables : (v : ℕ) → IsApart old.store.nodes var below v → may_mention new.store.nodes v node ≡ false
 

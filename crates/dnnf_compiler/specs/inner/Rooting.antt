@@ -4,7 +4,7 @@ use Rattle.ranking.specs.Assignments.{Assignment}
 use Rattle.graph_rules.specs.Graphs.{Node, is_true}
 use Rattle.clause_encoder.specs.Clauses.{Clause, ClauseList, all_hold}
 use Rattle.branch_states.specs.Branches.{sum_of}
-use Rattle.node_store.specs.Stores.{Stored}
+use Rattle.node_store.specs.Stores.{Stored, HasNoBareKid}
 use Rattle.dnnf_compiler.specs.inner.Meaning.{IsNodeOf}
 
 -- each state of a level has its node
@@ -17,5 +17,6 @@ pub record IsRoot (cnf : ClauseList) (store : Stored) (node : ℕ) : Type 0 wher
   pub within : node < length store.nodes
   pub vars : store.vars ≡ cnf.vars
   pub truth : (a : Assignment) → is_true store.nodes node a ≡ all_hold a cnf.clauses
+  pub bare : HasNoBareKid store.nodes
   pub made : store.made ≤ 3 * sum_of cnf.clauses + 2
   pub handed : store.handed ≤ 6 * sum_of cnf.clauses

@@ -1,5 +1,5 @@
 -- The nodes below a root, and their copies.
-use Rattle.std.specs.Prelude.{◌≡◌, ℕ, ◌+◌, ◌<◌, ◌≤◌, Bool, true, List, length, take, slice_get, slice_index, Some, All}
+use Rattle.std.specs.Prelude.{◌≡◌, ℕ, ◌+◌, ◌<◌, ◌≤◌, ◌⊎◌, Bool, true, List, length, map, take, slice_get, slice_index, Some, All, Contains}
 use Rattle.ranking.specs.Bits.{bit_in}
 use Rattle.ranking.specs.Assignments.{Assignment}
 use Rattle.graph_rules.specs.Graphs.{Node, is_true, mentions, AreNodes}
@@ -16,17 +16,23 @@ IsClosedFrom from nodes marks = (i : ℕ) (node : Node) → from ≤ i → bit_i
 abbrev pub IsClosed : List Node → List Bool → Type 0
 IsClosed nodes marks = IsClosedFrom 0 nodes marks
 
--- the root is marked, and the kids of what is marked are
+-- a node is a kid of one that is marked
+abbrev pub IsKidOfMarked : List Node → List Bool → ℕ → Type 0
+IsKidOfMarked nodes marks i = (j : ℕ) × (node : Node) × (bit_in marks j ≡ true) × (slice_get nodes j ≡ Some node) × Contains node.kids i
+
+-- the root is marked, the kids of what is marked are, and nothing else is
 pub record IsBelow (nodes : List Node) (root : ℕ) (marks : List Bool) : Type 0 where
   pub long : length marks ≡ root + 1
   pub has : bit_in marks root ≡ true
   pub closed : IsClosed nodes marks
+  pub only : (i : ℕ) → bit_in marks i ≡ true → (i ≡ root) ⊎ IsKidOfMarked nodes marks i
 
--- the kids of a node are marked if it is, and no node from it on
+-- the kids of a node are marked if it is, and no other node
 pub record Marks (old : List Bool) (at : ℕ) (kids : List ℕ) (new : List Bool) : Type 0 where
   pub kept : (i : ℕ) → bit_in old i ≡ true → bit_in new i ≡ true
   pub above : (i : ℕ) → at ≤ i → bit_in new i ≡ bit_in old i
   pub marked : bit_in old at ≡ true → All (λ k. bit_in new k ≡ true) kids
+  pub only : (i : ℕ) → bit_in new i ≡ true → (bit_in old i ≡ true) ⊎ ((bit_in old at ≡ true) × Contains kids i)
 
 -- one node means what another does
 pub record IsCopy (nodes : List Node) (k : ℕ) (copies : List Node) (number : ℕ) : Type 0 where
@@ -41,4 +47,8 @@ pub record IsCopied (vars : ℕ) (nodes : List Node) (marks : List Bool) (copies
   pub few : length copies ≤ count
   pub few_edges : edges copies ≤ edges (take count nodes)
   pub same : (k : ℕ) → k < count → bit_in marks k ≡ true → IsCopy nodes k copies (slice_index numbers k)
+  pub copy : (k : ℕ) (node : Node) → k < count → bit_in marks k ≡ true → slice_get nodes k ≡ Some node
+      → slice_get copies (slice_index numbers k) ≡ Some (record { what = node.what; kids = map (slice_index numbers) node.kids })
+  pub origin : (n : ℕ) → n < length copies → (k : ℕ) × (k < count) × (bit_in marks k ≡ true) × (slice_index numbers k ≡ n)
+  pub rising : (k l : ℕ) → k < l → l < count → bit_in marks k ≡ true → bit_in marks l ≡ true → slice_index numbers k < slice_index numbers l
   pub last : (k : ℕ) → k + 1 ≡ count → bit_in marks k ≡ true → slice_index numbers k + 1 ≡ length copies

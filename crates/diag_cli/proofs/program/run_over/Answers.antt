@@ -1,4 +1,6 @@
-use Rattle.std.proofs.Common.{Err, ap}
+use Rattle.std.proofs.Common.{◌+◌, ◌≤◌, length, Err, ap, ◌∙◌, sym, subst}
+use Rattle.text_rules.specs.declared.text_lines.TheConstants.{TEXT_LIMIT}
+use Rattle.diag_edge.specs.declared.loading.LoadError.TheVariants.{Long}
 use Rattle.diag_cli.specs.inner.Forms.{command_meant}
 use Rattle.diag_cli.proofs.Headline.{same_file, run_loaded, run_unread}
 use Rattle.diag_cli.proofs.Ordering.{by_any, by_same}
@@ -9,10 +11,12 @@ pub returns-in-Ok : goal.returns-in-Ok
 returns-in-Ok g c =
     let read = c.in-Ok.ensures in
     let done = c.run_file.ensures in
+    let same = sym c.deref.ensures.value in
     by_same done.follows (λ order follows.
     run_loaded _ _ _ _ _ order c.args.path.now (command_meant c.args.command) _ _ _ c.deref.result.now (same_file c.deref.result.now c.in-Ok.file.items _ c.deref.ensures.value read.bytes)
     (λ gone. let is = read.absent gone in let never : ⊥ = cc in never)
     (read.failed.stayed (λ is. let never : ⊥ = cc in never))
+    (read.taken ∙ ap (λ text. g.H.Source.taken c.args.shelf.now + length text) same) (subst (λ text. length text ≤ TEXT_LIMIT) same read.short) done.few
     done.write_fault done.read_fault done.not_usage follows done.cut done.short)
 
 pub say_load_error-requires-clause-limit : goal.say_load_error-requires-clause-limit
@@ -24,4 +28,4 @@ returns-in-Err g c =
     by_any (λ order.
     run_unread order _ _ _ _ _ _ _ c.args.path.now (command_meant c.args.command) c.in-Err.error
     (unread c.in-Err.error _ _ _ c.requires.shelf_faults read.failed read.absent read.that_limit read.long_file)
-    c.say_load_error.ensures.write_fault c.say_load_error.ensures.said)
+    read.at_most (λ limit is. read.long.0 (ap Err (is ∙ ap Long (read.that_limit limit (ap Err is))))) c.say_load_error.ensures.write_fault c.say_load_error.ensures.said)

@@ -15,11 +15,12 @@ returns-in-Err-clause-served g c =
         refl,
         record {
           bytes = [];
+          counted = omega arith;
           took = consumes_none _;
           reads = refl;
           lines = [];
           are = inl (omega arith, refl);
-          begun = ready_begun shown c.requires.sound _ _ _ _ c.parts.ensures c.wires.ensures c.in-Err.ensures.text;
+          begun = ready_begun shown c.parts.ensures.sound _ _ _ _ c.parts.ensures.parts c.wires.ensures c.in-Err.ensures.text;
         },
       ));
       all_read = λ zero. absurd (omega (arith, zero));
@@ -36,19 +37,21 @@ returns-in-WriteFault-clause-served g c =
         elim done.3.1 [
           | inl broke ↦ record {
             bytes = done.0;
+            counted = done.1;
             took = done.2;
             reads = kept;
             lines = whole_lines done.0;
             are = inl (done.3.0, refl);
-            begun = lines_begun shown c.requires.sound _ _ (whole_lines done.0) _ _ _ _ _ c.requires.none_open c.parts.ensures c.wires.ensures c.in-Ok.ensures.text broke;
+            begun = lines_begun shown c.parts.ensures.sound _ _ (whole_lines done.0) _ _ _ _ _ c.requires.none_open c.parts.ensures.parts c.wires.ensures c.in-Ok.ensures.text broke;
           }
           | inr broke ↦ record {
             bytes = done.0;
+            counted = done.1;
             took = done.2;
             reads = kept;
             lines = all_lines done.0;
             are = inr (broke.0, broke.1, refl);
-            begun = lines_begun shown c.requires.sound _ _ (all_lines done.0) _ _ _ _ _ c.requires.none_open c.parts.ensures c.wires.ensures c.in-Ok.ensures.text broke.2;
+            begun = lines_begun shown c.parts.ensures.sound _ _ (all_lines done.0) _ _ _ _ _ c.requires.none_open c.parts.ensures.parts c.wires.ensures c.in-Ok.ensures.text broke.2;
           }
         ],
       ));
@@ -62,11 +65,12 @@ returns-in-Done-clause-served g c =
     record {
       answer = inr (inl (record {
         bytes = done.0;
+        counted = done.1;
         end = Ended;
         took = done.2;
         ends = (done.3.0, done.3.1, c.in-Done.ensures.read_fault.stayed (λ e. let never : ⊥ = cc in never));
         gives = gives_all _ _ _ _ (λ five. absurd (omega (arith, five))) refl
-            (ready_then shown c.requires.sound _ _ (all_lines done.0) _ _ _ _ _ c.requires.none_open c.parts.ensures c.wires.ensures c.in-Ok.ensures.text done.3.2);
+            (ready_then shown c.parts.ensures.sound _ _ (all_lines done.0) _ _ _ _ _ c.requires.none_open c.parts.ensures.parts c.wires.ensures c.in-Ok.ensures.text done.3.2);
       }));
       all_read = λ _. done.3.0;
     }
@@ -79,11 +83,12 @@ returns-in-ReadFault-clause-served g c =
     record {
       answer = inr (inl (record {
         bytes = done.0;
+        counted = done.1;
         end = Failed;
         took = done.2;
-        ends = c.in-ReadFault.ensures.read_fault.rose refl;
+        ends = (done.3.0, c.in-ReadFault.ensures.read_fault.rose refl);
         gives = gives_after (answers_of (system_of shown.subject) shown.limit (whole_lines done.0)) read_error _ _ _ _ _
-            (ready_then shown c.requires.sound _ _ (whole_lines done.0) _ _ _ _ _ c.requires.none_open c.parts.ensures c.wires.ensures c.in-Ok.ensures.text done.3.1) said;
+            (ready_then shown c.parts.ensures.sound _ _ (whole_lines done.0) _ _ _ _ _ c.requires.none_open c.parts.ensures.parts c.wires.ensures c.in-Ok.ensures.text done.3.1) said;
       }));
       all_read = λ zero. absurd (let same = (said.whole (λ five. omega (arith, zero, five))).0 in omega (arith, zero, same));
     }
@@ -92,15 +97,16 @@ pub returns-in-Limit-clause-served : goal.returns-in-Limit-clause-served
 returns-in-Limit-clause-served g c =
     let shown = c.args.service.now in
     let done = c.in-Limit.ensures.served in
-    let said = c.say.ensures.said in
+    let said = c.say_too_long.ensures.said in
     record {
       answer = inr (inl (record {
         bytes = done.0;
+        counted = done.1;
         end = Cut;
         took = done.2;
         ends = (done.3.0, c.in-Limit.ensures.read_fault.stayed (λ e. let never : ⊥ = cc in never));
         gives = gives_after (answers_of (system_of shown.subject) shown.limit (whole_lines done.0)) script_too_long _ _ _ _ _
-            (ready_then shown c.requires.sound _ _ (whole_lines done.0) _ _ _ _ _ c.requires.none_open c.parts.ensures c.wires.ensures c.in-Ok.ensures.text done.3.1) said;
+            (ready_then shown c.parts.ensures.sound _ _ (whole_lines done.0) _ _ _ _ _ c.requires.none_open c.parts.ensures.parts c.wires.ensures c.in-Ok.ensures.text done.3.1) said;
       }));
       all_read = λ zero. absurd (let same = (said.whole (λ five. omega (arith, zero, five))).0 in omega (arith, zero, same));
     }

@@ -2,13 +2,10 @@ use Rattle.std.proofs.Common.{Ok, refl}
 use Rattle.diag_cli.specs.Courses.{if_within}
 use Rattle.diag_cli.specs.Refusals.{told_by}
 use Rattle.diag_cli.proofs.Headline.{follows_refusal}
-use Rattle.diag_cli.proofs.ServedDevices.{sound_of, device_served}
+use Rattle.diag_cli.proofs.ServedDevices.{device_served}
 use Rattle.diag_cli.specs.Orders.{clauses_by}
 use Rattle.diag_cli.proofs.Ordering.{by_same}
 use Rattle.diag_cli.proofs.serving.serve_device.Goals as goal
-
-pub answer-status-requires-clause-sound : goal.answer-status-requires-clause-sound
-answer-status-requires-clause-sound g c = sound_of c.args.device c.args.sessions _ c.in-Ok.ensures.service
 
 pub returns-in-Ok-clause-follows : goal.returns-in-Ok-clause-follows
 returns-in-Ok-clause-follows g c =
@@ -19,4 +16,4 @@ pub returns-in-Err-clause-follows : goal.returns-in-Err-clause-follows
 returns-in-Err-clause-follows g c =
     by_same c.in-Err.ensures.within (λ order is.
     follows_refusal _ _ _ _ _ c.args.sessions (if_within c.args.budget (clauses_by c.args.is_narrow order) (Ok c.args.device)) (told_by c.in-Err.refusal) is
-    (record { taken = refl; faults = refl }) c.tell.ensures.said)
+    (record { left = refl; taken = refl; faults = refl }) c.tell.ensures.said)

@@ -13,4 +13,4 @@ returns-in-Err-clause-follows g c =
     by_any (λ order.
     let clauses = clauses_by c.args.is_narrow order in
     follows_refusal _ _ _ _ _ c.args.sessions (if_within c.args.budget clauses (device_in c.args.path.now c.args.file.now)) fault
-    (refused_in fault c.args.path.now c.args.file.now c.args.budget clauses c.requires.short c.in-Err.ensures) (record { taken = refl; faults = refl }) c.tell.ensures.said)
+    (refused_in fault c.args.path.now c.args.file.now c.args.budget clauses c.requires.short c.in-Err.ensures) (record { left = refl; taken = refl; faults = refl }) c.tell.ensures.said)

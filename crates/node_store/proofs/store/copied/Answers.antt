@@ -12,7 +12,7 @@ pub loop-at-preserved-then-not-below-at : goal.loop-at-preserved-then-not-below-
 loop-at-preserved-then-not-below-at c =
     let one = the_at (map shown c.args.nodes.now) c.loop-at.at (omega (arith, length-shown c.args.nodes.now, c.requires.long)) in
     subst (λ ns. IsCopied c.args.vars (map shown c.args.nodes.now) c.args.below.now c.loop-at.copies ns (c.loop-at.at + 1)) (sym c.in_ok-push.ensures.items)
-    (left_out c.args.vars (map shown c.args.nodes.now) c.args.below.now c.loop-at.copies c.loop-at.numbers.items c.loop-at.at c.loop-at.invariant c.if-not-below-at.true one.0 one.1)
+    (left_out c.args.vars (map shown c.args.nodes.now) c.args.below.now c.loop-at.copies c.loop-at.numbers.items c.loop-at.at c.loop-at.invariant c.requires.nodes c.if-not-below-at.true one.0 one.1)
 
 there : (c : After-deref) → slice_get (map shown c.args.nodes.now) c.loop-at.at ≡ Some (shown c.index-nodes-at.result)
 there c = shown_at c.args.nodes.now c.loop-at.at c.index-nodes-at.result (omega (arith, length-shown c.args.nodes.now, c.requires.long)) c.index-nodes-at.is

@@ -1,8 +1,9 @@
-use Rattle.std.proofs.Common.{◌≡◌, ◌<◌, ℕ, Some, Option, length, sym, subst}
+use Rattle.std.proofs.Common.{◌≡◌, ◌∙◌, ◌<◌, ℕ, Some, Option, length, sym, subst}
 use Rattle.std.specs.Prelude.{IfSome, slice_index}
 use Rattle.dnnf_compiler.specs.inner.Making.{IsBranch}
 use Rattle.dnnf_compiler.proofs.Growing.{two_in}
-use Rattle.dnnf_compiler.proofs.Making.{below_in, both_apart, branch_both}
+use Rattle.dnnf_compiler.proofs.Making.{below_in, both_apart, branch_both, eqb-same}
+use Rattle.dnnf_compiler.proofs.Bare.{named_plain, other_plain}
 use Rattle.dnnf_compiler.proofs.Noting.{noting_more, branch_noted}
 use Rattle.dnnf_compiler.proofs.maker.Maker.branch.Goals as goal
 use Rattle.dnnf_compiler.proofs.maker.Maker.branch.Goals.{In-Some}
@@ -37,3 +38,10 @@ pub returns-in-Some-of-clause-branch : goal.returns-in-Some-of-clause-branch
 returns-in-Some-of-clause-branch c = subst (λ o. IsBranch c.args.self.now c.args.self.now c.args.var c.args.bit c.args.below.now o (Some c.in-Some-of.both)) (sym c.in-Some.is)
     (branch_noted c.args.self.now c.args.var c.args.bit c.args.below.now c.in-Some.place c.in-Some-of.both c.args.ands.now c.requires.maker
     (is_low (goal.at.returns-in-Some-of-clause-branch c).In-Some) c.requires.ands c.in-Some-of.ensures)
+
+pub conjoin-requires-clause-literal : goal.conjoin-requires-clause-literal
+conjoin-requires-clause-literal c =
+    named_plain c.args.self.now.store.vars c.args.self.now.store.nodes c.args.ands.now.literal c.args.var c.requires.maker.store.nodes (c.requires.ands.variables c.args.var ∙ eqb-same c.args.var)
+
+pub conjoin-requires-clause-other : goal.conjoin-requires-clause-other
+conjoin-requires-clause-other c = λ not_yes. other_plain c.args.self.now c.requires.maker (slice_index c.args.below.now c.in-Some.place) not_yes c.if-node-self.false

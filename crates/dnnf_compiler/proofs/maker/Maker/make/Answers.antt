@@ -1,4 +1,5 @@
 use Rattle.dnnf_compiler.proofs.Making.{free_grows, make_one}
+use Rattle.dnnf_compiler.proofs.Bare.{named_all, names_grow}
 use Rattle.dnnf_compiler.proofs.Noting.{noting_grows}
 use Rattle.dnnf_compiler.proofs.maker.Maker.make.Goals as goal
 
@@ -18,3 +19,14 @@ returns-clause-zeros c = noting_grows c.branch-self-2.new.self.store.nodes c.joi
 
 pub returns-clause-ones : goal.returns-clause-ones
 returns-clause-ones c = noting_grows c.branch-self-2.new.self.store.nodes c.join.new.self.store.nodes c.args.var _ _ c.in_ok-node.ensures.adds.grows c.in_ok-one.ensures.ands
+
+pub join-requires-clause-plain_zero : goal.join-requires-clause-plain_zero
+join-requires-clause-plain_zero c =
+    let most = c.branch-self-2.new.self.store in
+    named_all most.vars most.nodes c.args.var c.in_ok-zero.zero c.in_ok-one.ensures.branch.adds.maker.store.nodes
+    (names_grow c.branch-self.new.self.store.nodes most.nodes c.args.var c.in_ok-zero.zero c.in_ok-one.ensures.branch.adds.grows c.in_ok-zero.ensures.branch.within c.in_ok-zero.ensures.branch.names)
+
+pub join-requires-clause-plain_one : goal.join-requires-clause-plain_one
+join-requires-clause-plain_one c =
+    let most = c.branch-self-2.new.self.store in
+    named_all most.vars most.nodes c.args.var c.in_ok-one.one c.in_ok-one.ensures.branch.adds.maker.store.nodes c.in_ok-one.ensures.branch.names

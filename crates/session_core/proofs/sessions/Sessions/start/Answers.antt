@@ -32,7 +32,7 @@ returns-in-None-clause-obeys g c =
     let shown = shown_of c.self.inside.basis c.self.inside.open in
     let s = c.args.session.now in
     subst (λ (v : Shown). Obeys v v s Start (g.O.Sink.got c.args.out.now) (g.O.Sink.got c.put_refusal-in-None.new.out) c.put_refusal-in-None.result) c.self.view_is
-    (obeys_refusal shown s Start (λ shown table session. refl) _ _ _ Full (opened shown s true c.in-None.ensures.none c.if-is_full.ensures) c.put_refusal-in-None.ensures.text)
+    (obeys_refusal shown s Start (λ shown table session. refl) _ _ _ Full (opened shown s true c.in-None.ensures.none c.if-is_full.ensures.full) c.put_refusal-in-None.ensures.text)
 
 pub returns-in-None-2-clause-obeys : goal.returns-in-None-2-clause-obeys
 returns-in-None-2-clause-obeys g c =
@@ -43,10 +43,10 @@ returns-in-None-2-clause-obeys g c =
     c.start.ensures ∙ (λ i. opened_with sessions (with_entry s (record { known = empty_case (c.self.invariant.wires i) (c.self.invariant.parts i); point = None }) sessions.table)) in
     subst (λ (v : Shown). Obeys v (shown_of subject c.start.new.self) s Start (g.O.Sink.got c.args.out.now) (g.O.Sink.got c.put_line.new.out) c.put_line.result) c.self.view_is
     (obeys_becomes subject sessions c.start.new.self s Start (new_entry (system_of subject)) (codes "open") _ _ _ (λ shown table session. refl)
-    (opened (shown_of subject sessions) s false c.in-None-2.ensures.none c.if-is_full.ensures) fresh c.put_line.ensures.bytes)
+    (opened (shown_of subject sessions) s false c.in-None-2.ensures.none c.if-is_full.ensures.full) fresh c.put_line.ensures.bytes)
 
 pub start-requires-clause-room : goal.start-requires-clause-room
-start-requires-clause-room g c = grind (arith, nat_tests, c.if-is_full.ensures)
+start-requires-clause-room g c = grind (arith, nat_tests, c.if-is_full.ensures.full)
 
 pub start-requires-clause-closed : goal.start-requires-clause-closed
 start-requires-clause-closed g c = c.in-None-2.ensures.none

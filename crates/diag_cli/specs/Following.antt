@@ -1,5 +1,5 @@
 -- What a course did, with the input and the output.
-use Rattle.std.specs.Prelude.{◌≡◌, ◌⊎◌, ◌<◌, ◌≤◌, ℕ, List, ◌++◌, length, Option}
+use Rattle.std.specs.Prelude.{◌≡◌, ◌⊎◌, ◌+◌, ◌<◌, ◌≤◌, ℕ, List, ◌++◌, length, Option}
 use Rattle.std.specs.Io.KnownBytes.{Consumes, IsAtEnd}
 use Rattle.text_rules.specs.TextLines.{whole_lines, all_lines}
 use Rattle.session_rules.specs.Items.{Item}
@@ -7,17 +7,34 @@ use Rattle.session_rules.specs.Spelling.{WritesPart}
 use Rattle.diag_cli.specs.declared.serving.TheConstants.{SCRIPT_LIMIT}
 use Rattle.diag_cli.specs.Output.{Output, Gives, no_memory}
 use Rattle.diag_cli.specs.Courses.{End, Ended, Failed, Cut, Course, Tells, Serves, served}
-use Rattle.diag_cli.specs.Runs.{Reading, Writing, IsIdle}
+
+-- what a source of bytes shows at a time: the bytes still to come, where they are told, how many were taken, and its faults
+pub record Reading : Type 0 where
+  pub left : Option (List ℕ)
+  pub taken : ℕ
+  pub faults : ℕ
+
+-- what a sink shows at a time: the bytes accepted, where they are told, and its faults
+pub record Writing : Type 0 where
+  pub got : Option (List ℕ)
+  pub faults : ℕ
+
+-- nothing was taken, no call failed, and what was to come still is
+pub record IsIdle (before after : Reading) : Type 0 where
+  pub left : after.left ≡ before.left
+  pub taken : after.taken ≡ before.taken
+  pub faults : after.faults ≡ before.faults
 
 -- what is known of the end of a script of which these bytes were taken
 abbrev pub EndsAs : End → List ℕ → (at_end a_read_failed no_read_failed : Type 0) → Type 0
 EndsAs Ended bytes at_end a_read_failed no_read_failed = at_end × (length bytes < SCRIPT_LIMIT) × no_read_failed
-EndsAs Failed bytes at_end a_read_failed no_read_failed = a_read_failed
+EndsAs Failed bytes at_end a_read_failed no_read_failed = (length bytes < SCRIPT_LIMIT) × a_read_failed
 EndsAs Cut bytes at_end a_read_failed no_read_failed = (length bytes ≡ SCRIPT_LIMIT) × no_read_failed
 
 -- Bytes of a script were taken, and answered. If a write failed, it was with the last line, which tells why the script ended.
 pub record IsAnswered (answers : List (List ℕ) → List Item) (input new_input : Reading) (out new_out : Writing) (status : ℕ) : Type 0 where
   pub bytes : List ℕ
+  pub counted : new_input.taken ≡ input.taken + length bytes
   pub end : End
   pub took : Consumes input.left new_input.left bytes
   pub ends : EndsAs end bytes (IsAtEnd new_input.left) (input.faults < new_input.faults) (new_input.faults ≡ input.faults)
@@ -31,6 +48,7 @@ AreTaken lines bytes at_end =
 -- A write failed before that. What was written begins the answers to lines that were taken, whatever lines come behind them.
 pub record IsBroken (answers : List (List ℕ) → List Item) (input new_input : Reading) (out new_out : Writing) : Type 0 where
   pub bytes : List ℕ
+  pub counted : new_input.taken ≡ input.taken + length bytes
   pub took : Consumes input.left new_input.left bytes
   pub reads : new_input.faults ≡ input.faults
   pub lines : List (List ℕ)

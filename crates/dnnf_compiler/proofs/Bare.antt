@@ -1,0 +1,147 @@
+-- No constant is a child.
+use Rattle.std.proofs.Common.{◌≡◌, ◌≢◌, ℕ, zero, suc, ◌+◌, ◌<◌, Bool, true, false, ◌||◌, List, [], ◌∷◌, ◌++◌, map, length, Option, Some, None, All, refl, ap, sym, ◌∙◌, subst, arith, inl, inr, append_assoc}
+use Rattle.std.specs.Prelude.{slice_get, IfSome, Contains, ◌==◌, ◌⊎◌}
+use Rattle.std.proofs.lemmas.Bool.{eqb-true}
+use Rattle.std.proofs.lemmas.Option.{slice_get_within}
+use Rattle.graph_rules.specs.declared.NodeKind.{NodeKind}
+use Rattle.graph_rules.specs.declared.NodeKind.TheVariants.{Literal, And, Or}
+use Rattle.graph_rules.specs.Graphs.{Node, true_node, literal_node, is_true, mention_by, mentions, AreNodes}
+use Rattle.graph_rules.proofs.NodeValues.{value_of-get}
+use Rattle.graph_rules.proofs.NodesFit.{fits-get}
+use Rattle.node_store.specs.Stores.{Stored, IsStore, Makes, Means, AddsAtMost, literals, is_bare, HasNoBareKid}
+use Rattle.node_store.proofs.Copying.{before}
+use Rattle.dnnf_compiler.specs.declared.maker.Maker.{Maker}
+use Rattle.dnnf_compiler.specs.inner.Joining.{Grows, IsPlain}
+use Rattle.dnnf_compiler.specs.inner.Making.{IsMaker, IsJoin}
+use Rattle.dnnf_compiler.proofs.Making.{kept_in, adds_store, get-push}
+use Rattle.dnnf_compiler.proofs.Growing.{grows_by}
+
+in_all : (P : ℕ → Type 0) (ks : List ℕ) (c : ℕ) → Contains ks c → All P ks → P c
+in_all P ks c (j, h, e) all = subst P e (all j c h)
+
+-- ---- what mentions a variable is none
+
+filled : (x : ℕ) (ks : List ℕ) → (length (x ∷ ks) == 0) ≡ false
+filled x ks = by (length (x ∷ ks) == 0) refl where
+  by : (b : Bool) → (length (x ∷ ks) == 0) ≡ b → (length (x ∷ ks) == 0) ≡ false
+  by false e = e
+  by true e = absurd (let none = eqb-true (length (x ∷ ks)) 0 e in omega (arith, none))
+
+silent : (nodes : List Node) (v : ℕ) (what : NodeKind) (ks : List ℕ) → is_bare what ks ≡ true → mention_by v what (map (mentions nodes v) ks) ≡ false
+silent nodes v (Literal var positive) ks e = absurd (let never : ⊥ = cc in never)
+silent nodes v And [] e = refl
+silent nodes v And (k ∷ ks) e = absurd (let clash : true ≡ false = sym e ∙ filled k ks in let never : ⊥ = cc in never)
+silent nodes v Or [] e = refl
+silent nodes v Or (k ∷ ks) e = absurd (let clash : true ≡ false = sym e ∙ filled k ks in let never : ⊥ = cc in never)
+
+pub named_plain : (vars : ℕ) (nodes : List Node) (k v : ℕ) → AreNodes vars nodes → mentions nodes v k ≡ true → IsPlain nodes k
+named_plain vars nodes k v are named = λ node there. by node there (is_bare node.what node.kids) refl where
+  by : (node : Node) → slice_get nodes k ≡ Some node → (b : Bool) → is_bare node.what node.kids ≡ b → is_bare node.what node.kids ≡ false
+  by node there false e = e
+  by node there true e =
+      let none : mentions nodes v k ≡ false = value_of-get (mention_by v) nodes k node there (fits-get vars nodes k node are.fit there).below ∙ silent nodes v node.what node.kids e in
+      let clash : true ≡ false = sym named ∙ none in
+      absurd (let never : ⊥ = cc in never)
+
+pub named_all : (vars : ℕ) (nodes : List Node) (v : ℕ) (o : Option ℕ) → AreNodes vars nodes → IfSome o (λ n. mentions nodes v n ≡ true) → IfSome o (IsPlain nodes)
+named_all vars nodes v None are named = tt
+named_all vars nodes v (Some n) are named = named_plain vars nodes n v are named
+
+pub names_grow : (old new : List Node) (v : ℕ) (o : Option ℕ) → Grows old new → IfSome o (λ n. n < length old) → IfSome o (λ n. mentions old v n ≡ true) → IfSome o (λ n. mentions new v n ≡ true)
+names_grow old new v None g h named = tt
+names_grow old new v (Some n) g h named = g.variables n v h ∙ named
+
+-- any node but the two that are kept is none
+pub other_plain : (m : Maker) → IsMaker m → (k : ℕ) → k ≢ m.yes → k ≢ m.no → IsPlain m.store.nodes k
+other_plain m is k not_yes not_no = λ node there. by node.what node.kids there where
+  by : (what : NodeKind) (kids : List ℕ) → slice_get m.store.nodes k ≡ Some (record { what = what; kids = kids }) → is_bare what kids ≡ false
+  by (Literal var positive) kids e = refl
+  by And [] e = absurd (not_yes (is.store.once k m.yes true_node e is.yes_node))
+  by And (x ∷ kids) e = filled x kids
+  by Or [] e = absurd (not_no (is.store.once k m.no (record { what = Or; kids = [] }) e is.no_node))
+  by Or (x ∷ kids) e = filled x kids
+
+-- ---- one more node
+
+pub bare_push : (vars : ℕ) (old new : List Node) (node : Node) → AreNodes vars old → AddsAtMost old node new → HasNoBareKid old → ((k : ℕ) → Contains node.kids k → (k < length old) × IsPlain old k) → HasNoBareKid new
+bare_push vars old new node are (inl e) none plain = subst HasNoBareKid (sym e) none
+bare_push vars old new node are (inr e) none plain = subst HasNoBareKid (sym e) (λ parent child n kid there has kid_there. by parent child n kid has kid_there (get-push old node n parent there)) where
+  earlier : (child : ℕ) (kid : Node) → child < length old → slice_get (old ++ node ∷ []) child ≡ Some kid → slice_get old child ≡ Some kid
+  earlier child kid h there = elim (get-push old node kid child there) [
+    | inl last ↦ absurd (omega (arith, h, last.0))
+    | inr is ↦ is
+  ]
+
+  by : (parent child : ℕ) (n kid : Node) → Contains n.kids child → slice_get (old ++ node ∷ []) child ≡ Some kid → ((parent ≡ length old) × (node ≡ n)) ⊎ (slice_get old parent ≡ Some n) → is_bare kid.what kid.kids ≡ false
+  by parent child n kid has kid_there (inl last) =
+      let one = plain child (subst (λ (x : Node). Contains x.kids child) (sym last.1) has) in
+      one.1 kid (earlier child kid one.0 kid_there)
+  by parent child n kid has kid_there (inr there) =
+      let low : child < parent = in_all (λ k. k < parent) n.kids child has (before vars old are parent n there) in
+      none parent child n kid there has (earlier child kid (omega (arith, low, slice_get_within old parent n there)) kid_there)
+
+pub two_plain : (P : ℕ → Type 0) (a b : ℕ) → P a → P b → (k : ℕ) → Contains (a ∷ b ∷ []) k → P k
+two_plain P a b p q k (zero, h, e) = subst P e p
+two_plain P a b p q k (suc zero, h, e) = subst P e q
+two_plain P a b p q k (suc (suc i), h, e) = absurd (omega (arith, h))
+
+-- ---- at the beginning no node has a child
+
+abbrev HaveNoKids : List Node → Type 0
+HaveNoKids nodes = (i : ℕ) (n : Node) → slice_get nodes i ≡ Some n → n.kids ≡ []
+
+one_kidless : (nodes : List Node) (node : Node) → HaveNoKids nodes → node.kids ≡ [] → HaveNoKids (nodes ++ node ∷ [])
+one_kidless nodes node none e i n there = elim (get-push nodes node n i there) [
+  | inl last ↦ ap (λ (x : Node). x.kids) (sym last.1) ∙ e
+  | inr is ↦ none i n is
+]
+
+two_kidless : (nodes : List Node) (a b : Node) → HaveNoKids nodes → a.kids ≡ [] → b.kids ≡ [] → HaveNoKids (nodes ++ (a ∷ b ∷ []))
+two_kidless nodes a b none e f = subst HaveNoKids (append_assoc nodes (a ∷ []) (b ∷ [])) (one_kidless (nodes ++ a ∷ []) b (one_kidless nodes a none e) f)
+
+literals_kidless : (n : ℕ) → HaveNoKids (literals n)
+literals_kidless zero i n there = absurd (let never : ⊥ = cc in never)
+literals_kidless (suc n) i m there = two_kidless (literals n) (literal_node (n + 1) true) (literal_node (n + 1) false) (literals_kidless n) refl refl i m there
+
+grown_kidless : (old new : List Node) (node : Node) → AddsAtMost old node new → HaveNoKids old → node.kids ≡ [] → HaveNoKids new
+grown_kidless old new node (inl e) none f = subst HaveNoKids (sym e) none
+grown_kidless old new node (inr e) none f = subst HaveNoKids (sym e) (one_kidless old node none f)
+
+pub first_bare : (vars : ℕ) (nodes mid new : List Node) (a b : Node) → nodes ≡ literals vars → AddsAtMost nodes a mid → a.kids ≡ [] → AddsAtMost mid b new → b.kids ≡ [] → HasNoBareKid new
+first_bare vars nodes mid new a b is one e two f = λ parent child n kid there has kid_there.
+    let none = grown_kidless mid new b two (grown_kidless nodes mid a one (subst HaveNoKids (sym is) (literals_kidless vars)) e) f parent n there in
+    absurd (omega (arith, has.1, ap length none))
+
+-- ---- one of two
+
+or_false : (b : Bool) → (b || false) ≡ b
+or_false true = refl
+or_false false = refl
+
+module _ (m : Maker) (s : Stored) (first second node : ℕ) (is : IsMaker m) where
+  abbrev either : Node
+  either = record { what = Or; kids = first ∷ second ∷ [] }
+
+  abbrev IsChild : ℕ → Type 0
+  IsChild k = (k < length m.store.nodes) × IsPlain m.store.nodes k
+
+  of_two : IsChild first → IsChild second → Makes m.store s Or (first ∷ second ∷ []) node → Means m.store.nodes s.nodes Or (first ∷ second ∷ []) node → IsStore s
+      → IsJoin m (record m { store = s }) (Some first) (Some second) node
+  of_two one two makes means store = record {
+    adds = adds_store m s is store (kept_in m.store.nodes s.nodes either makes.nodes)
+        (bare_push m.store.vars m.store.nodes s.nodes either is.store.nodes makes.nodes is.bare (two_plain IsChild first second one two))
+        (grows_by m.store.nodes s.nodes Or (first ∷ second ∷ []) node makes.nodes means) makes.vars (omega (arith, makes.made)) (omega (arith, makes.handed));
+    within = slice_get_within s.nodes node either makes.there;
+    truth = λ a. means.truth a ∙ ap (λ b. is_true m.store.nodes first a || b) (or_false (is_true m.store.nodes second a));
+    variables = λ v no_first no_second. means.variables v ∙ (λ j. no_first j || (no_second j || false));
+  }
+
+pub join_both : (m : Maker) (s : Stored) (off on : Option ℕ) (first second node : ℕ) → IsMaker m → off ≡ Some first → on ≡ Some second → IfSome off (λ n. n < length m.store.nodes) → IfSome on (λ n. n < length m.store.nodes)
+    → IfSome off (IsPlain m.store.nodes) → IfSome on (IsPlain m.store.nodes) → Makes m.store s Or (first ∷ second ∷ []) node → Means m.store.nodes s.nodes Or (first ∷ second ∷ []) node → IsStore s
+    → IsJoin m (record m { store = s }) off on node
+join_both m s off on first second node is e f off_in on_in off_plain on_plain makes means store =
+    subst (λ o. IsJoin m (record m { store = s }) o on node) (sym e)
+    (subst (λ o. IsJoin m (record m { store = s }) (Some first) o node) (sym f)
+    (of_two m s first second node is
+    (subst (λ o. IfSome o (λ n. n < length m.store.nodes)) e off_in, subst (λ o. IfSome o (IsPlain m.store.nodes)) e off_plain)
+    (subst (λ o. IfSome o (λ n. n < length m.store.nodes)) f on_in, subst (λ o. IfSome o (IsPlain m.store.nodes)) f on_plain) makes means store))

@@ -21,7 +21,13 @@ const SAME: File = File {
     text: "INPUT(a)\ny = NAND(a, a)\n",
 };
 
-const ROWS: [Row; 23] = [
+// An adder of two bits whose names begin with the kinds of the gates. By these its sum is 8531.
+const BY_KIND: File = File {
+    name: "kinds.bench",
+    text: "INPUT(in_c0)\nINPUT(in_a0)\nINPUT(in_b0)\nINPUT(in_a1)\nINPUT(in_b1)\nxor_half0 = XOR(in_a0, in_b0)\nand_both0 = AND(in_a0, in_b0)\nand_carried0 = AND(xor_half0, in_c0)\nxor_sum0 = XOR(xor_half0, in_c0)\nor_out0 = OR(and_both0, and_carried0)\nxor_half1 = XOR(in_a1, in_b1)\nand_both1 = AND(in_a1, in_b1)\nand_carried1 = AND(xor_half1, or_out0)\nxor_sum1 = XOR(xor_half1, or_out0)\nor_out1 = OR(and_both1, and_carried1)\n",
+};
+
+const ROWS: [Row; 28] = [
     // The inputs are 0, so 22 and 23 are to be 0.
     Row {
         file: C17_FILE,
@@ -176,6 +182,44 @@ const ROWS: [Row; 23] = [
         script: "open S\nsee S a=1\nsee S y=1\nmin S\n",
         out: "ready 1 2\nS open\nS ok\nS ok\nS min 1 y\n",
         status: 0,
+    },
+    Row {
+        file: BY_KIND,
+        words: &["serve", "kinds.bench", "--budget", "8530"],
+        script: "open S\n",
+        out: "error: sum above 8530\n",
+        status: 3,
+    },
+    // In another order it is far smaller. All that is added is 0, so the upper sum is to be 0: a diagnosis is its own gate, its half
+    // sum, or one of those that carry. They are told in the order of the names.
+    Row {
+        file: BY_KIND,
+        words: &["serve", "kinds.bench", "--narrow", "--budget", "1000"],
+        script: "open S\nsee S in_c0=0\nsee S in_a0=0\nsee S in_b0=0\nsee S in_a1=0\nsee S in_b1=0\nsee S xor_sum1=1\nmin S\nlist S 9\nprobe S or_out0\n",
+        out: "ready 10 15\nS open\nS ok\nS ok\nS ok\nS ok\nS ok\nS ok\nS min 1 and_both0\nS diag and_both0\nS diag and_carried0\nS diag or_out0\nS diag xor_half1\nS diag xor_sum1\nS end\nS probe or_out0 1 1\n",
+        status: 0,
+    },
+    Row {
+        file: C17_FILE,
+        words: &["serve", "c17.bench", "--sessions", "2", "--narrow"],
+        script: "open S\nsee S 1=0\nsee S 2=0\nsee S 3=0\nsee S 6=0\nsee S 7=0\nsee S 22=1\nsee S 23=0\nmin S\nlist S 9\n",
+        out: "ready 6 11\nS open\nS ok\nS ok\nS ok\nS ok\nS ok\nS ok\nS ok\nS min 1 10\nS diag 10\nS diag 22\nS end\n",
+        status: 0,
+    },
+    // Both of its clauses name its variables in the same order, so that each order of them has the same sum.
+    Row {
+        file: NOT,
+        words: &["plan", "not.bench", "--narrow"],
+        script: "open S\n",
+        out: "parts 1\nwires 2\nclauses 2\nsum 7\n",
+        status: 0,
+    },
+    Row {
+        file: NOT,
+        words: &["compile", "not.bench", "--narrow", "--budget", "6"],
+        script: "open S\n",
+        out: "error: sum above 6\n",
+        status: 3,
     },
     Row {
         file: File {
@@ -379,7 +423,7 @@ const REFUSED: [(&str, &str, &str); 34] = [
 ];
 
 // Words that ask for nothing that the program does.
-const WRONG: [&[&str]; 25] = [
+const WRONG: [&[&str]; 31] = [
     &[],
     &["serve"],
     &["--help"],
@@ -393,6 +437,12 @@ const WRONG: [&[&str]; 25] = [
     &["serve", "c17.bench", "--sessions", "0"],
     &["serve", "c17.bench", "--sessions", "1025"],
     &["serve", "c17.bench", "--sessions", "2", "--sessions", "2"],
+    &["serve", "c17.bench", "--narrow", "--narrow"],
+    &["serve", "c17.bench", "--narrow", "3"],
+    &["serve", "--narrow", "c17.bench"],
+    &["plan", "c17.bench", "--narrow", "--narrow"],
+    &["check", "a.nnf", "--narrow"],
+    &["load", "1", "--narrow"],
     &["answer", "c17.bench"],
     &["check", "c17.bench"],
     &["plan", "c17.nnf"],

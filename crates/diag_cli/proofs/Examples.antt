@@ -1,9 +1,8 @@
 -- Worked rows: what words ask for, and how a script ends. Their check computes both sides.
-use Rattle.std.proofs.Common.{◌≡◌, ◌^◌, ℕ, List, [], ◌∷◌, map, true, false, Some, None, codes, refl}
+use Rattle.std.proofs.Common.{◌≡◌, ℕ, List, [], ◌∷◌, map, true, false, Some, None, codes, refl}
 use Rattle.std.specs.Fmt.{digits}
 use Rattle.session_rules.specs.Items.{Item, Plain}
 use Rattle.diag_cli.specs.Words.{Load, Over, Serve, Plan, Check, Compile, form_of}
-use Rattle.diag_cli.specs.declared.serving.TheConstants.{SCRIPT_LIMIT}
 use Rattle.diag_cli.specs.Describing.{long_file_line}
 use Rattle.diag_cli.specs.Courses.{Ended, Failed, Cut, read_error, script_too_long, served}
 
@@ -154,10 +153,7 @@ failed = refl
 cut : served itself half Cut ≡ record { items = Plain (codes "open S") ∷ Plain script_too_long ∷ []; status = 7 }
 cut = refl
 
--- ---- limits
-
-the_limit_of_scripts : SCRIPT_LIMIT ≡ 2 ^ 40
-the_limit_of_scripts = refl
+-- ---- lines that tell a limit
 
 a_long_script : script_too_long ≡ codes "error: script above 1099511627776 bytes\n"
 unfolding digits

@@ -1,4 +1,5 @@
 mod Examples
+mod Limits
 pub mod WordLemmas
 pub mod Running
 pub mod ServedDevices

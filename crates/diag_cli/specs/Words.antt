@@ -65,7 +65,7 @@ is_graph_path path = ends_in (codes ".nnf") path
 abbrev pub no_options : Options
 no_options = record { budget = None; sessions = None; narrow = false }
 
--- a device is planned in another order, or in its own
+-- neither `--budget` nor `--sessions` was given
 abbrev pub has_no_number : Options → Bool
 has_no_number options = is_none options.budget && is_none options.sessions
 

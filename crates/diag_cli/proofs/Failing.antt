@@ -1,7 +1,8 @@
 -- What was given, where all of it was put or a write failed.
-use Rattle.std.proofs.Common.{◌≡◌, ◌≢◌, ℕ, List, [], ◌∷◌, ◌++◌, Option, Result, Ok, Err, IsErr, refl, sym, ◌∙◌, subst}
+use Rattle.std.proofs.Common.{◌≡◌, ◌≢◌, ℕ, List, [], ◌∷◌, ◌++◌, inl, inr, Option, Result, Ok, Err, IsErr, refl, sym, ◌∙◌, subst}
 use Rattle.std.specs.Prelude.{MatchResult}
 use Rattle.std.specs.Io.KnownBytes.{Appends}
+use Rattle.std.proofs.lemmas.Bool.{cases_eq}
 use Rattle.diag_edge.specs.Edge.{AppendsPrefix, Puts}
 use Rattle.session_rules.specs.Items.{Item, Plain}
 use Rattle.session_rules.specs.Spelling.{Writes, WritesPart, Replies}
@@ -19,6 +20,13 @@ gives_all output s a b other is written = record { whole = λ _. (is, written); 
 -- a write failed
 pub gives_part : (output : Output) (s : ℕ) (a b : Option (List ℕ)) → s ≡ 5 → WritesPart a b output.items → Gives output s a b
 gives_part output s a b five begun = record { whole = λ other. absurd (other five); broken = λ _. begun }
+
+-- so some text was put
+pub given_grows : (output : Output) (s : ℕ) (a b : Option (List ℕ)) → Gives output s a b → (text : List ℕ) × Appends a b text
+given_grows output s a b said = elim (cases_eq s 5) [
+  | inl five ↦ let part = said.broken five in (part.text, part.grown)
+  | inr other ↦ let all = (said.whole other).1 in (all.text, all.grown)
+]
 
 -- ---- one line
 

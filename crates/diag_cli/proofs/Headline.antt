@@ -1,11 +1,12 @@
 -- From what was done by a course to what holds of a run.
-use Rattle.std.proofs.Common.{◌≡◌, ◌≢◌, ◌⊎◌, ◌<◌, ◌≤◌, ◌+◌, ℕ, true, false, List, [], length, replicate, Option, Some, None, IfSome, inl, inr, refl, ◌∙◌, ap, subst, sym, arith, nat_le}
+use Rattle.std.proofs.Common.{◌≡◌, ◌≢◌, ◌⊎◌, ◌<◌, ◌≤◌, ◌+◌, ℕ, true, false, List, [], length, replicate, Option, Some, None, IfSome, inl, inr, refl, ◌∙◌, ap, subst, sym, arith, nat_le, append-nil}
 use Rattle.std.specs.Prelude.{Result, Ok, Err}
 use Rattle.std.specs.Io.KnownBytes.{Consumes, IsAtEnd}
 use Rattle.std.specs.Option.{IsSome}
 use Rattle.std.proofs.lemmas.List.{length-replicate}
 use Rattle.std.proofs.lemmas.Bool.{cases_eq}
 use Rattle.text_rules.specs.declared.text_lines.TheConstants.{TEXT_LIMIT}
+use Rattle.text_rules.specs.TextLines.{whole_lines}
 use Rattle.text_rules.specs.Expected.{IsExpectedFault}
 use Rattle.diag_edge.specs.Edge.{RoseExactly, Holding, absent, told_bytes}
 use Rattle.diag_edge.specs.declared.loading.LoadError.{LoadError}
@@ -23,7 +24,7 @@ use Rattle.diag_cli.specs.Courses.{End, Ended, Failed, Cut, Course, Tells, Serve
 use Rattle.diag_cli.specs.Loads.{loaded}
 use Rattle.diag_cli.specs.Refusals.{or_memory}
 use Rattle.diag_cli.specs.Runs.{GivesUnlessShort, IsDone, IsRun}
-use Rattle.diag_cli.specs.Following.{Reading, Writing, IsIdle, EndsAs, AreTaken, CameTo, IsServed, GivesUnlessMemory, Follows}
+use Rattle.diag_cli.specs.Following.{Reading, Writing, IsIdle, EndsAs, AreTaken, CameTo, IsServed, WritesFirst, IsStopped, GivesUnlessMemory, Follows}
 use Rattle.diag_cli.proofs.Failing.{gives_part}
 use Rattle.diag_cli.proofs.Unread.{IsUnread}
 use Rattle.diag_cli.proofs.Scripts.{taken_all, broken_begins_all}
@@ -129,24 +130,42 @@ module _ (input new_input : Reading) (out new_out : Writing) (status : ℕ) wher
   output_of (Serves answers) (Some script) told done = λ kept. whole_answer answers script told kept done
 
   -- a read failed
-  fault_of : (answers : List (List ℕ) → List Item) → input.faults < new_input.faults → IsServed answers input new_input out new_out status
-      → (bytes : List ℕ) × (new_input.taken ≡ input.taken + length bytes) × Consumes input.left new_input.left bytes × Gives (served answers bytes Failed) status out.got new_out.got
+  abbrev FaultAnswered : (List (List ℕ) → List Item) → Type 0
+  FaultAnswered answers =
+      (bytes : List ℕ) × (new_input.taken ≡ input.taken + length bytes) × Consumes input.left new_input.left bytes
+      × WritesFirst out.got new_out.got (answers (whole_lines bytes)) × Gives (served answers bytes Failed) status out.got new_out.got
+
+  fault_of : (answers : List (List ℕ) → List Item) → input.faults < new_input.faults → IsServed answers input new_input out new_out status → FaultAnswered answers
   fault_of answers rises done = by done.answer
     where
       never : new_input.faults ≡ input.faults → ⊥
       never kept = omega (arith, kept, rises)
 
       at : (bytes : List ℕ) (end : End) → new_input.taken ≡ input.taken + length bytes → Consumes input.left new_input.left bytes → EndsAs end bytes (IsAtEnd new_input.left) (input.faults < new_input.faults) (new_input.faults ≡ input.faults)
-          → Gives (served answers bytes end) status out.got new_out.got
-          → (taken : List ℕ) × (new_input.taken ≡ input.taken + length taken) × Consumes input.left new_input.left taken × Gives (served answers taken Failed) status out.got new_out.got
-      at bytes Ended counted took ends gives = absurd (never ends.2)
-      at bytes Failed counted took ends gives = (bytes, counted, took, gives)
-      at bytes Cut counted took ends gives = absurd (never ends.1)
+          → WritesFirst out.got new_out.got (answers (whole_lines bytes)) → Gives (served answers bytes end) status out.got new_out.got → FaultAnswered answers
+      at bytes Ended counted took ends answered gives = absurd (never ends.2)
+      at bytes Failed counted took ends answered gives = (bytes, counted, took, answered, gives)
+      at bytes Cut counted took ends answered gives = absurd (never ends.1)
 
-      by : CameTo answers input new_input out new_out status → (bytes : List ℕ) × (new_input.taken ≡ input.taken + length bytes) × Consumes input.left new_input.left bytes × Gives (served answers bytes Failed) status out.got new_out.got
+      by : CameTo answers input new_input out new_out status → FaultAnswered answers
       by (inl memory) = absurd (never memory.0.faults)
-      by (inr (inl answered)) = at answered.bytes answered.end answered.counted answered.took answered.ends answered.gives
+      by (inr (inl answered)) = at answered.bytes answered.end answered.counted answered.took answered.ends answered.answered answered.gives
       by (inr (inr broken)) = absurd (never broken.1.reads)
+
+  -- a write failed, after bytes were taken
+  stopped_of : (answers : List (List ℕ) → List Item) → status ≡ 5 → input.taken < new_input.taken → IsServed answers input new_input out new_out status
+      → (bytes : List ℕ) × (new_input.taken ≡ input.taken + length bytes) × Consumes input.left new_input.left bytes × IsStopped answers bytes out.got new_out.got
+  stopped_of answers five moved done = by done.answer
+    where
+      by : CameTo answers input new_input out new_out status → (bytes : List ℕ) × (new_input.taken ≡ input.taken + length bytes) × Consumes input.left new_input.left bytes × IsStopped answers bytes out.got new_out.got
+      by (inl memory) = absurd (omega (arith, memory.0.taken, moved))
+      by (inr (inl answered)) = (
+        answered.bytes,
+        answered.counted,
+        answered.took,
+        record { fed = answered.bytes; piece = []; parts = sym (append-nil answered.bytes); one_read = omega arith; answered = answered.answered },
+      )
+      by (inr (inr broken)) = (broken.1.bytes, broken.1.counted, broken.1.took, broken.1.stopped (omega (arith, broken.1.counted, moved)))
 
   -- no more than the limit was taken
   few_taken : (course : Course) → Follows course input new_input out new_out status → new_input.taken ≤ input.taken + SCRIPT_LIMIT
@@ -213,6 +232,8 @@ module _ (input new_input : Reading) (out new_out : Writing) (status : ℕ) wher
       complete = all_complete (Some (Over path command)) shelf new_shelf input new_input out new_out status writes (told_bytes (held path)) (λ bytes. whole_output (course_by order path command bytes) input.left) given;
       script_fault = some_map (told_bytes (held path)) (λ bytes same answers course rises.
           fault_of answers rises (served_of (course_by order path command file) answers (ap (course_by order path command) same ∙ course) done)) is;
+      stopped = some_map (told_bytes (held path)) (λ bytes same answers course five moved.
+          stopped_of answers five moved (served_of (course_by order path command file) answers (ap (course_by order path command) same ∙ course) done)) is;
       memory = λ six. idle_at_six six (course_by order path command file) done;
       all_read = some_map (told_bytes (held path)) (λ bytes same answers course zero.
           (served_of (course_by order path command file) answers (ap (course_by order path command) same ∙ course) done).all_read zero) is;
@@ -333,6 +354,7 @@ module _ (order : ClauseList → ClauseList) (held : List ℕ → Holding) (shel
       output = given;
       complete = completed writes given;
       script_fault = some_all (told_bytes (held path)) (λ file answers course rises. never_rises rises);
+      stopped = some_all (told_bytes (held path)) (λ file answers course five moved. absurd (omega (arith, moved)));
       memory = λ six. idle;
       all_read = some_all (told_bytes (held path)) (λ file answers course zero. absurd (known (says read_error 4) said 0 zero (λ e. absurd (omega (arith, e))) (λ e. absurd (omega (arith, e)))));
       script_taken = omega arith;
@@ -362,6 +384,7 @@ module _ (order : ClauseList → ClauseList) (held : List ℕ → Holding) (shel
       output = given;
       complete = completed writes given;
       script_fault = some_all (told_bytes (held path)) (λ file answers course rises. never_rises rises);
+      stopped = some_all (told_bytes (held path)) (λ file answers course five moved. absurd (omega (arith, moved)));
       memory = λ six. idle;
       all_read = some_all (told_bytes (held path)) (λ file answers course zero. absurd (known output said 0 zero (λ e. absurd (omega (arith, e))) no0));
       script_taken = omega arith;
@@ -407,6 +430,7 @@ module _ (order : ClauseList → ClauseList) (held : List ℕ → Holding) (shel
     output = λ read taken. inr said;
     complete = completes None shelf shelf input input out new_out status writes (says usage_line 2) (λ read taken. inr said);
     script_fault = λ answers course rises. never_rises rises;
+    stopped = λ answers course five moved. absurd (omega (arith, moved));
     memory = λ six. idle;
     all_read = λ answers course zero. absurd (let never : ⊥ = cc in never);
     script_taken = omega arith;
@@ -432,6 +456,7 @@ module _ (order : ClauseList → ClauseList) (held : List ℕ → Holding) (shel
     output = λ read taken. with_form (Load places) said;
     complete = completes (Some (Load places)) shelf shelf input input out new_out status writes (loaded places) (λ read taken. with_form (Load places) said);
     script_fault = λ answers course rises. never_rises rises;
+    stopped = λ answers course five moved. absurd (omega (arith, moved));
     memory = λ six. idle;
     all_read = λ answers course zero. absurd (let never : ⊥ = cc in never);
     script_taken = omega arith;

@@ -12,3 +12,4 @@ pub mod PlannedDevices
 pub mod Adapting
 pub mod WholeGraphs
 pub mod LoadedAdders
+pub mod GateDevices

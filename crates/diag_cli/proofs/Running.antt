@@ -1,24 +1,79 @@
 -- What was written where a script was answered.
-use Rattle.std.proofs.Common.{◌≡◌, ℕ, List, [], ◌∷◌, ◌++◌, length, Option, sym, ◌∙◌, subst, codes}
+use Rattle.std.proofs.Common.{◌≡◌, ◌≤◌, ℕ, List, [], ◌∷◌, ◌++◌, length, Option, Some, None, refl, ap, sym, ◌∙◌, subst, codes, append_assoc, append-nil, arith}
 use Rattle.std.specs.Prelude.{decimal}
-use Rattle.std.specs.Io.KnownBytes.{Appends}
+use Rattle.std.specs.Io.KnownBytes.{Appends, append_known}
+use Rattle.text_rules.specs.TextLines.{whole_lines}
 use Rattle.text_rules.specs.Tokens.{spaced}
 use Rattle.ranking.specs.Systems.{System}
-use Rattle.session_rules.specs.Sessions.{Table, replies}
-use Rattle.session_rules.specs.Moves.{line_moves, script_moves}
-use Rattle.session_rules.specs.Spelling.{Writes, WritesPart}
+use Rattle.session_rules.specs.Items.{Item}
+use Rattle.session_rules.specs.Sessions.{Table, Step, replies}
+use Rattle.session_rules.specs.Moves.{said, left_by, line_moves, script_moves}
+use Rattle.session_rules.specs.Spelling.{Spells, Writes, WritesPart}
 use Rattle.session_rules.specs.GraphSystems.{system_of}
 use Rattle.session_rules.specs.Carrying.{Makes, BreaksOff}
 use Rattle.session_rules.specs.CaseSizes.{HasCasesOf}
 use Rattle.session_rules.proofs.Spellings.{writes_more, spells_one}
-use Rattle.session_rules.proofs.Whole.{said-replies}
+use Rattle.session_rules.proofs.Whole.{said-append, said-replies}
 use Rattle.session_rules.proofs.Begun.{part_more, part_after}
+use Rattle.session_rules.proofs.Broken.{breaks_after, script_moves-append}
 use Rattle.session_rules.proofs.Keeping.{HasCases-empty}
 use Rattle.session_rules.proofs.ReplyTexts.{replies-have, broken_begins_more}
 use Rattle.session_core.specs.Services.{Shown, moves_of, IsSound}
-use Rattle.session_core.proofs.Exact.{makes_over, breaks_over}
+use Rattle.session_core.specs.declared.serving.TheConstants.{READ_LIMIT}
+use Rattle.session_core.specs.Serving.{FailsBehind, FailsAtOnce}
+use Rattle.session_core.proofs.Exact.{makes_over, breaks_over, parted}
 use Rattle.diag_edge.specs.Edge.{AppendsPrefix}
+use Rattle.diag_edge.proofs.Growing.{grows_more}
+use Rattle.diag_cli.specs.Output.{Output, Gives}
 use Rattle.diag_cli.specs.Courses.{ready_line, answers_of}
+use Rattle.diag_cli.specs.Following.{WritesFirst, IsStopped}
+use Rattle.diag_cli.proofs.Failing.{given_grows}
+
+-- ---- nothing is read after a write that failed
+
+-- items were written, and then an output was given or begun
+pub first_given : (items : List Item) (output : Output) (status : ℕ) (a b c : Option (List ℕ)) → Writes a b items → Gives output status b c → WritesFirst a c items
+first_given items output status a b c written said =
+    let grown = given_grows output status b c said in
+    record { middle = b; written = written; text = grown.0; more = grown.1 }
+
+-- where two texts were put, one was, and then the other
+first_put : (a c : Option (List ℕ)) (xs ys : List ℕ) → Appends a c (xs ++ ys) → Appends a (append_known a xs) xs × Appends (append_known a xs) c ys
+first_put None c xs ys put = (tt, tt)
+first_put (Some olds) None xs ys put = absurd put
+first_put (Some olds) (Some news) xs ys put = (refl, put ∙ sym (append_assoc olds xs ys))
+
+-- moves were made and then others, so the first were written first
+first_of_all : (one : Table → List ℕ → List Step) (old new : Table) (lines more : List (List ℕ)) (a c : Option (List ℕ)) → Makes old new (script_moves one old (lines ++ more)) a c
+    → (b : Option (List ℕ)) × Makes old (left_by old (script_moves one old lines)) (script_moves one old lines) a b × ((text : List ℕ) × Appends b c text)
+first_of_all one old new lines more a c made =
+    let first = script_moves one old lines in
+    let later = script_moves one (left_by old first) more in
+    let all = ap said (script_moves-append one old lines more) ∙ said-append first later in
+    let parts = parted (said first) (said later) made.written.text (subst (λ (items : List Item). Spells items made.written.text) all made.written.spelled) in
+    let put = first_put a c parts.0 parts.1 (subst (λ (text : List ℕ). Appends a c text) parts.2 made.written.grown) in (
+      append_known a parts.0,
+      record { written = record { text = parts.0; spelled = parts.3; grown = put.0 }; table = refl },
+      (parts.1, put.1),
+    )
+
+-- where moves broke off, some text was put
+broken_grows : (new : Table) (moves : List Step) (a b : Option (List ℕ)) → BreaksOff new moves a b → (text : List ℕ) × Appends a b text
+broken_grows new moves a b broke =
+    (broke.written.text ++ broke.begun.text, grows_more a broke.middle b broke.written.text broke.begun.text broke.written.grown broke.begun.grown)
+
+module _ (one : Table → List ℕ → List Step) (old new : Table) (a b : Option (List ℕ)) where
+  -- lines were answered, and those behind them broke off
+  pub breaks_behind : (answered lines : List (List ℕ)) → FailsBehind one old new answered lines a b → BreaksOff new (script_moves one old (answered ++ lines)) a b
+  breaks_behind answered lines failed =
+      subst (λ (moves : List Step). BreaksOff new moves a b)
+      (ap (λ (t : Table). script_moves one old answered ++ script_moves one t lines) failed.made.table ∙ sym (script_moves-append one old answered lines))
+      (breaks_after failed.made failed.broke)
+
+  -- so all lines that the bytes end did
+  pub breaks_at_once : (bytes : List ℕ) → FailsAtOnce one old new bytes a b → BreaksOff new (script_moves one old (whole_lines bytes)) a b
+  breaks_at_once bytes at =
+      subst (λ (lines : List (List ℕ)). BreaksOff new (script_moves one old lines) a b) (sym at.ended) (breaks_behind (whole_lines at.fed) at.lines at.failed)
 
 -- the line `ready` was put
 ready_put : (system : System) (parts wires : ℕ) (a b : Option (List ℕ)) → parts ≡ length system.parts → wires ≡ length system.wires
@@ -45,6 +100,19 @@ module _ (shown : Shown) (sound : IsSound shown) where
       writes_more a b c (ready_line system ∷ []) (replies system shown.limit [] lines) (ready_put system parts wires a b p w ready)
       (subst (λ (t : Table). Writes b c (replies system shown.limit t lines)) none (subst (Writes b c) (said-replies system shown.limit old lines) over.written))
 
+  -- where more lines were answered behind some, these were answered first
+  pub answered_first : (old new : Table) (lines more : List (List ℕ)) (parts wires : ℕ) (a b c : Option (List ℕ)) → old ≡ [] → parts ≡ length shown.subject.parts → wires ≡ length shown.subject.wires
+      → Appends a b (spaced (codes "ready" ∷ decimal parts ∷ decimal wires ∷ []))
+      → Makes old new (script_moves (moves_of shown) old (lines ++ more)) b c → WritesFirst a c (answers_of (system_of shown.subject) shown.limit lines)
+  answered_first old new lines more parts wires a b c none p w ready made =
+      let first = first_of_all (moves_of shown) old new lines more b c made in
+      record {
+        middle = first.0;
+        written = ready_then old (left_by old (script_moves (moves_of shown) old lines)) lines parts wires a b first.0 none p w ready first.1;
+        text = first.2.0;
+        more = first.2.1;
+      }
+
   -- ---- a write failed
 
   -- with the line `ready`: that begins the answers to any lines
@@ -68,3 +136,34 @@ module _ (shown : Shown) (sound : IsSound shown) where
       part_after a b c (ready_line system ∷ []) (replies system shown.limit [] (lines ++ more)) (ready_put system parts wires a b p w ready)
       (broken_begins_more shown.subject sound.valid sound.room sound.few shown.limit [] new lines more b c (HasCases-empty system)
       (subst (λ (t : Table). BreaksOff new (script_moves (line_moves system shown.limit) t lines) b c) none over))
+
+  -- of bytes that are a front and a piece the front was answered, and a write failed in the lines behind
+  stopped_in : (old new : Table) (bytes fed piece : List ℕ) (lines : List (List ℕ)) (parts wires : ℕ) (a b c : Option (List ℕ)) → old ≡ [] → parts ≡ length shown.subject.parts → wires ≡ length shown.subject.wires
+      → Appends a b (spaced (codes "ready" ∷ decimal parts ∷ decimal wires ∷ []))
+      → bytes ≡ fed ++ piece → length piece ≤ READ_LIMIT → FailsBehind (moves_of shown) old new (whole_lines fed) lines b c → IsStopped (answers_of (system_of shown.subject) shown.limit) bytes a c
+  stopped_in old new bytes fed piece lines parts wires a b c none p w ready all few failed =
+      let grown = broken_grows new (script_moves (moves_of shown) failed.table lines) failed.middle c failed.broke in
+      record {
+        fed = fed;
+        piece = piece;
+        parts = all;
+        one_read = few;
+        answered = record {
+          middle = failed.middle;
+          written = ready_then old failed.table (whole_lines fed) parts wires a b failed.middle none p w ready failed.made;
+          text = grown.0;
+          more = grown.1;
+        };
+      }
+
+  pub stopped_at_once : (old new : Table) (bytes : List ℕ) (parts wires : ℕ) (a b c : Option (List ℕ)) → old ≡ [] → parts ≡ length shown.subject.parts → wires ≡ length shown.subject.wires
+      → Appends a b (spaced (codes "ready" ∷ decimal parts ∷ decimal wires ∷ []))
+      → FailsAtOnce (moves_of shown) old new bytes b c → IsStopped (answers_of (system_of shown.subject) shown.limit) bytes a c
+  stopped_at_once old new bytes parts wires a b c none p w ready at =
+      stopped_in old new bytes at.fed at.piece at.lines parts wires a b c none p w ready at.parts at.one_read at.failed
+
+  pub stopped_at_end : (old new : Table) (bytes : List ℕ) (lines : List (List ℕ)) (parts wires : ℕ) (a b c : Option (List ℕ)) → old ≡ [] → parts ≡ length shown.subject.parts → wires ≡ length shown.subject.wires
+      → Appends a b (spaced (codes "ready" ∷ decimal parts ∷ decimal wires ∷ []))
+      → FailsBehind (moves_of shown) old new (whole_lines bytes) lines b c → IsStopped (answers_of (system_of shown.subject) shown.limit) bytes a c
+  stopped_at_end old new bytes lines parts wires a b c none p w ready failed =
+      stopped_in old new bytes bytes [] lines parts wires a b c none p w ready (sym (append-nil bytes)) (omega arith) failed

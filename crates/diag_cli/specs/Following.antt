@@ -1,9 +1,10 @@
 -- What a course did, with the input and the output.
 use Rattle.std.specs.Prelude.{◌≡◌, ◌⊎◌, ◌+◌, ◌<◌, ◌≤◌, ℕ, List, ◌++◌, length, Option}
-use Rattle.std.specs.Io.KnownBytes.{Consumes, IsAtEnd}
+use Rattle.std.specs.Io.KnownBytes.{Appends, Consumes, IsAtEnd}
 use Rattle.text_rules.specs.TextLines.{whole_lines, all_lines}
 use Rattle.session_rules.specs.Items.{Item}
-use Rattle.session_rules.specs.Spelling.{WritesPart}
+use Rattle.session_rules.specs.Spelling.{Writes, WritesPart}
+use Rattle.session_core.specs.declared.serving.TheConstants.{READ_LIMIT}
 use Rattle.diag_cli.specs.declared.serving.TheConstants.{SCRIPT_LIMIT}
 use Rattle.diag_cli.specs.Output.{Output, Gives, no_memory}
 use Rattle.diag_cli.specs.Courses.{End, Ended, Failed, Cut, Course, Tells, Serves, served}
@@ -31,13 +32,30 @@ EndsAs Ended bytes at_end a_read_failed no_read_failed = at_end × (length bytes
 EndsAs Failed bytes at_end a_read_failed no_read_failed = (length bytes < SCRIPT_LIMIT) × a_read_failed
 EndsAs Cut bytes at_end a_read_failed no_read_failed = (length bytes ≡ SCRIPT_LIMIT) × no_read_failed
 
--- Bytes of a script were taken, and answered. If a write failed, it was with the last line, which tells why the script ended.
+-- items were written, and then perhaps more
+pub record WritesFirst (before after : Option (List ℕ)) (items : List Item) : Type 0 where
+  pub middle : Option (List ℕ)
+  pub written : Writes before middle items
+  pub text : List ℕ
+  pub more : Appends middle after text
+
+-- Nothing was read after a write that failed: of the bytes that were taken all but those of one read had been answered.
+pub record IsStopped (answers : List (List ℕ) → List Item) (bytes : List ℕ) (before after : Option (List ℕ)) : Type 0 where
+  pub fed : List ℕ
+  pub piece : List ℕ
+  pub parts : bytes ≡ fed ++ piece
+  pub one_read : length piece ≤ READ_LIMIT
+  pub answered : WritesFirst before after (answers (whole_lines fed))
+
+-- Bytes of a script were taken, and the lines that a line feed ended were answered. If a write failed, it was behind these, with a
+-- last line, or with the line that tells why the script ended.
 pub record IsAnswered (answers : List (List ℕ) → List Item) (input new_input : Reading) (out new_out : Writing) (status : ℕ) : Type 0 where
   pub bytes : List ℕ
   pub counted : new_input.taken ≡ input.taken + length bytes
   pub end : End
   pub took : Consumes input.left new_input.left bytes
   pub ends : EndsAs end bytes (IsAtEnd new_input.left) (input.faults < new_input.faults) (new_input.faults ≡ input.faults)
+  pub answered : WritesFirst out.got new_out.got (answers (whole_lines bytes))
   pub gives : Gives (served answers bytes end) status out.got new_out.got
 
 -- The whole lines of bytes, at most the limit; or all lines, where the end was met before it.
@@ -54,6 +72,7 @@ pub record IsBroken (answers : List (List ℕ) → List Item) (input new_input :
   pub lines : List (List ℕ)
   pub are : AreTaken lines bytes (IsAtEnd new_input.left)
   pub begun : (more : List (List ℕ)) → WritesPart out.got new_out.got (answers (lines ++ more))
+  pub stopped : 0 < length bytes → IsStopped answers bytes out.got new_out.got
 
 -- there was no memory to begin a script, or it was answered, or a write failed before that
 abbrev pub CameTo : (List (List ℕ) → List Item) → Reading → Reading → Writing → Writing → ℕ → Type 0

@@ -2,6 +2,7 @@
 use Rattle.std.specs.Prelude.{◌≡◌, ◌≢◌, ◌⊎◌, ◌↔◌, ◌+◌, ◌<◌, ◌≤◌, ℕ, min, false, List, length, Option, None, IfSome}
 use Rattle.std.specs.Option.{IsSome}
 use Rattle.std.specs.Io.KnownBytes.{Consumes, IsAtEnd}
+use Rattle.text_rules.specs.TextLines.{whole_lines}
 use Rattle.text_rules.specs.declared.text_lines.TheConstants.{TEXT_LIMIT}
 use Rattle.diag_edge.specs.Edge.{RoseExactly, Holding, absent}
 use Rattle.clause_encoder.specs.Clauses.{ClauseList}
@@ -10,7 +11,7 @@ use Rattle.session_rules.specs.Spelling.{Writes}
 use Rattle.diag_cli.specs.declared.serving.TheConstants.{SCRIPT_LIMIT}
 use Rattle.diag_cli.specs.Words.{Form, named_file, told_file, asks_script}
 use Rattle.diag_cli.specs.Output.{Output, Gives, no_memory, says}
-use Rattle.diag_cli.specs.Following.{Reading, Writing, IsIdle, Follows}
+use Rattle.diag_cli.specs.Following.{Reading, Writing, IsIdle, WritesFirst, IsStopped, Follows}
 use Rattle.diag_cli.specs.Courses.{Failed, Tells, Serves, read_error, served, whole_output, course_of}
 
 -- the output was given, or memory ran out, which it cannot where the words have no form
@@ -64,7 +65,12 @@ pub record IsRun (order : ClauseList → ClauseList) (form : Option Form) (held 
   -- Where a read of the script failed, the lines that a line feed had ended were answered before.
   pub script_fault : IfSome (told_file held (named_file form)) (λ file. (answers : List (List ℕ) → List Item) → course_of order form file ≡ Serves answers →
       input.faults < new_input.faults →
-      (bytes : List ℕ) × (new_input.taken ≡ input.taken + length bytes) × Consumes input.left new_input.left bytes × Gives (served answers bytes Failed) status out.got new_out.got)
+      (bytes : List ℕ) × (new_input.taken ≡ input.taken + length bytes) × Consumes input.left new_input.left bytes
+      × WritesFirst out.got new_out.got (answers (whole_lines bytes)) × Gives (served answers bytes Failed) status out.got new_out.got)
+  -- Where a write failed, nothing was read of the script after it: all that was taken before the last read had been answered.
+  pub stopped : IfSome (told_file held (named_file form)) (λ file. (answers : List (List ℕ) → List Item) → course_of order form file ≡ Serves answers →
+      status ≡ 5 → input.taken < new_input.taken →
+      (bytes : List ℕ) × (new_input.taken ≡ input.taken + length bytes) × Consumes input.left new_input.left bytes × IsStopped answers bytes out.got new_out.got)
   -- Where memory ran out, the script was not begun.
   pub memory : status ≡ 6 → IsIdle input new_input
   -- With status 0 a script that is answered was read to its end.

@@ -6,6 +6,7 @@ mod checking;
 mod compiling;
 mod describing;
 mod graphs;
+mod laws;
 mod loading;
 mod planning;
 mod program;
@@ -18,6 +19,7 @@ mod words;
 
 pub use adapters::{FileShelf, StdSink, StdSource, words_of};
 pub use describing::described;
+pub use laws::{loads_agree, netlists_agree};
 pub use program::diag;
 pub use refusal::{Refusal, above, tell};
 pub use saying::{say, say_load_error, say_usage};

@@ -86,12 +86,21 @@ fn says_true_of_no_clause(rt: HostRuntime) -> Result<(), Fail> {
 #[test]
 fn compiles_chains(rt: HostRuntime) -> Result<(), Fail> {
     let alloc = rt.alloc();
-    // Buffers in a row. The sum is five for each, and two.
-    for (count, made, nodes) in [(40, 608, 770), (1000, 15_008, 19_010)] {
+    // Buffers in a row. Their variables come in this order: part 1, wire 0, wire 1, and then the next part and its output. Nodes are
+    // made from the last variable to the first; what the wire before a part may be is written as a state.
+    // - 2 at the beginning: what is everywhere true, and what is nowhere.
+    // - 1 at the last wire: for the state in which it may be anything. In the other two it has to be 0, or 1, which is a literal.
+    // - 3 at each wire between two parts: for anything an or of two ands, which stand for 0 and 1 alone too.
+    // - 5 at each part but the first, whose input is 0 or 1: an or of two ands for each, and the and of the faulty part once.
+    // - 6 at wire 0: an or of two ands where part 1 is faulty, and where it is ok.
+    // - 3 at part 1: an or of two ands.
+    // So there are 8 a buffer, and 4. In the graph are all but the two constants, and both literals of each of the 2 * count + 1
+    // variables.
+    for (count, made, nodes) in [(1, 12, 16), (40, 324, 484), (1000, 8_004, 12_004)] {
         let cnf = encode(alloc, &gates(alloc, Kind::Buff, 1, count, true)?)?;
         let compiled = compiled(alloc, &cnf)?;
-        assert!(&rt; compiled.made <= made);
-        assert!(&rt; compiled.graph.len() <= nodes);
+        assert_eq!(&rt; compiled.made, made);
+        assert_eq!(&rt; compiled.graph.len(), nodes);
     }
     Ok(())
 }

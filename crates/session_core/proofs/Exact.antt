@@ -48,7 +48,7 @@ same_left t (e ∷ es) [] h = absurd h
 same_left t (e ∷ es) (m ∷ ms) h = ap (λ u. left_by u es) h.0.table ∙ same_left m.table es ms h.1
 
 -- a text of some items and of more is one of these and one of those
-parted : (xs ys : List Item) (text : List ℕ) → Spells (xs ++ ys) text → (front : List ℕ) × (rest : List ℕ) × (text ≡ front ++ rest) × Spells xs front × Spells ys rest
+pub parted : (xs ys : List Item) (text : List ℕ) → Spells (xs ++ ys) text → (front : List ℕ) × (rest : List ℕ) × (text ≡ front ++ rest) × Spells xs front × Spells ys rest
 parted [] ys text is = ([], text, refl, refl, is)
 parted (x ∷ xs) ys text (front, rest, all, one, more) =
     let later = parted xs ys rest more in (

@@ -1,13 +1,15 @@
 -- Bytes of a script that are taken piece by piece.
-use Rattle.std.proofs.Common.{◌≡◌, ◌≢◌, ◌<◌, ◌+◌, get_or, length, drop, Result, Ok, Err, OnErr, arith, ℕ, List, [], ◌∷◌, ◌++◌, take, Option, None, Some, refl, sym, ◌∙◌, ap, ap₂, subst, append-nil, true, false, if◌then◌else◌, ◌==◌, length-take, lit<}
+use Rattle.std.proofs.Common.{◌≡◌, ◌≢◌, ◌<◌, ◌≤◌, ◌+◌, get_or, length, drop, Result, Ok, Err, OnErr, arith, ℕ, List, [], ◌∷◌, ◌++◌, take, Option, None, Some, refl, sym, ◌∙◌, ap, ap₂, subst, append-nil, true, false, if◌then◌else◌, ◌==◌, length-take, lit<}
 use Rattle.std.specs.Prelude.{⊤}
 use Rattle.std.proofs.lemmas.Grind.{common_steps}
 use Rattle.std.proofs.lemmas.List.{take_more}
 use Rattle.std.specs.Io.KnownBytes.{Consumes, Keeps}
-use Rattle.text_rules.specs.TextLines.{last_line, whole_lines, all_lines}
+use Rattle.text_rules.specs.TextLines.{cut, last_line, whole_lines, all_lines}
 use Rattle.session_rules.specs.Sessions.{Table, Step}
 use Rattle.session_rules.specs.Moves.{left_by, script_moves}
 use Rattle.session_rules.specs.Carrying.{Makes, BreaksOff, CarriesOut}
+use Rattle.session_core.specs.declared.serving.TheConstants.{READ_LIMIT}
+use Rattle.session_core.specs.Serving.{FailsBehind, FailsAtOnce}
 use Rattle.session_core.specs.inner.Gathering.{ended_from, rest_from, IsCut, Fed}
 use Rattle.session_core.proofs.Lines.{take-take-same, cut_push, ended_from-start, rest_from-start}
 use Rattle.session_rules.proofs.Broken.{makes_none, makes_more, breaks_before, breaks_after, script_moves-append}
@@ -170,14 +172,37 @@ breaks_step {T} {E} {one} {s} {t} {u} {l} {k} {a} {b} {c} r piece i h less first
     ∙ ap (script_moves one s) (sym (ended_from-append l front behind) ∙ ap (ended_from l) all))
     (breaks_before later here))
 
--- a whole line broke off
-pub breaks_whole : (one : Table → List ℕ → List Step) (s t : Table) (a b : Option (List ℕ)) (bytes : List ℕ) → BreaksOff t (script_moves one s (ended_from [] bytes)) a b → BreaksOff t (script_moves one s (whole_lines bytes)) a b
-breaks_whole one s t a b bytes broke = subst (λ ls. BreaksOff t (script_moves one s ls) a b) (ended_from-start bytes) broke
+-- a line that the last piece ends broke off
+pub fails_at_once : {one : Table → List ℕ → List Step} {s t u : Table} {l fed : List ℕ} {a b c : Option (List ℕ)} (piece : List ℕ) → IsCut one → length piece ≤ READ_LIMIT
+    → Fed one s t [] l fed a b → BreaksOff u (script_moves one t (ended_from l piece)) b c → FailsAtOnce one s u (fed ++ piece) a c
+fails_at_once {one} {s} {t} {u} {l} {fed} {a} {b} {c} piece h few first broke =
+    let begun = rest_from [] fed in
+    record {
+      fed = fed;
+      piece = piece;
+      parts = refl;
+      one_read = few;
+      lines = ended_from begun piece;
+      ended = sym (ended_from-start (fed ++ piece)) ∙ ended_from-append [] fed piece ∙ ap (λ ls. ls ++ ended_from begun piece) (ended_from-start fed);
+      failed = record {
+        table = t;
+        middle = b;
+        made = makes_whole first;
+        broke = subst (λ ms. BreaksOff u ms b c) (script_moves-alike one h t (ended_from l piece) (ended_from begun piece) (ended_alike l begun piece first.begun)) broke;
+      };
+    }
 
 -- the last line broke off
-pub breaks_all : {one : Table → List ℕ → List Step} {s t u : Table} {l bytes : List ℕ} {a b c : Option (List ℕ)} → IsCut one → Fed one s t [] l bytes a b → BreaksOff u (script_moves one t (last_line l)) b c → BreaksOff u (script_moves one s (all_lines bytes)) a c
-breaks_all {one} {s} {t} {u} {l} {bytes} {a} {b} {c} h fed broke =
-    subst (λ ms. BreaksOff u ms a c) (moves_to_all one h s t l bytes fed.made.table fed.begun) (breaks_after fed.made broke)
+pub fails_at_end : {one : Table → List ℕ → List Step} {s t u : Table} {l bytes : List ℕ} {a b c : Option (List ℕ)} → IsCut one → Fed one s t [] l bytes a b → BreaksOff u (script_moves one t (last_line l)) b c
+    → FailsBehind one s u (whole_lines bytes) (last_line (cut bytes).unfinished) a c
+fails_at_end {one} {s} {t} {u} {l} {bytes} {a} {b} {c} h first broke =
+    let last = (cut bytes).unfinished in
+    record {
+      table = t;
+      middle = b;
+      made = makes_whole first;
+      broke = subst (λ ms. BreaksOff u ms b c) (script_moves-alike one h t (last_line l) (last_line last) (last_line_alike l last (first.begun ∙ ap (take 1048577) (rest_from-start bytes)))) broke;
+    }
 
 -- a last line, of which something stands, was carried out
 pub carries_last : {T E : Type 0} (one : Table → List ℕ → List Step) (s t : Table) (a c : Option (List ℕ)) (l k : List ℕ) (r : Result T E) → k ≡ l → (length l == 0) ≡ false → CarriesOut s t (one s k) a c r → CarriesOut s t (script_moves one s (last_line l)) a c r

@@ -13,10 +13,13 @@ exact_dialogue shown table (bytes ∷ lines) =
     let moves = moves_of shown table bytes in
     record { bytes = bytes; items = said moves } ∷ exact_dialogue shown (left_by table moves) lines
 
--- Wherever a session opens among these lines, its own lines from there to its end are told what they are told alone: from no
--- session, where one may be open.
+-- what lines are told alone: where no session is open yet, and one may be
+abbrev pub alone : Shown → List (List ℕ) → List Answer
+alone shown lines = exact_dialogue (record shown { limit = 1 }) [] lines
+
+-- Wherever a session opens among these lines, its own lines from there to its end are told what they are told alone.
 abbrev pub AreToldAlone : Shown → Table → List (List ℕ) → Type 0
 AreToldAlone shown table lines =
     (session : Name) (before later : List Answer) (opening : Answer)
     → exact_dialogue shown table lines ≡ before ++ opening ∷ later → Opens session opening
-    → let own = own_answers session (opening ∷ later) in own ≡ exact_dialogue (record shown { limit = 1 }) [] (lines_of own)
+    → let own = own_answers session (opening ∷ later) in own ≡ alone shown (lines_of own)

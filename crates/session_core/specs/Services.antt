@@ -18,12 +18,15 @@ pub record Shown : Type 0 where
   pub limit : ℕ
   pub table : Table
 
--- What holds of every service. Its graph is one, with variables for the parts and the wires and with few nodes, and the case of each
--- open session fits, so that the moves that tell a graph by its text spell the replies of its system.
+-- What holds of every service. From this it follows that what a service writes spells the replies of its system.
 pub record IsSound (shown : Shown) : Type 0 where
+  -- In the graph children stand before their parents, and no two children of an and share a variable.
   pub valid : IsGraph shown.subject.graph
+  -- Each part and each wire is a variable of the graph.
   pub room : length shown.subject.parts + length shown.subject.wires ≤ shown.subject.graph.vars
+  -- The text of a graph over the parts has numbers of 32 bits.
   pub few : length shown.subject.graph.nodes + length shown.subject.parts + 1 < 2 ^ 32
+  -- Each open session knows something, or nothing, of each wire and each part.
   pub cases : HasCasesOf (system_of shown.subject) shown.table
 
 -- the text of the states that agree with a case: one for a graph and a case, whatever session asks and however often
@@ -50,7 +53,8 @@ exact_moves shown table line = with_graph shown table line (moves (system_of sho
 abbrev pub moves_of : Shown → Table → List ℕ → List Step
 moves_of shown table bytes = exact_moves shown table (line_of bytes)
 
--- a line is refused as it stands, or for what it asks of the sessions that are open
+-- A line is refused: it is none of the language, or what it asks is declined, as where its session is not open or where it names
+-- no part or wire. A blank line is not refused.
 abbrev pub IsRefused : Shown → Line → Type 0
 IsRefused shown Blank = ⊥
 IsRefused shown (Refused refusal) = Unit {0}

@@ -18,4 +18,4 @@ pub use laws::{one_text, told_alone};
 pub use limits::{SERVED_NODES, SERVED_VARIABLES, SESSION_LIMIT};
 pub use replies::put_faulty;
 pub use service::Service;
-pub use serving::ServeEnd;
+pub use serving::{READ_LIMIT, ServeEnd};

@@ -83,7 +83,7 @@ impl Service {
         sessions.finish();
     }
 
-    /// The number of parts.
+    /// The number of parts. The contract says too what holds of every service.
     pub fn parts(&self) -> usize
         ensures parts { result ≡ length self.now.subject.parts }
         ensures sound { IsSound self.now }
@@ -106,7 +106,7 @@ impl Service {
             (moves_of self.old self.old.table line.now)
             (O.got out.old) (O.got out.new) result }
         ensures stays { ChangesTable self.old self.new }
-        // A line that is refused leaves every session as it was.
+        // A line that is refused leaves every session as it was, also where the refusal was not written.
         ensures refused { IsRefused self.old (line_of line.now) → self.new ≡ self.old }
         ensures cause { HasCause (O.faults out.old) (O.faults out.new) result }
     {

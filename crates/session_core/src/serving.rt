@@ -13,8 +13,8 @@ use crate::service::Service;
 use crate::sessions::Sessions;
 use diag_edge::{Sink, Source, WriteFailed};
 
-/// The most bytes that one read may bring.
-const PIECE: usize = 4096;
+/// The most bytes that one read of a script may bring.
+pub const READ_LIMIT: usize = 4096;
 
 /// How the answering of a script ended.
 #[derive(Clone, Copy, Debug, PartialEq, Eq)]
@@ -24,7 +24,7 @@ pub enum ServeEnd {
     /// A read failed. The lines that a line feed ended were answered.
     ReadFault,
     /// A write failed. The line that it was to answer was carried out up to the reply that met the
-    /// failure, and no line after it.
+    /// failure, no line after it, and no read was tried after it.
     WriteFault,
     /// As many bytes as the limit were taken, and no end was met. The lines that a line feed ended
     /// were answered.
@@ -126,10 +126,10 @@ fn serve_from<I: Source, O: Sink>(
         (O.got out.old) (O.got out.new) }
     ensures stays { ChangesTable sessions.old sessions.new }
 {
-    let mut piece = [0u8; PIECE];
+    let mut piece = [0u8; READ_LIMIT];
     let mut taken = 0u64;
     while taken < limit {
-        let room = (limit - taken).min(PIECE as u64) as usize;
+        let room = (limit - taken).min(READ_LIMIT as u64) as usize;
         let count = match input.read(&mut piece[..room]) {
             Ok(count) => count,
             Err(_) => return ServeEnd::ReadFault,

@@ -1,10 +1,11 @@
 use Rattle.std.proofs.Common.{[], inl, inr, refl, arith}
-use Rattle.text_rules.specs.TextLines.{whole_lines, all_lines}
+use Rattle.text_rules.specs.TextLines.{cut, whole_lines, last_line, all_lines}
 use Rattle.diag_edge.proofs.Growing.{consumes_none}
 use Rattle.session_rules.specs.GraphSystems.{system_of}
+use Rattle.session_core.specs.Services.{moves_of}
 use Rattle.diag_cli.specs.Courses.{Ended, Failed, Cut, read_error, script_too_long, answers_of}
 use Rattle.diag_cli.proofs.Failing.{gives_all, gives_after}
-use Rattle.diag_cli.proofs.Running.{ready_then, ready_begun, lines_begun}
+use Rattle.diag_cli.proofs.Running.{breaks_behind, breaks_at_once, ready_then, ready_begun, lines_begun, first_given, answered_first, stopped_at_once, stopped_at_end}
 use Rattle.diag_cli.proofs.serving.answer.Goals as goal
 
 pub returns-in-Err-clause-served : goal.returns-in-Err-clause-served
@@ -21,6 +22,7 @@ returns-in-Err-clause-served g c =
           lines = [];
           are = inl (omega arith, refl);
           begun = ready_begun shown c.parts.ensures.sound _ _ _ _ c.parts.ensures.parts c.wires.ensures c.in-Err.ensures.text;
+          stopped = λ some. absurd (omega (arith, some));
         },
       ));
       all_read = λ zero. absurd (omega (arith, zero));
@@ -35,23 +37,27 @@ returns-in-WriteFault-clause-served g c =
       answer = inr (inr (
         refl,
         elim done.3.1 [
-          | inl broke ↦ record {
+          | inl at ↦ record {
             bytes = done.0;
             counted = done.1;
             took = done.2;
             reads = kept;
             lines = whole_lines done.0;
             are = inl (done.3.0, refl);
-            begun = lines_begun shown c.parts.ensures.sound _ _ (whole_lines done.0) _ _ _ _ _ c.requires.none_open c.parts.ensures.parts c.wires.ensures c.in-Ok.ensures.text broke;
+            begun = lines_begun shown c.parts.ensures.sound _ _ (whole_lines done.0) _ _ _ _ _ c.requires.none_open c.parts.ensures.parts c.wires.ensures c.in-Ok.ensures.text
+                (breaks_at_once (moves_of shown) _ _ _ _ done.0 at);
+            stopped = λ some. stopped_at_once shown c.parts.ensures.sound _ _ done.0 _ _ _ _ _ c.requires.none_open c.parts.ensures.parts c.wires.ensures c.in-Ok.ensures.text at;
           }
-          | inr broke ↦ record {
+          | inr at ↦ record {
             bytes = done.0;
             counted = done.1;
             took = done.2;
             reads = kept;
             lines = all_lines done.0;
-            are = inr (broke.0, broke.1, refl);
-            begun = lines_begun shown c.parts.ensures.sound _ _ (all_lines done.0) _ _ _ _ _ c.requires.none_open c.parts.ensures.parts c.wires.ensures c.in-Ok.ensures.text broke.2;
+            are = inr (at.0, at.1, refl);
+            begun = lines_begun shown c.parts.ensures.sound _ _ (all_lines done.0) _ _ _ _ _ c.requires.none_open c.parts.ensures.parts c.wires.ensures c.in-Ok.ensures.text
+                (breaks_behind (moves_of shown) _ _ _ _ (whole_lines done.0) (last_line (cut done.0).unfinished) at.2);
+            stopped = λ some. stopped_at_end shown c.parts.ensures.sound _ _ done.0 (last_line (cut done.0).unfinished) _ _ _ _ _ c.requires.none_open c.parts.ensures.parts c.wires.ensures c.in-Ok.ensures.text at.2;
           }
         ],
       ));
@@ -69,6 +75,7 @@ returns-in-Done-clause-served g c =
         end = Ended;
         took = done.2;
         ends = (done.3.0, done.3.1, c.in-Done.ensures.read_fault.stayed (λ e. let never : ⊥ = cc in never));
+        answered = answered_first shown c.parts.ensures.sound _ _ (whole_lines done.0) (last_line (cut done.0).unfinished) _ _ _ _ _ c.requires.none_open c.parts.ensures.parts c.wires.ensures c.in-Ok.ensures.text done.3.2;
         gives = gives_all _ _ _ _ (λ five. absurd (omega (arith, five))) refl
             (ready_then shown c.parts.ensures.sound _ _ (all_lines done.0) _ _ _ _ _ c.requires.none_open c.parts.ensures.parts c.wires.ensures c.in-Ok.ensures.text done.3.2);
       }));
@@ -80,6 +87,9 @@ returns-in-ReadFault-clause-served g c =
     let shown = c.args.service.now in
     let done = c.in-ReadFault.ensures.served in
     let said = c.say_read_fault.ensures.said in
+    let answers = answers_of (system_of shown.subject) shown.limit in
+    let written =
+    ready_then shown c.parts.ensures.sound _ _ (whole_lines done.0) _ _ _ _ _ c.requires.none_open c.parts.ensures.parts c.wires.ensures c.in-Ok.ensures.text done.3.1 in
     record {
       answer = inr (inl (record {
         bytes = done.0;
@@ -87,8 +97,8 @@ returns-in-ReadFault-clause-served g c =
         end = Failed;
         took = done.2;
         ends = (done.3.0, c.in-ReadFault.ensures.read_fault.rose refl);
-        gives = gives_after (answers_of (system_of shown.subject) shown.limit (whole_lines done.0)) read_error _ _ _ _ _
-            (ready_then shown c.parts.ensures.sound _ _ (whole_lines done.0) _ _ _ _ _ c.requires.none_open c.parts.ensures.parts c.wires.ensures c.in-Ok.ensures.text done.3.1) said;
+        answered = first_given (answers (whole_lines done.0)) _ _ _ _ _ written said;
+        gives = gives_after (answers (whole_lines done.0)) read_error _ _ _ _ _ written said;
       }));
       all_read = λ zero. absurd (let same = (said.whole (λ five. omega (arith, zero, five))).0 in omega (arith, zero, same));
     }
@@ -98,6 +108,9 @@ returns-in-Limit-clause-served g c =
     let shown = c.args.service.now in
     let done = c.in-Limit.ensures.served in
     let said = c.say_too_long.ensures.said in
+    let answers = answers_of (system_of shown.subject) shown.limit in
+    let written =
+    ready_then shown c.parts.ensures.sound _ _ (whole_lines done.0) _ _ _ _ _ c.requires.none_open c.parts.ensures.parts c.wires.ensures c.in-Ok.ensures.text done.3.1 in
     record {
       answer = inr (inl (record {
         bytes = done.0;
@@ -105,8 +118,8 @@ returns-in-Limit-clause-served g c =
         end = Cut;
         took = done.2;
         ends = (done.3.0, c.in-Limit.ensures.read_fault.stayed (λ e. let never : ⊥ = cc in never));
-        gives = gives_after (answers_of (system_of shown.subject) shown.limit (whole_lines done.0)) script_too_long _ _ _ _ _
-            (ready_then shown c.parts.ensures.sound _ _ (whole_lines done.0) _ _ _ _ _ c.requires.none_open c.parts.ensures.parts c.wires.ensures c.in-Ok.ensures.text done.3.1) said;
+        answered = first_given (answers (whole_lines done.0)) _ _ _ _ _ written said;
+        gives = gives_after (answers (whole_lines done.0)) script_too_long _ _ _ _ _ written said;
       }));
       all_read = λ zero. absurd (let same = (said.whole (λ five. omega (arith, zero, five))).0 in omega (arith, zero, same));
     }

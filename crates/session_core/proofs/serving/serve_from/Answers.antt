@@ -8,7 +8,7 @@ use Rattle.text_rules.specs.TextLines.{last_line}
 use Rattle.session_core.specs.Services.{moves_of}
 use Rattle.diag_edge.proofs.Growing.{consumes_more, consumes_end}
 use Rattle.session_core.proofs.Lines.{moves_are_cut}
-use Rattle.session_core.proofs.Feeding.{makes_all, makes_whole, breaks_all, breaks_whole, fed_more, breaks_fed, consumes_kept}
+use Rattle.session_core.proofs.Feeding.{makes_all, makes_whole, fails_at_end, fails_at_once, fed_more, consumes_kept}
 use Rattle.session_core.proofs.Staying.{stays_more, moves_stay}
 use Rattle.session_core.proofs.serving.serve_from.Goals as goal
 
@@ -56,7 +56,7 @@ returns-in-Err-finish-clause-served g c =
         inr (
           c.in-Ok.ensures.bytes.1 c.if-count-eq0.true (grind (arith, common_steps)),
           omega (arith, loop.so_far.1, c.loop-taken-test.true),
-          breaks_all {u = c.finish.new.sessions.table} {c = g.O.Sink.got c.finish.new.out} (moves_are_cut c.args.sessions.now) loop.so_far.3
+          fails_at_end {u = c.finish.new.sessions.table} {c = g.O.Sink.got c.finish.new.out} (moves_are_cut c.args.sessions.now) loop.so_far.3
               (subst (λ (one : Table → List ℕ → List Step). BreaksOff c.finish.new.sessions.table (script_moves one c.loop-taken.sessions.table (last_line c.loop-taken.gathered)) (g.O.Sink.got c.loop-taken.out) (g.O.Sink.got c.finish.new.out))
               (moves_stay c.args.sessions.now c.loop-taken.sessions loop.stays) c.in-Err-finish.ensures.carried),
         ),
@@ -78,7 +78,7 @@ returns-in-Err-feed-clause-served g c =
       consumes_more _ _ _ _ _ loop.so_far.2 c.in-Ok.ensures.bytes.0,
       (
         grind (arith, common_steps, length-append, length-take),
-        inl (breaks_whole (moves_of c.args.sessions.now) c.args.sessions.now.table _ _ _ (loop.so_far.0 ++ bytes) (breaks_fed bytes (moves_are_cut c.args.sessions.now) loop.so_far.3 broken)),
+        inl (fails_at_once bytes (moves_are_cut c.args.sessions.now) (grind (arith, common_steps, length-take)) loop.so_far.3 broken),
       ),
     )
 

@@ -1,0 +1,148 @@
+-- A device of gates of which no part is held is never at odds with what was seen: where all gates are faulty, they allow anything.
+use Rattle.std.proofs.Common.{◌≡◌, ℕ, zero, suc, Bool, true, false, List, [], ◌∷◌, ◌++◌, map, length, replicate, Option, Some, None, refl, ap, ◌∙◌, subst, arith}
+use Rattle.std.specs.Prelude.{Ok, ◌&&◌, IsSome, nat_le, option_map, unwrap_or}
+use Rattle.std.specs.List.{filter_map, flat_map, list_all}
+use Rattle.std.specs.Option.{option_to_list}
+use Rattle.std.proofs.lemmas.Bool.{and_parts, and_from, leb-true}
+use Rattle.std.proofs.lemmas.List.{length-map}
+use Rattle.std.proofs.lemmas.List.Folds.{list_all-append}
+use Rattle.text_rules.specs.Names.{Name}
+use Rattle.text_rules.specs.TextLines.{all_lines}
+use Rattle.ranking.specs.Bits.{bit_in, lists_of_bits}
+use Rattle.ranking.specs.Cases.{Case, agrees}
+use Rattle.ranking.specs.Ranking.{cost}
+use Rattle.ranking.specs.Systems.{least_cost}
+use Rattle.ranking.proofs.Bits.{same_bit-refl}
+use Rattle.ranking.proofs.Members.{In, bits_in, any_in, AtMost, least-below}
+use Rattle.device_model.specs.declared.component.Kind.{Kind}
+use Rattle.device_model.specs.declared.component.Kind.TheVariants.{Table}
+use Rattle.device_model.specs.declared.component.Component.{Component}
+use Rattle.device_model.specs.TruthTable.{TruthTable}
+use Rattle.device_model.specs.Devices.{Device, takes, allows, parts_fit, fits, part_costs}
+use Rattle.device_model.specs.Diagnosis.{is_consistent, device_system}
+use Rattle.device_model.specs.Building.{NamedPart, joined}
+use Rattle.device_model.proofs.Making.{component_name, list_all-sorted_distinct}
+use Rattle.bench_reader.specs.declared.kinds.FlipFlops.TheVariants.{Refused}
+use Rattle.bench_reader.specs.Faults.{Fault, unless_fault}
+use Rattle.bench_reader.specs.Statements.{Statement, Input, Output, Gate}
+use Rattle.bench_reader.specs.Netlists.{part_over, part_of, device_of, fault_in, statement_in, faults_together, readings, netlist}
+use Rattle.bench_reader.specs.inner.Steps.{is_faultless}
+use Rattle.bench_reader.proofs.Lines.{said, read_are_faultless}
+use Rattle.bench_reader.proofs.Parts.{faultless_gate}
+use Rattle.adder_load.specs.Adders.{adder_text}
+use Rattle.adder_load.specs.Readings.{readings as adder_readings, with_readings, adder_case}
+use Rattle.adder_load.proofs.Cases.{case_seen}
+
+-- ---- each part of a netlist is a gate
+
+abbrev is_gate : Kind → Bool
+is_gate (Table t) = false
+is_gate kind = true
+
+abbrev named_gate : NamedPart → Bool
+named_gate part = is_gate part.kind
+
+abbrev gate_part : Component → Bool
+gate_part part = is_gate part.kind
+
+gate_taken : (kind : Kind) (inputs : ℕ) → takes kind inputs ≡ true → is_gate kind ≡ true
+gate_taken (Table t) n h = let none = and_parts (nat_le 1 n) (nat_le n 0) h in absurd (omega (arith, leb-true 1 n none.0, leb-true n 0 none.1))
+gate_taken kind n h = refl
+
+of_statement : (s : Statement) → is_faultless s ≡ true → list_all named_gate (part_of s) ≡ true
+of_statement (Input signal) h = refl
+of_statement (Output signal) h = refl
+of_statement (Gate output kind inputs) h =
+    let gate = faultless_gate output kind inputs h in
+    ap (λ k. list_all named_gate (option_to_list (option_map (part_over output inputs) k))) gate.meant ∙ and_from _ _ (gate_taken gate.gate (length inputs) gate.taken) refl
+
+of_statements : (statements : List Statement) → list_all is_faultless statements ≡ true → list_all named_gate (flat_map part_of statements) ≡ true
+of_statements [] h = refl
+of_statements (s ∷ statements) h =
+    let two = and_parts (is_faultless s) (list_all is_faultless statements) h in
+    list_all-append named_gate (part_of s) (flat_map part_of statements) ∙ and_from _ _ (of_statement s two.0) (of_statements statements two.1)
+
+over_wires : (wires : List Name) (parts : List NamedPart) → list_all named_gate parts ≡ true → list_all gate_part (map (joined wires) parts) ≡ true
+over_wires wires [] h = refl
+over_wires wires (part ∷ parts) h = let two = and_parts (named_gate part) (list_all named_gate parts) h in and_from _ _ two.0 (over_wires wires parts two.1)
+
+device_of_gates : (statements : List Statement) → list_all is_faultless statements ≡ true → list_all gate_part (device_of statements).parts ≡ true
+device_of_gates statements h =
+    let wires = (device_of statements).wires in
+    let parts = flat_map part_of statements in
+    list_all-sorted_distinct component_name gate_part (map (joined wires) parts) (over_wires wires parts (of_statements statements h))
+
+abbrev statements_in : List ℕ → List Statement
+statements_in text = map said (filter_map statement_in (readings Refused text))
+
+netlist_of_gates : (text : List ℕ) (device : Device) → netlist text ≡ Ok device → list_all gate_part device.parts ≡ true
+netlist_of_gates text device is = by (filter_map fault_in (readings Refused text) ++ faults_together (filter_map statement_in (readings Refused text))) is
+  where
+    by : (faults : List Fault) → unless_fault faults (device_of (statements_in text)) ≡ Ok device → list_all gate_part device.parts ≡ true
+    by [] e =
+        let same : device_of (statements_in text) ≡ device = cc in
+        subst (λ (d : Device). list_all gate_part d.parts ≡ true) same (device_of_gates (statements_in text) (read_are_faultless Refused 1 (all_lines text)))
+    by (fault ∷ faults) e = cc
+
+-- ---- faulty gates allow anything
+
+faulty_allows : (tables : List TruthTable) (kind : Kind) (row : List Bool) → is_gate kind ≡ true → allows tables kind false row ≡ true
+faulty_allows tables (Table t) row h = cc
+faulty_allows tables kind row h = refl
+
+all_faulty : List Component → List Bool
+all_faulty parts = map (λ (part : Component). false) parts
+
+faulty_fit : (tables : List TruthTable) (parts : List Component) (wires : List Bool) → list_all gate_part parts ≡ true → parts_fit tables parts (all_faulty parts) wires ≡ true
+unfolding all_faulty
+faulty_fit tables [] wires h = refl
+faulty_fit tables (part ∷ parts) wires h =
+    let two = and_parts (gate_part part) (list_all gate_part parts) h in
+    and_from _ _ (faulty_allows tables part.kind (map (bit_in wires) part.ports) two.0) (faulty_fit tables parts wires two.1)
+
+-- any state agrees where nothing is held
+none_held : (parts : ℕ) (state : List Bool) → agrees (replicate parts None) state ≡ true
+none_held zero state = refl
+none_held (suc n) [] = refl
+none_held (suc n) (ok ∷ state) = none_held n state
+
+-- and some bits of the wires are what was seen
+seen_bits : List (Option Bool) → List Bool
+seen_bits seen = map (λ o. unwrap_or o false) seen
+
+seen_agree : (seen : List (Option Bool)) → agrees seen (seen_bits seen) ≡ true
+unfolding seen_bits
+seen_agree [] = refl
+seen_agree (None ∷ seen) = seen_agree seen
+seen_agree (Some bit ∷ seen) = and_from _ _ (same_bit-refl bit) (seen_agree seen)
+
+is_there : (o : Option ℕ) (n : ℕ) → AtMost o n → IsSome o
+is_there None n h = absurd h
+is_there (Some c) n h = refl
+
+-- the case of these readings, where nothing is held
+abbrev pub seen_case : Device → List (Option Bool) → Case
+seen_case device seen = record { seen = seen; held = replicate (length device.parts) None }
+
+gates_agree : (device : Device) (seen : List (Option Bool)) → list_all gate_part device.parts ≡ true → length seen ≡ length device.wires → IsSome (least_cost (device_system device) (seen_case device seen))
+unfolding all_faulty seen_bits
+gates_agree device seen gates long =
+    let state = all_faulty device.parts in
+    let wires = seen_bits seen in
+    let is_state : In state (lists_of_bits (length device.parts)) =
+    subst (λ n. In state (lists_of_bits n)) (length-map device.parts (λ (part : Component). false)) (bits_in state) in
+    let are_wires : In wires (lists_of_bits (length device.wires)) =
+    subst (λ n. In wires (lists_of_bits n)) (length-map seen (λ (o : Option Bool). unwrap_or o false) ∙ long) (bits_in wires) in
+    let known = seen_case device seen in
+    let fit : (agrees seen wires && fits device state wires) ≡ true = and_from _ _ (seen_agree seen) (faulty_fit device.tables device.parts wires gates) in
+    let passes : is_consistent device known state ≡ true =
+    and_from _ _ (none_held (length device.parts) state) (any_in (λ bits. agrees seen bits && fits device state bits) wires (lists_of_bits (length device.wires)) are_wires fit) in
+    is_there (least_cost (device_system device) known) (cost (part_costs device) state)
+    (least-below (cost (part_costs device)) (is_consistent device known) state (lists_of_bits (length device.parts)) is_state passes)
+
+pub netlists_agree : (text : List ℕ) (device : Device) (seen : List (Option Bool)) → netlist text ≡ Ok device → length seen ≡ length device.wires → IsSome (least_cost (device_system device) (seen_case device seen))
+netlists_agree text device seen is long = gates_agree device seen (netlist_of_gates text device is) long
+
+pub loads_agree : (places : ℕ) (device : Device) → netlist (adder_text places) ≡ Ok device → IsSome (least_cost (device_system device) (adder_case device places))
+loads_agree places device is =
+    netlists_agree (adder_text places) device (with_readings device.wires (replicate (length device.wires) None) (adder_readings places)) is (case_seen device places)

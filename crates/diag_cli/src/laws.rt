@@ -1,0 +1,20 @@
+//! Laws about what is told of netlists. Each is the contract of a function that does nothing.
+ghost use Rattle.std.specs.Prelude.{◌≡◌, ℕ, Bool, List, Option, None, Ok, IsSome, length, replicate};
+ghost use Rattle.ranking.specs.Systems.{least_cost};
+ghost use Rattle.device_model.specs.Devices.{Device};
+ghost use Rattle.device_model.specs.Diagnosis.{device_system};
+ghost use Rattle.bench_reader.specs.Netlists.{netlist};
+ghost use Rattle.adder_load.specs.Adders.{adder_text};
+ghost use Rattle.adder_load.specs.Readings.{adder_case};
+
+/// While no part is held, no netlist is at odds with what was seen: some state agrees, as that in which all gates are faulty does.
+pub fn netlists_agree()
+    ensures { (text : List ℕ) (device : Device) (seen : List (Option Bool)) → netlist text ≡ Ok device → length seen ≡ length device.wires
+        → IsSome (least_cost (device_system device) (record { seen = seen; held = replicate (length device.parts) None })) }
+{}
+
+/// So a load never tells `inconsistent`: where the adder of so many places gives a device, some state agrees with its readings.
+pub fn loads_agree()
+    ensures { (places : ℕ) (device : Device) → netlist (adder_text places) ≡ Ok device
+        → IsSome (least_cost (device_system device) (adder_case device places)) }
+{}

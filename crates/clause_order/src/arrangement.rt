@@ -5,35 +5,37 @@ use std::alloc::{AllocError, Global};
 // Where no unit has a variable yet.
 const NOWHERE: u32 = u32::MAX;
 
-// Up to so many variables the weight grows so, and from there on by the same with each: a graph of more is never
-// served, and what is far above it is still told apart.
+// Up to so many variables the weight grows with each by the same factor, and from there on by the same number: a graph of more is
+// never served, but what is far above one is still told apart.
 const STEEP_LIMIT: u32 = 40;
 
-// For a variable more half of the bits of the weight, in parts of 1,024.
-const EVEN: u64 = 1024;
+/// What the weights are parts of.
+pub(crate) const WEIGHT_PARTS: u64 = 1024;
 
-const ODD: u64 = 1448;
+// A square root of two, in these parts.
+const ROOT_OF_TWO: u64 = 1448;
 
 /// How the weight of a place grows with the variables that have bits there and are not done with.
 #[derive(Clone, Copy, Debug, PartialEq, Eq)]
 pub(crate) enum Scale {
-    /// About as how many states there are: it doubles with each. A search then hardly leaves an order that is good at its worst place.
+    /// About as how many states there are: it doubles with each. It tells which of two orders is better.
     States,
-    /// As the square root of that. A search then goes farther, and may end at a worse place.
+    /// As the square root of that. It is better to search by: the worst place counts for less, so that moves leave it more often.
     Root,
 }
 
 impl Scale {
-    /// Each scale once.
-    pub(crate) const ALL: [Scale; 2] = [Scale::States, Scale::Root];
-
     fn weight(self, variables: u32) -> u64 {
         let steep = variables.min(STEEP_LIMIT);
         let (least, more) = match self {
-            Scale::States => (EVEN << steep, EVEN << (STEEP_LIMIT - 1)),
+            Scale::States => (WEIGHT_PARTS << steep, WEIGHT_PARTS << (STEEP_LIMIT - 1)),
             Scale::Root => {
-                let scale = if steep % 2 == 0 { EVEN } else { ODD };
-                (scale << (steep / 2), EVEN << (STEEP_LIMIT / 2 - 1))
+                let whole = if steep % 2 == 0 {
+                    WEIGHT_PARTS
+                } else {
+                    ROOT_OF_TWO
+                };
+                (whole << (steep / 2), WEIGHT_PARTS << (STEEP_LIMIT / 2 - 1))
             }
         };
         least.saturating_add(more.saturating_mul(u64::from(variables - steep)))
@@ -57,6 +59,7 @@ pub(crate) struct Arrangement<'a> {
 }
 
 impl<'a> Arrangement<'a> {
+    /// Of so many variables.
     pub(crate) fn new(
         alloc: Global,
         variables: &'a Joints,
@@ -100,9 +103,9 @@ impl<'a> Arrangement<'a> {
     fn place_variables(&mut self) {
         for place in 0..self.len() {
             for variable in self.variables.of(self.units.at(place)) {
-                self.first
-                    .put(*variable, self.first.at(*variable).min(place));
-                self.last.put(*variable, self.last.at(*variable).max(place));
+                let (first, last) = (self.first.at(*variable), self.last.at(*variable));
+                self.first.put(*variable, first.min(place));
+                self.last.put(*variable, last.max(place));
             }
         }
     }
@@ -110,92 +113,85 @@ impl<'a> Arrangement<'a> {
     fn count_variables(&mut self) {
         let mut before = 0u32;
         for place in 0..self.len() {
-            let unit = self.units.at(place);
-            let alive = before.saturating_add(self.beginning(unit, place));
-            before = alive.saturating_sub(self.ending(unit, place));
+            let mut alive = before;
+            let mut ending = 0u32;
+            for variable in self.variables.of(self.units.at(place)) {
+                alive = alive.saturating_add(u32::from(self.first.at(*variable) == place));
+                ending = ending.saturating_add(u32::from(self.last.at(*variable) == place));
+            }
+            before = alive.saturating_sub(ending);
             self.alive.put(place, alive);
             self.across.put(place, before);
             self.total = self.total.saturating_add(self.scale.weight(alive));
         }
     }
 
-    // How many variables of the unit at a place no unit before it has.
-    fn beginning(&self, unit: u32, place: u32) -> u32 {
-        let mut count = 0u32;
-        for variable in self.variables.of(unit) {
-            count = count.saturating_add(u32::from(self.first.at(*variable) == place));
-        }
-        count
-    }
-
-    // How many no unit behind it has.
-    fn ending(&self, unit: u32, place: u32) -> u32 {
-        let mut count = 0u32;
-        for variable in self.variables.of(unit) {
-            count = count.saturating_add(u32::from(self.last.at(*variable) == place));
-        }
-        count
-    }
-
-    // How many of its variables are across from a place to the next.
-    fn crossing(&self, unit: u32, place: u32) -> u32 {
-        let mut count = 0u32;
-        for variable in self.variables.of(unit) {
-            let is_across = self.first.at(*variable) <= place && place < self.last.at(*variable);
-            count = count.saturating_add(u32::from(is_across));
-        }
-        count
-    }
-
-    /// Exchanges the unit at a place and the next one, in the time of their ports.
+    /// Exchanges the unit at a place and the next one, in the time of their variables.
     pub(crate) fn exchange(&mut self, place: u32) {
         let next = place.saturating_add(1);
         if self.len() <= next {
             return;
         }
         let (left, right) = (self.units.at(place), self.units.at(next));
-        // A variable of both is counted twice before and after.
-        let others = self
-            .across
-            .at(place)
-            .wrapping_sub(self.crossing(left, place))
-            .wrapping_sub(self.crossing(right, place));
         self.units.put(place, right);
         self.units.put(next, left);
-        self.move_ends(left, right, place);
-        let across = others
-            .wrapping_add(self.crossing(left, place))
-            .wrapping_add(self.crossing(right, place));
+        self.lift_firsts(left, place, next);
+        let begun = self.put_before(right, place, next);
+        let (beginning, ending) = self.put_behind(left, next);
+        // From behind both of them as many are across as before.
+        let across = self
+            .across
+            .at(next)
+            .wrapping_add(ending)
+            .wrapping_sub(beginning);
         self.across.put(place, across);
         let before = if place == 0 {
             0
         } else {
             self.across.at(place - 1)
         };
-        let beginning = self.beginning(right, place);
-        self.set_alive(place, before.wrapping_add(beginning));
-        let beginning = self.beginning(left, next);
+        self.set_alive(place, before.wrapping_add(begun));
         self.set_alive(next, across.wrapping_add(beginning));
     }
 
-    // What becomes of the places of variables when the unit at a place goes to the next one, and that one's unit to it.
-    fn move_ends(&mut self, left: u32, right: u32, place: u32) {
-        let next = place.saturating_add(1);
-        for variable in self.variables.of(left) {
+    // What a unit begins at a place begins at the next one.
+    fn lift_firsts(&mut self, unit: u32, place: u32, next: u32) {
+        for variable in self.variables.of(unit) {
             if self.first.at(*variable) == place {
                 self.first.put(*variable, next);
             }
         }
-        for variable in self.variables.of(right) {
+    }
+
+    // A unit goes from the next place to a place: how many variables begin with it there. What it has of the other unit's ends here
+    // until that one is put behind it.
+    fn put_before(&mut self, unit: u32, place: u32, next: u32) -> u32 {
+        let mut begun = 0u32;
+        for variable in self.variables.of(unit) {
+            if self.first.at(*variable) == next {
+                self.first.put(*variable, place);
+                begun = begun.wrapping_add(1);
+            }
             if self.last.at(*variable) == next {
                 self.last.put(*variable, place);
             }
-            self.first
-                .put(*variable, self.first.at(*variable).min(place));
         }
-        for variable in self.variables.of(left) {
-            self.last.put(*variable, self.last.at(*variable).max(next));
+        begun
+    }
+
+    // How many variables begin with a unit that was put to a place, and how many end with it.
+    fn put_behind(&mut self, unit: u32, place: u32) -> (u32, u32) {
+        let (mut beginning, mut ending) = (0u32, 0u32);
+        for variable in self.variables.of(unit) {
+            if self.first.at(*variable) == place {
+                beginning = beginning.wrapping_add(1);
+            }
+            if self.last.at(*variable) <= place {
+                self.last.put(*variable, place);
+                ending = ending.wrapping_add(1);
+            }
         }
+        (beginning, ending)
     }
 
     fn set_alive(&mut self, place: u32, alive: u32) {

@@ -7,6 +7,8 @@ mod joints;
 mod laws;
 mod narrowing;
 mod picking;
+mod random;
+mod rounds;
 mod row;
 mod search;
 mod starts;

@@ -2,20 +2,16 @@ ghost use Rattle.std.specs.Prelude.{IfOk};
 ghost use Rattle.clause_order.specs.Orders.{IsNarrowed};
 ghost use Rattle.clause_order.specs.inner.Candidates.{MayBe};
 
-use crate::arrangement::Scale;
 use crate::candidates::{Candidate, best_or_given, better};
-use crate::joints::Joined;
+use crate::rounds::find_orders;
 use crate::row::Row;
-use crate::search::{Found, search};
-use crate::starts::Start;
 use crate::units::Units;
+use branch_states::BUDGET_LIMIT;
 use clause_encoder::Cnf;
 use std::alloc::{AllocError, Global};
 
-// So many moves for each unit, but no more than that, are shared by the starts of a search.
-const MOVES_A_UNIT: u32 = 2000;
-
-const MOVE_LIMIT: u32 = 1_000_000;
+// So many words of states are counted to find the best of the orders, and then no further order is measured: less than a second.
+const WORDS_TO_COUNT: u32 = 1_500_000;
 
 /// The clauses of a list in a better order, if one is found. The only error is that there is no memory.
 ///
@@ -33,21 +29,27 @@ fn best_found(alloc: Global, cnf: &Cnf) -> Result<Option<Candidate>, AllocError>
     ensures { IfOk result (MayBe cnf.now) }
 {
     let units = Units::of(alloc, cnf)?;
-    let orders = orders(alloc, cnf, &units)?;
-    let least = match orders.first() {
-        Some(first) => first.total,
-        None => 0,
-    };
     let mut best = None;
-    for found in orders {
-        if found.total / 3 <= least / 2 {
-            best = better_of_both(alloc, cnf, best, &units, found.units)?;
+    let mut left = WORDS_TO_COUNT;
+    for found in find_orders(alloc, cnf, &units)? {
+        if left == 0 {
+            break;
         }
+        best = better_of_both(alloc, cnf, best, &units, found.units)?;
+        left = left.saturating_sub(words_of_both(&best));
     }
     Ok(best)
 }
 
-// The best of a candidate, if there is one, and of an order, forwards and backwards.
+// About how many words were counted of an order and its reverse, each up to the sum of a candidate.
+fn words_of_both(best: &Option<Candidate>) -> u32 {
+    match best {
+        Some(candidate) => candidate.sum.saturating_mul(2),
+        None => BUDGET_LIMIT,
+    }
+}
+
+// The best of a candidate, if there is one, and of an order, forwards and backwards: the cuts are the same, but the sums are not.
 fn better_of_both(
     alloc: Global,
     cnf: &Cnf,
@@ -61,23 +63,4 @@ fn better_of_both(
     let forwards = better(alloc, cnf, best, units, &order)?;
     order.reverse();
     better(alloc, cnf, forwards, units, &order)
-}
-
-// The orders that are found from each start, the most promising one first, so that it soon limits what the others may come to.
-fn orders(alloc: Global, cnf: &Cnf, units: &Units) -> Result<Vec<Found>, AllocError> {
-    let joined = Joined::new(alloc, cnf, units)?;
-    let moves = joined.len().saturating_mul(MOVES_A_UNIT).min(MOVE_LIMIT);
-    let each = moves / (Scale::ALL.len() as u32 * Start::ALL.len() as u32);
-    let mut orders: Vec<Found> = Vec::new(alloc);
-    for scale in Scale::ALL {
-        for start in Start::ALL {
-            let found = search(alloc, &joined, start, scale, each)?;
-            let place = match orders.first() {
-                Some(first) if first.total <= found.total => orders.len(),
-                _ => 0,
-            };
-            orders.insert(place, found)?;
-        }
-    }
-    Ok(orders)
 }

@@ -1,4 +1,5 @@
 use crate::joints::Joined;
+use crate::random::Random;
 use crate::row::Row;
 use std::alloc::{AllocError, Global};
 
@@ -13,43 +14,33 @@ const MANY: u32 = 128;
 pub(crate) enum Start {
     /// The given order.
     Given,
-    /// All that is joined to one end, nearest first.
-    Breadth,
-    /// The same from the last to the first.
-    BreadthBack,
-    /// From one end on, each time a unit that leaves the fewest variables across.
-    Growth,
-    /// The same from the last to the first.
-    GrowthBack,
+    /// All that is joined to one unit, nearest first, where so many of the ends do not come first.
+    Breadth(u32),
+    /// From one unit on, each time one that leaves the fewest variables across, where so many of the ends do not come first.
+    Growth(u32),
 }
 
 impl Start {
-    /// Each start once.
-    pub(crate) const ALL: [Start; 5] = [
-        Start::Given,
-        Start::Breadth,
-        Start::BreadthBack,
-        Start::Growth,
-        Start::GrowthBack,
-    ];
+    /// The first three are one of each kind, and these from the very end. The others begin with random units, two growths for each
+    /// breadth, since growths are better more often. A start and its reverse lead to the same.
+    pub(crate) fn numbered(number: u32, units: u32, random: &mut Random) -> Start {
+        match number {
+            0 => Start::Given,
+            1 => Start::Growth(0),
+            2 => Start::Breadth(0),
+            _ if number % 3 == 0 => Start::Breadth(random.below(units.max(1))),
+            _ => Start::Growth(random.below(units.max(1))),
+        }
+    }
 
     /// The units in the order in which a search begins with them.
     pub(crate) fn list(self, alloc: Global, joined: &Joined) -> Result<Row, AllocError> {
         match self {
             Start::Given => given(alloc, joined),
-            Start::Breadth => by_breadth(alloc, joined),
-            Start::BreadthBack => reversed(by_breadth(alloc, joined)),
-            Start::Growth => by_growth(alloc, joined),
-            Start::GrowthBack => reversed(by_growth(alloc, joined)),
+            Start::Breadth(skipped) => spread(alloc, joined, &ends(alloc, joined, skipped)?),
+            Start::Growth(skipped) => grown(alloc, joined, &ends(alloc, joined, skipped)?),
         }
     }
-}
-
-// The same from the last to the first.
-fn reversed(units: Result<Row, AllocError>) -> Result<Row, AllocError> {
-    let mut units = units?;
-    units.reverse();
-    Ok(units)
 }
 
 // The units in the given order.
@@ -61,34 +52,15 @@ fn given(alloc: Global, joined: &Joined) -> Result<Row, AllocError> {
     Ok(found)
 }
 
-// The units that are joined to one end, nearest first.
-fn by_breadth(alloc: Global, joined: &Joined) -> Result<Row, AllocError> {
-    let ends = ends(alloc, joined)?;
-    spread(alloc, joined, &ends)
-}
-
-// The units from one end on, each time one that leaves the fewest variables across.
-fn by_growth(alloc: Global, joined: &Joined) -> Result<Row, AllocError> {
-    let ends = ends(alloc, joined)?;
-    let mut growth = Growth::new(alloc, joined)?;
-    for end in ends.as_slice() {
-        growth.grow_from(*end)?;
+// All units, those that are far from the first one before others, but so many of them at the end.
+fn ends(alloc: Global, joined: &Joined, skipped: u32) -> Result<Row, AllocError> {
+    let near = spread(alloc, joined, &given(alloc, joined)?)?;
+    let mut ends = Row::empty(alloc);
+    let count = near.len();
+    for place in 0..count {
+        let back = place.saturating_add(skipped) % count;
+        ends.push(near.at(count - 1 - back))?;
     }
-    let Growth {
-        joined: _,
-        met: _,
-        left: _,
-        waiting: _,
-        found,
-    } = growth;
-    Ok(found)
-}
-
-// All units, the last one met first: of what is joined, the first is one that is far from others.
-fn ends(alloc: Global, joined: &Joined) -> Result<Row, AllocError> {
-    let units = given(alloc, joined)?;
-    let mut ends = spread(alloc, joined, &units)?;
-    ends.reverse();
     Ok(ends)
 }
 
@@ -132,6 +104,15 @@ fn meet(met: &mut Row, found: &mut Row, unit: u32) -> Result<(), AllocError> {
     Ok(())
 }
 
+// All that is joined to the first seed, each time what leaves the fewest variables across, and so on with each seed that was not met.
+fn grown(alloc: Global, joined: &Joined, seeds: &Row) -> Result<Row, AllocError> {
+    let mut growth = Growth::new(alloc, joined)?;
+    for seed in seeds.as_slice() {
+        growth.grow_from(*seed)?;
+    }
+    Ok(growth.into_found())
+}
+
 // Units that are taken one by one, and those that have a variable of these.
 #[derive(Drop)]
 struct Growth<'a> {
@@ -156,6 +137,17 @@ impl<'a> Growth<'a> {
             waiting: Row::empty(alloc),
             found: Row::empty(alloc),
         })
+    }
+
+    fn into_found(self) -> Row {
+        let Growth {
+            joined: _,
+            met: _,
+            left: _,
+            waiting: _,
+            found,
+        } = self;
+        found
     }
 
     fn grow_from(&mut self, end: u32) -> Result<(), AllocError> {

@@ -3,7 +3,7 @@ ghost use Rattle.std.specs.Prelude.{◌≡◌, ◌<◌};
 use graph_rules::NodeKind;
 use minimiser::Steps;
 use node_store::{Graph, GraphBuilder};
-use probe_report::{Blame, blame, blame_all, probe};
+use probe_report::{Blame, blame, blame_all, cost_of, probe, probe_all};
 use std::alloc::{AllocError, Global};
 use std::marker::Brand;
 use std::process::Abort;
@@ -103,6 +103,36 @@ fn wire_is_high(alloc: Global) -> Result<Option<Graph>, AllocError> {
     Ok(builder.finish().ok())
 }
 
+// What is asked of the wire is answered for all wires at once too.
+fn answers_at_once<L: Ledger>(rt: &impl Abort, blank: Blank, graph: &Graph, row: &Row)
+    requires name { blank.name ≡ L.name }
+    requires parts { blank.parts ≡ L.parts }
+    requires some { 0 < blank.parts }
+{
+    let (fixed, costs, by_wire, _) = *row;
+    assert!(rt; graph.len() == 4 && graph.vars() == 4);
+    assert!(rt; fixed.iter().all(|word| *word < 3));
+    assert!(rt; costs.iter().all(|cost| *cost < 10));
+    let mut steps = Steps::<L>::new(blank);
+    let mut values = [0; 4];
+    let mut outers = [0; 4];
+    let mut marks = [0; 4];
+    let mut zeros = [0; 1];
+    let mut ones = [0; 1];
+    probe_all(
+        graph,
+        &fixed,
+        &costs,
+        &mut values,
+        &mut outers,
+        &mut marks,
+        &mut zeros,
+        &mut ones,
+        &mut steps,
+    );
+    assert_eq!(rt; (cost_of(zeros[0]), cost_of(ones[0])), by_wire);
+}
+
 fn answers<L: Ledger>(rt: &impl Abort, blank: Blank, graph: &Graph, row: &Row)
     requires name { blank.name ≡ L.name }
     requires parts { blank.parts ≡ L.parts }
@@ -143,6 +173,15 @@ fn tells_of_a_wire_and_of_the_parts(rt: HostRuntime) -> Result<(), Fail> {
     let graph = wire_is_high(rt.alloc())?.ok_or("a graph")?;
     for row in &ROWS {
         answers::<Brand>(&rt, Blank::new(1), &graph, row);
+    }
+    Ok(())
+}
+
+#[test]
+fn tells_of_all_wires_at_once(rt: HostRuntime) -> Result<(), Fail> {
+    let graph = wire_is_high(rt.alloc())?.ok_or("a graph")?;
+    for row in &ROWS {
+        answers_at_once::<Brand>(&rt, Blank::new(1), &graph, row);
     }
     Ok(())
 }

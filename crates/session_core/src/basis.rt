@@ -34,7 +34,7 @@ impl Model for Basis {
 }
 
 impl Basis {
-    ghost use Rattle.session_core.specs.inner.Bases.{IsBasis};
+    ghost use Rattle.session_core.specs.inner.Bases.{IsBasis, room_of};
 
     /// Names, costs and a graph. `Err` means that memory ran out.
     pub(crate) fn of(
@@ -112,13 +112,15 @@ impl Basis {
         self.wires.find(name)
     }
 
-    /// How many words an answer works with: one for each variable, each node and each part.
+    /// How many words an answer works with: one for each variable and each part, three for each node, and two for each wire.
     pub(crate) fn room(&self) -> usize
-        ensures room { result ≡ self.now.graph.vars + (length self.now.graph.nodes + length self.now.parts) }
+        ensures room { result ≡ room_of self.now }
         ensures some { 1 ≤ result }
         ensures basis { IsBasis self.now }
     {
-        self.graph.vars() as usize + (self.graph.len() as usize + self.parts.as_slice().len())
+        let nodes = self.graph.len() as usize;
+        let probe_room = nodes + (nodes + 2 * self.wires.as_slice().len());
+        self.graph.vars() as usize + (nodes + (self.parts.as_slice().len() + probe_room))
     }
 
     /// How many variables the graph has.

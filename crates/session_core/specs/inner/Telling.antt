@@ -1,8 +1,10 @@
 -- What is told of a case that stays as it is.
-use Rattle.std.specs.Prelude.{◌≡◌, ℕ, ◌<◌, Option, List, [], ◌∷◌, ◌++◌, length, codes, is_some, true, false}
+use Rattle.std.specs.Prelude.{◌≡◌, ℕ, ◌+◌, ◌<◌, Bool, Option, List, [], ◌∷◌, ◌++◌, length, codes, is_some, slice_index, true, false}
 use Rattle.text_rules.specs.Names.{Name}
 use Rattle.ranking.specs.Cases.{Case}
 use Rattle.ranking.specs.Systems.{System, least_cost, all_diagnoses}
+use Rattle.conditioner.specs.Models.{least_with}
+use Rattle.minimiser.specs.Stored.{cost_in}
 use Rattle.probe_report.specs.declared.verdicts.Blame.{Blame as Verdict}
 use Rattle.session_rules.specs.GraphSystems.{Subject}
 use Rattle.session_rules.specs.Items.{Item, line}
@@ -43,3 +45,12 @@ pub record Said (before now : Option (List ℕ)) (left all : List Item) : Type 0
   pub done : List Item
   pub written : Writes before now done
   pub both : done ++ left ≡ all
+
+-- the least cost where a wire has a bit, under the words of a case
+abbrev pub least_of : Subject → List ℕ → ℕ → Bool → Option ℕ
+least_of subject words wire bit = least_with subject.graph words subject.costs (length subject.parts + wire + 1) bit
+
+-- numbers that say it of all wires
+abbrev pub AreProbed : Subject → List ℕ → Bool → List ℕ → Type 0
+AreProbed subject words bit numbers =
+    (length numbers ≡ length subject.wires) × ((wire : ℕ) → wire < length numbers → cost_in (slice_index numbers wire) ≡ least_of subject words wire bit)

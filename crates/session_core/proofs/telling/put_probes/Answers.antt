@@ -1,4 +1,4 @@
-use Rattle.std.proofs.Common.{◌≡◌, ◌∙◌, ◌+◌, [], List, subst, get_or, drop}
+use Rattle.std.proofs.Common.{◌≡◌, ◌∙◌, ◌+◌, [], List, ap, length, subst, get_or, drop, arith}
 use Rattle.std.proofs.lemmas.List.{get_or_read}
 use Rattle.session_rules.specs.GraphSystems.{system_of}
 use Rattle.session_rules.specs.Items.{Item}
@@ -18,7 +18,7 @@ returns-in_err-put_unseen-clause-reply g c =
     let names = c.wires-wires.result.now in
     let i = c.loop-wire.wire in
     let name = c.as_slice-name.ensures.bytes ∙ get_or_read names i c.index-wires-wire.result c.loop-wire-test.true c.index-wires-wire.is [] in
-    let items : unseen_line system s (case_in c.args.basis.now c.loop-wire.words) c.as_slice-name.result.now i ≡ unseen_line system s known (get_or names i []) i = (λ j. unseen_line system s (case_in c.args.basis.now (c.loop-wire.invariant.words j)) (name j) i) in
+    let items : unseen_line system s (case_in c.args.basis.now c.args.words.now) c.as_slice-name.result.now i ≡ unseen_line system s known (get_or names i []) i = (λ j. unseen_line system s known (name j) i) in
     said_part _ _ _ _ (unseen_line system s known (get_or names i []) i) (probe_lines system s known (i + 1) (drop (i + 1) names)) _ _ c.from_residual.ensures.0
     (lines-next system s known names i c.loop-wire-test.true)
     c.loop-wire.invariant.said
@@ -33,12 +33,17 @@ loop-wire-preserved g c =
     let names = c.wires-wires.result.now in
     let i = c.loop-wire.wire in
     let name = c.as_slice-name.ensures.bytes ∙ get_or_read names i c.index-wires-wire.result c.loop-wire-test.true c.index-wires-wire.is [] in
-    let items : unseen_line system s (case_in c.args.basis.now c.loop-wire.words) c.as_slice-name.result.now i ≡ unseen_line system s known (get_or names i []) i = (λ j. unseen_line system s (case_in c.args.basis.now (c.loop-wire.invariant.words j)) (name j) i) in
+    let items : unseen_line system s (case_in c.args.basis.now c.args.words.now) c.as_slice-name.result.now i ≡ unseen_line system s known (get_or names i []) i = (λ j. unseen_line system s known (name j) i) in
     record {
       said = said_more _ _ _ (unseen_line system s known (get_or names i []) i) (probe_lines system s known (i + 1) (drop (i + 1) names)) _ _
           (lines-next system s known names i c.loop-wire-test.true)
           c.loop-wire.invariant.said
           (subst (λ (xs : List Item). Writes (g.O.Sink.got c.loop-wire.out) (g.O.Sink.got c.put_unseen.new.out) xs) items c.in_ok-put_unseen.ensures.reply);
-      words = c.put_unseen.ensures.words ∙ c.loop-wire.invariant.words;
       faults = c.in_ok-put_unseen.ensures.cause.stayed ∙ c.loop-wire.invariant.faults;
     }
+
+pub put_unseen-requires-clause-zero : goal.put_unseen-requires-clause-zero
+put_unseen-requires-clause-zero g c = c.requires.zeros.1 c.loop-wire.wire (omega (arith, c.requires.zeros.0, c.loop-wire-test.true, ap length c.wires-wires.ensures.names))
+
+pub put_unseen-requires-clause-one : goal.put_unseen-requires-clause-one
+put_unseen-requires-clause-one g c = c.requires.ones.1 c.loop-wire.wire (omega (arith, c.requires.ones.0, c.loop-wire-test.true, ap length c.wires-wires.ensures.names))

@@ -1,7 +1,12 @@
-use Rattle.std.proofs.Common.{◌+◌, ap, sym, subst, length, List}
+use Rattle.std.proofs.Common.{◌+◌, ◌∙◌, ◌∷◌, [], ℕ, Option, ap, ap₂, sym, subst, length, List, codes, true, false, refl}
+use Rattle.text_rules.specs.Tokens.{spaced}
+use Rattle.session_rules.specs.GraphSystems.{system_of}
 use Rattle.session_rules.specs.Items.{Item}
+use Rattle.session_rules.specs.Replies.{count_text, probe_line}
 use Rattle.session_rules.specs.Spelling.{Writes, Replies}
-use Rattle.session_rules.proofs.Spellings.{writes_none}
+use Rattle.session_rules.proofs.ProbeWords.{least_with-by_words}
+use Rattle.session_rules.proofs.Spellings.{replies_one, writes_none}
+use Rattle.session_core.specs.inner.Bases.{case_in}
 use Rattle.session_core.proofs.Questions.{unseen-none, unseen-one}
 use Rattle.session_core.proofs.telling.put_unseen.Goals as goal
 
@@ -13,6 +18,13 @@ returns-then-words-parts-ne0-clause-reply g c =
 
 pub returns-clause-reply : goal.returns-clause-reply
 returns-clause-reply g c =
-    subst (λ (items : List Item). Replies (g.O.Sink.got c.args.out.now) (g.O.Sink.got c.put_probe_of.new.out) c.put_probe_of.result items)
+    let subject = c.args.basis.now in
+    let words = c.args.words.now in
+    let by_words = least_with-by_words subject.parts subject.wires subject.costs subject.graph subject.graph.vars words c.parts.ensures.basis.costs refl c.requires.words c.args.wire c.requires.wire in
+    let zero = c.cost_of.ensures ∙ c.requires.zero ∙ by_words false in
+    let one = c.cost_of-2.ensures ∙ c.requires.one ∙ by_words true in
+    subst (λ (items : List Item). Replies (g.O.Sink.got c.args.out.now) (g.O.Sink.got c.put_probe.new.out) c.put_probe.result items)
     (sym (unseen-one c.args.basis.now c.args.words.now c.parts.ensures.basis c.requires.words c.args.wire c.requires.wire c.args.session.now c.args.name.now _ (ap (λ n. length n + c.args.wire) c.parts.ensures.names) c.if-words-parts-ne0.false))
-    c.put_probe_of.ensures.reply
+    (replies_one _ _ _ (probe_line (system_of subject) c.args.session.now (case_in subject words) c.args.name.now c.args.wire) _
+    (ap₂ (λ (x y : Option ℕ). spaced (c.args.session.now ∷ codes "probe" ∷ c.args.name.now ∷ count_text x ∷ count_text y ∷ [])) zero one)
+    c.put_probe.ensures.text)

@@ -5,7 +5,7 @@ use Rattle.session_core.specs.declared.telling.Question.{Question}
 use Rattle.session_core.specs.declared.telling.Question.TheVariants as question
 use Rattle.session_core.specs.inner.Bases.{case_in}
 use Rattle.session_core.specs.inner.Telling.{told_of}
-use Rattle.session_core.proofs.telling.tell.Goals as goal
+use Rattle.session_core.proofs.telling.tell_with.Goals as goal
 
 pub returns-in-Minimum-clause-reply : goal.returns-in-Minimum-clause-reply
 returns-in-Minimum-clause-reply g c =

@@ -1,0 +1,224 @@
+-- What the marks of the nodes say, and the wires that are left by them.
+use Rattle.std.proofs.Common.{◌≡◌, ◌≢◌, ℕ, ◌+◌, ◌-◌, ◌<◌, ◌≤◌, Bool, true, false, not, ◌&&◌, List, map, length, take, get_or, set, refl, ap, sym, ◌∙◌, subst, arith, inl, inr, ⊎_elim}
+use Rattle.std.specs.Prelude.{◌⊎◌, ◌==◌}
+use Rattle.std.proofs.Math.Bool.{beq}
+use Rattle.std.proofs.lemmas.Bool.{and_from, and_parts, or_cases, or_left, or_right, eqb-true, eq-eqb, false≢true, not-true}
+use Rattle.std.proofs.lemmas.List.{get_or-set_same, get_or-set_other}
+use Rattle.graph_rules.specs.declared.NodeKind.TheVariants.{Literal, Or}
+use Rattle.graph_rules.specs.Graphs.{Node, Graph, node_at, mention_by, mentions, IsGraph}
+use Rattle.graph_rules.proofs.NodeValues.{map-below, value_of-at}
+use Rattle.graph_rules.proofs.NodesFit.{fits-at}
+use Rattle.minimiser.proofs.Models.{same_or_not}
+use Rattle.probe_report.specs.inner.Outside.{lowered, IsLowered, is_kid, AtLiteral, AtKid, Without, With, has_bit, is_left}
+use Rattle.probe_report.specs.inner.Leaving.{IsMarked, LeftKid, LeftNode, LowersBlock}
+use Rattle.probe_report.proofs.Lowering.{lowered-is, lowered-then, lowered-as, is_kid-more, is_left-before, is_left-behind, is_left-in, block-lowered, block-then, block-as}
+use Rattle.probe_report.proofs.Bits.{has_bit-all}
+use Rattle.probe_report.proofs.Outers.{kid_before}
+
+-- ---- one more kid
+
+module _ (values marks kids : List ℕ) (mark outer start i : ℕ) (lt : i < length kids) where
+  abbrev kid : ℕ
+  kid = get_or kids i 0
+
+  abbrev Left : ℕ → ℕ → ℕ → Type 0
+  Left n place cost = LeftKid values marks (take n kids) mark outer start place cost
+
+  wider : (place cost : ℕ) → Left i place cost → Left (i + 1) place cost
+  wider place cost l = record { kid = l.kid; is_kid_of = is_kid-more kids i l.kid lt ∙ or_left _ _ l.is_kid_of; has = l.has; lacks = l.lacks; value = l.value; is = l.is }
+
+  -- a kid that is left is one of those before, or this one
+  narrower : (place cost : ℕ) → (l : Left (i + 1) place cost) → Left i place cost ⊎ (get_or kids i 0 ≡ l.kid)
+  narrower place cost l = ⊎_elim
+      (λ e. inl (record { kid = l.kid; is_kid_of = e; has = l.has; lacks = l.lacks; value = l.value; is = l.is }))
+      (λ e. inr (eqb-true _ _ e))
+      (or_cases (is_kid (take i kids) l.kid) (get_or kids i 0 == l.kid) (sym (is_kid-more kids i l.kid lt) ∙ l.is_kid_of))
+
+  not-false : (b : Bool) → not b ≡ true → b ≡ false
+  not-false true e = absurd (let no : false ≡ true = e in cc)
+  not-false false e = refl
+
+  left-bits : (place : ℕ) → start ≤ place → place < start + 32 → is_left start mark (get_or marks (get_or kids i 0) 0) place ≡ true
+      → (has_bit mark (place - start) ≡ true) × (has_bit (get_or marks (get_or kids i 0) 0) (place - start) ≡ false)
+  left-bits place h g e =
+      let p = and_parts (has_bit mark (place - start)) (not (has_bit (get_or marks kid 0) (place - start))) (sym (is_left-in start mark (get_or marks kid 0) place h g) ∙ e) in
+      (p.0, not-false _ p.1)
+
+  pub left-more : (a b c : List ℕ) → length b ≡ length a → LowersBlock start (λ p. LeftKid values marks (take i kids) mark outer start p) a b → get_or values (get_or kids i 0) 0 < 2147483647
+      → ((p : ℕ) → p < length b → get_or c p 0 ≡ lowered (is_left start mark (get_or marks (get_or kids i 0) 0) p) (outer + get_or values (get_or kids i 0) 0) (get_or b p 0))
+      → LowersBlock start (λ p. LeftKid values marks (take (i + 1) kids) mark outer start p) a c
+  left-more a b c long before small each =
+      block-then {P = Left i} {Q = λ p x. (is_left start mark (get_or marks kid 0) p ≡ true) × (x ≡ outer + get_or values kid 0)} {R = Left (i + 1)} start a b c long before
+      (block-lowered start (λ p. is_left start mark (get_or marks kid 0) p) (outer + get_or values kid 0) b c each
+      (λ p out. ⊎_elim (λ h. is_left-before start mark (get_or marks kid 0) p h) (λ h. is_left-behind start mark (get_or marks kid 0) p h) out))
+      wider
+      (λ p x h g q. let bits = left-bits p h g q.0 in
+      record { kid = kid; is_kid_of = is_kid-more kids i kid lt ∙ or_right (is_kid (take i kids) kid) (kid == kid) (eq-eqb kid kid refl); has = bits.0; lacks = bits.1; value = small; is = q.1 })
+      (λ p x h g l. ⊎_elim (λ w. inl w)
+      (λ (e : kid ≡ l.kid). inr (
+        is_left-in start mark (get_or marks kid 0) p h g ∙ and_from _ _ l.has (ap not (ap (λ k. has_bit (get_or marks k 0) (p - start)) e ∙ l.lacks)),
+        l.is ∙ ap (λ k. outer + get_or values k 0) (sym e),
+      ))
+      (narrower p x l))
+
+  -- a kid that mentions all that its parent does, or that has no value, changes nothing
+  pub left-same : (a b : List ℕ) → LowersBlock start (λ p. LeftKid values marks (take i kids) mark outer start p) a b → (get_or marks (get_or kids i 0) 0 ≡ mark) ⊎ (2147483647 ≤ get_or values (get_or kids i 0) 0)
+      → LowersBlock start (λ p. LeftKid values marks (take (i + 1) kids) mark outer start p) a b
+  left-same a b before why = block-as {P = Left i} {R = Left (i + 1)} start a b before (λ p x h g. wider p x)
+      (λ p x h g l. ⊎_elim (λ w. w)
+      (λ (e : kid ≡ l.kid). absurd (⊎_elim
+      (λ (m : get_or marks kid 0 ≡ mark). false≢true (sym (sym (ap (λ w. has_bit w (p - start)) m) ∙ ap (λ k. has_bit (get_or marks k 0) (p - start)) e ∙ l.lacks) ∙ l.has))
+      (λ (v : 2147483647 ≤ get_or values kid 0). omega (arith, v, l.value, ap (λ k. get_or values k 0) e))
+      why))
+      (narrower p x l))
+
+-- ---- one more node
+
+module _ (graph : Graph) (ok : IsGraph graph) (marks : List ℕ) (first at mark : ℕ) (lt : at < length graph.nodes) (long : length marks ≡ length graph.nodes) (marked : IsMarked graph.nodes first at marks)
+    (is : (b : ℕ) → b < 32 → has_bit mark b ≡ mention_by (first + b) (node_at graph.nodes at).what (map (λ k. has_bit (get_or marks k 0) b) (node_at graph.nodes at).kids)) where
+  mark-right : (b : ℕ) → b < 32 → has_bit mark b ≡ mentions graph.nodes (first + b) at
+  mark-right b small =
+      let under = (fits-at graph.vars graph.nodes at ok.nodes.fit lt).below in
+      is b small
+      ∙ ap (mention_by (first + b) (node_at graph.nodes at).what) (map-below (λ k. has_bit (get_or marks k 0) b) (mentions graph.nodes (first + b)) at (node_at graph.nodes at).kids under (λ k h. marked k b h small))
+      ∙ sym (value_of-at (mention_by (first + b)) graph.nodes at lt under)
+
+  pub marked-more : IsMarked graph.nodes first (at + 1) (set marks at mark)
+  marked-more node b h small = ⊎_elim
+      (λ (e : node ≡ at). ap (λ k. has_bit (get_or (set marks at mark) k 0) b) e ∙ ap (λ w. has_bit w b) (get_or-set_same marks at mark 0 (omega (arith, long))) ∙ mark-right b small ∙ ap (mentions graph.nodes (first + b)) (sym e))
+      (λ (ne : node ≢ at). ap (λ w. has_bit w b) (get_or-set_other marks at node mark 0 ne) ∙ marked node b (omega arith) small)
+      (same_or_not node at)
+
+module _ (graph : Graph) (ok : IsGraph graph) (values outers marks : List ℕ) (parts start at : ℕ) (lt : at < length graph.nodes) (marked : IsMarked graph.nodes (parts + start + 1) (at + 1) marks) where
+  abbrev Met : ℕ → ℕ → ℕ → Type 0
+  Met n place cost = (node : ℕ) × (node < n) × AtKid graph.nodes values outers (parts + place + 1) node cost
+
+  -- the mark of a node says whether it mentions the variable of a place
+  says : (node place : ℕ) → node < at + 1 → start ≤ place → place < start + 32 → has_bit (get_or marks node 0) (place - start) ≡ mentions graph.nodes (parts + place + 1) node
+  says node place h low high =
+      let same : parts + start + 1 + (place - start) ≡ parts + place + 1 = omega arith in
+      marked node (place - start) h (omega arith) ∙ ap (λ v. mentions graph.nodes v node) same
+
+  pub node-more : (a b c : List ℕ) → length b ≡ length a → LowersBlock start (λ p x. (node : ℕ) × (node < at) × AtKid graph.nodes values outers (parts + p + 1) node x) a b
+      → LowersBlock start (λ p. LeftNode graph.nodes values outers marks at start p) b c
+      → LowersBlock start (λ p x. (node : ℕ) × (node < at + 1) × AtKid graph.nodes values outers (parts + p + 1) node x) a c
+  node-more a b c long before here = block-then {P = Met at} {Q = λ p. LeftNode graph.nodes values outers marks at start p} {R = Met (at + 1)} start a b c long before here
+      (λ p x m. (m.0, omega (arith, m.1), m.2))
+      (λ p x h g l. let inside : l.left.kid < at = kid_before graph at l.left.kid ok lt l.left.is_kid_of in (
+        at,
+        omega arith,
+        record {
+          within = lt;
+          or_ = l.or_;
+          kid = l.left.kid;
+          is_kid_of = l.left.is_kid_of;
+          has = sym (says at p (omega arith) h g) ∙ l.left.has;
+          lacks = sym (says l.left.kid p (omega arith) h g) ∙ l.left.lacks;
+          outer = l.outer;
+          value = l.left.value;
+          is = l.left.is;
+        },
+      ))
+      (λ p x h g m. ⊎_elim
+      (λ (e : m.0 ≡ at). inr (of_node p x h g (subst (λ k. AtKid graph.nodes values outers (parts + p + 1) k x) e m.2)))
+      (λ (ne : m.0 ≢ at). inl (m.0, omega (arith, m.1), m.2))
+      (same_or_not m.0 at)) where
+        of_node : (p x : ℕ) → start ≤ p → p < start + 32 → AtKid graph.nodes values outers (parts + p + 1) at x → LeftNode graph.nodes values outers marks at start p x
+        of_node p x h g k = record {
+          or_ = k.or_;
+          outer = k.outer;
+          left = record {
+            kid = k.kid;
+            is_kid_of = k.is_kid_of;
+            has = says at p (omega arith) h g ∙ k.has;
+            lacks = says k.kid p (omega (arith, kid_before graph at k.kid ok lt k.is_kid_of)) h g ∙ k.lacks;
+            value = k.value;
+            is = k.is;
+          };
+        }
+
+-- ---- the root
+
+module _ (graph : Graph) (ok : IsGraph graph) (values outers marks : List ℕ) (parts start count : ℕ) (all : count ≡ length graph.nodes) (marked : IsMarked graph.nodes (parts + start + 1) count marks) where
+  abbrev root : ℕ
+  root = length graph.nodes - 1
+
+  root-says : (place : ℕ) → start ≤ place → place < start + 32 → has_bit (get_or marks (length graph.nodes - 1) 0) (place - start) ≡ mentions graph.nodes (parts + place + 1) (length graph.nodes - 1)
+  root-says place low high =
+      let same : parts + start + 1 + (place - start) ≡ parts + place + 1 = omega arith in
+      marked root (place - start) (omega (arith, all, ok.some)) (omega arith) ∙ ap (λ v. mentions graph.nodes v root) same
+
+  root-left : (place : ℕ) → start ≤ place → place < start + 32 → is_left start 4294967295 (get_or marks (length graph.nodes - 1) 0) place ≡ not (mentions graph.nodes (parts + place + 1) (length graph.nodes - 1))
+  root-left place h g = is_left-in start 4294967295 (get_or marks root 0) place h g
+      ∙ (λ i. has_bit-all (place - start) (omega arith) i && not (root-says place h g i))
+
+  pub root-more : (a b c : List ℕ) → length b ≡ length a → LowersBlock start (λ p x. (node : ℕ) × (node < count) × AtKid graph.nodes values outers (parts + p + 1) node x) a b
+      → ((p : ℕ) → p < length b → get_or c p 0 ≡ lowered (is_left start 4294967295 (get_or marks (length graph.nodes - 1) 0) p) (get_or values (length graph.nodes - 1) 0) (get_or b p 0))
+      → LowersBlock start (λ p. Without graph.nodes values outers (parts + p + 1)) a c
+  root-more a b c long before each = block-then
+      {P = λ p x. (node : ℕ) × (node < count) × AtKid graph.nodes values outers (parts + p + 1) node x}
+      {Q = λ p x. (is_left start 4294967295 (get_or marks root 0) p ≡ true) × (x ≡ get_or values root 0)}
+      {R = λ p. Without graph.nodes values outers (parts + p + 1)} start a b c long before
+      (block-lowered start (λ p. is_left start 4294967295 (get_or marks root 0) p) (get_or values root 0) b c each
+      (λ p out. ⊎_elim (λ h. is_left-before start 4294967295 (get_or marks root 0) p h) (λ h. is_left-behind start 4294967295 (get_or marks root 0) p h) out))
+      (λ p x m. inl (m.0, m.2))
+      (λ p x h g q. inr (record { lacks = not-true _ (sym (root-left p h g) ∙ q.0); is = q.1 }))
+      (λ p x h g w. ⊎_elim
+      (λ k. inl (k.0, omega (arith, all, k.1.within), k.1))
+      (λ r. inr (root-left p h g ∙ ap not r.lacks, r.is)) w)
+
+-- what an or lowers
+pub node-left : (nodes : List Node) (values outers marks : List ℕ) (at start : ℕ) (a b kids : List ℕ) → (node_at nodes at).what ≡ Or → get_or outers at 0 < 2147483647 → kids ≡ (node_at nodes at).kids
+    → LowersBlock start (λ p. LeftKid values marks kids (get_or marks at 0) (get_or outers at 0) start p) a b → LowersBlock start (λ p. LeftNode nodes values outers marks at start p) a b
+node-left nodes values outers marks at start a b kids or_is small same before = block-as
+    {P = λ p. LeftKid values marks (node_at nodes at).kids (get_or marks at 0) (get_or outers at 0) start p} {R = λ p. LeftNode nodes values outers marks at start p} start a b
+    (subst (λ (ks : List ℕ). LowersBlock start (λ p. LeftKid values marks ks (get_or marks at 0) (get_or outers at 0) start p) a b) same before)
+    (λ p x h g l. record { or_ = or_is; outer = small; left = l })
+    (λ p x h g l. l.left)
+
+-- ---- literals
+
+module _ (nodes : List Node) (outers : List ℕ) (var : ℕ) (bit : Bool) (at : ℕ) where
+  abbrev Said : ℕ → ℕ → Type 0
+  Said n x = (node : ℕ) × (node < n) × AtLiteral nodes outers var bit node x
+
+  not-here : (x : ℕ) → (m : Said (at + 1) x) → Said at x ⊎ AtLiteral nodes outers var bit at x
+  not-here x m = ⊎_elim
+      (λ (e : m.0 ≡ at). inr (subst (λ k. AtLiteral nodes outers var bit k x) e m.2))
+      (λ (ne : m.0 ≢ at). inl (m.0, omega (arith, m.1), m.2))
+      (same_or_not m.0 at)
+
+  pub literal-more : (a b c v : ℕ) (positive : Bool) → at < length nodes → IsLowered (λ x. (node : ℕ) × (node < at) × AtLiteral nodes outers var bit node x) a b → Literal v positive ≡ (node_at nodes at).what → positive ≡ bit
+      → c ≡ lowered (v == var) (get_or outers at 0) b → IsLowered (λ x. (node : ℕ) × (node < at + 1) × AtLiteral nodes outers var bit node x) a c
+  literal-more a b c v positive h before is sign e = lowered-then {P = Said at} {Q = λ x. ((v == var) ≡ true) × (x ≡ get_or outers at 0)} {R = Said (at + 1)} a b c before
+      (subst (IsLowered (λ x. ((v == var) ≡ true) × (x ≡ get_or outers at 0)) b) (sym e) (lowered-is (v == var) (get_or outers at 0) b))
+      (λ x m. (m.0, omega (arith, m.1), m.2))
+      (λ x q. (at, omega arith, record { within = h; literal = sym is ∙ (λ i. Literal (eqb-true v var q.0 i) (sign i)); is = q.1 }))
+      (λ x m. ⊎_elim (λ w. inl w) (λ w. inr (eq-eqb v var (same_var (is ∙ w.literal)), w.is)) (not-here x m)) where
+        same_var : {p q : Bool} → Literal v p ≡ Literal var q → v ≡ var
+        same_var e = cc
+
+  pub literal-same : (a b : ℕ) → IsLowered (λ x. (node : ℕ) × (node < at) × AtLiteral nodes outers var bit node x) a b → ((node_at nodes at).what ≡ Literal var bit → ⊥)
+      → IsLowered (λ x. (node : ℕ) × (node < at + 1) × AtLiteral nodes outers var bit node x) a b
+  literal-same a b before other = lowered-as {P = Said at} {R = Said (at + 1)} a b before (λ x m. (m.0, omega (arith, m.1), m.2))
+      (λ x m. ⊎_elim (λ w. w) (λ w. absurd (other w.literal)) (not-here x m))
+
+  pub literal-all : (a b : ℕ) → length nodes ≤ at → IsLowered (λ x. (node : ℕ) × (node < at) × AtLiteral nodes outers var bit node x) a b → IsLowered (With nodes outers var bit) a b
+  literal-all a b past before = lowered-as {P = Said at} {R = With nodes outers var bit} a b before (λ x m. (m.0, m.2)) (λ x m. (m.0, omega (arith, past, m.1.within), m.1))
+
+-- ---- signs
+
+pub beq-true : (a b : Bool) → beq a b ≡ true → a ≡ b
+beq-true true true e = refl
+beq-true true false e = absurd (let absurdity : false ≡ true = e in cc)
+beq-true false true e = absurd (let absurdity : false ≡ true = e in cc)
+beq-true false false e = refl
+
+pub beq-false : (a b : Bool) → beq a b ≡ false → a ≡ b → ⊥
+beq-false true true e f = let absurdity : true ≡ false = e in cc
+beq-false true false e f = cc
+beq-false false true e f = cc
+beq-false false false e f = let absurdity : true ≡ false = e in cc
+
+pub same_sign : {v w : ℕ} {p q : Bool} → Literal v p ≡ Literal w q → p ≡ q
+same_sign e = cc

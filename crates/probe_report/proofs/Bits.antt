@@ -26,8 +26,8 @@ pub has_bit-zero : (b : ℕ) → has_bit 0 b ≡ false
 has_bit-zero b = ap (λ n. n == 1) (bit_at-zero b)
 
 -- the greatest word has all bits
-pub has_bit-all : (b : ℕ) → b < 32 → has_bit 4294967295 b ≡ true
-has_bit-all b h = ap (λ n. n == 1) (bit_at_ones 32 b h)
+pub has_bit-all : (b : ℕ) → b < 64 → has_bit 18446744073709551615 b ≡ true
+has_bit-all b h = ap (λ n. n == 1) (bit_at_ones 64 b h)
 
 any-more : (bs : List Bool) (x : Bool) → list_any (λ b. b) (bs ++ x ∷ []) ≡ (list_any (λ b. b) bs || x)
 any-more bs x = list_any-append (λ b. b) bs (x ∷ []) ∙ ap (λ y. list_any (λ b. b) bs || y) (none_more x) where
@@ -45,23 +45,23 @@ joined_more f kids i any b lt joined =
 
 -- ---- one variable
 
-one-place : (k b : ℕ) → k < 32 → has_bit (1 * 2 ^ k % 4294967296) b ≡ (b == k)
+one-place : (k b : ℕ) → k < 64 → has_bit (1 * 2 ^ k % 18446744073709551616) b ≡ (b == k)
 one-place k b lt =
-    let fits : 2 ^ k < 2 ^ 32 = pow_below k 32 lt in
-    let one : 1 * 2 ^ k % 4294967296 ≡ 2 ^ k = omega arith in
+    let fits : 2 ^ k < 2 ^ 64 = pow_below k 64 lt in
+    let one : 1 * 2 ^ k % 18446744073709551616 ≡ 2 ^ k = omega arith in
     ap (λ n. has_bit n b) one ∙ by (cases_eq b k) where
       by : (b ≡ k) ⊎ (b ≡ k → ⊥) → has_bit (2 ^ k) b ≡ (b == k)
       by (inl same) = ap (λ n. has_bit (2 ^ k) n) same ∙ ap (λ n. n == 1) (bit_at-pow_same k) ∙ sym (eq-eqb b k same)
       by (inr other) = ap (λ n. n == 1) (bit_at-pow_other k b other) ∙ sym (ne_eqb b k other)
 
-pub found-bit : (var first b : ℕ) → first ≤ var → var - first < 32 → has_bit (1 * 2 ^ (var - first) % 4294967296) b ≡ (var == first + b)
+pub found-bit : (var first b : ℕ) → first ≤ var → var - first < 64 → has_bit (1 * 2 ^ (var - first) % 18446744073709551616) b ≡ (var == first + b)
 found-bit var first b low high = one-place (var - first) b high ∙ by (cases_eq b (var - first)) where
   by : (b ≡ var - first) ⊎ (b ≡ var - first → ⊥) → (b == (var - first)) ≡ (var == first + b)
   by (inl same) = eq-eqb b (var - first) same ∙ sym (eq-eqb var (first + b) (omega arith))
   by (inr other) = ne_eqb b (var - first) other ∙ sym (ne_eqb var (first + b) (λ e. other (omega arith)))
 
-pub no-bit : (var first b : ℕ) → b < 32 → (var < first) ⊎ (32 ≤ var - first) → has_bit 0 b ≡ (var == first + b)
+pub no-bit : (var first b : ℕ) → b < 64 → (var < first) ⊎ (64 ≤ var - first) → has_bit 0 b ≡ (var == first + b)
 no-bit var first b small out = has_bit-zero b ∙ sym (ne_eqb var (first + b) (λ e. by out e)) where
-  by : (var < first) ⊎ (32 ≤ var - first) → var ≡ first + b → ⊥
+  by : (var < first) ⊎ (64 ≤ var - first) → var ≡ first + b → ⊥
   by (inl h) e = omega arith
   by (inr h) e = omega arith

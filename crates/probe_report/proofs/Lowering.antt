@@ -63,41 +63,41 @@ lowered-more false b cost old = refl
 
 pub is_left-before : (start word kid i : ℕ) → i < start → is_left start word kid i ≡ false
 is_left-before start word kid i h = by (nat_le start i) refl where
-  by : (b : Bool) → nat_le start i ≡ b → ((b && nat_lt i (start + 32)) && (has_bit word (i - start) && not (has_bit kid (i - start)))) ≡ false
+  by : (b : Bool) → nat_le start i ≡ b → ((b && nat_lt i (start + 64)) && (has_bit word (i - start) && not (has_bit kid (i - start)))) ≡ false
   by true e = absurd (omega (arith, leb-true start i e))
   by false e = refl
 
-pub is_left-behind : (start word kid i : ℕ) → start + 32 ≤ i → is_left start word kid i ≡ false
-is_left-behind start word kid i h = by (nat_le start i) (nat_lt i (start + 32)) refl where
-  by : (a b : Bool) → nat_lt i (start + 32) ≡ b → ((a && b) && (has_bit word (i - start) && not (has_bit kid (i - start)))) ≡ false
-  by a true e = absurd (omega (arith, ltb-true i (start + 32) e))
+pub is_left-behind : (start word kid i : ℕ) → start + 64 ≤ i → is_left start word kid i ≡ false
+is_left-behind start word kid i h = by (nat_le start i) (nat_lt i (start + 64)) refl where
+  by : (a b : Bool) → nat_lt i (start + 64) ≡ b → ((a && b) && (has_bit word (i - start) && not (has_bit kid (i - start)))) ≡ false
+  by a true e = absurd (omega (arith, ltb-true i (start + 64) e))
   by true false e = refl
   by false false e = refl
 
-pub is_left-in : (start word kid i : ℕ) → start ≤ i → i < start + 32 → is_left start word kid i ≡ (has_bit word (i - start) && not (has_bit kid (i - start)))
-is_left-in start word kid i h g = λ j. (le-leb start i h j && lt-ltb i (start + 32) g j) && (has_bit word (i - start) && not (has_bit kid (i - start)))
+pub is_left-in : (start word kid i : ℕ) → start ≤ i → i < start + 64 → is_left start word kid i ≡ (has_bit word (i - start) && not (has_bit kid (i - start)))
+is_left-in start word kid i h g = λ j. (le-leb start i h j && lt-ltb i (start + 64) g j) && (has_bit word (i - start) && not (has_bit kid (i - start)))
 
--- ---- 32 wires
+-- ---- 64 wires
 
 -- each number is lowered to a cost, or not
 pub block-lowered : (start : ℕ) (left : ℕ → Bool) (cost : ℕ) (old new : List ℕ) → ((i : ℕ) → i < length old → get_or new i 0 ≡ lowered (left i) cost (get_or old i 0))
-    → ((i : ℕ) → (i < start) ⊎ (start + 32 ≤ i) → left i ≡ false) → LowersBlock start (λ i c. (left i ≡ true) × (c ≡ cost)) old new
+    → ((i : ℕ) → (i < start) ⊎ (start + 64 ≤ i) → left i ≡ false) → LowersBlock start (λ i c. (left i ≡ true) × (c ≡ cost)) old new
 block-lowered start left cost old new each none = record {
   inside = λ i h g lt. subst (IsLowered (λ c. (left i ≡ true) × (c ≡ cost)) (get_or old i 0)) (sym (each i lt)) (lowered-is (left i) cost (get_or old i 0));
   others = λ i lt out. each i lt ∙ ap (λ b. lowered b cost (get_or old i 0)) (none i out);
 }
 
 pub block-then : {P Q R : ℕ → ℕ → Type 0} (start : ℕ) (a b c : List ℕ) → length b ≡ length a → LowersBlock start P a b → LowersBlock start Q b c
-    → ((i x : ℕ) → P i x → R i x) → ((i x : ℕ) → start ≤ i → i < start + 32 → Q i x → R i x) → ((i x : ℕ) → start ≤ i → i < start + 32 → R i x → P i x ⊎ Q i x) → LowersBlock start R a c
+    → ((i x : ℕ) → P i x → R i x) → ((i x : ℕ) → start ≤ i → i < start + 64 → Q i x → R i x) → ((i x : ℕ) → start ≤ i → i < start + 64 → R i x → P i x ⊎ Q i x) → LowersBlock start R a c
 block-then {P} {Q} {R} start a b c long p q left right either = record {
   inside = λ i h g lt. lowered-then {P = P i} {Q = Q i} {R = R i} (get_or a i 0) (get_or b i 0) (get_or c i 0) (p.inside i h g lt) (q.inside i h g (omega arith)) (left i) (λ x. right i x h g) (λ x. either i x h g);
   others = λ i lt out. q.others i (omega arith) out ∙ p.others i lt out;
 }
 
-pub block-none : {P : ℕ → ℕ → Type 0} (start : ℕ) (a : List ℕ) → ((i x : ℕ) → P i x → ⊥) → LowersBlock start P a a
-block-none {P} start a none = record { inside = λ i h g lt. lowered-none {P = P i} (get_or a i 0) (get_or a i 0) refl (none i); others = λ i lt out. refl }
+pub block-none : {P : ℕ → ℕ → Type 0} (start : ℕ) (a : List ℕ) → ((i x : ℕ) → start ≤ i → i < start + 64 → P i x → ⊥) → LowersBlock start P a a
+block-none {P} start a none = record { inside = λ i h g lt. lowered-none {P = P i} (get_or a i 0) (get_or a i 0) refl (λ x. none i x h g); others = λ i lt out. refl }
 
-pub block-as : {P R : ℕ → ℕ → Type 0} (start : ℕ) (a b : List ℕ) → LowersBlock start P a b → ((i x : ℕ) → start ≤ i → i < start + 32 → P i x → R i x) → ((i x : ℕ) → start ≤ i → i < start + 32 → R i x → P i x) → LowersBlock start R a b
+pub block-as : {P R : ℕ → ℕ → Type 0} (start : ℕ) (a b : List ℕ) → LowersBlock start P a b → ((i x : ℕ) → start ≤ i → i < start + 64 → P i x → R i x) → ((i x : ℕ) → start ≤ i → i < start + 64 → R i x → P i x) → LowersBlock start R a b
 block-as {P} {R} start a b p to back = record {
   inside = λ i h g lt. lowered-as {P = P i} {R = R i} (get_or a i 0) (get_or b i 0) (p.inside i h g lt) (λ x. to i x h g) (λ x. back i x h g);
   others = p.others;

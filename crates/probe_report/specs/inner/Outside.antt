@@ -1,5 +1,5 @@
 -- What a derivation of the root costs outside of a node, and where it leaves the nodes that mention a variable.
-use Rattle.std.specs.Prelude.{◌≡◌, ℕ, ◌+◌, ◌-◌, ◌<◌, ◌≤◌, ◌⊎◌, min, Bool, true, false, not, ◌&&◌, ◌==◌, nat_le, nat_lt, List, length, sum_by, slice_index, if◌then◌else◌}
+use Rattle.std.specs.Prelude.{◌≡◌, ℕ, ◌+◌, ◌-◌, ◌*◌, ◌<◌, ◌≤◌, ◌⊎◌, min, Bool, true, false, not, ◌&&◌, ◌==◌, nat_le, nat_lt, List, length, sum_by, slice_index, if◌then◌else◌}
 use Rattle.std.specs.Int.{bit_at}
 use Rattle.std.specs.List.{list_any}
 use Rattle.graph_rules.specs.declared.NodeKind.{NodeKind}
@@ -83,12 +83,16 @@ Without nodes values outers var cost = ((node : ℕ) × AtKid nodes values outer
 abbrev pub With : List Node → List ℕ → ℕ → Bool → ℕ → Type 0
 With nodes outers var bit cost = (node : ℕ) × AtLiteral nodes outers var bit node cost
 
--- ---- bits of 32 variables
+-- ---- marks of 64 variables
 
 abbrev pub has_bit : ℕ → ℕ → Bool
-has_bit word b = bit_at word b == 1
+has_bit mark b = bit_at mark b == 1
 
--- Whether a variable is left that has a place: it is one of the 32 from a start on, the word has its bit, and the kid's has not.
+-- the mark of a node stands in two words
+abbrev pub mark_at : List ℕ → ℕ → ℕ
+mark_at marks node = slice_index marks (2 * node) + 4294967296 * slice_index marks (2 * node + 1)
+
+-- Whether a variable is left that has a place: it is one of the 64 from a start on, the mark has its bit, and the kid's has not.
 abbrev pub is_left : ℕ → ℕ → ℕ → ℕ → Bool
-is_left start word kid place =
-    (nat_le start place && nat_lt place (start + 32)) && (has_bit word (place - start) && not (has_bit kid (place - start)))
+is_left start mark kid place =
+    (nat_le start place && nat_lt place (start + 64)) && (has_bit mark (place - start) && not (has_bit kid (place - start)))

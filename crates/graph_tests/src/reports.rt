@@ -114,23 +114,14 @@ fn answers_at_once<L: Ledger>(rt: &impl Abort, blank: Blank, graph: &Graph, row:
     assert!(rt; fixed.iter().all(|word| *word < 3));
     assert!(rt; costs.iter().all(|cost| *cost < 10));
     let mut steps = Steps::<L>::new(blank);
-    let mut values = [0; 4];
-    let mut outers = [0; 4];
-    let mut marks = [0; 4];
-    let mut zeros = [0; 1];
-    let mut ones = [0; 1];
-    probe_all(
-        graph,
-        &fixed,
-        &costs,
-        &mut values,
-        &mut outers,
-        &mut marks,
-        &mut zeros,
-        &mut ones,
-        &mut steps,
+    let mut room = [0; 16];
+    let mut numbers = [0; 2];
+    let fewest = probe_all(graph, &fixed, &costs, &mut room, &mut numbers, &mut steps);
+    assert_eq!(rt;
+        (cost_of(&numbers, 0, false), cost_of(&numbers, 0, true)),
+        by_wire
     );
-    assert_eq!(rt; (cost_of(zeros[0]), cost_of(ones[0])), by_wire);
+    assert_eq!(rt; fewest.is_none(), by_wire == (None, None));
 }
 
 fn answers<L: Ledger>(rt: &impl Abort, blank: Blank, graph: &Graph, row: &Row)

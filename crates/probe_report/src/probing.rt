@@ -41,7 +41,9 @@ pub fn probe_all<L: Ledger>(
     let (zeros, ones) = numbers.split_at_mut(numbers.len() / 2);
     let (values, room) = room.split_at_mut(graph.len() as usize);
     let (outers, marks) = room.split_at_mut(graph.len() as usize);
-    probe_wires(graph, words, costs, values, outers, marks, zeros, ones, steps)
+    probe_wires(
+        graph, words, costs, values, outers, marks, zeros, ones, steps,
+    )
 }
 
 /// The least cost where a wire has a bit, by the numbers that [`probe_all`] left. None where no state is left.

@@ -34,7 +34,7 @@ impl Model for Basis {
 }
 
 impl Basis {
-    ghost use Rattle.session_core.specs.inner.Bases.{IsBasis, room_of};
+    ghost use Rattle.session_core.specs.inner.Bases.{IsBasis, answer_room, probe_room};
 
     /// Names, costs and a graph. `Err` means that memory ran out.
     pub(crate) fn of(
@@ -112,15 +112,22 @@ impl Basis {
         self.wires.find(name)
     }
 
-    /// How many words an answer works with: one for each variable and each part, three for each node, and two for each wire.
+    /// How many words an answer works with: one for each variable, each node and each part.
     pub(crate) fn room(&self) -> usize
-        ensures room { result ≡ room_of self.now }
+        ensures room { result ≡ answer_room self.now }
         ensures some { 1 ≤ result }
         ensures basis { IsBasis self.now }
     {
-        let nodes = self.graph.len() as usize;
-        let probe_room = nodes + (nodes + 2 * self.wires.as_slice().len());
-        self.graph.vars() as usize + (nodes + (self.parts.as_slice().len() + probe_room))
+        self.graph.vars() as usize + (self.graph.len() as usize + self.parts.as_slice().len())
+    }
+
+    /// How many words the probes of all wires work with: four for each node, and two for each wire.
+    pub(crate) fn probe_room(&self) -> usize
+        ensures room { result ≡ probe_room self.now }
+        ensures some { 1 ≤ result }
+        ensures basis { IsBasis self.now }
+    {
+        4 * self.graph.len() as usize + 2 * self.wires.as_slice().len()
     }
 
     /// How many variables the graph has.

@@ -15,7 +15,7 @@ ghost use Rattle.session_rules.specs.Sessions.{Entry, state_of, with_entry};
 ghost use Rattle.session_rules.specs.Spelling.{Replies};
 ghost use Rattle.session_table.specs.Tables.{StandsAt};
 ghost use Rattle.session_core.specs.Services.{ChangesTable};
-ghost use Rattle.session_core.specs.inner.Bases.{AreKnown, case_in, room_of};
+ghost use Rattle.session_core.specs.inner.Bases.{AreKnown, case_in};
 ghost use Rattle.session_core.specs.inner.Obeying.{Obeys, MovesOn, PointMoves};
 
 use crate::basis::Basis;
@@ -180,8 +180,8 @@ impl Sessions {
     }
 }
 
-// Moves the point of the session at a place to the next diagnosis, if there is one. The scratch has the words that an answer works
-// with.
+// Moves the point of the session at a place to the next diagnosis, if there is one. The scratch has words for the parts, the variables
+// and the nodes.
 fn move_point<L: Ledger>(
     basis: &Basis,
     sessions: &mut OpenSessions,
@@ -193,14 +193,13 @@ fn move_point<L: Ledger>(
     requires wires { sessions.old.wires ≡ length basis.now.wires }
     requires vars { sessions.old.vars ≡ basis.now.graph.vars }
     requires place { place < length sessions.old.table }
-    requires scratch { length scratch.old ≡ room_of basis.now }
+    requires scratch { length scratch.old ≡ basis.now.graph.vars + (length basis.now.graph.nodes + length basis.now.parts) }
     ensures moves { (session : Name) (entry : Entry) → StandsAt sessions.old.table place session entry
         → PointMoves basis.now sessions.old.table sessions.new.table place session entry result }
     ensures stays { sessions.new ≡ record sessions.old { table = sessions.new.table } }
     ensures still { place < length sessions.new.table }
 {
     let (state, work) = scratch.split_at_mut(basis.parts().len());
-    let (work, _) = work.split_at_mut(basis.vars() + basis.nodes());
     match advance(
         basis,
         sessions.words(place),

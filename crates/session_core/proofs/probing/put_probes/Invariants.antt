@@ -3,7 +3,7 @@ use Rattle.session_rules.specs.GraphSystems.{system_of}
 use Rattle.session_rules.specs.Replies.{probe_lines}
 use Rattle.session_core.specs.inner.Bases.{case_in}
 use Rattle.session_core.specs.inner.Telling.{Said}
-use Rattle.session_core.proofs.telling.put_probes.Given as goal
+use Rattle.session_core.proofs.probing.put_probes.Given as goal
 
 -- the lines up to a wire were written, and those from there on are left
 abbrev pub invariant-loop-wire : goal.invariant-loop-wire

@@ -1,4 +1,4 @@
-use Rattle.std.proofs.Common.{◌≡◌, ◌∙◌, ◌+◌, [], List, ap, length, subst, get_or, drop, arith}
+use Rattle.std.proofs.Common.{◌≡◌, ◌∙◌, ◌+◌, [], List, subst, get_or, drop}
 use Rattle.std.proofs.lemmas.List.{get_or_read}
 use Rattle.session_rules.specs.GraphSystems.{system_of}
 use Rattle.session_rules.specs.Items.{Item}
@@ -8,7 +8,7 @@ use Rattle.session_core.specs.inner.Bases.{case_in}
 use Rattle.session_core.specs.inner.Telling.{unseen_line}
 use Rattle.session_core.proofs.Told.{said_more, said_part}
 use Rattle.session_core.proofs.Questions.{lines-next, lines-have}
-use Rattle.session_core.proofs.telling.put_probes.Goals as goal
+use Rattle.session_core.proofs.probing.put_probes.Goals as goal
 
 pub returns-in_err-put_unseen-clause-reply : goal.returns-in_err-put_unseen-clause-reply
 returns-in_err-put_unseen-clause-reply g c =
@@ -41,9 +41,3 @@ loop-wire-preserved g c =
           (subst (λ (xs : List Item). Writes (g.O.Sink.got c.loop-wire.out) (g.O.Sink.got c.put_unseen.new.out) xs) items c.in_ok-put_unseen.ensures.reply);
       faults = c.in_ok-put_unseen.ensures.cause.stayed ∙ c.loop-wire.invariant.faults;
     }
-
-pub put_unseen-requires-clause-zero : goal.put_unseen-requires-clause-zero
-put_unseen-requires-clause-zero g c = c.requires.zeros.1 c.loop-wire.wire (omega (arith, c.requires.zeros.0, c.loop-wire-test.true, ap length c.wires-wires.ensures.names))
-
-pub put_unseen-requires-clause-one : goal.put_unseen-requires-clause-one
-put_unseen-requires-clause-one g c = c.requires.ones.1 c.loop-wire.wire (omega (arith, c.requires.ones.0, c.loop-wire-test.true, ap length c.wires-wires.ensures.names))

@@ -8,7 +8,7 @@ use Rattle.session_rules.proofs.ProbeWords.{least_with-by_words}
 use Rattle.session_rules.proofs.Spellings.{replies_one, writes_none}
 use Rattle.session_core.specs.inner.Bases.{case_in}
 use Rattle.session_core.proofs.Questions.{unseen-none, unseen-one}
-use Rattle.session_core.proofs.telling.put_unseen.Goals as goal
+use Rattle.session_core.proofs.probing.put_unseen.Goals as goal
 
 pub returns-then-words-parts-ne0-clause-reply : goal.returns-then-words-parts-ne0-clause-reply
 returns-then-words-parts-ne0-clause-reply g c =
@@ -21,8 +21,8 @@ returns-clause-reply g c =
     let subject = c.args.basis.now in
     let words = c.args.words.now in
     let by_words = least_with-by_words subject.parts subject.wires subject.costs subject.graph subject.graph.vars words c.parts.ensures.basis.costs refl c.requires.words c.args.wire c.requires.wire in
-    let zero = c.cost_of.ensures ∙ c.requires.zero ∙ by_words false in
-    let one = c.cost_of-2.ensures ∙ c.requires.one ∙ by_words true in
+    let zero = c.cost_of-zero.ensures ∙ c.requires.numbers.least c.args.wire false c.requires.wire ∙ by_words false in
+    let one = c.cost_of-one.ensures ∙ c.requires.numbers.least c.args.wire true c.requires.wire ∙ by_words true in
     subst (λ (items : List Item). Replies (g.O.Sink.got c.args.out.now) (g.O.Sink.got c.put_probe.new.out) c.put_probe.result items)
     (sym (unseen-one c.args.basis.now c.args.words.now c.parts.ensures.basis c.requires.words c.args.wire c.requires.wire c.args.session.now c.args.name.now _ (ap (λ n. length n + c.args.wire) c.parts.ensures.names) c.if-words-parts-ne0.false))
     (replies_one _ _ _ (probe_line (system_of subject) c.args.session.now (case_in subject words) c.args.name.now c.args.wire) _

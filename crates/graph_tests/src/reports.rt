@@ -3,7 +3,7 @@ ghost use Rattle.std.specs.Prelude.{◌≡◌, ◌<◌};
 use graph_rules::NodeKind;
 use minimiser::Steps;
 use node_store::{Graph, GraphBuilder};
-use probe_report::{Blame, blame, blame_all, probe};
+use probe_report::{Blame, blame, blame_all, cost_of, probe, probe_all};
 use std::alloc::{AllocError, Global};
 use std::marker::Brand;
 use std::process::Abort;
@@ -103,6 +103,27 @@ fn wire_is_high(alloc: Global) -> Result<Option<Graph>, AllocError> {
     Ok(builder.finish().ok())
 }
 
+// What is asked of the wire is answered for all wires at once too.
+fn answers_at_once<L: Ledger>(rt: &impl Abort, blank: Blank, graph: &Graph, row: &Row)
+    requires name { blank.name ≡ L.name }
+    requires parts { blank.parts ≡ L.parts }
+    requires some { 0 < blank.parts }
+{
+    let (fixed, costs, by_wire, _) = *row;
+    assert!(rt; graph.len() == 4 && graph.vars() == 4);
+    assert!(rt; fixed.iter().all(|word| *word < 3));
+    assert!(rt; costs.iter().all(|cost| *cost < 10));
+    let mut steps = Steps::<L>::new(blank);
+    let mut room = [0; 16];
+    let mut numbers = [0; 2];
+    let fewest = probe_all(graph, &fixed, &costs, &mut room, &mut numbers, &mut steps);
+    assert_eq!(rt;
+        (cost_of(&numbers, 0, false), cost_of(&numbers, 0, true)),
+        by_wire
+    );
+    assert_eq!(rt; fewest.is_none(), by_wire == (None, None));
+}
+
 fn answers<L: Ledger>(rt: &impl Abort, blank: Blank, graph: &Graph, row: &Row)
     requires name { blank.name ≡ L.name }
     requires parts { blank.parts ≡ L.parts }
@@ -143,6 +164,15 @@ fn tells_of_a_wire_and_of_the_parts(rt: HostRuntime) -> Result<(), Fail> {
     let graph = wire_is_high(rt.alloc())?.ok_or("a graph")?;
     for row in &ROWS {
         answers::<Brand>(&rt, Blank::new(1), &graph, row);
+    }
+    Ok(())
+}
+
+#[test]
+fn tells_of_all_wires_at_once(rt: HostRuntime) -> Result<(), Fail> {
+    let graph = wire_is_high(rt.alloc())?.ok_or("a graph")?;
+    for row in &ROWS {
+        answers_at_once::<Brand>(&rt, Blank::new(1), &graph, row);
     }
     Ok(())
 }

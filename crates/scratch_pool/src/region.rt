@@ -7,7 +7,7 @@ use std::alloc::{AllocError, Global};
 use std::marker::Model;
 
 /// The words of a region are fewer.
-pub const REGION_LIMIT: usize = 1_073_741_824;
+pub const REGION_LIMIT: usize = 4_294_967_296;
 
 /// As many runs may be carved at one time.
 pub const RUN_LIMIT: usize = 16;

@@ -1,5 +1,5 @@
 -- What a service shows of what it holds, and what its changes are.
-use Rattle.std.proofs.Common.{◌≡◌, ◌∙◌, ◌∷◌, ◌++◌, [], ◌<◌, ◌-◌, ℕ, Bool, true, false, List, Option, Some, None, IsNone, IsSome, Result, length, replicate, take, drop, refl, ap, sym, subst, codes, arith, length-append}
+use Rattle.std.proofs.Common.{◌≡◌, ◌∙◌, ◌∷◌, ◌++◌, [], ◌<◌, ◌≤◌, ◌-◌, ℕ, Bool, true, false, List, Option, Some, None, IsNone, IsSome, Result, length, replicate, take, drop, refl, ap, sym, subst, codes, arith, length-append}
 use Rattle.std.specs.Prelude.{Contains, IfSome, if◌then◌else◌}
 use Rattle.std.proofs.Math.Seq.{take-append_seam}
 use Rattle.std.proofs.lemmas.List.{nil_from_length}
@@ -104,9 +104,9 @@ pub held-nowhere : (system : System) (session : Name) (entry : Entry) (name : Na
 held-nowhere system session entry name ok e =
     held-open system session entry name ok ∙ ap (at_place NoPart (λ p. becomes session (with_held entry p ok) (codes "ok"))) (sym e)
 
--- ---- scratch that is carved whole, and released
+-- ---- scratch of which one run is carved, and released
 
-pub carve_some : {R : Type 0} (scratch : Carved) (n : ℕ) (run : Option R) → scratch.runs ≡ [] → length scratch.words ≡ n → (IsNone run → free_words scratch < n) → IsSome run
+pub carve_some : {R : Type 0} (scratch : Carved) (n : ℕ) (run : Option R) → scratch.runs ≡ [] → n ≤ length scratch.words → (IsNone run → free_words scratch < n) → IsSome run
 carve_some scratch n (Some run) empty long none = refl
 carve_some {R} scratch n None empty long none =
     let free : free_words scratch ≡ length scratch.words = ap (λ (rs : List Span). length scratch.words - words_used rs) empty ∙ minus_none (length scratch.words) in
@@ -122,7 +122,7 @@ pub carved_so : (old new : Carved) (n : ℕ) (found : Option Span) (run : Span) 
 carved_so old new n found run is =
     subst (λ (o : Option Span). IfSome o (λ (run : Span). (run ≡ record { start = words_used old.runs; len = n }) × (new ≡ carved old run))) is
 
-module _ (old new : Carved) (run : Span) (n : ℕ) (empty : old.runs ≡ []) (long : length old.words ≡ n) (is : new ≡ carved old run) where
+module _ (old new : Carved) (run : Span) (empty : old.runs ≡ []) (is : new ≡ carved old run) where
   one_run : new.runs ≡ run ∷ []
   one_run = ap (λ (r : Carved). r.runs) is ∙ ap (λ (rs : List Span). rs ++ run ∷ []) empty
 
@@ -132,8 +132,8 @@ module _ (old new : Carved) (run : Span) (n : ℕ) (empty : old.runs ≡ []) (lo
   pub is_held : Contains new.runs run
   is_held = subst (λ (r : Carved). Contains r.runs run) (sym is) (carved-held old run)
 
-  pub carved_long : length new.words ≡ n
-  carved_long = ap (λ (r : Carved). length r.words) is ∙ (length-written old.words run.start (replicate run.len 0) ∙ long)
+  pub carved_long : length new.words ≡ length old.words
+  carved_long = ap (λ (r : Carved). length r.words) is ∙ length-written old.words run.start (replicate run.len 0)
 
   -- after the release nothing is in use, and all words are there
   pub released_runs : (after : Carved) → new.runs ≡ after.runs ++ run ∷ [] → after.runs ≡ []
@@ -142,7 +142,7 @@ module _ (old new : Carved) (run : Span) (n : ℕ) (empty : old.runs ≡ []) (lo
       let one = ap length (sym one_run ∙ e) in
       nil_from_length after.runs (omega (arith, all, one))
 
-  pub released_words : (after : Carved) (lent : List ℕ) → after.words ≡ written new.words run.start lent → length after.words ≡ n
+  pub released_words : (after : Carved) (lent : List ℕ) → after.words ≡ written new.words run.start lent → length after.words ≡ length old.words
   released_words after lent e = ap length e ∙ (length-written new.words run.start lent ∙ carved_long)
 
 -- a list that was lent whole and written back

@@ -34,7 +34,7 @@ impl Model for Basis {
 }
 
 impl Basis {
-    ghost use Rattle.session_core.specs.inner.Bases.{IsBasis};
+    ghost use Rattle.session_core.specs.inner.Bases.{IsBasis, answer_room, probe_room};
 
     /// Names, costs and a graph. `Err` means that memory ran out.
     pub(crate) fn of(
@@ -114,11 +114,20 @@ impl Basis {
 
     /// How many words an answer works with: one for each variable, each node and each part.
     pub(crate) fn room(&self) -> usize
-        ensures room { result ≡ self.now.graph.vars + (length self.now.graph.nodes + length self.now.parts) }
+        ensures room { result ≡ answer_room self.now }
         ensures some { 1 ≤ result }
         ensures basis { IsBasis self.now }
     {
         self.graph.vars() as usize + (self.graph.len() as usize + self.parts.as_slice().len())
+    }
+
+    /// How many words the probes of all wires work with: four for each node, and two for each wire.
+    pub(crate) fn probe_room(&self) -> usize
+        ensures room { result ≡ probe_room self.now }
+        ensures some { 1 ≤ result }
+        ensures basis { IsBasis self.now }
+    {
+        4 * self.graph.len() as usize + 2 * self.wires.as_slice().len()
     }
 
     /// How many variables the graph has.

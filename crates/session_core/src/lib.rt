@@ -8,6 +8,7 @@ mod limits;
 mod line_buffer;
 mod listing;
 mod name_table;
+mod probing;
 mod replies;
 mod service;
 mod serving;

@@ -25,7 +25,7 @@ use std::marker::Model;
 pub(crate) struct Sessions {
     pub(crate) basis: Basis,
     pub(crate) open: OpenSessions,
-    // what an answer works with: a word for each variable, a value for each node, a state, and a verdict for each part
+    // what an answer works with: words for what it finds of variables, nodes, parts and wires, and a verdict for each part
     pub(crate) scratch: Region,
     pub(crate) verdicts: Vec<Blame>,
 }
@@ -51,7 +51,7 @@ impl Sessions {
         let wires = basis.wires().len() as u32;
         let vars = basis.vars() as u32;
         let verdicts = vec![in alloc; Blame::Never; parts]?;
-        let scratch = Region::new(alloc, basis.room())?;
+        let scratch = Region::new(alloc, basis.room().max(basis.probe_room()))?;
         let open = OpenSessions::new(alloc, parts as u32, wires, vars, sessions)?;
         Ok(Sessions {
             basis,
@@ -112,7 +112,7 @@ impl Sessions {
             Line::List { session, count } => self.list(session, count, out),
             Line::After { session, names } => self.after(session, names, out),
             Line::Probe { session, name } => self.ask_wire(session, name, out),
-            Line::Probes { session } => self.ask(session, Question::Probes, out),
+            Line::Probes { session } => self.ask_probes(session, out),
             Line::Blame { session } => self.ask(session, Question::Blame, out),
             Line::Dnnf { session } => self.ask_graph(session, out),
         }

@@ -23,8 +23,6 @@ pub(crate) enum Question<'a> {
     Minimum,
     /// The least cost where the wire at a place is 0, and where it is 1.
     Probe { wire: u32, name: &'a [u8] },
-    /// The same of each wire that is not seen.
-    Probes,
     /// Of each part whether it is faulty in all diagnoses, in some, or in none.
     Blame,
 }
@@ -57,7 +55,6 @@ pub(crate) fn tell<O: Sink, L: Ledger>(
         Question::Probe { wire, name } => {
             tell_probe(basis, words, values, session, name, wire, out, steps)
         }
-        Question::Probes => tell_probes(basis, words, values, session, out, steps),
         Question::Blame => {
             tell_blame(basis, words, values, state, verdicts, session, out, steps)
         }
@@ -151,78 +148,6 @@ fn tell_probe<O: Sink, L: Ledger>(
 {
     if !is_consistent(basis, words, values, steps) {
         return put_line(out, &[session, b"inconsistent"]);
-    }
-    put_probe_of(basis, words, values, session, name, wire, out, steps)
-}
-
-// The least costs of each wire that is not seen, if some state agrees.
-fn tell_probes<O: Sink, L: Ledger>(
-    basis: &Basis,
-    words: &mut [u32],
-    values: &mut [u32],
-    session: &[u8],
-    out: &mut O,
-    steps: &mut Steps<L>,
-) -> Result<(), WriteFailed>
-    requires words { AreKnown basis.now words.old }
-    requires values { length values.old ≡ length basis.now.graph.nodes }
-    ensures reply { let system = system_of basis.now in let known = case_in basis.now words.old in
-        Replies (O.got out.old) (O.got out.new) result
-        (if_any session.now (system.consistent known)
-        (probe_lines system session.now known 0 system.wires ++ end_line session.now ∷ [])) }
-    ensures cause { HasCause (O.faults out.old) (O.faults out.new) result }
-{
-    if !is_consistent(basis, words, values, steps) {
-        return put_line(out, &[session, b"inconsistent"]);
-    }
-    put_probes(basis, words, values, session, out, steps)?;
-    put_line(out, &[session, b"end"])
-}
-
-// A line for each wire that is not seen.
-fn put_probes<O: Sink, L: Ledger>(
-    basis: &Basis,
-    words: &mut [u32],
-    values: &mut [u32],
-    session: &[u8],
-    out: &mut O,
-    steps: &mut Steps<L>,
-) -> Result<(), WriteFailed>
-    requires words { AreKnown basis.now words.old }
-    requires values { length values.old ≡ length basis.now.graph.nodes }
-    ensures reply { let system = system_of basis.now in let known = case_in basis.now words.old in
-        Replies (O.got out.old) (O.got out.new) result (probe_lines system session.now known 0 system.wires) }
-    ensures cause { HasCause (O.faults out.old) (O.faults out.new) result }
-{
-    let wires = basis.wires();
-    for (wire, name) in wires.iter().enumerate() {
-        let name = name.as_slice();
-        put_unseen(basis, words, values, session, name, wire as u32, out, steps)?;
-    }
-    Ok(())
-}
-
-// The line of one wire, unless it is seen.
-fn put_unseen<O: Sink, L: Ledger>(
-    basis: &Basis,
-    words: &mut [u32],
-    values: &mut [u32],
-    session: &[u8],
-    name: &[u8],
-    wire: u32,
-    out: &mut O,
-    steps: &mut Steps<L>,
-) -> Result<(), WriteFailed>
-    requires words { AreKnown basis.now words.old }
-    requires wire { wire < length basis.now.wires }
-    requires values { length values.old ≡ length basis.now.graph.nodes }
-    ensures reply { Replies (O.got out.old) (O.got out.new) result
-        (unseen_line (system_of basis.now) session.now (case_in basis.now words.old) name.now wire) }
-    ensures words { words.new ≡ words.old }
-    ensures cause { HasCause (O.faults out.old) (O.faults out.new) result }
-{
-    if words[basis.parts().len() + wire as usize] != 0 {
-        return Ok(());
     }
     put_probe_of(basis, words, values, session, name, wire, out, steps)
 }

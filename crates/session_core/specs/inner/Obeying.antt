@@ -5,7 +5,7 @@ use Rattle.ranking.specs.Ranking.{rest}
 use Rattle.ranking.specs.Systems.{all_diagnoses}
 use Rattle.diagnosis_lister.specs.declared.listing.Step.{Step as Answer}
 use Rattle.diagnosis_lister.specs.Listing.{step_of}
-use Rattle.script_lang.specs.Script.{Request, Ask, See, Unsee, Hold, Unhold, Min, Probe as ProbeOf, Probes as ProbeAll, Blame as BlameAll}
+use Rattle.script_lang.specs.Script.{Request, Ask, See, Unsee, Hold, Unhold, Min, Probe as ProbeOf, Blame as BlameAll}
 use Rattle.session_rules.specs.GraphSystems.{Subject, system_of}
 use Rattle.session_rules.specs.Replies.{Found, next_of}
 use Rattle.session_rules.specs.Sessions.{Entry, Table, with_entry}
@@ -14,7 +14,7 @@ use Rattle.session_rules.specs.Carrying.{CarriesOut}
 use Rattle.session_table.specs.Tables.{StandsAt}
 use Rattle.session_core.specs.Services.{Shown, exact_moves, ChangesTable}
 use Rattle.session_core.specs.declared.telling.Question.{Question}
-use Rattle.session_core.specs.declared.telling.Question.TheVariants.{Minimum, Probe, Probes, Blame}
+use Rattle.session_core.specs.declared.telling.Question.TheVariants.{Minimum, Probe, Blame}
 
 -- The moves of a request were made or broke off, and nothing but the table changed.
 pub record Obeys {T E : Type 0} (old new : Shown) (session : Name) (request : Request) (before after : Option (List ℕ)) (result : Result T E) : Type 0 where
@@ -35,7 +35,6 @@ held_request name None = Unhold name
 abbrev pub asked_request : Question → Request
 asked_request Minimum = Min
 asked_request (Probe wire name) = ProbeOf name.now
-asked_request Probes = ProbeAll
 asked_request Blame = BlameAll
 
 -- a question without a wire

@@ -23,14 +23,6 @@ returns-in-Probe-clause-reply g c =
     subst (λ (q : Question). Replies (g.O.Sink.got c.args.out.now) (g.O.Sink.got c.tell_probe.new.out) c.tell_probe.result (told_of system s (case_in basis c.args.known.now) q)) (sym c.in-Probe.is)
     (subst (λ (words : List ℕ). Replies (g.O.Sink.got c.args.out.now) (g.O.Sink.got c.tell_probe.new.out) c.tell_probe.result (told_of system s (case_in basis words) (question.Probe c.in-Probe.wire c.in-Probe.name))) c.copy_from_slice.ensures.after c.tell_probe.ensures.reply)
 
-pub returns-in-Probes-clause-reply : goal.returns-in-Probes-clause-reply
-returns-in-Probes-clause-reply g c =
-    let basis = c.args.basis.now in
-    let system = system_of basis in
-    let s = c.args.session.now in
-    subst (λ (q : Question). Replies (g.O.Sink.got c.args.out.now) (g.O.Sink.got c.tell_probes.new.out) c.tell_probes.result (told_of system s (case_in basis c.args.known.now) q)) (sym c.in-Probes.is)
-    (subst (λ (words : List ℕ). Replies (g.O.Sink.got c.args.out.now) (g.O.Sink.got c.tell_probes.new.out) c.tell_probes.result (told_of system s (case_in basis words) (question.Probes))) c.copy_from_slice.ensures.after c.tell_probes.ensures.reply)
-
 pub returns-in-Blame-clause-reply : goal.returns-in-Blame-clause-reply
 returns-in-Blame-clause-reply g c =
     let basis = c.args.basis.now in

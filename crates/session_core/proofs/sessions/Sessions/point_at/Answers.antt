@@ -12,7 +12,7 @@ use Rattle.session_core.proofs.sessions.Sessions.point_at.Goals as goal
 pub name_point-are_parts-requires-clause-scratch : goal.name_point-are_parts-requires-clause-scratch
 name_point-are_parts-requires-clause-scratch c =
     let at = carved_so c.self.inside.scratch c.carve.new.self c.room.result c.carve.result c.unwrap-run.result c.unwrap-run.ensures c.carve.ensures.run in
-    let held = is_held c.self.inside.scratch c.carve.new.self c.unwrap-run.result c.room.result c.self.invariant.unused (c.self.invariant.room ∙ sym c.room.ensures.room) at.1 in
+    let held = is_held c.self.inside.scratch c.carve.new.self c.unwrap-run.result c.self.invariant.unused at.1 in
     let long = ap length c.run_mut.ensures.value ∙ (length-run c.carve.new.self c.run_mut.ensures.sound c.unwrap-run.result held ∙ (ap (λ (run : Span). run.len) at.0 ∙ c.room.ensures.room)) in
     omega (arith, long)
 
@@ -24,22 +24,21 @@ returns-clause-point c = λ session entry stands.
 
 pub unwrap-run-requires : goal.unwrap-run-requires
 unwrap-run-requires c =
-    carve_some c.self.inside.scratch c.room.result c.carve.result c.self.invariant.unused (c.self.invariant.room ∙ sym c.room.ensures.room) c.carve.ensures.none.0
+    carve_some c.self.inside.scratch c.room.result c.carve.result c.self.invariant.unused (omega (arith, c.self.invariant.room, c.room.ensures.room)) c.carve.ensures.none.0
 
 pub release-requires : goal.release-requires
 release-requires c =
     let at = carved_so c.self.inside.scratch c.carve.new.self c.room.result c.carve.result c.unwrap-run.result c.unwrap-run.ensures c.carve.ensures.run in
-    record { last = is_last c.self.inside.scratch c.carve.new.self c.unwrap-run.result c.room.result c.self.invariant.unused (c.self.invariant.room ∙ sym c.room.ensures.room) at.1 }
+    record { last = is_last c.self.inside.scratch c.carve.new.self c.unwrap-run.result c.self.invariant.unused at.1 }
 
 pub invariant_of-self : goal.invariant_of-self
 invariant_of-self c =
     let at = carved_so c.self.inside.scratch c.carve.new.self c.room.result c.carve.result c.unwrap-run.result c.unwrap-run.ensures c.carve.ensures.run in
-    let room = c.self.invariant.room ∙ sym c.room.ensures.room in
     record {
       parts = ap (λ (o : Opened). o.parts) c.name_point-are_parts.ensures.stays ∙ c.self.invariant.parts;
       wires = ap (λ (o : Opened). o.wires) c.name_point-are_parts.ensures.stays ∙ c.self.invariant.wires;
       vars = ap (λ (o : Opened). o.vars) c.name_point-are_parts.ensures.stays ∙ c.self.invariant.vars;
-      unused = released_runs c.self.inside.scratch c.carve.new.self c.unwrap-run.result c.room.result c.self.invariant.unused room at.1 c.release.new.self c.release.ensures.runs;
-      room = released_words c.self.inside.scratch c.carve.new.self c.unwrap-run.result c.room.result c.self.invariant.unused room at.1 c.release.new.self c.name_point-are_parts.new.scratch c.release.ensures.words ∙ c.room.ensures.room;
+      unused = released_runs c.self.inside.scratch c.carve.new.self c.unwrap-run.result c.self.invariant.unused at.1 c.release.new.self c.release.ensures.runs;
+      room = released_words c.self.inside.scratch c.carve.new.self c.unwrap-run.result c.self.invariant.unused at.1 c.release.new.self c.name_point-are_parts.new.scratch c.release.ensures.words ∙ c.self.invariant.room;
       one_a_part = c.self.invariant.one_a_part;
     }

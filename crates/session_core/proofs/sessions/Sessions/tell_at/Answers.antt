@@ -1,4 +1,4 @@
-use Rattle.std.proofs.Common.{◌≡◌, ◌∙◌, ℕ, length, ap, sym, subst}
+use Rattle.std.proofs.Common.{◌≡◌, ◌∙◌, ℕ, length, ap, sym, subst, arith}
 use Rattle.ranking.specs.Cases.{Case}
 use Rattle.scratch_pool.specs.declared.region.Span.{Span}
 use Rattle.scratch_pool.proofs.Laws.{length-run}
@@ -15,7 +15,7 @@ use Rattle.session_core.proofs.sessions.Sessions.tell_at.Goals as goal
 
 pub unwrap-run-requires : goal.unwrap-run-requires
 unwrap-run-requires g c =
-    carve_some c.self.inside.scratch c.room.result c.carve.result c.self.invariant.unused (c.self.invariant.room ∙ sym c.room.ensures.room) c.carve.ensures.none.0
+    carve_some c.self.inside.scratch c.room.result c.carve.result c.self.invariant.unused (omega (arith, c.self.invariant.room, c.room.ensures.room)) c.carve.ensures.none.0
 
 pub tell-told-requires-clause-known : goal.tell-told-requires-clause-known
 tell-told-requires-clause-known g c =
@@ -26,7 +26,7 @@ tell-told-requires-clause-known g c =
 pub tell-told-requires-clause-scratch : goal.tell-told-requires-clause-scratch
 tell-told-requires-clause-scratch g c =
     let at = carved_so c.self.inside.scratch c.carve.new.self c.room.result c.carve.result c.unwrap-run.result c.unwrap-run.ensures c.carve.ensures.run in
-    let held = is_held c.self.inside.scratch c.carve.new.self c.unwrap-run.result c.room.result c.self.invariant.unused (c.self.invariant.room ∙ sym c.room.ensures.room) at.1 in
+    let held = is_held c.self.inside.scratch c.carve.new.self c.unwrap-run.result c.self.invariant.unused at.1 in
     ap length c.run_mut.ensures.value ∙ (length-run c.carve.new.self c.run_mut.ensures.sound c.unwrap-run.result held ∙ (ap (λ (run : Span). run.len) at.0 ∙ c.room.ensures.room))
 
 pub returns-clause-reply : goal.returns-clause-reply
@@ -45,18 +45,17 @@ returns-clause-same g c = c.self.view_is
 pub release-requires : goal.release-requires
 release-requires g c =
     let at = carved_so c.self.inside.scratch c.carve.new.self c.room.result c.carve.result c.unwrap-run.result c.unwrap-run.ensures c.carve.ensures.run in
-    record { last = is_last c.self.inside.scratch c.carve.new.self c.unwrap-run.result c.room.result c.self.invariant.unused (c.self.invariant.room ∙ sym c.room.ensures.room) at.1 }
+    record { last = is_last c.self.inside.scratch c.carve.new.self c.unwrap-run.result c.self.invariant.unused at.1 }
 
 pub invariant_of-self : goal.invariant_of-self
 invariant_of-self g c =
     let at = carved_so c.self.inside.scratch c.carve.new.self c.room.result c.carve.result c.unwrap-run.result c.unwrap-run.ensures c.carve.ensures.run in
-    let room = c.self.invariant.room ∙ sym c.room.ensures.room in
     let same : length c.tell-told.new.verdicts ≡ length c.self.inside.verdicts.items = c.tell-told.auto.verdicts ∙ ap length c.deref_mut.ensures.value in
     record {
       parts = c.self.invariant.parts;
       wires = c.self.invariant.wires;
       vars = c.self.invariant.vars;
-      unused = released_runs c.self.inside.scratch c.carve.new.self c.unwrap-run.result c.room.result c.self.invariant.unused room at.1 c.release.new.self c.release.ensures.runs;
-      room = released_words c.self.inside.scratch c.carve.new.self c.unwrap-run.result c.room.result c.self.invariant.unused room at.1 c.release.new.self c.tell-told.new.scratch c.release.ensures.words ∙ c.room.ensures.room;
+      unused = released_runs c.self.inside.scratch c.carve.new.self c.unwrap-run.result c.self.invariant.unused at.1 c.release.new.self c.release.ensures.runs;
+      room = released_words c.self.inside.scratch c.carve.new.self c.unwrap-run.result c.self.invariant.unused at.1 c.release.new.self c.tell-told.new.scratch c.release.ensures.words ∙ c.self.invariant.room;
       one_a_part = ap length (written_back c.self.inside.verdicts.len c.tell-told.new.verdicts c.self.inside.verdicts.items (sym (c.tell-told.auto.verdicts ∙ c.deref_mut.ensures.len))) ∙ (same ∙ c.self.invariant.one_a_part);
     }

@@ -8,7 +8,7 @@ use Rattle.session_core.specs.inner.Bases.{case_in}
 use Rattle.session_core.specs.inner.Telling.{unseen_line}
 use Rattle.session_core.proofs.Told.{said_more, said_part}
 use Rattle.session_core.proofs.Questions.{lines-next, lines-have}
-use Rattle.session_core.proofs.telling.put_probes.Goals as goal
+use Rattle.session_core.proofs.probing.put_probes.Goals as goal
 
 pub returns-in_err-put_unseen-clause-reply : goal.returns-in_err-put_unseen-clause-reply
 returns-in_err-put_unseen-clause-reply g c =
@@ -18,7 +18,7 @@ returns-in_err-put_unseen-clause-reply g c =
     let names = c.wires-wires.result.now in
     let i = c.loop-wire.wire in
     let name = c.as_slice-name.ensures.bytes ∙ get_or_read names i c.index-wires-wire.result c.loop-wire-test.true c.index-wires-wire.is [] in
-    let items : unseen_line system s (case_in c.args.basis.now c.loop-wire.words) c.as_slice-name.result.now i ≡ unseen_line system s known (get_or names i []) i = (λ j. unseen_line system s (case_in c.args.basis.now (c.loop-wire.invariant.words j)) (name j) i) in
+    let items : unseen_line system s (case_in c.args.basis.now c.args.words.now) c.as_slice-name.result.now i ≡ unseen_line system s known (get_or names i []) i = (λ j. unseen_line system s known (name j) i) in
     said_part _ _ _ _ (unseen_line system s known (get_or names i []) i) (probe_lines system s known (i + 1) (drop (i + 1) names)) _ _ c.from_residual.ensures.0
     (lines-next system s known names i c.loop-wire-test.true)
     c.loop-wire.invariant.said
@@ -33,12 +33,11 @@ loop-wire-preserved g c =
     let names = c.wires-wires.result.now in
     let i = c.loop-wire.wire in
     let name = c.as_slice-name.ensures.bytes ∙ get_or_read names i c.index-wires-wire.result c.loop-wire-test.true c.index-wires-wire.is [] in
-    let items : unseen_line system s (case_in c.args.basis.now c.loop-wire.words) c.as_slice-name.result.now i ≡ unseen_line system s known (get_or names i []) i = (λ j. unseen_line system s (case_in c.args.basis.now (c.loop-wire.invariant.words j)) (name j) i) in
+    let items : unseen_line system s (case_in c.args.basis.now c.args.words.now) c.as_slice-name.result.now i ≡ unseen_line system s known (get_or names i []) i = (λ j. unseen_line system s known (name j) i) in
     record {
       said = said_more _ _ _ (unseen_line system s known (get_or names i []) i) (probe_lines system s known (i + 1) (drop (i + 1) names)) _ _
           (lines-next system s known names i c.loop-wire-test.true)
           c.loop-wire.invariant.said
           (subst (λ (xs : List Item). Writes (g.O.Sink.got c.loop-wire.out) (g.O.Sink.got c.put_unseen.new.out) xs) items c.in_ok-put_unseen.ensures.reply);
-      words = c.put_unseen.ensures.words ∙ c.loop-wire.invariant.words;
       faults = c.in_ok-put_unseen.ensures.cause.stayed ∙ c.loop-wire.invariant.faults;
     }

@@ -1,0 +1,155 @@
+-- What the numbers of the wires say at the end.
+use Rattle.std.proofs.Common.{◌≡◌, ℕ, zero, suc, ◌+◌, ◌-◌, ◌<◌, ◌≤◌, Bool, true, false, cond, ◌&&◌, List, [], ◌∷◌, ◌++◌, length, get_or, set, Option, Some, None, refl, ap, sym, ◌∙◌, subst, arith, inl, inr}
+use Rattle.std.specs.Prelude.{◌⊎◌, ◌==◌, nat_lt}
+use Rattle.std.proofs.Math.ListN.{length-set}
+use Rattle.std.proofs.lemmas.Bool.{and_from, ltb-true, eqb-false}
+use Rattle.std.proofs.lemmas.List.{get_or_past}
+use Rattle.std.proofs.lemmas.List.Sums.{sum_by-cons}
+use Rattle.ranking.specs.Bits.{bit_in, same_bit, lists_of_bits}
+use Rattle.ranking.specs.Ranking.{cost, least, states}
+use Rattle.ranking.proofs.Members.{any_from, any_in, AtMost, bits_length, least-below, least-from}
+use Rattle.graph_rules.specs.Graphs.{Node, Graph, holds, IsGraph}
+use Rattle.conditioner.specs.declared.leaves.Leaf.TheVariants.{True, False}
+use Rattle.conditioner.specs.Words.{known_of, word_of, leaf_of}
+use Rattle.conditioner.specs.Models.{has_model, fits_words, least_under, least_with, total_cost}
+use Rattle.minimiser.specs.Costs.{part_cost}
+use Rattle.minimiser.specs.Stored.{cost_in, AreLeastCosts}
+use Rattle.minimiser.specs.inner.Held.{held_one, held_cost}
+use Rattle.minimiser.proofs.Costs.{and_left, and_right}
+use Rattle.minimiser.proofs.Sums.{cost_in-some}
+use Rattle.minimiser.proofs.Passes.{is_least, value_small, length-least_costs}
+use Rattle.minimiser.proofs.Whole.{AddHeld, least_is}
+use Rattle.probe_report.specs.inner.Outside.{IsLowered, AreOuter, Without, With}
+use Rattle.probe_report.specs.inner.Settled.{settled}
+use Rattle.probe_report.proofs.Lowering.{lowered-then}
+use Rattle.probe_report.proofs.Exits.{root-is}
+use Rattle.probe_report.proofs.With.{with-true, with-false, with-open}
+
+-- ---- what is held
+
+held-le : (costs words : List ℕ) → held_cost costs words ≤ total_cost costs
+held-le [] words = omega arith
+held-le (c ∷ costs) [] = omega arith
+held-le (c ∷ costs) (w ∷ words) = omega (arith, sum_by-cons (λ (x : ℕ). x) c costs, held-le costs words, one (known_of w)) where
+  one : (k : Option Bool) → held_one c k ≤ c
+  one None = omega arith
+  one (Some true) = omega arith
+  one (Some false) = omega arith
+
+-- a variable that is no part's changes nothing of it
+held-same : (costs words : List ℕ) (i w : ℕ) → length costs ≤ i → held_cost costs (set words i w) ≡ held_cost costs words
+held-same [] words i w h = refl
+held-same (c ∷ costs) [] i w h = refl
+held-same (c ∷ costs) (x ∷ words) zero w h = absurd (omega arith)
+held-same (c ∷ costs) (x ∷ words) (suc i) w h = ap (λ n. held_one c (known_of x) + n) (held-same costs words i w (omega arith))
+
+-- what all cost without what the root does is held
+pub record Held (root fewest held : ℕ) : Type 0 where
+  pub low : root ≤ fewest
+  pub is : fewest - root ≡ held
+  pub small : fewest - root < 2147483647
+  pub fits : fewest < 4294967295
+
+pub held-is : (graph : Graph) (words costs xs : List ℕ) (fewest root : ℕ) → IsGraph graph → length words ≡ graph.vars → length costs ≤ graph.vars → total_cost costs < 2147483647
+    → AreLeastCosts graph words costs xs → Some fewest ≡ least_under graph words costs → root ≡ length graph.nodes - 1 → Held (get_or xs root 0) fewest (held_cost costs words)
+held-is graph words costs xs fewest root ok long within total v e at = by_cost (cost_in (get_or xs (length graph.nodes - 1) 0)) refl (e ∙ is_least graph words costs xs ok long within v) where
+  same : get_or xs root 0 ≡ get_or xs (length graph.nodes - 1) 0
+  same = ap (λ k. get_or xs k 0) at
+
+  value : (w c : ℕ) → cost_in w ≡ Some c → (w ≡ c) × (w ≡ 4294967295 → ⊥)
+  value w c q = by_test (w == 4294967295) refl q where
+    by_test : (b : Bool) → (w == 4294967295) ≡ b → cond b None (Some w) ≡ Some c → (w ≡ c) × (w ≡ 4294967295 → ⊥)
+    by_test true t r = absurd (cc)
+    by_test false t r = (cc, eqb-false w 4294967295 t)
+
+  by_cost : (o : Option ℕ) → cost_in (get_or xs (length graph.nodes - 1) 0) ≡ o → Some fewest ≡ AddHeld (held_cost costs words) o → Held (get_or xs root 0) fewest (held_cost costs words)
+  by_cost None q r = absurd (cc)
+  by_cost (Some c) q r =
+      let w = value (get_or xs (length graph.nodes - 1) 0) c q in
+      let sum : fewest ≡ held_cost costs words + c = cc in
+      let low = value_small graph words costs (length graph.nodes) (length graph.nodes - 1) xs ok v (omega (arith, ok.some, length-least_costs graph words costs xs v)) w.1 in
+      record {
+        low = omega (arith, same, w.0, sum);
+        is = omega (arith, same, w.0, sum);
+        small = omega (arith, same, w.0, sum, held-le costs words);
+        fits = omega (arith, w.0, sum, held-le costs words, low);
+      }
+
+-- ---- where nothing agrees, nothing does with a bit too
+
+pub with-none : (graph : Graph) (words costs : List ℕ) (var : ℕ) (bit : Bool) → least_under graph words costs ≡ None → None ≡ least_with graph words costs var bit
+with-none graph words costs var bit e = by_least (least_with graph words costs var bit) refl where
+  with_bit : List Bool → Bool
+  with_bit = has_model graph (λ bits. fits_words words bits && same_bit bit (bit_in bits (var - 1))) (length costs)
+
+  by_least : (o : Option ℕ) → least_with graph words costs var bit ≡ o → None ≡ o
+  by_least None f = refl
+  by_least (Some k) f =
+      let s = least-from (cost costs) (has_model graph (λ bits. fits_words words bits && same_bit bit (bit_in bits (var - 1))) (length costs)) k (states (length costs)) f in
+      let long : length s.item ≡ length costs = bits_length (length costs) s.item s.is_in in
+      let t = any_from (λ others. (fits_words words (s.item ++ others) && same_bit bit (bit_in (s.item ++ others) (var - 1))) && holds graph (s.item ++ others)) (lists_of_bits (graph.vars - length costs)) s.passes in
+      let model : has_model graph (fits_words words) (length costs) s.item ≡ true =
+      any_in (λ others. fits_words words (s.item ++ others) && holds graph (s.item ++ others)) t.item (lists_of_bits (graph.vars - length costs)) t.is_in
+      (and_from _ _ (and_left _ _ (and_left _ _ t.passes)) (and_right (fits_words words (s.item ++ t.item) && same_bit bit (bit_in (s.item ++ t.item) (var - 1))) _ t.passes)) in
+      absurd (subst (λ o. AtMost o (cost costs s.item)) e (least-below (cost costs) (has_model graph (fits_words words) (length costs)) s.item (states (length costs)) s.is_in model))
+
+-- ---- one wire
+
+module _ (graph : Graph) (words costs : List ℕ) (ok : IsGraph graph) (long : length words ≡ graph.vars) (total : total_cost costs < 2147483647) (vs os : List ℕ) (least_costs : AreLeastCosts graph words costs vs) (outer : AreOuter graph.nodes vs os 0)
+    (wire : ℕ) (room : length costs + wire < graph.vars) (bit : Bool) where
+  abbrev var : ℕ
+  var = length costs + wire + 1
+
+  place : length costs + wire + 1 - 1 ≡ length costs + wire
+  place = omega arith
+
+  free : part_cost costs (length costs + wire + 1) ≡ 0
+  free = ap (part_cost costs) next ∙ get_or_past costs (length costs + wire) 0 (omega arith) where
+    next : length costs + wire + 1 ≡ suc (length costs + wire)
+    next = omega arith
+
+  open-is : (fewest held best : ℕ) → get_or words (length costs + wire) 0 ≡ 0 → held ≡ held_cost costs words → held < 2147483647
+      → IsLowered (λ c. Without graph.nodes vs os (length costs + wire + 1) c ⊎ With graph.nodes os (length costs + wire + 1) bit c) 4294967295 best
+      → cost_in (settled 0 fewest held bit best) ≡ least_with graph words costs (length costs + wire + 1) bit
+  open-is fewest held best open_ e small lowest =
+      by_size (nat_lt best 2147483647) refl
+      ∙ sym (ap (least costs) (sym (with-open graph words costs var bit long (omega arith) (omega arith) (omega arith) (ap (λ w. leaf_of bit (known_of w)) (sym (ap (λ i. get_or words i 0) place ∙ open_)))))
+      ∙ least_is graph (set words (var - 1) (word_of bit)) costs ok (length-set words (var - 1) (word_of bit) ∙ long) (omega arith)
+      ∙ (λ i. AddHeld (held-same costs words (var - 1) (word_of bit) (omega arith) i) (root-is graph words costs ok var bit (omega arith) (omega (arith, long)) vs os least_costs outer total best lowest i))) where
+        by_size : (b : Bool) → nat_lt best 2147483647 ≡ b → cost_in (cond b (best + held) 4294967295) ≡ AddHeld (held_cost costs words) (cond b (Some best) None)
+        by_size true t = cost_in-some (best + held) (λ q. absurd (omega (arith, ltb-true best 2147483647 t))) ∙ ap Some (omega (arith, e))
+        by_size false t = refl
+
+  known-is : (fewest held best : ℕ) → Some fewest ≡ least_under graph words costs → fewest < 4294967295 → (b : Bool) → get_or words (length costs + wire) 0 ≡ word_of b
+      → cost_in (settled (word_of b) fewest held bit best) ≡ least_with graph words costs (length costs + wire + 1) bit
+  known-is fewest held best e fits b says = by_bits b bit refl refl where
+    word : get_or words (length costs + wire + 1 - 1) 0 ≡ word_of b
+    word = ap (λ i. get_or words i 0) place ∙ says
+
+    all : True ≡ leaf_of bit (known_of (get_or words (length costs + wire + 1 - 1) 0)) → cost_in fewest ≡ least_with graph words costs (length costs + wire + 1) bit
+    all is = cost_in-some fewest (λ q. absurd (omega arith)) ∙ e ∙ ap (least costs) (with-true graph words costs var bit long (omega arith) (omega arith) (omega arith) is)
+
+    none : False ≡ leaf_of bit (known_of (get_or words (length costs + wire + 1 - 1) 0)) → cost_in 4294967295 ≡ least_with graph words costs (length costs + wire + 1) bit
+    none is = sym (ap (least costs) (with-false graph words costs var bit long (omega arith) (omega arith) (omega arith) is))
+
+    by_bits : (x y : Bool) → b ≡ x → bit ≡ y → cost_in (settled (word_of b) fewest held bit best) ≡ least_with graph words costs (length costs + wire + 1) bit
+    by_bits true true p q = (λ i. cost_in (settled (word_of (p i)) fewest held (q i) best)) ∙ all (sym ((λ i. leaf_of (q i) (known_of ((word ∙ ap word_of p) i)))))
+    by_bits true false p q = (λ i. cost_in (settled (word_of (p i)) fewest held (q i) best)) ∙ none (sym ((λ i. leaf_of (q i) (known_of ((word ∙ ap word_of p) i)))))
+    by_bits false true p q = (λ i. cost_in (settled (word_of (p i)) fewest held (q i) best)) ∙ none (sym ((λ i. leaf_of (q i) (known_of ((word ∙ ap word_of p) i)))))
+    by_bits false false p q = (λ i. cost_in (settled (word_of (p i)) fewest held (q i) best)) ∙ all (sym ((λ i. leaf_of (q i) (known_of ((word ∙ ap word_of p) i)))))
+
+  -- what is answered for a wire
+  pub settled-is : (fewest held best : ℕ) → get_or words (length costs + wire) 0 < 3 → Some fewest ≡ least_under graph words costs → fewest < 4294967295 → held ≡ held_cost costs words → held < 2147483647
+      → (get_or words (length costs + wire) 0 ≡ 0 → IsLowered (λ c. Without graph.nodes vs os (length costs + wire + 1) c ⊎ With graph.nodes os (length costs + wire + 1) bit c) 4294967295 best)
+      → cost_in (settled (get_or words (length costs + wire) 0) fewest held bit best) ≡ least_with graph words costs (length costs + wire + 1) bit
+  settled-is fewest held best said e fits h small lowest = by_word (get_or words (length costs + wire) 0) refl where
+    by_word : (w : ℕ) → get_or words (length costs + wire) 0 ≡ w → cost_in (settled w fewest held bit best) ≡ least_with graph words costs (length costs + wire + 1) bit
+    by_word zero q = open-is fewest held best q h small (lowest q)
+    by_word (suc zero) q = known-is fewest held best e fits true q
+    by_word (suc (suc n)) q = let two : n ≡ 0 = omega (arith, q, said) in known-is fewest held best e fits false (q ∙ ap (λ m. suc (suc m)) two)
+
+-- a number that was lowered to what costs no literal, and then to what one does
+pub exits-lowered : (nodes : List Node) (vs os : List ℕ) (var : ℕ) (bit : Bool) (none mid best : ℕ) → none ≡ 4294967295 → IsLowered (Without nodes vs os var) none mid → IsLowered (With nodes os var bit) mid best
+    → IsLowered (λ c. Without nodes vs os var c ⊎ With nodes os var bit c) 4294967295 best
+exits-lowered nodes vs os var bit none mid best e without literals = subst (λ n. IsLowered (λ c. Without nodes vs os var c ⊎ With nodes os var bit c) n best) e
+    (lowered-then {P = Without nodes vs os var} {Q = With nodes os var bit} {R = λ c. Without nodes vs os var c ⊎ With nodes os var bit c} none mid best without literals (λ x p. inl p) (λ x q. inr q) (λ x r. r))

@@ -1,0 +1,97 @@
+ghost use Rattle.std.specs.Prelude.{◌≡◌, ◌≢◌, ℕ, ◌+◌, ◌*◌, ◌<◌, ◌≤◌, ◌==◌, length, All, false, map};
+ghost use Rattle.std.specs.List.{list_any};
+ghost use Rattle.graph_rules.specs.Graphs.{node_at, mention_by, mentions};
+ghost use Rattle.probe_report.specs.inner.Outside.{has_bit, mark_at};
+
+use graph_rules::NodeKind;
+use node_store::Graph;
+
+/// How many variables have a bit in a mark.
+pub(crate) const WIDTH: u32 = 64;
+
+// A mark stands in two words, and one in the second counts so much.
+const HALF: u64 = 4_294_967_296;
+
+// The first node that mentions one of 64 variables from the first on, or the number of nodes.
+pub(crate) fn first_marked(graph: &Graph, first: u32) -> u32
+    ensures within { result ≤ length graph.now.nodes }
+    ensures none { (node b : ℕ) → node < result → b < WIDTH → mentions graph.now.nodes (first + b) node ≡ false }
+{
+    let count = graph.len();
+    for at in 0..count {
+        if let NodeKind::Literal { var, .. } = graph.what(at) {
+            if literal_mark(var, first) != 0 {
+                return at;
+            }
+        }
+    }
+    count
+}
+
+// Which of 64 variables from the first on a node mentions, from the marks of the nodes before it.
+pub(crate) fn mark_of(graph: &Graph, marks: &[u32], at: u32, first: u32) -> u64
+    requires at { at < length graph.now.nodes }
+    requires room { length marks.now ≡ 2 * length graph.now.nodes }
+    ensures { (b : ℕ) → b < WIDTH → has_bit result b ≡ mention_by (first + b) (node_at graph.now.nodes at).what
+        (map (λ k. has_bit (mark_at marks.now k) b) (node_at graph.now.nodes at).kids) }
+{
+    let _vars = graph.vars();
+    match graph.what(at) {
+        NodeKind::Literal { var, .. } => literal_mark(var, first),
+        NodeKind::And | NodeKind::Or => joined(marks, graph.kids(at)),
+    }
+}
+
+// The bit of a variable, if it has one.
+fn literal_mark(var: u32, first: u32) -> u64
+    ensures { (b : ℕ) → b < WIDTH → has_bit result b ≡ (var == first + b) }
+{
+    if var < first || WIDTH <= var - first {
+        return 0;
+    }
+    1 << (var - first)
+}
+
+// The bits that some mark of the kids has.
+fn joined(marks: &[u32], kids: &[u32]) -> u64
+    requires { All (λ k. 2 * k + 1 < length marks.now) kids.now }
+    ensures { (b : ℕ) → has_bit result b ≡ list_any (λ x. x) (map (λ k. has_bit (mark_at marks.now k) b) kids.now) }
+{
+    let mut any = 0;
+    for k in kids {
+        any |= mark_at(marks, *k as usize);
+    }
+    any
+}
+
+// The mark of a node.
+pub(crate) fn mark_at(marks: &[u32], node: usize) -> u64
+    requires { 2 * node + 1 < length marks.now }
+    ensures { result ≡ mark_at marks.now node }
+{
+    u64::from(marks[2 * node]) + HALF * u64::from(marks[2 * node + 1])
+}
+
+pub(crate) fn set_mark(marks: &mut [u32], node: usize, mark: u64)
+    requires { 2 * node + 1 < length marks.old }
+    ensures set { mark_at marks.new node ≡ mark }
+    ensures others { (other : ℕ) → other ≢ node → mark_at marks.new other ≡ mark_at marks.old other }
+{
+    marks[2 * node] = (mark % HALF) as u32;
+    marks[2 * node + 1] = (mark / HALF) as u32;
+}
+
+// Takes the marks of the nodes before one off.
+pub(crate) fn clear_marks(marks: &mut [u32], to: usize)
+    requires { 2 * to ≤ length marks.old }
+    ensures { (node : ℕ) → node < to → mark_at marks.new node ≡ 0 }
+{
+    marks[..2 * to].fill(0);
+}
+
+pub(crate) fn has_bit(mark: u64, b: usize) -> bool
+    requires { b < WIDTH }
+    ensures { result ≡ has_bit mark b }
+{
+    (mark >> b) % 2 == 1
+}

@@ -1,0 +1,170 @@
+ghost use Rattle.std.specs.Prelude.{◌≡◌, ℕ, Bool, ◌+◌, ◌*◌, ◌/◌, ◌%◌, ◌<◌, ◌≤◌, ◌==◌, length, All, false, true, min, slice_index, if◌then◌else◌};
+ghost use Rattle.conditioner.specs.Models.{least_under, least_with, total_cost};
+ghost use Rattle.minimiser.specs.Stored.{cost_in};
+ghost use Rattle.probe_report.specs.Probed.{probed};
+ghost use Rattle.probe_report.specs.inner.Outside.{IsLowered, With};
+ghost use Rattle.probe_report.specs.inner.Settled.{settled};
+
+use crate::leaving::lower_without;
+use crate::outside::find_outers;
+use graph_rules::NodeKind;
+use minimiser::{Steps, TOTAL_LIMIT, least};
+use node_store::Graph;
+use std::sync::ledger::Ledger;
+
+/// For the wires at once, what [`probe`](crate::probe) gives for one, and the least cost of all states.
+///
+/// The wires' variables are the next ones behind the parts'. [`cost_of`] reads the numbers, of which there are two for each wire.
+/// The room is worked in, and holds nothing afterwards.
+pub fn probe_all<L: Ledger>(
+    graph: &Graph,
+    words: &[u32],
+    costs: &[u32],
+    room: &mut [u32],
+    numbers: &mut [u32],
+    steps: &mut Steps<L>,
+) -> Option<u32>
+    requires long { length words.now ≡ graph.now.vars }
+    requires words { All (λ w. w < 3) words.now }
+    requires even { length numbers.old % 2 ≡ 0 }
+    requires wires { length costs.now + length numbers.old / 2 ≤ graph.now.vars }
+    requires total { total_cost costs.now < TOTAL_LIMIT }
+    requires room { length room.old ≡ 4 * length graph.now.nodes }
+
+    ensures least { result ≡ least_under graph.now words.now costs.now }
+    ensures probes { (wire : ℕ) (bit : Bool) → wire < length numbers.old / 2
+        → probed numbers.new wire bit ≡ least_with graph.now words.now costs.now (length costs.now + wire + 1) bit }
+
+    // A pass, a sweep for what is outside of nodes, two for literals, and one for each 64 wires of which one is not seen.
+    ensures steps { steps.new ≤ steps.old + 4 + (length numbers.old / 2 + 63) / 64 }
+{
+    let (zeros, ones) = numbers.split_at_mut(numbers.len() / 2);
+    let (values, room) = room.split_at_mut(graph.len() as usize);
+    let (outers, marks) = room.split_at_mut(graph.len() as usize);
+    probe_wires(
+        graph, words, costs, values, outers, marks, zeros, ones, steps,
+    )
+}
+
+/// The least cost where a wire has a bit, by the numbers that [`probe_all`] left. None where no state is left.
+pub fn cost_of(numbers: &[u32], wire: usize, bit: bool) -> Option<u32>
+    requires even { length numbers.now % 2 ≡ 0 }
+    requires wire { wire < length numbers.now / 2 }
+    ensures { result ≡ probed numbers.now wire bit }
+{
+    let number = if bit {
+        numbers[numbers.len() / 2 + wire]
+    } else {
+        numbers[wire]
+    };
+    if number == u32::MAX {
+        None
+    } else {
+        Some(number)
+    }
+}
+
+// The numbers of the wires where they are 0, and those where they are 1.
+fn probe_wires<L: Ledger>(
+    graph: &Graph,
+    words: &[u32],
+    costs: &[u32],
+    values: &mut [u32],
+    outers: &mut [u32],
+    marks: &mut [u32],
+    zeros: &mut [u32],
+    ones: &mut [u32],
+    steps: &mut Steps<L>,
+) -> Option<u32>
+    requires long { length words.now ≡ graph.now.vars }
+    requires words { All (λ w. w < 3) words.now }
+    requires wires { length costs.now + length zeros.old ≤ graph.now.vars }
+    requires total { total_cost costs.now < TOTAL_LIMIT }
+    requires values { length values.old ≡ length graph.now.nodes }
+    requires outers { length outers.old ≡ length graph.now.nodes }
+    requires marks { length marks.old ≡ 2 * length graph.now.nodes }
+    requires ones { length ones.old ≡ length zeros.old }
+
+    ensures least { result ≡ least_under graph.now words.now costs.now }
+    ensures zeros { (wire : ℕ) → wire < length zeros.old
+        → cost_in (slice_index zeros.new wire) ≡ least_with graph.now words.now costs.now (length costs.now + wire + 1) false }
+    ensures ones { (wire : ℕ) → wire < length ones.old
+        → cost_in (slice_index ones.new wire) ≡ least_with graph.now words.now costs.now (length costs.now + wire + 1) true }
+    ensures steps { steps.new ≤ steps.old + 4 + (length zeros.old + 63) / 64 }
+{
+    let _vars = graph.vars();
+    zeros.fill(u32::MAX);
+    ones.fill(u32::MAX);
+    let fewest = least(graph, words, costs, values, steps)?;
+    let parts = costs.len() as u32;
+    find_outers(graph, values, outers);
+    steps.tick();
+    lower_without(graph, values, outers, words, parts, marks, zeros, steps);
+    ones.copy_from_slice(zeros);
+    lower_with(graph, outers, parts, false, zeros);
+    steps.tick();
+    lower_with(graph, outers, parts, true, ones);
+    steps.tick();
+    let held = fewest - values[graph.len() as usize - 1];
+    settle(words, parts, fewest, held, false, zeros);
+    settle(words, parts, fewest, held, true, ones);
+    Some(fewest)
+}
+
+// Lowers the number of each wire to the least cost of a derivation with a literal that says a bit of it.
+fn lower_with(graph: &Graph, outers: &[u32], parts: u32, bit: bool, list: &mut [u32])
+    requires outers { length outers.now ≡ length graph.now.nodes }
+    requires wires { parts + length list.old ≤ graph.now.vars }
+    ensures { (i : ℕ) → i < length list.old
+        → IsLowered (With graph.now.nodes outers.now (parts + i + 1) bit) (slice_index list.old i) (slice_index list.new i) }
+{
+    let _vars = graph.vars();
+    for at in 0..graph.len() {
+        if let NodeKind::Literal { var, positive } = graph.what(at) {
+            if positive == bit {
+                lower_wire(var, parts, outers[at as usize], list);
+            }
+        }
+    }
+}
+
+// Lowers the number of a variable's wire, if it is one's.
+fn lower_wire(var: u32, parts: u32, cost: u32, list: &mut [u32])
+    requires { 1 ≤ var }
+    ensures { (i : ℕ) → i < length list.old
+        → slice_index list.new i ≡ (if var == parts + i + 1 then min (slice_index list.old i) cost else slice_index list.old i) }
+{
+    if var <= parts {
+        return;
+    }
+    let wire = (var - parts) as usize - 1;
+    if wire < list.len() {
+        list[wire] = list[wire].min(cost);
+    }
+}
+
+// Adds what is held to the number of each wire that is not seen, and gives those that are seen what all have or none.
+fn settle(words: &[u32], parts: u32, fewest: u32, held: u32, bit: bool, list: &mut [u32])
+    requires words { All (λ w. w < 3) words.now }
+    requires long { parts + length list.old ≤ length words.now }
+    requires held { held < TOTAL_LIMIT }
+    ensures { (i : ℕ) → i < length list.old
+        → slice_index list.new i ≡ settled (slice_index words.now (parts + i)) fewest held bit (slice_index list.old i) }
+{
+    for i in 0..list.len() {
+        list[i] = settled(words[parts as usize + i], fewest, held, bit, list[i]);
+    }
+}
+
+fn settled(word: u32, fewest: u32, held: u32, bit: bool, cost: u32) -> u32
+    requires word { word < 3 }
+    requires held { held < TOTAL_LIMIT }
+    ensures { result ≡ settled word fewest held bit cost }
+{
+    match word {
+        0 if cost < TOTAL_LIMIT => cost + held,
+        1 if bit => fewest,
+        2 if !bit => fewest,
+        _ => u32::MAX,
+    }
+}

@@ -6,12 +6,13 @@ use Rattle.std.proofs.lemmas.Bool.{and_parts, leb-true}
 use Rattle.text_rules.specs.Names.{same_name}
 use Rattle.text_rules.specs.Numbers.{value_behind, are_digits, has_leading_zero, number_in, plain_number_in}
 use Rattle.adder_load.specs.declared.adders.TheConstants.{PLACE_LIMIT}
+use Rattle.device_model.specs.declared.limits.TheConstants.{PART_LIMIT}
 use Rattle.branch_states.specs.declared.measuring.TheConstants.{BUDGET_LIMIT}
 use Rattle.session_core.specs.declared.limits.TheConstants.{SESSION_LIMIT}
 use Rattle.diag_cli.specs.declared.words.TheConstants.{DEFAULT_BUDGET, DEFAULT_SESSIONS}
 use Rattle.diag_cli.specs.declared.words.Options.{Options}
 use Rattle.diag_cli.specs.declared.words.Form.{Form as FormRead}
-use Rattle.diag_cli.specs.Words.{Form, Load, Over, Serve, Plan, Check, Compile, no_options, given_once, with_budget, with_sessions, and_option, and_options, form_by, form_over, form_load, form_of, is_device_path, is_graph_path, are_none, only_if}
+use Rattle.diag_cli.specs.Words.{Form, Load, Over, Serve, Ask, Plan, Check, Compile, no_options, given_once, with_budget, with_sessions, and_option, and_options, form_by, form_over, ask_by, form_ask, form_load, form_by_words, form_of, is_device_path, is_graph_path, are_none, only_if}
 use Rattle.diag_cli.specs.inner.Forms.{meant, IsWithinLimits}
 
 -- ---- words of the code and words of the definition
@@ -34,36 +35,43 @@ two_words given f (x ∷ y ∷ words) option value found long o v is =
 -- the words behind the first two
 pub form_behind : {S : Type 0} (f : S → List ℕ) (words : List S) (command next : S) → 2 ≤ length words
     → command ≡ get_or words 0 command → next ≡ get_or words 1 next
-    → form_of (map f words) ≡ (if same_name (f command) (codes "load") then form_load (f next) (map f (take (length words - 2) (drop 2 words))) else form_over (f command) (f next) (map f (take (length words - 2) (drop 2 words))))
+    → form_of (map f words) ≡ form_by_words (f command) (f next) (map f (take (length words - 2) (drop 2 words)))
 form_behind f [] command next long c p = absurd (omega (arith, long))
 form_behind f (x ∷ []) command next long c p = absurd (omega (arith, long))
 form_behind f (x ∷ y ∷ words) command next long c p =
     let rest : take (length (x ∷ y ∷ words) - 2) words ≡ words = take_all (length (x ∷ y ∷ words) - 2) words (omega arith) in
-    sym (λ k. if same_name (f (c k)) (codes "load") then form_load (f (p k)) (map f (rest k)) else form_over (f (c k)) (f (p k)) (map f (rest k)))
+    sym (λ k. form_by_words (f (c k)) (f (p k)) (map f (rest k)))
 
 pub few_words : {S : Type 0} (f : S → List ℕ) (words : List S) → length words < 2 → None ≡ form_of (map f words)
 few_words f [] short = refl
 few_words f (x ∷ []) short = refl
 few_words f (x ∷ y ∷ words) short = absurd (omega (arith, short))
 
-pub load_words : {S : Type 0} (f : S → List ℕ) (words : List S) (command next : S) → 2 ≤ length words → command ≡ get_or words 0 command → next ≡ get_or words 1 next
-    → same_name (f command) (codes "load") ≡ true → form_of (map f words) ≡ form_load (f next) (map f (take (length words - 2) (drop 2 words)))
-load_words f words command next long c p is =
-    let rest = map f (take (length words - 2) (drop 2 words)) in
-    form_behind f words command next long c p ∙ ap (λ b. if b then form_load (f next) rest else form_over (f command) (f next) rest) is
+-- the words behind the first of these
+pub ask_words : {S : Type 0} (f : S → List ℕ) (path : List ℕ) (words : List S) (health : S) → 1 ≤ length words → health ≡ get_or words 0 health
+    → form_ask path (map f words) ≡ option_and_then (ask_by path (plain_number_in 4 0 PART_LIMIT (f health))) (and_options no_options (map f (take (length words - 1) (drop 1 words))))
+ask_words f path [] health long h = absurd (omega (arith, long))
+ask_words f path (x ∷ words) health long h =
+    let rest : take (length (x ∷ words) - 1) words ≡ words = take_all (length (x ∷ words) - 1) words (omega arith) in
+    sym (λ k. option_and_then (ask_by path (plain_number_in 4 0 PART_LIMIT (f (h k)))) (and_options no_options (map f (rest k))))
 
-pub over_words : {S : Type 0} (f : S → List ℕ) (words : List S) (command next : S) → 2 ≤ length words → command ≡ get_or words 0 command → next ≡ get_or words 1 next
-    → same_name (f command) (codes "load") ≡ false → form_of (map f words) ≡ form_over (f command) (f next) (map f (take (length words - 2) (drop 2 words)))
-over_words f words command next long c p is =
-    let rest = map f (take (length words - 2) (drop 2 words)) in
-    form_behind f words command next long c p ∙ ap (λ b. if b then form_load (f next) rest else form_over (f command) (f next) rest) is
+pub no_health : {S : Type 0} (f : S → List ℕ) (path : List ℕ) (words : List S) → length words < 1 → None ≡ form_ask path (map f words)
+no_health f path [] short = refl
+no_health f path (x ∷ words) short = absurd (omega (arith, short))
 
 -- no options yet
+none_given : (given : Options) → (given.budget ≡ None) × (given.sessions ≡ None) → no_options ≡ given
+none_given given none = λ k. record { budget = sym none.0 k; sessions = sym none.1 k }
+
+pub ask_options : (given : Options) (path : List ℕ) (health : Option ℕ) (words : List (List ℕ)) (found : Option Options) → (given.budget ≡ None) × (given.sessions ≡ None)
+    → and_options given words ≡ found → option_and_then (ask_by path health) (and_options no_options words) ≡ option_and_then (ask_by path health) found
+ask_options given path health words found none is =
+    ap (λ options. option_and_then (ask_by path health) (and_options options words)) (none_given given none) ∙ ap (option_and_then (ask_by path health)) is
+
 pub over_options : (given : Options) (command path : List ℕ) (words : List (List ℕ)) (found : Option Options) → (given.budget ≡ None) × (given.sessions ≡ None)
     → and_options given words ≡ found → form_over command path words ≡ option_and_then (form_by command path) found
 over_options given command path words found none is =
-    let no_more : no_options ≡ given = λ k. record { budget = sym none.0 k; sessions = sym none.1 k } in
-    ap (λ options. option_and_then (form_by command path) (and_options options words)) no_more ∙ ap (option_and_then (form_by command path)) is
+    ap (λ options. option_and_then (form_by command path) (and_options options words)) (none_given given none) ∙ ap (option_and_then (form_by command path)) is
 
 -- ---- the order of options does not matter
 
@@ -130,9 +138,8 @@ options_in_either_order given a x b y words =
 
 -- words ask for the same in whatever order their options stand
 pub form_in_either_order : (command path a x b y : List ℕ) (words : List (List ℕ))
-    → form_of (command ∷ path ∷ a ∷ x ∷ b ∷ y ∷ words) ≡ form_of (command ∷ path ∷ b ∷ y ∷ a ∷ x ∷ words)
-form_in_either_order command path a x b y words =
-    ap (λ options. if same_name command (codes "load") then None else option_and_then (form_by command path) options) (options_in_either_order no_options a x b y words)
+    → form_over command path (a ∷ x ∷ b ∷ y ∷ words) ≡ form_over command path (b ∷ y ∷ a ∷ x ∷ words)
+form_in_either_order command path a x b y words = ap (option_and_then (form_by command path)) (options_in_either_order no_options a x b y words)
 
 -- ---- the numbers of a form lie within their limits
 
@@ -231,13 +238,29 @@ form_load_within : (places : List ℕ) (words : List (List ℕ)) → IfSome (for
 form_load_within places [] = load_within (plain_number_in 3 1 PLACE_LIMIT places) (plain_number_in-range 3 1 PLACE_LIMIT places)
 form_load_within places (word ∷ words) = tt
 
+ask_by_within : (path : List ℕ) (health : Option ℕ) (options : Options) → IfSome health (IsWithin 0 PART_LIMIT) → AreWithin options → IfSome (ask_by path health options) IsWithinLimits
+ask_by_within path None options is are = tt
+ask_by_within path (Some health) options is are =
+    let sessions = or_default (IsWithin 1 SESSION_LIMIT) options.sessions DEFAULT_SESSIONS are.sessions (lit≤ tt, lit≤ tt) in
+    (one_form true (is_graph_path path && is_none options.budget) (Over path (Ask health _)) None (is.1, sessions.0, sessions.1) (record { given = tt })).given
+
+form_ask_within : (path : List ℕ) (words : List (List ℕ)) → IfSome (form_ask path words) IsWithinLimits
+form_ask_within path [] = tt
+form_ask_within path (health ∷ words) =
+    and_then_holds AreWithin IsWithinLimits (ask_by path (plain_number_in 4 0 PART_LIMIT health)) (and_options no_options words)
+    (all_within no_options words (record { budget = tt; sessions = tt }))
+    (λ options are. ask_by_within path (plain_number_in 4 0 PART_LIMIT health) options (plain_number_in-range 4 0 PART_LIMIT health) are)
+
 form_of_within : (words : List (List ℕ)) → IfSome (form_of words) IsWithinLimits
 form_of_within [] = tt
 form_of_within (command ∷ []) = tt
 form_of_within (command ∷ next ∷ words) =
-    elim (same_name command (codes "load")) as (λ b. IfSome (if b then form_load next words else form_over command next words) IsWithinLimits) [
+    elim (same_name command (codes "load")) as (λ b. IfSome (if b then form_load next words else if same_name command (codes "ask") then form_ask next words else form_over command next words) IsWithinLimits) [
       | true ↦ form_load_within next words
-      | false ↦ form_over_within command next words
+      | false ↦ elim (same_name command (codes "ask")) as (λ b. IfSome (if b then form_ask next words else form_over command next words) IsWithinLimits) [
+        | true ↦ form_ask_within next words
+        | false ↦ form_over_within command next words
+      ]
     ]
 
 pub meant_within : (form : Option FormRead) (words : List (List ℕ)) → option_map meant form ≡ form_of words → IfSome form (λ f. IsWithinLimits (meant f))

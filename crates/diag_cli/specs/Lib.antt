@@ -2,6 +2,7 @@ pub mod Words
 pub mod Output
 pub mod Describing
 pub mod Checking
+pub mod Asking
 pub mod Planning
 pub mod Loads
 pub mod Courses

@@ -4,6 +4,7 @@ ghost use Rattle.diag_cli.specs.Courses.{course_by};
 ghost use Rattle.diag_cli.specs.inner.Courses.{Follows};
 ghost use Rattle.diag_cli.specs.inner.Forms.{command_meant, IsCommandWithin};
 
+use crate::asking::ask_file;
 use crate::checking::check_file;
 use crate::compiling::compile_file;
 use crate::planning::plan_file;
@@ -42,6 +43,7 @@ pub(crate) fn run_file<I: Source, O: Sink>(
         Command::Serve { budget, sessions } => {
             serve_file(alloc, path, file, budget, sessions, input, out)
         }
+        Command::Ask { health, sessions } => ask_file(alloc, file, health, sessions, input, out),
         Command::Plan => plan_file(alloc, path, file, out),
         Command::Check => check_file(alloc, file, out),
         Command::Compile { budget } => compile_file(alloc, path, file, budget, out),

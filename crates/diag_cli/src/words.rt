@@ -1,11 +1,12 @@
 ghost use Rattle.std.specs.Prelude.{◌≡◌, map, string_bytes, IfSome};
 ghost use Rattle.std.specs.Option.{option_map};
 ghost use Rattle.text_rules.specs.Numbers.{plain_number_in};
-ghost use Rattle.diag_cli.specs.Words.{form_of, form_over, form_load, form_by, are_none, given_once, and_option, and_options, ends_in, is_design_path, is_device_path, is_graph_path};
+ghost use Rattle.diag_cli.specs.Words.{form_of, form_by_words, form_over, form_load, form_ask, ask_by, form_by, are_none, given_once, and_option, and_options, ends_in, is_design_path, is_device_path, is_graph_path};
 ghost use Rattle.diag_cli.specs.inner.Forms.{meant, IsWithinLimits};
 
 use adder_load::PLACE_LIMIT;
 use branch_states::BUDGET_LIMIT;
+use device_model::PART_LIMIT;
 use session_core::SESSION_LIMIT;
 use text_rules::plain_number;
 
@@ -21,6 +22,9 @@ pub enum Command {
     /// `serve`: answers the script on the input over the device of the file, whose sum is within a budget, with at most so
     /// many sessions open at a time.
     Serve { budget: u32, sessions: u32 },
+    /// `ask`: answers the script on the input over the graph of the file, whose first variables are so many parts, with at most
+    /// so many sessions open at a time.
+    Ask { health: u32, sessions: u32 },
     /// `plan`: tells how large a device is, and the sum that the budget limits.
     Plan,
     /// `check`: tells whether the text of the file is a decomposable graph.
@@ -61,14 +65,14 @@ impl Options {
     {
         match option {
             "--budget" => {
-                let budget = given_once(self.budget, number_to(7, BUDGET_LIMIT, value))?;
+                let budget = given_once(self.budget, number_in(7, 1, BUDGET_LIMIT, value))?;
                 Some(Options {
                     budget: Some(budget),
                     ..self
                 })
             }
             "--sessions" => {
-                let sessions = given_once(self.sessions, number_to(4, SESSION_LIMIT, value))?;
+                let sessions = given_once(self.sessions, number_in(4, 1, SESSION_LIMIT, value))?;
                 Some(Options {
                     sessions: Some(sessions),
                     ..self
@@ -79,11 +83,11 @@ impl Options {
     }
 }
 
-// The number that a word spells, from 1 to a limit of so many digits.
-fn number_to(digits: usize, limit: u32, word: &str) -> Option<u32>
-    ensures { result ≡ plain_number_in digits 1 limit word.now }
+// The number that a word spells, of at most so many digits and between two others.
+fn number_in(digits: usize, low: u32, high: u32, word: &str) -> Option<u32>
+    ensures { result ≡ plain_number_in digits low high word.now }
 {
-    match plain_number(digits, 1, u64::from(limit), word.as_bytes()) {
+    match plain_number(digits, u64::from(low), u64::from(high), word.as_bytes()) {
         Some(number) => Some(number as u32),
         None => None,
     }
@@ -167,6 +171,30 @@ fn form_over<'a>(command: &str, path: &'a str, words: &[String]) -> Option<Form<
     form_by(command, path, options)
 }
 
+// The form of questions to a graph, with the word for how many parts it has, and with options.
+fn ask_by<'a>(path: &'a str, health: &str, options: Options) -> Option<Form<'a>>
+    ensures { option_map meant result ≡ ask_by path.now (plain_number_in 4 0 PART_LIMIT health.now) options }
+{
+    let health = number_in(4, 0, PART_LIMIT as u32, health)?;
+    if !is_graph_path(path) || options.budget.is_some() {
+        return None;
+    }
+    let sessions = options.sessions.unwrap_or(DEFAULT_SESSIONS);
+    let command = Command::Ask { health, sessions };
+    Some(Form::Over { path, command })
+}
+
+// The same with the words of options behind that for the parts.
+fn form_ask<'a>(path: &'a str, words: &[String]) -> Option<Form<'a>>
+    ensures { option_map meant result ≡ form_ask path.now (map string_bytes words.now) }
+{
+    let [health, rest @ ..] = words else {
+        return None;
+    };
+    let options = and_options(Options::default(), rest)?;
+    ask_by(path, health.as_str(), options)
+}
+
 // The form of an adder, with no further word.
 fn form_load<'a>(places: &str, words: &[String]) -> Option<Form<'a>>
     ensures { option_map meant result ≡ form_load places.now (map string_bytes words.now) }
@@ -174,8 +202,19 @@ fn form_load<'a>(places: &str, words: &[String]) -> Option<Form<'a>>
     if !words.is_empty() {
         return None;
     }
-    let places = number_to(3, PLACE_LIMIT, places)?;
+    let places = number_in(3, 1, PLACE_LIMIT, places)?;
     Some(Form::Load { places })
+}
+
+// The form of words behind the first two.
+fn form_by_words<'a>(command: &str, next: &'a str, words: &[String]) -> Option<Form<'a>>
+    ensures { option_map meant result ≡ form_by_words command.now next.now (map string_bytes words.now) }
+{
+    match command {
+        "load" => form_load(next, words),
+        "ask" => form_ask(next, words),
+        _ => form_over(command, next, words),
+    }
 }
 
 /// The form of the words, if they have one.
@@ -186,9 +225,5 @@ pub(crate) fn form_of(words: &[String]) -> Option<Form<'_>>
     let [command, next, rest @ ..] = words else {
         return None;
     };
-    if command.as_str() == "load" {
-        form_load(next.as_str(), rest)
-    } else {
-        form_over(command.as_str(), next.as_str(), rest)
-    }
+    form_by_words(command.as_str(), next.as_str(), rest)
 }

@@ -21,7 +21,13 @@ const SAME: File = File {
     text: "INPUT(a)\ny = NAND(a, a)\n",
 };
 
-const ROWS: [Row; 23] = [
+// One of two parts is faulty.
+const EITHER_FAULTY: File = File {
+    name: "f.nnf",
+    text: "nnf 3 2 2\nL -1\nL -2\nO 0 2 0 1\n",
+};
+
+const ROWS: [Row; 28] = [
     // The inputs are 0, so 22 and 23 are to be 0.
     Row {
         file: C17_FILE,
@@ -196,6 +202,52 @@ const ROWS: [Row; 23] = [
         script: "open S\n",
         out: "decomposable 1 0 0\n",
         status: 0,
+    },
+    // One of two parts is faulty, and no wire is there.
+    Row {
+        file: EITHER_FAULTY,
+        words: &["ask", "f.nnf", "2"],
+        script: "open S\nmin S\nlist S 5\nhold S 00001=ok\nblame S\n",
+        out: "ready 2 0\nS open\nS min 1 00001\nS diag 00001\nS diag 00002\nS end\nS ok\nS blame 00001 never\nS blame 00002 always\nS end\n",
+        status: 0,
+    },
+    Row {
+        file: EITHER_FAULTY,
+        words: &["ask", "f.nnf", "3"],
+        script: "open S\n",
+        out: "error: health 3 above 2\n",
+        status: 1,
+    },
+    // The part is ok and the wire is 1.
+    Row {
+        file: File {
+            name: "f.nnf",
+            text: "nnf 3 2 2\nL 1\nL 2\nA 2 0 1\n",
+        },
+        words: &["ask", "f.nnf", "1", "--sessions", "1"],
+        script: "open S\nprobe S 00002\nsee S 00002=0\nmin S\nopen T\n",
+        out: "ready 1 1\nS open\nS probe 00002 - 0\nS ok\nS inconsistent\nT error 8 full\n",
+        status: 0,
+    },
+    Row {
+        file: File {
+            name: "f.nnf",
+            text: "nnf 3 2 1\nL 1\nL -1\nA 2 0 1\n",
+        },
+        words: &["ask", "f.nnf", "1"],
+        script: "open S\n",
+        out: "error: fault 7 shared node 2 variable 1\n",
+        status: 1,
+    },
+    Row {
+        file: File {
+            name: "f.nnf",
+            text: "nnf 1 0 16386\nA 0\n",
+        },
+        words: &["ask", "f.nnf", "1"],
+        script: "open S\n",
+        out: "error: wires 16385 above 16384\n",
+        status: 1,
     },
     // The sum is 1 where all that is added is 0: its own gate is faulty, or the one that it reads.
     Row {
@@ -379,7 +431,7 @@ const REFUSED: [(&str, &str, &str); 34] = [
 ];
 
 // Words that ask for nothing that the program does.
-const WRONG: [&[&str]; 25] = [
+const WRONG: [&[&str]; 30] = [
     &[],
     &["serve"],
     &["--help"],
@@ -395,6 +447,11 @@ const WRONG: [&[&str]; 25] = [
     &["serve", "c17.bench", "--sessions", "2", "--sessions", "2"],
     &["answer", "c17.bench"],
     &["check", "c17.bench"],
+    &["ask", "c17.nnf"],
+    &["ask", "c17.nnf", "4097"],
+    &["ask", "c17.nnf", "02"],
+    &["ask", "c17.nnf", "2", "--budget", "7"],
+    &["ask", "c17.bench", "2"],
     &["plan", "c17.nnf"],
     &["plan", "c17.bench", "--budget", "7"],
     &["compile", "c17.bench", "--sessions", "2"],

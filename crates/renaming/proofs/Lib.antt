@@ -7,4 +7,5 @@ pub mod Costs
 pub mod Law
 pub mod Netlists
 pub mod Designs
+pub mod FiveDigits
 mod Examples

@@ -1,4 +1,4 @@
--- The service that a device is served by.
+-- The services that devices are served by, and graphs.
 use Rattle.std.specs.Prelude.{◌≡◌, ◌<◌, ◌≤◌, ◌+◌, ◌^◌, ℕ, [], length}
 use Rattle.graph_rules.specs.Graphs.{Graph, IsGraph}
 use Rattle.device_model.specs.Devices.{Device, part_names, part_costs}
@@ -19,6 +19,12 @@ pub record IsSound (subject : Subject) : Type 0 where
   pub valid : IsGraph subject.graph
   pub room : length subject.parts + length subject.wires ≤ subject.graph.vars
   pub few : length subject.graph.nodes + length subject.parts + 1 < 2 ^ 32
+
+-- Every reply has a text. So many sessions may be open, and none is.
+pub record IsReady (sessions : ℕ) (service : Shown) : Type 0 where
+  pub sound : IsSound service.subject
+  pub limit : service.limit ≡ sessions
+  pub none_open : service.table ≡ []
 
 -- It is over the names of the device and such a graph. So many sessions may be open, and none is.
 pub record IsServiceOf (device : Device) (sessions : ℕ) (service : Shown) : Type 0 where

@@ -1,4 +1,5 @@
 use Rattle.std.proofs.Common.{refl}
+use Rattle.device_model.specs.Diagnosis.{device_system}
 use Rattle.diag_cli.specs.Describing.{device_in}
 use Rattle.diag_cli.specs.Courses.{if_within}
 use Rattle.diag_cli.specs.Refusals.{told_by}
@@ -8,5 +9,5 @@ use Rattle.diag_cli.proofs.serving.serve_file.Goals as goal
 pub returns-in-Err-clause-follows : goal.returns-in-Err-clause-follows
 returns-in-Err-clause-follows g c =
     let fault = told_by c.in-Err.refusal in
-    follows_refusal _ _ _ _ _ c.args.sessions (if_within c.args.budget (device_in c.args.path.now c.args.file.now)) fault
+    follows_refusal _ _ _ _ _ device_system c.args.sessions (if_within c.args.budget (device_in c.args.path.now c.args.file.now)) fault
     (refused_in fault c.args.path.now c.args.file.now c.args.budget c.requires.short c.in-Err.ensures) (record { taken = refl; faults = refl }) c.tell.ensures.said

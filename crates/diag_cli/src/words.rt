@@ -1,11 +1,12 @@
 ghost use Rattle.std.specs.Prelude.{◌≡◌, map, string_bytes, IfSome};
 ghost use Rattle.std.specs.Option.{option_map};
 ghost use Rattle.text_rules.specs.Numbers.{plain_number_in};
-ghost use Rattle.diag_cli.specs.Words.{form_of, form_over, form_load, form_by, has_no_number, are_none, given_once, with_order, and_option, and_options, ends_in, is_design_path, is_device_path, is_graph_path};
+ghost use Rattle.diag_cli.specs.Words.{form_of, form_by_words, form_over, form_load, form_ask, sessions_in, form_by, has_no_number, are_none, given_once, with_order, and_option, and_options, ends_in, is_design_path, is_device_path, is_graph_path};
 ghost use Rattle.diag_cli.specs.inner.Forms.{meant, IsWithinLimits};
 
 use adder_load::PLACE_LIMIT;
 use branch_states::BUDGET_LIMIT;
+use device_model::PART_LIMIT;
 use session_core::SESSION_LIMIT;
 use text_rules::plain_number;
 
@@ -24,6 +25,12 @@ pub enum Command {
         budget: u32,
         sessions: u32,
         narrow: bool,
+    },
+    /// `ask`: answers the script on the input over the graph of the file, whose first variables are so many parts, with at most
+    /// so many sessions open at a time.
+    Ask {
+        health: u32,
+        sessions: u32,
     },
     /// `plan`: tells how large a device is, and the sum that the budget limits.
     Plan {
@@ -92,14 +99,14 @@ impl Options {
     {
         match option {
             "--budget" => {
-                let budget = given_once(self.budget, number_to(7, BUDGET_LIMIT, value))?;
+                let budget = given_once(self.budget, number_in(7, 1, BUDGET_LIMIT, value))?;
                 Some(Options {
                     budget: Some(budget),
                     ..self
                 })
             }
             "--sessions" => {
-                let sessions = given_once(self.sessions, number_to(4, SESSION_LIMIT, value))?;
+                let sessions = given_once(self.sessions, number_in(4, 1, SESSION_LIMIT, value))?;
                 Some(Options {
                     sessions: Some(sessions),
                     ..self
@@ -110,11 +117,11 @@ impl Options {
     }
 }
 
-// The number that a word spells, from 1 to a limit of so many digits.
-fn number_to(digits: usize, limit: u32, word: &str) -> Option<u32>
-    ensures { result ≡ plain_number_in digits 1 limit word.now }
+// The number that a word spells, of at most so many digits and between two others.
+fn number_in(digits: usize, low: u32, high: u32, word: &str) -> Option<u32>
+    ensures { result ≡ plain_number_in digits low high word.now }
 {
-    match plain_number(digits, 1, u64::from(limit), word.as_bytes()) {
+    match plain_number(digits, u64::from(low), u64::from(high), word.as_bytes()) {
         Some(number) => Some(number as u32),
         None => None,
     }
@@ -207,6 +214,35 @@ fn form_over<'a>(command: &str, path: &'a str, words: &[String]) -> Option<Form<
     form_by(command, path, options)
 }
 
+// How many sessions may be open by the words behind the parts of a graph. These take no other option, whatever `serve` takes.
+fn sessions_in(words: &[String]) -> Option<u32>
+    ensures { result ≡ sessions_in (map string_bytes words.now) }
+{
+    match words {
+        [] => Some(DEFAULT_SESSIONS),
+        [option, number] if option.as_str() == "--sessions" => {
+            number_in(4, 1, SESSION_LIMIT, number.as_str())
+        }
+        _ => None,
+    }
+}
+
+// The form of questions to a graph, with the words behind the file.
+fn form_ask<'a>(path: &'a str, words: &[String]) -> Option<Form<'a>>
+    ensures { option_map meant result ≡ form_ask path.now (map string_bytes words.now) }
+{
+    let [health, rest @ ..] = words else {
+        return None;
+    };
+    let health = number_in(4, 0, PART_LIMIT as u32, health.as_str())?;
+    let sessions = sessions_in(rest)?;
+    if !is_graph_path(path) {
+        return None;
+    }
+    let command = Command::Ask { health, sessions };
+    Some(Form::Over { path, command })
+}
+
 // The form of an adder, with no further word.
 fn form_load<'a>(places: &str, words: &[String]) -> Option<Form<'a>>
     ensures { option_map meant result ≡ form_load places.now (map string_bytes words.now) }
@@ -214,8 +250,19 @@ fn form_load<'a>(places: &str, words: &[String]) -> Option<Form<'a>>
     if !words.is_empty() {
         return None;
     }
-    let places = number_to(3, PLACE_LIMIT, places)?;
+    let places = number_in(3, 1, PLACE_LIMIT, places)?;
     Some(Form::Load { places })
+}
+
+// The form of words behind the first two.
+fn form_by_words<'a>(command: &str, next: &'a str, words: &[String]) -> Option<Form<'a>>
+    ensures { option_map meant result ≡ form_by_words command.now next.now (map string_bytes words.now) }
+{
+    match command {
+        "load" => form_load(next, words),
+        "ask" => form_ask(next, words),
+        _ => form_over(command, next, words),
+    }
 }
 
 /// The form of the words, if they have one.
@@ -226,9 +273,5 @@ pub(crate) fn form_of(words: &[String]) -> Option<Form<'_>>
     let [command, next, rest @ ..] = words else {
         return None;
     };
-    if command.as_str() == "load" {
-        form_load(next.as_str(), rest)
-    } else {
-        form_over(command.as_str(), next.as_str(), rest)
-    }
+    form_by_words(command.as_str(), next.as_str(), rest)
 }

@@ -104,6 +104,12 @@ ask_within_a_budget = refl
 ask_with_sessions_first : form_of (codes "ask" ∷ codes "g.nnf" ∷ codes "--sessions" ∷ codes "3" ∷ codes "2" ∷ []) ≡ None
 ask_with_sessions_first = refl
 
+ask_in_another_order : form_of (codes "ask" ∷ codes "g.nnf" ∷ codes "2" ∷ codes "--narrow" ∷ []) ≡ None
+ask_in_another_order = refl
+
+ask_in_another_order_too : form_of (codes "ask" ∷ codes "g.nnf" ∷ codes "2" ∷ codes "--sessions" ∷ codes "3" ∷ codes "--narrow" ∷ []) ≡ None
+ask_in_another_order_too = refl
+
 another_command : form_of (codes "run" ∷ codes "c.bench" ∷ []) ≡ None
 another_command = refl
 

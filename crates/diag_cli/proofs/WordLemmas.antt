@@ -71,18 +71,7 @@ few_words f [] short = refl
 few_words f (x ∷ []) short = refl
 few_words f (x ∷ y ∷ words) short = absurd (omega (arith, short))
 
--- the words behind the first of these
-pub ask_words : {S : Type 0} (f : S → List ℕ) (path : List ℕ) (words : List S) (health : S) → 1 ≤ length words → health ≡ get_or words 0 health
-    → form_ask path (map f words) ≡ ask_by path (plain_number_in 4 0 PART_LIMIT (f health)) (sessions_in (map f (take (length words - 1) (drop 1 words))))
-ask_words f path [] health long h = absurd (omega (arith, long))
-ask_words f path (x ∷ words) health long h =
-    let rest : take (length (x ∷ words) - 1) words ≡ words = take_all (length (x ∷ words) - 1) words (omega arith) in
-    sym (λ k. ask_by path (plain_number_in 4 0 PART_LIMIT (f (h k))) (sessions_in (map f (rest k))))
-
-pub no_health : {S : Type 0} (f : S → List ℕ) (path : List ℕ) (words : List S) → length words < 1 → None ≡ form_ask path (map f words)
-no_health f path [] short = refl
-no_health f path (x ∷ words) short = absurd (omega (arith, short))
-
+-- without a number of sessions there are no questions
 no_sessions : (path : List ℕ) (health : Option ℕ) → ask_by path health None ≡ None
 no_sessions path None = refl
 no_sessions path (Some health) = refl

@@ -99,14 +99,14 @@ impl Options {
     {
         match option {
             "--budget" => {
-                let budget = given_once(self.budget, number_in(7, 1, BUDGET_LIMIT, value))?;
+                let budget = given_once(self.budget, number_to(7, BUDGET_LIMIT, value))?;
                 Some(Options {
                     budget: Some(budget),
                     ..self
                 })
             }
             "--sessions" => {
-                let sessions = given_once(self.sessions, number_in(4, 1, SESSION_LIMIT, value))?;
+                let sessions = given_once(self.sessions, number_to(4, SESSION_LIMIT, value))?;
                 Some(Options {
                     sessions: Some(sessions),
                     ..self
@@ -117,11 +117,18 @@ impl Options {
     }
 }
 
-// The number that a word spells, of at most so many digits and between two others.
-fn number_in(digits: usize, low: u32, high: u32, word: &str) -> Option<u32>
-    ensures { result ≡ plain_number_in digits low high word.now }
+// The number that a word spells, from 1 to a limit of so many digits.
+fn number_to(digits: usize, limit: u32, word: &str) -> Option<u32>
+    ensures { result ≡ plain_number_in digits 1 limit word.now }
 {
-    match plain_number(digits, u64::from(low), u64::from(high), word.as_bytes()) {
+    number_in(digits, 1, limit, word)
+}
+
+// The number that a word spells, from one to another of so many digits.
+fn number_in(digits: usize, least: u32, most: u32, word: &str) -> Option<u32>
+    ensures { result ≡ plain_number_in digits least most word.now }
+{
+    match plain_number(digits, u64::from(least), u64::from(most), word.as_bytes()) {
         Some(number) => Some(number as u32),
         None => None,
     }
@@ -221,7 +228,7 @@ fn sessions_in(words: &[String]) -> Option<u32>
     match words {
         [] => Some(DEFAULT_SESSIONS),
         [option, number] if option.as_str() == "--sessions" => {
-            number_in(4, 1, SESSION_LIMIT, number.as_str())
+            number_to(4, SESSION_LIMIT, number.as_str())
         }
         _ => None,
     }
@@ -250,7 +257,7 @@ fn form_load<'a>(places: &str, words: &[String]) -> Option<Form<'a>>
     if !words.is_empty() {
         return None;
     }
-    let places = number_in(3, 1, PLACE_LIMIT, places)?;
+    let places = number_to(3, PLACE_LIMIT, places)?;
     Some(Form::Load { places })
 }
 

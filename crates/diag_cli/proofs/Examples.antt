@@ -2,7 +2,7 @@
 use Rattle.std.proofs.Common.{◌≡◌, ℕ, List, [], ◌∷◌, map, true, false, Some, None, codes, refl}
 use Rattle.std.specs.Fmt.{digits}
 use Rattle.session_rules.specs.Items.{Item, Plain}
-use Rattle.diag_cli.specs.Words.{Load, Over, Serve, Plan, Check, Compile, form_of}
+use Rattle.diag_cli.specs.Words.{Load, Over, Serve, Ask, Plan, Check, Compile, form_of}
 use Rattle.diag_cli.specs.Describing.{long_file_line}
 use Rattle.diag_cli.specs.Courses.{Ended, Failed, Cut, read_error, script_too_long, served}
 
@@ -47,6 +47,15 @@ plan_in_another_order = refl
 check_a_graph : form_of (codes "check" ∷ codes "g.nnf" ∷ []) ≡ Some (Over (codes "g.nnf") Check)
 check_a_graph = refl
 
+ask_a_graph : form_of (codes "ask" ∷ codes "g.nnf" ∷ codes "2" ∷ []) ≡ Some (Over (codes "g.nnf") (Ask 2 16))
+ask_a_graph = refl
+
+ask_without_parts : form_of (codes "ask" ∷ codes "g.nnf" ∷ codes "0" ∷ codes "--sessions" ∷ codes "3" ∷ []) ≡ Some (Over (codes "g.nnf") (Ask 0 3))
+ask_without_parts = refl
+
+ask_the_most_parts : form_of (codes "ask" ∷ codes "g.nnf" ∷ codes "4096" ∷ []) ≡ Some (Over (codes "g.nnf") (Ask 4096 16))
+ask_the_most_parts = refl
+
 load_an_adder : form_of (codes "load" ∷ codes "64" ∷ []) ≡ Some (Load 64)
 load_an_adder = refl
 
@@ -75,6 +84,30 @@ no_words = refl
 
 no_file : form_of (codes "serve" ∷ []) ≡ None
 no_file = refl
+
+ask_for_no_number : form_of (codes "ask" ∷ codes "g.nnf" ∷ []) ≡ None
+ask_for_no_number = refl
+
+ask_for_too_many_parts : form_of (codes "ask" ∷ codes "g.nnf" ∷ codes "4097" ∷ []) ≡ None
+ask_for_too_many_parts = refl
+
+ask_behind_a_zero : form_of (codes "ask" ∷ codes "g.nnf" ∷ codes "02" ∷ []) ≡ None
+ask_behind_a_zero = refl
+
+ask_a_netlist : form_of (codes "ask" ∷ codes "c.bench" ∷ codes "2" ∷ []) ≡ None
+ask_a_netlist = refl
+
+ask_within_a_budget : form_of (codes "ask" ∷ codes "g.nnf" ∷ codes "2" ∷ codes "--budget" ∷ codes "5" ∷ []) ≡ None
+ask_within_a_budget = refl
+
+ask_with_sessions_first : form_of (codes "ask" ∷ codes "g.nnf" ∷ codes "--sessions" ∷ codes "3" ∷ codes "2" ∷ []) ≡ None
+ask_with_sessions_first = refl
+
+ask_in_another_order : form_of (codes "ask" ∷ codes "g.nnf" ∷ codes "2" ∷ codes "--narrow" ∷ []) ≡ None
+ask_in_another_order = refl
+
+ask_in_another_order_too : form_of (codes "ask" ∷ codes "g.nnf" ∷ codes "2" ∷ codes "--sessions" ∷ codes "3" ∷ codes "--narrow" ∷ []) ≡ None
+ask_in_another_order_too = refl
 
 another_command : form_of (codes "run" ∷ codes "c.bench" ∷ []) ≡ None
 another_command = refl

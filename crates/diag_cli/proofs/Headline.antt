@@ -13,11 +13,12 @@ use Rattle.diag_edge.specs.declared.loading.LoadError.{LoadError}
 use Rattle.diag_edge.specs.declared.loading.LoadError.TheVariants.{Failed as LoadFailed, Long, Memory}
 use Rattle.session_rules.specs.Items.{Item}
 use Rattle.session_rules.specs.Spelling.{Writes}
+use Rattle.ranking.specs.Systems.{System}
 use Rattle.device_model.specs.Devices.{Device}
 use Rattle.clause_encoder.specs.declared.encoding.EncodeError.{EncodeError}
 use Rattle.clause_encoder.specs.Clauses.{ClauseList}
 use Rattle.diag_cli.specs.declared.serving.TheConstants.{SCRIPT_LIMIT}
-use Rattle.diag_cli.specs.Words.{Form, Load, Over, Command, Serve, Plan, Check, Compile, asks_script}
+use Rattle.diag_cli.specs.Words.{Form, Load, Over, Command, Serve, Ask, Plan, Check, Compile, asks_script}
 use Rattle.diag_cli.specs.Describing.{long_file_line, described, device_in}
 use Rattle.diag_cli.specs.Output.{Output, Gives, says, no_memory}
 use Rattle.diag_cli.specs.Courses.{End, Ended, Failed, Cut, Course, Tells, Serves, usage_line, read_error, not_loaded, served, wholly_served, whole_output, if_within, served_or_refused, course_by}
@@ -82,21 +83,21 @@ module _ (form : Option Form) (shelf new_shelf input new_input : Reading) (out n
   all_complete writes told of given = some_map told (λ file. some_map (of file) (completes writes)) given
 
 module _ (input new_input : Reading) (out new_out : Writing) (status : ℕ) where
-  -- ---- a device is served, or its file refused
+  -- ---- what was found is served, or refused
 
   zero_is_not_six : Gives no_memory status out.got new_out.got → status ≡ 0 → IsAtEnd new_input.left
   zero_is_not_six said zero = absurd (omega (arith, zero, (said.whole (λ five. omega (arith, zero, five))).0))
 
-  by_memory : (sessions : ℕ) (expected : Result Device Output) → IsIdle input new_input → Gives no_memory status out.got new_out.got
-      → Follows (served_or_refused sessions expected) input new_input out new_out status
-  by_memory sessions (Ok device) idle said = record { answer = inl (idle, said); all_read = zero_is_not_six said }
-  by_memory sessions (Err output) idle said = (idle, inl said)
+  by_memory : {A : Type 0} (system : A → System) (sessions : ℕ) (expected : Result A Output) → IsIdle input new_input → Gives no_memory status out.got new_out.got
+      → Follows (served_or_refused system sessions expected) input new_input out new_out status
+  by_memory system sessions (Ok found) idle said = record { answer = inl (idle, said); all_read = zero_is_not_six said }
+  by_memory system sessions (Err output) idle said = (idle, inl said)
 
-  pub follows_refusal : (sessions : ℕ) (expected : Result Device Output) (fault : Option Output) → IsExpectedFault fault expected → IsIdle input new_input
-      → Gives (or_memory fault) status out.got new_out.got → Follows (served_or_refused sessions expected) input new_input out new_out status
-  follows_refusal sessions expected None is idle said = by_memory sessions expected idle said
-  follows_refusal sessions expected (Some output) is idle said =
-      subst (λ e. Follows (served_or_refused sessions e) input new_input out new_out status) (sym is) (idle, inr said)
+  pub follows_refusal : {A : Type 0} (system : A → System) (sessions : ℕ) (expected : Result A Output) (fault : Option Output) → IsExpectedFault fault expected → IsIdle input new_input
+      → Gives (or_memory fault) status out.got new_out.got → Follows (served_or_refused system sessions expected) input new_input out new_out status
+  follows_refusal system sessions expected None is idle said = by_memory system sessions expected idle said
+  follows_refusal system sessions expected (Some output) is idle said =
+      subst (λ e. Follows (served_or_refused system sessions e) input new_input out new_out status) (sym is) (idle, inr said)
 
   -- ---- clauses of a run over the file
 
@@ -243,6 +244,7 @@ module _ (input new_input : Reading) (out new_out : Writing) (status : ℕ) wher
       where
         idle_by : (any : Command) → Follows (course_by order path any file) input new_input out new_out status → asks_script (Some (Over path any)) ≡ false → IsIdle input new_input
         idle_by (Serve budget sessions narrow) done asks = absurd (let never : ⊥ = cc in never)
+        idle_by (Ask health sessions) done asks = absurd (let never : ⊥ = cc in never)
         idle_by (Plan narrow) done asks = done.0
         idle_by Check done asks = done.0
         idle_by (Compile budget narrow) done asks = done.0
@@ -270,6 +272,7 @@ long_course order path command file long = by command
 
     by : (any : Command) → course_by order path any file ≡ Tells (says long_file_line 1)
     by (Serve budget sessions narrow) = rw no_more
+    by (Ask health sessions) = rw no_more
     by (Plan narrow) = rw no_more
     by Check = rw no_more
     by (Compile budget narrow) = rw no_more

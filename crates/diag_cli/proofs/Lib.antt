@@ -3,6 +3,7 @@ mod Limits
 pub mod WordLemmas
 pub mod Running
 pub mod ServedDevices
+pub mod AskedGraphs
 pub mod Failing
 pub mod Unread
 pub mod Scripts

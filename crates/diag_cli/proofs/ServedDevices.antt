@@ -47,8 +47,8 @@ same_answers device graph is sessions = λ k lines. ready_line (device_system de
 -- sum is within the budget.
 pub device_served : (budget sessions : ℕ) (clauses : Device → Result ClauseList EncodeError) (device : Device) (service : Shown) (input new_input : Reading) (out new_out : Writing) (status : ℕ) → IsServiceOf device sessions service
     → if_within budget clauses (Ok device) ≡ Ok device → IsServed (answers_of (system_of service.subject) service.limit) input new_input out new_out status
-    → Follows (served_or_refused sessions (if_within budget clauses (Ok device))) input new_input out new_out status
+    → Follows (served_or_refused device_system sessions (if_within budget clauses (Ok device))) input new_input out new_out status
 device_served budget sessions clauses device service input new_input out new_out status of within_it done =
-    subst (λ (expected : Result Device Output). Follows (served_or_refused sessions expected) input new_input out new_out status) (sym within_it)
+    subst (λ (expected : Result Device Output). Follows (served_or_refused device_system sessions expected) input new_input out new_out status) (sym within_it)
     (subst (λ (answers : List (List ℕ) → List Item). IsServed answers input new_input out new_out status) (same_answers device of.graph of.servable.meaning sessions)
     (subst (λ (s : Shown). IsServed (answers_of (system_of s.subject) s.limit) input new_input out new_out status) of.shown done))

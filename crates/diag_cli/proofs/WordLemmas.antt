@@ -6,12 +6,13 @@ use Rattle.std.proofs.lemmas.Bool.{and_parts, leb-true}
 use Rattle.text_rules.specs.Names.{same_name}
 use Rattle.text_rules.specs.Numbers.{value_behind, are_digits, has_leading_zero, number_in, plain_number_in}
 use Rattle.adder_load.specs.declared.adders.TheConstants.{PLACE_LIMIT}
+use Rattle.device_model.specs.declared.limits.TheConstants.{PART_LIMIT}
 use Rattle.branch_states.specs.declared.measuring.TheConstants.{BUDGET_LIMIT}
 use Rattle.session_core.specs.declared.limits.TheConstants.{SESSION_LIMIT}
 use Rattle.diag_cli.specs.declared.words.TheConstants.{DEFAULT_BUDGET, DEFAULT_SESSIONS}
 use Rattle.diag_cli.specs.declared.words.Options.{Options}
 use Rattle.diag_cli.specs.declared.words.Form.{Form as FormRead}
-use Rattle.diag_cli.specs.Words.{Form, Load, Over, Serve, Plan, Check, Compile, no_options, given_once, with_budget, with_sessions, with_order, asks_order, has_no_number, and_option, and_options, form_by, form_over, form_load, form_of, is_device_path, is_graph_path, are_none, only_if}
+use Rattle.diag_cli.specs.Words.{Form, Load, Over, Serve, Ask, Plan, Check, Compile, no_options, given_once, with_budget, with_sessions, with_order, asks_order, has_no_number, and_option, and_options, form_by, form_over, sessions_in, ask_by, form_ask, form_load, form_by_words, form_of, is_device_path, is_graph_path, are_none, only_if}
 use Rattle.diag_cli.specs.inner.Forms.{meant, IsWithinLimits}
 
 -- ---- words of the code and words of the definition
@@ -58,29 +59,22 @@ two_words given f (x ∷ y ∷ words) asked option value found long o v w not_or
 -- the words behind the first two
 pub form_behind : {S : Type 0} (f : S → List ℕ) (words : List S) (command next : S) → 2 ≤ length words
     → command ≡ get_or words 0 command → next ≡ get_or words 1 next
-    → form_of (map f words) ≡ (if same_name (f command) (codes "load") then form_load (f next) (map f (take (length words - 2) (drop 2 words))) else form_over (f command) (f next) (map f (take (length words - 2) (drop 2 words))))
+    → form_of (map f words) ≡ form_by_words (f command) (f next) (map f (take (length words - 2) (drop 2 words)))
 form_behind f [] command next long c p = absurd (omega (arith, long))
 form_behind f (x ∷ []) command next long c p = absurd (omega (arith, long))
 form_behind f (x ∷ y ∷ words) command next long c p =
     let rest : take (length (x ∷ y ∷ words) - 2) words ≡ words = take_all (length (x ∷ y ∷ words) - 2) words (omega arith) in
-    sym (λ k. if same_name (f (c k)) (codes "load") then form_load (f (p k)) (map f (rest k)) else form_over (f (c k)) (f (p k)) (map f (rest k)))
+    sym (λ k. form_by_words (f (c k)) (f (p k)) (map f (rest k)))
 
 pub few_words : {S : Type 0} (f : S → List ℕ) (words : List S) → length words < 2 → None ≡ form_of (map f words)
 few_words f [] short = refl
 few_words f (x ∷ []) short = refl
 few_words f (x ∷ y ∷ words) short = absurd (omega (arith, short))
 
-pub load_words : {S : Type 0} (f : S → List ℕ) (words : List S) (command next : S) → 2 ≤ length words → command ≡ get_or words 0 command → next ≡ get_or words 1 next
-    → same_name (f command) (codes "load") ≡ true → form_of (map f words) ≡ form_load (f next) (map f (take (length words - 2) (drop 2 words)))
-load_words f words command next long c p is =
-    let rest = map f (take (length words - 2) (drop 2 words)) in
-    form_behind f words command next long c p ∙ ap (λ b. if b then form_load (f next) rest else form_over (f command) (f next) rest) is
-
-pub over_words : {S : Type 0} (f : S → List ℕ) (words : List S) (command next : S) → 2 ≤ length words → command ≡ get_or words 0 command → next ≡ get_or words 1 next
-    → same_name (f command) (codes "load") ≡ false → form_of (map f words) ≡ form_over (f command) (f next) (map f (take (length words - 2) (drop 2 words)))
-over_words f words command next long c p is =
-    let rest = map f (take (length words - 2) (drop 2 words)) in
-    form_behind f words command next long c p ∙ ap (λ b. if b then form_load (f next) rest else form_over (f command) (f next) rest) is
+-- without a number of sessions there are no questions
+no_sessions : (path : List ℕ) (health : Option ℕ) → ask_by path health None ≡ None
+no_sessions path None = refl
+no_sessions path (Some health) = refl
 
 -- no options yet
 pub over_options : (given : Options) (command path : List ℕ) (words : List (List ℕ)) (found : Option Options) → (given.budget ≡ None) × ((given.sessions ≡ None) × (given.narrow ≡ false))
@@ -170,7 +164,9 @@ options_in_either_order given a x b y words is other =
 pub form_in_either_order : (command path a x b y : List ℕ) (words : List (List ℕ)) → asks_order a ≡ false → asks_order b ≡ false
     → form_of (command ∷ path ∷ a ∷ x ∷ b ∷ y ∷ words) ≡ form_of (command ∷ path ∷ b ∷ y ∷ a ∷ x ∷ words)
 form_in_either_order command path a x b y words is other =
-    ap (λ options. if same_name command (codes "load") then None else option_and_then (form_by command path) options) (options_in_either_order no_options a x b y words is other)
+    let over = ap (option_and_then (form_by command path)) (options_in_either_order no_options a x b y words is other) in
+    let ask : form_ask path (a ∷ x ∷ b ∷ y ∷ words) ≡ form_ask path (b ∷ y ∷ a ∷ x ∷ words) = no_sessions path (plain_number_in 4 0 PART_LIMIT a) ∙ sym (no_sessions path (plain_number_in 4 0 PART_LIMIT b)) in
+    λ k. if same_name command (codes "load") then None else if same_name command (codes "ask") then ask k else over k
 
 -- ---- the numbers of a form lie within their limits
 
@@ -282,13 +278,37 @@ form_load_within : (places : List ℕ) (words : List (List ℕ)) → IfSome (for
 form_load_within places [] = load_within (plain_number_in 3 1 PLACE_LIMIT places) (plain_number_in-range 3 1 PLACE_LIMIT places)
 form_load_within places (word ∷ words) = tt
 
+sessions_within : (words : List (List ℕ)) → IfSome (sessions_in words) (IsWithin 1 SESSION_LIMIT)
+sessions_within [] = (lit≤ tt, lit≤ tt)
+sessions_within (word ∷ []) = tt
+sessions_within (option ∷ number ∷ []) =
+    elim (same_name option (codes "--sessions")) as (λ b. IfSome (if b then plain_number_in 4 1 SESSION_LIMIT number else None) (IsWithin 1 SESSION_LIMIT)) [
+      | true ↦ plain_number_in-range 4 1 SESSION_LIMIT number
+      | false ↦ tt
+    ]
+sessions_within (option ∷ number ∷ word ∷ words) = tt
+
+ask_by_within : (path : List ℕ) (health sessions : Option ℕ) → IfSome health (IsWithin 0 PART_LIMIT) → IfSome sessions (IsWithin 1 SESSION_LIMIT) → IfSome (ask_by path health sessions) IsWithinLimits
+ask_by_within path None sessions is are = tt
+ask_by_within path (Some health) None is are = tt
+ask_by_within path (Some health) (Some sessions) is are =
+    (one_form true (is_graph_path path) (Over path (Ask health sessions)) None (is.1, are.0, are.1) (record { given = tt })).given
+
+form_ask_within : (path : List ℕ) (words : List (List ℕ)) → IfSome (form_ask path words) IsWithinLimits
+form_ask_within path [] = tt
+form_ask_within path (health ∷ words) =
+    ask_by_within path (plain_number_in 4 0 PART_LIMIT health) (sessions_in words) (plain_number_in-range 4 0 PART_LIMIT health) (sessions_within words)
+
 form_of_within : (words : List (List ℕ)) → IfSome (form_of words) IsWithinLimits
 form_of_within [] = tt
 form_of_within (command ∷ []) = tt
 form_of_within (command ∷ next ∷ words) =
-    elim (same_name command (codes "load")) as (λ b. IfSome (if b then form_load next words else form_over command next words) IsWithinLimits) [
+    elim (same_name command (codes "load")) as (λ b. IfSome (if b then form_load next words else if same_name command (codes "ask") then form_ask next words else form_over command next words) IsWithinLimits) [
       | true ↦ form_load_within next words
-      | false ↦ form_over_within command next words
+      | false ↦ elim (same_name command (codes "ask")) as (λ b. IfSome (if b then form_ask next words else form_over command next words) IsWithinLimits) [
+        | true ↦ form_ask_within next words
+        | false ↦ form_over_within command next words
+      ]
     ]
 
 pub meant_within : (form : Option FormRead) (words : List (List ℕ)) → option_map meant form ≡ form_of words → IfSome form (λ f. IsWithinLimits (meant f))

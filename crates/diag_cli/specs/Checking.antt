@@ -6,7 +6,6 @@ use Rattle.text_rules.specs.Tokens.{spaced}
 use Rattle.graph_rules.specs.declared.TheConstants.{BITS_LIMIT}
 use Rattle.graph_rules.specs.Graphs.{Graph}
 use Rattle.graph_rules.specs.GraphTexts.{LineFault, WrongLine, WrongChild, WrongVariable, Refusal, NoHeader, AtLine, Counts, TooLarge, Shared, edges, verdict}
-use Rattle.diag_cli.specs.declared.checking.GraphSizes.{GraphSizes}
 use Rattle.diag_cli.specs.Output.{Output, says}
 use Rattle.diag_edge.specs.ErrorLines.{fault_line}
 use Rattle.diag_cli.specs.Describing.{long_file_line}
@@ -34,20 +33,20 @@ graph_fault_line (Shared node variable) =
     spaced (codes "error:" ∷ codes "fault" ∷ codes "7" ∷ codes "shared" ∷ codes "node" ∷ decimal node
     ∷ codes "variable" ∷ decimal variable ∷ [])
 
--- the sizes of the graph of a text, or the output that refuses it
-abbrev pub sizes_by_verdict : Result Graph Refusal → Result GraphSizes Output
-sizes_by_verdict (Ok graph) = Ok (record { nodes = length graph.nodes; edges = edges graph.nodes; vars = graph.vars })
-sizes_by_verdict (Err refusal) = Err (says (graph_fault_line refusal) 1)
+-- the graph of a text, or the output that refuses it
+abbrev pub graph_by_verdict : Result Graph Refusal → Result Graph Output
+graph_by_verdict (Ok graph) = Ok graph
+graph_by_verdict (Err refusal) = Err (says (graph_fault_line refusal) 1)
 
 -- the same of a file, which may be too long
-abbrev pub graph_in : List ℕ → Result GraphSizes Output
-graph_in file = if nat_le (length file) TEXT_LIMIT then sizes_by_verdict (verdict file) else Err (says long_file_line 1)
+abbrev pub graph_in : List ℕ → Result Graph Output
+graph_in file = if nat_le (length file) TEXT_LIMIT then graph_by_verdict (verdict file) else Err (says long_file_line 1)
 
--- the line that tells a decomposable graph
-abbrev pub decomposable_line : GraphSizes → List ℕ
-decomposable_line sizes =
-    spaced (codes "decomposable" ∷ decimal sizes.nodes ∷ decimal sizes.edges ∷ decimal sizes.vars ∷ [])
+-- the line that tells a decomposable graph: how many nodes, children and variables it has
+abbrev pub decomposable_line : Graph → List ℕ
+decomposable_line graph =
+    spaced (codes "decomposable" ∷ decimal (length graph.nodes) ∷ decimal (edges graph.nodes) ∷ decimal graph.vars ∷ [])
 
-abbrev pub checked : Result GraphSizes Output → Output
-checked (Ok sizes) = says (decomposable_line sizes) 0
+abbrev pub checked : Result Graph Output → Output
+checked (Ok graph) = says (decomposable_line graph) 0
 checked (Err output) = output

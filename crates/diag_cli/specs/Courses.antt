@@ -12,13 +12,15 @@ use Rattle.clause_encoder.specs.declared.encoding.EncodeError.{EncodeError}
 use Rattle.branch_states.specs.Branches.{sum_of}
 use Rattle.session_rules.specs.Items.{Item, Plain, Whole, line}
 use Rattle.session_rules.specs.Sessions.{replies}
+use Rattle.session_rules.specs.GraphSystems.{system_of}
 use Rattle.diag_cli.specs.declared.serving.TheConstants.{SCRIPT_LIMIT}
-use Rattle.diag_cli.specs.Words.{Form, Load, Over, Command, Serve, Plan, Check, Compile}
+use Rattle.diag_cli.specs.Words.{Form, Load, Over, Command, Serve, Ask, Plan, Check, Compile}
 use Rattle.diag_cli.specs.Output.{Output, says, too_long_line, no_memory}
 use Rattle.diag_cli.specs.Describing.{long_file_line, device_in}
 use Rattle.diag_cli.specs.Orders.{clauses_by}
 use Rattle.diag_cli.specs.Planning.{within, sizes_in, planned}
 use Rattle.diag_cli.specs.Checking.{graph_in, checked}
+use Rattle.diag_cli.specs.Asking.{asked}
 use Rattle.diag_cli.specs.Loads.{loaded}
 
 -- ---- no file is read
@@ -96,10 +98,10 @@ abbrev pub if_within : ℕ → (Device → Result ClauseList EncodeError) → Re
 if_within budget clauses (Ok device) = device_by device (within budget (clauses device))
 if_within budget clauses (Err output) = Err output
 
--- the script is answered over the device, with at most so many sessions open
-abbrev pub served_or_refused : ℕ → Result Device Output → Course
-served_or_refused sessions (Ok device) = Serves (answers_of (device_system device) sessions)
-served_or_refused sessions (Err output) = Tells output
+-- the script is answered over the system of what was found, with at most so many sessions open
+abbrev pub served_or_refused : {A : Type 0} → (A → System) → ℕ → Result A Output → Course
+served_or_refused system sessions (Ok found) = Serves (answers_of (system found) sessions)
+served_or_refused system sessions (Err output) = Tells output
 
 -- the output of a course, where the script that it may need is told
 abbrev pub whole_output : Course → Option (List ℕ) → Option Output
@@ -110,7 +112,8 @@ whole_output (Serves answers) (Some script) = Some (wholly_served answers script
 -- by the command, over a file, and by the order of clauses that is used where another one is asked for
 abbrev pub course_by : (ClauseList → ClauseList) → List ℕ → Command → List ℕ → Course
 course_by order path (Serve budget sessions narrow) file =
-    served_or_refused sessions (if_within budget (clauses_by narrow order) (device_in path file))
+    served_or_refused device_system sessions (if_within budget (clauses_by narrow order) (device_in path file))
+course_by order path (Ask health sessions) file = served_or_refused system_of sessions (asked health (graph_in file))
 course_by order path (Plan narrow) file = Tells (planned (sizes_in (clauses_by narrow order) (device_in path file)))
 course_by order path Check file = Tells (checked (graph_in file))
 course_by order path (Compile budget narrow) file = Tells (compiled budget (clauses_by narrow order) (device_in path file))

@@ -3,6 +3,7 @@ pub mod Output
 pub mod Describing
 pub mod Checking
 pub mod Orders
+pub mod Asking
 pub mod Planning
 pub mod Loads
 pub mod Courses

@@ -4,6 +4,7 @@ use Rattle.std.specs.Option.{option_map, option_map_or}
 use Rattle.text_rules.specs.Names.{same_name}
 use Rattle.text_rules.specs.Numbers.{plain_number_in}
 use Rattle.adder_load.specs.declared.adders.TheConstants.{PLACE_LIMIT}
+use Rattle.device_model.specs.declared.limits.TheConstants.{PART_LIMIT}
 use Rattle.branch_states.specs.declared.measuring.TheConstants.{BUDGET_LIMIT}
 use Rattle.diag_edge.specs.Edge.{Holding, told_bytes}
 use Rattle.diag_cli.specs.declared.words.Options.{Options}
@@ -15,6 +16,7 @@ use Rattle.diag_cli.specs.declared.words.TheConstants.{DEFAULT_BUDGET, DEFAULT_S
 -- what is done over a file
 pub data Command : Type 0 where
   Serve : (budget sessions : ℕ) (narrow : Bool) → Command
+  Ask : (health sessions : ℕ) → Command
   Plan : (narrow : Bool) → Command
   Check : Command
   Compile : (budget : ℕ) (narrow : Bool) → Command
@@ -37,9 +39,10 @@ named_file form = option_and_then path_of form
 abbrev pub told_file : (List ℕ → Holding) → Option (List ℕ) → Option (List ℕ)
 told_file held name = option_map_or (λ path. told_bytes (held path)) name (Some [])
 
--- only `serve` asks for a script
+-- only `serve` and `ask` ask for a script
 abbrev pub asks_script : Option Form → Bool
 asks_script (Some (Over path (Serve budget sessions narrow))) = true
+asks_script (Some (Over path (Ask health sessions))) = true
 asks_script form = false
 
 -- ---- files by their endings
@@ -128,12 +131,36 @@ form_by command path options =
 abbrev pub form_over : List ℕ → List ℕ → List (List ℕ) → Option Form
 form_over command path words = option_and_then (form_by command path) (and_options no_options words)
 
+-- how many sessions may be open by the words behind the parts of a graph, where these take no other option
+abbrev pub sessions_in : List (List ℕ) → Option ℕ
+sessions_in [] = Some DEFAULT_SESSIONS
+sessions_in (option ∷ number ∷ []) =
+    if same_name option (codes "--sessions") then plain_number_in 4 1 SESSION_LIMIT number else None
+sessions_in words = None
+
+-- questions to a graph, with so many parts and sessions
+abbrev pub ask_by : List ℕ → Option ℕ → Option ℕ → Option Form
+ask_by path (Some health) (Some sessions) = only_if (is_graph_path path) (Over path (Ask health sessions))
+ask_by path health sessions = None
+
+-- and with the words of these
+abbrev pub form_ask : List ℕ → List (List ℕ) → Option Form
+form_ask path [] = None
+form_ask path (health ∷ words) = ask_by path (plain_number_in 4 0 PART_LIMIT health) (sessions_in words)
+
 -- an adder of so many places, with no further word
 abbrev pub form_load : List ℕ → List (List ℕ) → Option Form
 form_load places [] = option_map Load (plain_number_in 3 1 PLACE_LIMIT places)
 form_load places (word ∷ words) = None
 
--- `load` and a number; or a command, a file, and options
+-- a number behind `load`; a file, a number and sessions behind `ask`; or a file and options
+abbrev pub form_by_words : List ℕ → List ℕ → List (List ℕ) → Option Form
+form_by_words command next words =
+    if same_name command (codes "load") then form_load next words
+    else if same_name command (codes "ask") then form_ask next words
+    else form_over command next words
+
+-- the form of the words, if they have one
 abbrev pub form_of : List (List ℕ) → Option Form
-form_of (command ∷ next ∷ words) = if same_name command (codes "load") then form_load next words else form_over command next words
+form_of (command ∷ next ∷ words) = form_by_words command next words
 form_of words = None

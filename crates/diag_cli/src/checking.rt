@@ -1,4 +1,4 @@
-ghost use Rattle.std.specs.Prelude.{◌≡◌, ◌≢◌, ◌⊎◌, ◌-◌, ◌^◌, ◌<◌, ◌≤◌, length, Ok};
+ghost use Rattle.std.specs.Prelude.{◌≡◌, ◌≢◌, ◌⊎◌, ◌-◌, ◌^◌, ◌<◌, ◌≤◌, length, Ok, IfOk};
 ghost use Rattle.std.specs.Option.{option_map};
 ghost use Rattle.diag_edge.specs.Edge.{RoseExactly};
 ghost use Rattle.nnf_text.specs.Refusals.{told};
@@ -11,16 +11,9 @@ use crate::refusal::{Refusal, tell};
 use diag_edge::{Sink, put_line};
 use itoa::Buffer;
 use nnf_text::{NnfError, read_nnf};
+use node_store::Graph;
 use std::alloc::Global;
 use text_rules::TEXT_LIMIT;
-
-/// How large a graph is.
-#[derive(Clone, Copy, Debug, PartialEq, Eq)]
-pub(crate) struct GraphSizes {
-    pub(crate) nodes: u64,
-    pub(crate) edges: u64,
-    pub(crate) vars: u32,
-}
 
 // The refusal that tells why a text gives no decomposable graph.
 fn refused(error: NnfError) -> Refusal
@@ -53,35 +46,33 @@ fn refused(error: NnfError) -> Refusal
     }
 }
 
-fn graph_sizes(alloc: Global, file: &[u8]) -> Result<GraphSizes, Refusal>
+/// The decomposable graph of a file.
+pub(crate) fn graph_in(alloc: Global, file: &[u8]) -> Result<Graph, Refusal>
     requires { length file.now ≤ TEXT_LIMIT }
-    ensures { Finds (graph_in file.now) result }
+    ensures graph { Finds (graph_in file.now) result }
+    ensures few { IfOk result (λ graph. length graph.nodes ≤ TEXT_LIMIT) }
 {
     match read_nnf(alloc, file) {
-        Ok((graph, vars)) => Ok(GraphSizes {
-            nodes: u64::from(graph.len()),
-            edges: graph.edges(),
-            vars,
-        }),
+        Ok((graph, _)) => Ok(graph),
         Err(error) => Err(refused(error)),
     }
 }
 
 // Tells the sizes of a decomposable graph and answers 0, or 5 where the write failed.
 #[tactic(auto, using(crate::proofs::Failing::gives_line))]
-fn tell_graph<O: Sink>(out: &mut O, sizes: GraphSizes) -> u8
+fn tell_graph<O: Sink>(out: &mut O, graph: &Graph) -> u8
     requires faults { O.faults out.old < 2 ^ 64 - 1 }
     ensures write_fault { RoseExactly (O.faults out.old) (O.faults out.new) (result ≡ 5) }
     ensures either { (result ≡ 0) ⊎ (result ≡ 5) }
-    ensures said { Gives (checked (Ok sizes)) result (O.got out.old) (O.got out.new) }
+    ensures said { Gives (checked (Ok graph.now)) result (O.got out.old) (O.got out.new) }
 {
     match put_line(
         out,
         &[
             b"decomposable",
-            Buffer::new().format(sizes.nodes).as_bytes(),
-            Buffer::new().format(sizes.edges).as_bytes(),
-            Buffer::new().format(sizes.vars).as_bytes(),
+            Buffer::new().format(graph.len()).as_bytes(),
+            Buffer::new().format(graph.edges()).as_bytes(),
+            Buffer::new().format(graph.vars()).as_bytes(),
         ],
     ) {
         Ok(()) => 0,
@@ -100,8 +91,8 @@ pub(crate) fn check_file<O: Sink>(alloc: Global, file: &[u8], out: &mut O) -> u8
     ensures few { result ≤ 7 }
     ensures said { GivesUnlessMemory (checked (graph_in file.now)) result (O.got out.old) (O.got out.new) }
 {
-    match graph_sizes(alloc, file) {
-        Ok(sizes) => tell_graph(out, sizes),
+    match graph_in(alloc, file) {
+        Ok(graph) => tell_graph(out, &graph),
         Err(refusal) => tell(out, refusal),
     }
 }

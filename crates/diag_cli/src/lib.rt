@@ -2,6 +2,7 @@
 #![tactic(auto)]
 
 mod adapters;
+mod asking;
 mod checking;
 mod compiling;
 mod describing;

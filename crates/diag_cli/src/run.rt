@@ -5,6 +5,7 @@ ghost use Rattle.diag_cli.specs.Courses.{course_by};
 ghost use Rattle.diag_cli.specs.Following.{Follows};
 ghost use Rattle.diag_cli.specs.inner.Forms.{command_meant, IsCommandWithin};
 
+use crate::asking::ask_file;
 use crate::checking::check_file;
 use crate::compiling::compile_file;
 use crate::planning::plan_file;
@@ -46,6 +47,7 @@ pub(crate) fn run_file<I: Source, O: Sink>(
             sessions,
             narrow,
         } => serve_file(alloc, path, file, budget, narrow, sessions, input, out),
+        Command::Ask { health, sessions } => ask_file(alloc, file, health, sessions, input, out),
         Command::Plan { narrow } => plan_file(alloc, path, file, narrow, out),
         Command::Check => check_file(alloc, file, out),
         Command::Compile { budget, narrow } => {

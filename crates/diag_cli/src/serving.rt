@@ -2,6 +2,7 @@ ghost use Rattle.std.specs.Prelude.{◌≡◌, ◌≢◌, ◌+◌, ◌-◌, ◌^
 ghost use Rattle.text_rules.specs.Tokens.{spaced};
 ghost use Rattle.text_rules.specs.Expected.{Fulfils};
 ghost use Rattle.diag_edge.specs.Edge.{HasCause, Puts, RoseExactly};
+ghost use Rattle.device_model.specs.Diagnosis.{device_system};
 ghost use Rattle.session_rules.specs.GraphSystems.{system_of};
 ghost use Rattle.diag_cli.specs.Orders.{ByClauses};
 ghost use Rattle.diag_cli.specs.Courses.{answers_of, if_within, served_or_refused};
@@ -83,8 +84,8 @@ fn put_ready<O: Sink>(out: &mut O, parts: u64, wires: u64) -> Result<(), WriteFa
     )
 }
 
-// Answers the script by a service in which no session is open.
-fn answer<I: Source, O: Sink>(service: &mut Service, input: &mut I, out: &mut O) -> u8
+/// Answers the script by a service in which no session is open.
+pub(crate) fn answer<I: Source, O: Sink>(service: &mut Service, input: &mut I, out: &mut O) -> u8
     requires none_open { service.old.table ≡ [] }
     requires taken { I.taken input.old < 2 ^ 62 }
     requires reads { I.faults input.old < 2 ^ 64 - 1 }
@@ -133,7 +134,7 @@ fn serve_device<I: Source, O: Sink>(
     ensures read_fault { result ≢ 5 → RoseExactly (I.faults input.old) (I.faults input.new) (result ≡ 4) }
     ensures not_usage { result ≢ 2 }
     ensures few { result ≤ 7 }
-    ensures follows { ByClauses is_narrow (λ clauses. Follows (served_or_refused sessions (if_within budget clauses (Ok device)))
+    ensures follows { ByClauses is_narrow (λ clauses. Follows (served_or_refused device_system sessions (if_within budget clauses (Ok device)))
         (record { left = I.left input.old; taken = I.taken input.old; faults = I.faults input.old })
         (record { left = I.left input.new; taken = I.taken input.new; faults = I.faults input.new })
         (record { got = O.got out.old; faults = O.faults out.old })
@@ -173,7 +174,7 @@ pub(crate) fn serve_file<I: Source, O: Sink>(
     ensures read_fault { result ≢ 5 → RoseExactly (I.faults input.old) (I.faults input.new) (result ≡ 4) }
     ensures not_usage { result ≢ 2 }
     ensures few { result ≤ 7 }
-    ensures follows { ByClauses is_narrow (λ clauses. Follows (served_or_refused sessions (if_within budget clauses (device_in path.now file.now)))
+    ensures follows { ByClauses is_narrow (λ clauses. Follows (served_or_refused device_system sessions (if_within budget clauses (device_in path.now file.now)))
         (record { left = I.left input.old; taken = I.taken input.old; faults = I.faults input.old })
         (record { left = I.left input.new; taken = I.taken input.new; faults = I.faults input.new })
         (record { got = O.got out.old; faults = O.faults out.old })

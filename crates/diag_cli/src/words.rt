@@ -1,11 +1,12 @@
 ghost use Rattle.std.specs.Prelude.{◌≡◌, map, string_bytes, IfSome};
 ghost use Rattle.std.specs.Option.{option_map};
 ghost use Rattle.text_rules.specs.Numbers.{plain_number_in};
-ghost use Rattle.diag_cli.specs.Words.{form_of, form_over, form_load, form_by, has_no_number, are_none, given_once, with_order, and_option, and_options, ends_in, is_design_path, is_device_path, is_graph_path};
+ghost use Rattle.diag_cli.specs.Words.{form_of, form_by_words, form_over, form_load, form_ask, sessions_in, form_by, has_no_number, are_none, given_once, with_order, and_option, and_options, ends_in, is_design_path, is_device_path, is_graph_path};
 ghost use Rattle.diag_cli.specs.inner.Forms.{meant, IsWithinLimits};
 
 use adder_load::PLACE_LIMIT;
 use branch_states::BUDGET_LIMIT;
+use device_model::PART_LIMIT;
 use session_core::SESSION_LIMIT;
 use text_rules::plain_number;
 
@@ -24,6 +25,12 @@ pub enum Command {
         budget: u32,
         sessions: u32,
         narrow: bool,
+    },
+    /// `ask`: answers the script on the input over the graph of the file, whose first variables are so many parts, with at most
+    /// so many sessions open at a time.
+    Ask {
+        health: u32,
+        sessions: u32,
     },
     /// `plan`: tells how large a device is, and the sum that the budget limits.
     Plan {
@@ -114,7 +121,14 @@ impl Options {
 fn number_to(digits: usize, limit: u32, word: &str) -> Option<u32>
     ensures { result ≡ plain_number_in digits 1 limit word.now }
 {
-    match plain_number(digits, 1, u64::from(limit), word.as_bytes()) {
+    number_in(digits, 1, limit, word)
+}
+
+// The number that a word spells, from one to another of so many digits.
+fn number_in(digits: usize, least: u32, most: u32, word: &str) -> Option<u32>
+    ensures { result ≡ plain_number_in digits least most word.now }
+{
+    match plain_number(digits, u64::from(least), u64::from(most), word.as_bytes()) {
         Some(number) => Some(number as u32),
         None => None,
     }
@@ -207,6 +221,35 @@ fn form_over<'a>(command: &str, path: &'a str, words: &[String]) -> Option<Form<
     form_by(command, path, options)
 }
 
+// How many sessions may be open by the words behind the parts of a graph. These take no other option, whatever `serve` takes.
+fn sessions_in(words: &[String]) -> Option<u32>
+    ensures { result ≡ sessions_in (map string_bytes words.now) }
+{
+    match words {
+        [] => Some(DEFAULT_SESSIONS),
+        [option, number] if option.as_str() == "--sessions" => {
+            number_to(4, SESSION_LIMIT, number.as_str())
+        }
+        _ => None,
+    }
+}
+
+// The form of questions to a graph, with the words behind the file.
+fn form_ask<'a>(path: &'a str, words: &[String]) -> Option<Form<'a>>
+    ensures { option_map meant result ≡ form_ask path.now (map string_bytes words.now) }
+{
+    let [health, rest @ ..] = words else {
+        return None;
+    };
+    let health = number_in(4, 0, PART_LIMIT as u32, health.as_str())?;
+    let sessions = sessions_in(rest)?;
+    if !is_graph_path(path) {
+        return None;
+    }
+    let command = Command::Ask { health, sessions };
+    Some(Form::Over { path, command })
+}
+
 // The form of an adder, with no further word.
 fn form_load<'a>(places: &str, words: &[String]) -> Option<Form<'a>>
     ensures { option_map meant result ≡ form_load places.now (map string_bytes words.now) }
@@ -218,6 +261,17 @@ fn form_load<'a>(places: &str, words: &[String]) -> Option<Form<'a>>
     Some(Form::Load { places })
 }
 
+// The form of words behind the first two.
+fn form_by_words<'a>(command: &str, next: &'a str, words: &[String]) -> Option<Form<'a>>
+    ensures { option_map meant result ≡ form_by_words command.now next.now (map string_bytes words.now) }
+{
+    match command {
+        "load" => form_load(next, words),
+        "ask" => form_ask(next, words),
+        _ => form_over(command, next, words),
+    }
+}
+
 /// The form of the words, if they have one.
 pub(crate) fn form_of(words: &[String]) -> Option<Form<'_>>
     ensures form { option_map meant result ≡ form_of (map string_bytes words.now) }
@@ -226,9 +280,5 @@ pub(crate) fn form_of(words: &[String]) -> Option<Form<'_>>
     let [command, next, rest @ ..] = words else {
         return None;
     };
-    if command.as_str() == "load" {
-        form_load(next.as_str(), rest)
-    } else {
-        form_over(command.as_str(), next.as_str(), rest)
-    }
+    form_by_words(command.as_str(), next.as_str(), rest)
 }

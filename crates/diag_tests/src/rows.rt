@@ -27,7 +27,25 @@ const BY_KIND: File = File {
     text: "INPUT(in_c0)\nINPUT(in_a0)\nINPUT(in_b0)\nINPUT(in_a1)\nINPUT(in_b1)\nxor_half0 = XOR(in_a0, in_b0)\nand_both0 = AND(in_a0, in_b0)\nand_carried0 = AND(xor_half0, in_c0)\nxor_sum0 = XOR(xor_half0, in_c0)\nor_out0 = OR(and_both0, and_carried0)\nxor_half1 = XOR(in_a1, in_b1)\nand_both1 = AND(in_a1, in_b1)\nand_carried1 = AND(xor_half1, or_out0)\nxor_sum1 = XOR(xor_half1, or_out0)\nor_out1 = OR(and_both1, and_carried1)\n",
 };
 
-const ROWS: [Row; 28] = [
+// One of two parts is faulty.
+const EITHER_FAULTY: File = File {
+    name: "f.nnf",
+    text: "nnf 3 2 2\nL -1\nL -2\nO 0 2 0 1\n",
+};
+
+// Both of its variables are true.
+const BOTH_TRUE: File = File {
+    name: "f.nnf",
+    text: "nnf 3 2 2\nL 1\nL 2\nA 2 0 1\n",
+};
+
+// It is not decomposable.
+const SHARED: File = File {
+    name: "f.nnf",
+    text: "nnf 3 2 1\nL 1\nL -1\nA 2 0 1\n",
+};
+
+const ROWS: [Row; 38] = [
     // The inputs are 0, so 22 and 23 are to be 0.
     Row {
         file: C17_FILE,
@@ -241,6 +259,91 @@ const ROWS: [Row; 28] = [
         out: "decomposable 1 0 0\n",
         status: 0,
     },
+    // One of two parts is faulty, and no wire is there.
+    Row {
+        file: EITHER_FAULTY,
+        words: &["ask", "f.nnf", "2"],
+        script: "open S\nmin S\nlist S 5\nhold S 00001=ok\nblame S\n",
+        out: "ready 2 0\nS open\nS min 1 00001\nS diag 00001\nS diag 00002\nS end\nS ok\nS blame 00001 never\nS blame 00002 always\nS end\n",
+        status: 0,
+    },
+    Row {
+        file: EITHER_FAULTY,
+        words: &["ask", "f.nnf", "3"],
+        script: "open S\n",
+        out: "error: health 3 above 2\n",
+        status: 1,
+    },
+    // The part is ok and the wire is 1.
+    Row {
+        file: BOTH_TRUE,
+        words: &["ask", "f.nnf", "1"],
+        script: "open S\nprobe S 00002\nsee S 00002=0\nmin S\n",
+        out: "ready 1 1\nS open\nS probe 00002 - 0\nS ok\nS inconsistent\n",
+        status: 0,
+    },
+    // A name has five digits, and is that of a part or of a wire.
+    Row {
+        file: BOTH_TRUE,
+        words: &["ask", "f.nnf", "1", "--sessions", "1"],
+        script: "open S\nopen T\nsee S 2=0\nsee S 00001=0\nhold S 00002=ok\n",
+        out: "ready 1 1\nS open\nT error 8 full\nS error 9 no wire\nS error 9 no wire\nS error 10 no part\n",
+        status: 0,
+    },
+    Row {
+        file: SHARED,
+        words: &["ask", "f.nnf", "1"],
+        script: "open S\n",
+        out: "error: fault 7 shared node 2 variable 1\n",
+        status: 1,
+    },
+    // There are more parts than variables too, but the text is refused first.
+    Row {
+        file: SHARED,
+        words: &["ask", "f.nnf", "2"],
+        script: "open S\n",
+        out: "error: fault 7 shared node 2 variable 1\n",
+        status: 1,
+    },
+    Row {
+        file: File {
+            name: "f.nnf",
+            text: "nnf 1 0 16386\nA 0\n",
+        },
+        words: &["ask", "f.nnf", "1"],
+        script: "open S\n",
+        out: "error: wires 16385 above 16384\n",
+        status: 1,
+    },
+    // Without parts there is one health state.
+    Row {
+        file: File {
+            name: "f.nnf",
+            text: "nnf 1 0 2\nA 0\n",
+        },
+        words: &["ask", "f.nnf", "0"],
+        script: "open S\nmin S\nlist S 2\nprobes S\n",
+        out: "ready 0 2\nS open\nS min 0\nS diag\nS end\nS probe 00001 0 0\nS probe 00002 0 0\nS end\n",
+        status: 0,
+    },
+    // No node has the part, whose failure costs 1 all the same.
+    Row {
+        file: File {
+            name: "f.nnf",
+            text: "nnf 1 0 1\nA 0\n",
+        },
+        words: &["ask", "f.nnf", "1"],
+        script: "open S\nhold S 00001=bad\nmin S\nhold S 00001=ok\nmin S\n",
+        out: "ready 1 0\nS open\nS ok\nS min 1 00001\nS ok\nS min 0\n",
+        status: 0,
+    },
+    Row {
+        file: EITHER_FAULTY,
+        words: &["ask", "absent.nnf", "2"],
+        script: "open S\n",
+        out: "error: read\n",
+        status: 4,
+    },
     // The sum is 1 where all that is added is 0: its own gate is faulty, or the one that it reads.
     Row {
         file: CHAIN,
@@ -423,7 +526,7 @@ const REFUSED: [(&str, &str, &str); 34] = [
 ];
 
 // Words that ask for nothing that the program does.
-const WRONG: [&[&str]; 31] = [
+const WRONG: [&[&str]; 55] = [
     &[],
     &["serve"],
     &["--help"],
@@ -445,6 +548,30 @@ const WRONG: [&[&str]; 31] = [
     &["load", "1", "--narrow"],
     &["answer", "c17.bench"],
     &["check", "c17.bench"],
+    &["serve", "c17.nnf"],
+    &["ask"],
+    &["ask", "c17.nnf"],
+    &["ask", "c17.bench", "2"],
+    &["ask", ".nnf", "2"],
+    &["ask", "2", "c17.nnf"],
+    &["ask", "c17.nnf", ""],
+    &["ask", "c17.nnf", "02"],
+    &["ask", "c17.nnf", "+2"],
+    &["ask", "c17.nnf", "-2"],
+    &["ask", "c17.nnf", "4097"],
+    &["ask", "c17.nnf", "10000"],
+    &["ask", "c17.nnf", "2", "3"],
+    &["ask", "c17.nnf", "--sessions", "3", "2"],
+    &["ask", "c17.nnf", "2", "--sessions"],
+    &["ask", "c17.nnf", "2", "--sessions", "0"],
+    &["ask", "c17.nnf", "2", "--sessions", "1025"],
+    &["ask", "c17.nnf", "2", "--sessions", "3", "--sessions", "3"],
+    &["ask", "c17.nnf", "2", "--budget", "7"],
+    &["ask", "c17.nnf", "2", "--narrow"],
+    &["ask", "c17.nnf", "2", "--sessions", "3", "--narrow"],
+    &["ask", "c17.nnf", "2", "--levels", "3"],
+    &["ask", "c17.nnf", "2", "--least"],
+    &["ask", "c17.nnf", "2", "--frames", "2"],
     &["plan", "c17.nnf"],
     &["plan", "c17.bench", "--budget", "7"],
     &["compile", "c17.bench", "--sessions", "2"],

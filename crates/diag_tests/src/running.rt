@@ -74,12 +74,12 @@ pub struct Ran {
     pub out: MemSink,
 }
 
-fn shelf_of(alloc: Global, file: File, failing: u64) -> Result<MemShelf, AllocError>
+fn shelf_of(alloc: Global, name: &str, text: &[u8], failing: u64) -> Result<MemShelf, AllocError>
     ensures taken { IfOk result (λ shelf. shelf.taken ≡ 0) }
     ensures faults { IfOk result (λ shelf. shelf.faults ≡ 0) }
 {
-    let bytes = Vec::from_slice(alloc, file.text.as_bytes())?;
-    let files = vec![in alloc; (String::from_str(alloc, file.name)?, bytes)]?;
+    let bytes = Vec::from_slice(alloc, text)?;
+    let files = vec![in alloc; (String::from_str(alloc, name)?, bytes)]?;
     Ok(MemShelf::new(files, vec![in alloc; failing]?))
 }
 
@@ -93,8 +93,29 @@ pub fn run(
 ) -> Result<Ran, Fail>
     requires { 0 < meeting.now.piece }
 {
+    run_over(
+        alloc,
+        file.name,
+        file.text.as_bytes(),
+        words,
+        script,
+        meeting,
+    )
+}
+
+/// The same over a file that a run wrote.
+pub fn run_over(
+    alloc: Global,
+    name: &str,
+    text: &[u8],
+    words: &[&str],
+    script: &[u8],
+    meeting: &Meeting,
+) -> Result<Ran, Fail>
+    requires { 0 < meeting.now.piece }
+{
     let words = owned(alloc, words)?;
-    let mut shelf = shelf_of(alloc, file, meeting.failing_pick_or_load)?;
+    let mut shelf = shelf_of(alloc, name, text, meeting.failing_pick_or_load)?;
     let script = Vec::from_slice(alloc, script)?;
     let failing_read = vec![in alloc; meeting.failing_read]?;
     let mut input = MemSource::new(script, meeting.piece, failing_read);

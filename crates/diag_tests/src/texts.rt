@@ -1,4 +1,4 @@
-use crate::running::{CHAIN, FREE, File, INPUT, Meeting, NOT, NOTHING_FAILS, VALVE, run};
+use crate::running::{CHAIN, FREE, File, INPUT, Meeting, NOT, NOTHING_FAILS, VALVE, run, run_over};
 use device_tests::is_true;
 use nnf_text::read_nnf;
 use std::alloc::Global;
@@ -123,6 +123,32 @@ fn writes_what_is_allowed(rt: HostRuntime) -> Result<(), Fail> {
     for row in &ROWS {
         allows_row(&rt, rt.alloc(), row)?;
     }
+    Ok(())
+}
+
+// The parts b and c of the chain are the variables 1 and 2, and its wires a, b and c the next three.
+#[test]
+fn what_was_compiled_is_asked(rt: HostRuntime) -> Result<(), Fail> {
+    let compiled = run(
+        rt.alloc(),
+        CHAIN,
+        &["compile", CHAIN.name],
+        b"",
+        &NOTHING_FAILS,
+    )?;
+    let ran = run_over(
+        rt.alloc(),
+        "f.nnf",
+        compiled.out.as_slice(),
+        &["ask", "f.nnf", "2"],
+        b"open S\nsee S 00003=0\nsee S 00005=1\nlist S 5\n",
+        &NOTHING_FAILS,
+    )?;
+    assert_eq!(rt;
+        ran.out.as_slice(),
+        "ready 2 3\nS open\nS ok\nS ok\nS diag 00001\nS diag 00002\nS end\n".as_bytes()
+    );
+    assert_eq!(rt; ran.status, 0);
     Ok(())
 }
 

@@ -1,4 +1,4 @@
--- The service that a device is served by.
+-- The services that devices are served by, and graphs.
 use Rattle.std.specs.Prelude.{◌≡◌, ◌<◌, ◌≤◌, ℕ, [], length}
 use Rattle.graph_rules.specs.Graphs.{Graph, IsGraph}
 use Rattle.device_model.specs.Devices.{Device, part_names, part_costs}
@@ -12,6 +12,11 @@ pub record IsServable (device : Device) (graph : Graph) : Type 0 where
   pub meaning : IsGraphOf device graph
   pub few_vars : graph.vars ≤ SERVED_VARIABLES
   pub few_nodes : length graph.nodes < SERVED_NODES
+
+-- So many sessions may be open, and none is.
+pub record IsReady (sessions : ℕ) (service : Shown) : Type 0 where
+  pub limit : service.limit ≡ sessions
+  pub none_open : service.table ≡ []
 
 -- It is over the names of the device and such a graph. So many sessions may be open, and none is.
 pub record IsServiceOf (device : Device) (sessions : ℕ) (service : Shown) : Type 0 where

@@ -1,4 +1,5 @@
 use Rattle.std.proofs.Common.{refl}
+use Rattle.device_model.specs.Diagnosis.{device_system}
 use Rattle.diag_cli.specs.Describing.{device_in}
 use Rattle.diag_cli.specs.Courses.{if_within}
 use Rattle.diag_cli.specs.Refusals.{told_by}
@@ -12,5 +13,5 @@ returns-in-Err-clause-follows g c =
     let fault = told_by c.in-Err.refusal in
     by_any (λ order.
     let clauses = clauses_by c.args.is_narrow order in
-    follows_refusal _ _ _ _ _ c.args.sessions (if_within c.args.budget clauses (device_in c.args.path.now c.args.file.now)) fault
+    follows_refusal _ _ _ _ _ device_system c.args.sessions (if_within c.args.budget clauses (device_in c.args.path.now c.args.file.now)) fault
     (refused_in fault c.args.path.now c.args.file.now c.args.budget clauses c.requires.short c.in-Err.ensures) (record { left = refl; taken = refl; faults = refl }) c.tell.ensures.said)

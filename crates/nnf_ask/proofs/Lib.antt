@@ -1,0 +1,4 @@
+pub mod FiveDigits
+pub mod Naming
+pub mod Law
+mod Examples

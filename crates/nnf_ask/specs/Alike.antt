@@ -1,0 +1,19 @@
+-- What a device's graph is asked, and what the device is.
+use Rattle.std.specs.Prelude.{◌≡◌, ℕ, ◌+◌, ◌-◌, Bool, List, ◌++◌, length, replicate, Option, None}
+use Rattle.ranking.specs.Cases.{Case}
+use Rattle.ranking.specs.Ranking.{rest}
+use Rattle.ranking.specs.Systems.{System, least_cost, all_diagnoses}
+
+-- a device's case among so many variables, all of which are parts or wires: nothing is seen of those behind the device's wires
+abbrev pub case_among : ℕ → Case → Case
+case_among vars known = record known {
+  seen = known.seen ++ replicate (vars - (length known.held + length known.seen)) None;
+}
+
+-- Position by position, two systems have for a case of each the same consistent states, the same least cost, the same diagnoses,
+-- and the same of these behind any point.
+pub record AreAlike (one other : System) (ones others : Case) : Type 0 where
+  pub states : one.consistent ones ≡ other.consistent others
+  pub least : least_cost one ones ≡ least_cost other others
+  pub diagnoses : all_diagnoses one ones ≡ all_diagnoses other others
+  pub later : (point : Option (List Bool)) → rest (all_diagnoses one ones) point ≡ rest (all_diagnoses other others) point

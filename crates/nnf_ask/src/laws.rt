@@ -1,0 +1,30 @@
+//! A law about the definitions of this crate. It is the contract of a function that does nothing.
+ghost use Rattle.std.specs.Prelude.{◌≡◌, ℕ, List, length, Ok};
+ghost use Rattle.ranking.specs.Cases.{Case};
+ghost use Rattle.ranking.specs.Ranking.{plain_costs};
+ghost use Rattle.graph_rules.specs.Graphs.{Graph};
+ghost use Rattle.graph_rules.specs.GraphTexts.{parsed};
+ghost use Rattle.device_model.specs.Devices.{Device, part_costs};
+ghost use Rattle.device_model.specs.Diagnosis.{device_system};
+ghost use Rattle.session_rules.specs.CaseSizes.{IsCaseOf};
+ghost use Rattle.session_rules.specs.Items.{Whole};
+ghost use Rattle.session_rules.specs.Spelling.{Spelled};
+ghost use Rattle.nnf_ask.specs.Asking.{asked_system};
+ghost use Rattle.nnf_ask.specs.Alike.{AreAlike, case_among};
+
+/// A text that spells the whole graph of a device, every failure of which costs 1, may be asked for the device. Asked with as many
+/// parts as the device has, its graph has for each case of the device the same consistent states, the same least cost, the same
+/// diagnoses, and the same of these behind any point, position by position.
+///
+/// The variables are the parts, then the wires, then those of which the device knows nothing and a case says nothing.
+pub fn answers_for_device()
+    ensures case { (device : Device) (vars most : ℕ) (text : List ℕ) → Spelled (Whole device vars most) text
+        → (graph : Graph) → parsed text ≡ Ok graph
+        → (known : Case) → IsCaseOf (device_system device) known
+        → IsCaseOf (asked_system (length device.parts) graph) (case_among graph.vars known) }
+    ensures alike { (device : Device) (vars most : ℕ) (text : List ℕ) → Spelled (Whole device vars most) text
+        → (graph : Graph) → parsed text ≡ Ok graph
+        → part_costs device ≡ plain_costs (length device.parts)
+        → (known : Case) → IsCaseOf (device_system device) known
+        → AreAlike (asked_system (length device.parts) graph) (device_system device) (case_among graph.vars known) known }
+{}

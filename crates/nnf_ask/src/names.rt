@@ -1,0 +1,93 @@
+ghost use Rattle.std.specs.Prelude.{◌≡◌, ◌+◌, ◌<◌, ◌≤◌, length, true, All, IfOk};
+ghost use Rattle.text_rules.specs.Expected.{Fulfils};
+ghost use Rattle.text_rules.specs.Names.{names_rise};
+ghost use Rattle.ranking.specs.Ranking.{plain_costs};
+ghost use Rattle.conditioner.specs.Models.{total_cost};
+ghost use Rattle.nnf_ask.specs.Asking.{five_digits, variable_names, asked_names, told};
+ghost use Rattle.nnf_ask.specs.declared.names.AskError.TheVariants.{Memory};
+
+use device_model::{Name, PART_LIMIT, WIRE_LIMIT};
+use std::alloc::{AllocError, Global};
+
+/// Why the variables of a graph have no names.
+#[derive(Clone, Copy, Debug, PartialEq, Eq)]
+pub enum AskError {
+    /// There are to be more parts than variables.
+    Health { health: u32, vars: u32 },
+    /// More than 16,384 variables are left for wires; the number of them.
+    Wires { count: u32 },
+    /// There was no memory.
+    Memory,
+}
+
+impl From<AllocError> for AskError {
+    ghost from_gives = { λ _ e. e ≡ Memory };
+
+    fn from(_: AllocError) -> Self {
+        AskError::Memory
+    }
+}
+
+/// The names of a graph's variables, the first of which are so many parts, and the others wires: their numbers in five digits.
+/// The names of the parts come first, then those of the wires.
+///
+/// The first reason of `AskError` that applies is the answer, in the order in which they stand there.
+pub fn ask_names(alloc: Global, health: u32, vars: u32) -> Result<(Vec<Name>, Vec<Name>), AskError>
+    requires few { health ≤ PART_LIMIT }
+    ensures names { Fulfils (λ names. (names.0.items, names.1.items)) told (asked_names health vars) result }
+    ensures parts_rise { IfOk result (λ names. names_rise names.0.items ≡ true) }
+    ensures wires_rise { IfOk result (λ names. names_rise names.1.items ≡ true) }
+    ensures parts { IfOk result (λ names. length names.0.items ≡ health) }
+    ensures few_wires { IfOk result (λ names. length names.1.items ≤ WIRE_LIMIT) }
+    ensures all { IfOk result (λ names. length names.0.items + length names.1.items ≡ vars) }
+{
+    if health > vars {
+        return Err(AskError::Health { health, vars });
+    }
+    let count = vars - health;
+    if count as usize > WIRE_LIMIT {
+        return Err(AskError::Wires { count });
+    }
+    let parts = variable_names(alloc, 1, health)?;
+    let wires = variable_names(alloc, health + 1, count)?;
+    Ok((parts, wires))
+}
+
+// A number in five digits.
+fn five_digits(number: u32) -> [u8; 5]
+    requires { number < 100000 }
+    ensures { result ≡ five_digits number }
+{
+    [
+        b'0' + (number / 10_000) as u8,
+        b'0' + (number / 1000 % 10) as u8,
+        b'0' + (number / 100 % 10) as u8,
+        b'0' + (number / 10 % 10) as u8,
+        b'0' + (number % 10) as u8,
+    ]
+}
+
+// The names of so many variables from one on.
+fn variable_names(alloc: Global, first: u32, count: u32) -> Result<Vec<Name>, AllocError>
+    requires { first + count ≤ 100000 }
+    ensures names { IfOk result (λ names. names.items ≡ variable_names first count) }
+    ensures rise { IfOk result (λ names. names_rise names.items ≡ true) }
+    ensures many { IfOk result (λ names. length names.items ≡ count) }
+{
+    let mut names = Vec::with_capacity(alloc, count as usize)?;
+    for place in 0..count {
+        names.push(Name::new(alloc, &five_digits(first + place))?)?;
+    }
+    Ok(names)
+}
+
+/// What the failure of each part costs: 1.
+pub fn ask_costs(alloc: Global, health: u32) -> Result<Vec<u32>, AllocError>
+    requires few { health ≤ PART_LIMIT }
+    ensures costs { IfOk result (λ costs. costs.items ≡ plain_costs health) }
+    ensures many { IfOk result (λ costs. length costs.items ≡ health) }
+    ensures dear { IfOk result (λ costs. All (λ c. 0 < c) costs.items) }
+    ensures total { IfOk result (λ costs. total_cost costs.items ≡ health) }
+{
+    vec![in alloc; 1; health as usize]
+}

@@ -11,7 +11,7 @@ use Rattle.diag_cli.specs.Describing.{described, device_in}
 use Rattle.diag_cli.specs.Planning.{sizes_in, planned}
 use Rattle.diag_cli.specs.Courses.{compiled}
 use Rattle.diag_cli.specs.Refusals.{or_memory}
-use Rattle.diag_cli.specs.inner.Courses.{GivesUnlessMemory}
+use Rattle.diag_cli.specs.Following.{GivesUnlessMemory}
 use Rattle.diag_cli.proofs.Headline.{short_file}
 
 pub refused_sizes : (fault : Option Output) (path file : List ℕ) (clauses : Device → Result ClauseList EncodeError) → length file ≤ TEXT_LIMIT

@@ -1,4 +1,5 @@
 use Rattle.std.proofs.Common.{Ok, refl}
+use Rattle.device_model.specs.Diagnosis.{device_system}
 use Rattle.diag_cli.specs.Courses.{if_within}
 use Rattle.diag_cli.specs.Refusals.{told_by}
 use Rattle.diag_cli.proofs.Headline.{follows_refusal}
@@ -15,5 +16,5 @@ returns-in-Ok-clause-follows g c =
 pub returns-in-Err-clause-follows : goal.returns-in-Err-clause-follows
 returns-in-Err-clause-follows g c =
     by_same c.in-Err.ensures.within (λ order is.
-    follows_refusal _ _ _ _ _ c.args.sessions (if_within c.args.budget (clauses_by c.args.is_narrow order) (Ok c.args.device)) (told_by c.in-Err.refusal) is
+    follows_refusal _ _ _ _ _ device_system c.args.sessions (if_within c.args.budget (clauses_by c.args.is_narrow order) (Ok c.args.device)) (told_by c.in-Err.refusal) is
     (record { left = refl; taken = refl; faults = refl }) c.tell.ensures.said)

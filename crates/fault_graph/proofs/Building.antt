@@ -1,0 +1,329 @@
+-- The nodes of the smaller graph, one after the other, and the places of what stands for the nodes so far.
+use Rattle.std.proofs.Common.{◌≡◌, ◌≢◌, ℕ, zero, suc, ◌+◌, ◌-◌, ◌<◌, ◌≤◌, Bool, true, false, cond, eqb, List, [], ◌∷◌, ◌++◌, map, length, take, get_or, set, All, Some, refl, ap, sym, ◌∙◌, subst, arith, inl, inr, ⊎_elim, length-append, get_or-set_same, get_or-set_other}
+use Rattle.std.specs.Prelude.{◌⊎◌, slice_get, nat_lt}
+use Rattle.std.specs.List.{list_any, filter}
+use Rattle.std.proofs.Math.Bool.{and-true, or-false}
+use Rattle.std.proofs.Math.ListN.{length-map}
+use Rattle.std.proofs.lemmas.Bool.{and_from, cases_lt, eqb-true, eqb-false, leb-true, le-leb, ltb-true, lt-ltb, false≢true}
+use Rattle.std.proofs.lemmas.List.Sums.{sum_by-append, sum_by-take-le}
+use Rattle.std.proofs.lemmas.Option.{slice_get-get_or, get_or_from_slice_get, same_Some}
+use Rattle.ranking.specs.Assignments.{Assignment}
+use Rattle.ranking.proofs.Members.{In}
+use Rattle.graph_rules.specs.declared.NodeKind.{NodeKind}
+use Rattle.graph_rules.specs.declared.NodeKind.TheVariants.{Literal, And, Or}
+use Rattle.graph_rules.specs.Graphs.{Node, Graph, true_node, node_at, truth_by, mention_by, is_true, mentions, apart_at, kind_fits, node_fits, AreNodes, IsGraph}
+use Rattle.graph_rules.specs.GraphTexts.{edges}
+use Rattle.graph_rules.proofs.NodeValues.{are_below, value_of-last, value_of-before}
+use Rattle.graph_rules.proofs.NodesFit.{fits-get, apart-get, literal, AreNodes-push}
+use Rattle.conditioner.specs.Models.{total_cost}
+use Rattle.minimiser.specs.Costs.{part_cost, known_at}
+use Rattle.minimiser.specs.Stored.{cost_in, AreLeastCosts}
+use Rattle.minimiser.specs.inner.Marked.{is_kid}
+use Rattle.minimiser.proofs.Costs.{IsCost, and_left, and_right}
+use Rattle.minimiser.proofs.Whole.{part_cost-none}
+use Rattle.minimiser.proofs.Models.{LeastIs, same_or_not}
+use Rattle.minimiser.proofs.Sums.{cost_in-some}
+use Rattle.minimiser.proofs.Derivations.{is_cost, mention-at, below, all-below}
+use Rattle.minimiser.proofs.Sweeping.{node_least, kid-in, value-is, root-low, cost_in-is}
+use Rattle.fault_graph.specs.Distilled.{IsDistilled}
+use Rattle.fault_graph.specs.inner.Marks.{AreMarks}
+use Rattle.fault_graph.specs.inner.Rows.{keeps, row_of, kept_node, Adds, root_node}
+use Rattle.fault_graph.proofs.Standing.{StandsFor, StandsFor-same, stands-free}
+use Rattle.fault_graph.proofs.Law.{graph-least, small-least, same-diagnoses}
+use Rattle.fault_graph.proofs.Kin.{KidsStand, node-stands, narrower-any, narrower-apart}
+
+-- ---- lists
+
+take-more : (nodes : List Node) (i : ℕ) (node : Node) → slice_get nodes i ≡ Some node → take (i + 1) nodes ≡ take i nodes ++ node ∷ []
+take-more nodes i node e = (let next : i + 1 ≡ suc i = omega arith in ap (λ n. take n nodes) next) ∙ go nodes i e where
+  go : (nodes : List Node) (i : ℕ) → slice_get nodes i ≡ Some node → take (suc i) nodes ≡ take i nodes ++ node ∷ []
+  go [] i e = absurd (cc)
+  go (m ∷ nodes) zero e = let s : m ≡ node = cc in λ j. s j ∷ []
+  go (m ∷ nodes) (suc i) e = ap (λ ns. m ∷ ns) (go nodes i e)
+
+edges-push : (nodes : List Node) (node : Node) → edges (nodes ++ node ∷ []) ≡ edges nodes + length node.kids
+edges-push nodes node =
+    let one : edges (node ∷ []) ≡ length node.kids = omega arith in
+    omega (arith, sum_by-append (λ (x : Node). length x.kids) nodes (node ∷ []), one)
+
+filter-le : (keep : ℕ → Bool) (kids : List ℕ) → length (filter keep kids) ≤ length kids
+filter-le keep [] = omega arith
+filter-le keep (k ∷ kids) = by_first (keep k) (filter-le keep kids) where
+  by_first : (b : Bool) → length (filter keep kids) ≤ length kids → length (cond b (k ∷ filter keep kids) (filter keep kids)) ≤ length (k ∷ kids)
+  by_first true h = omega arith
+  by_first false h = omega arith
+
+row-le : (values places : List ℕ) (cost : ℕ) (kids : List ℕ) → length (row_of values places cost kids) ≤ length kids
+row-le values places cost kids = omega (arith, length-map (filter (keeps values cost) kids) (λ k. get_or places k 0), filter-le (keeps values cost) kids)
+
+row-below : (keep : ℕ → Bool) (place : ℕ → ℕ) (own : ℕ) (kids : List ℕ) → ((j : ℕ) → In j kids → keep j ≡ true → place j < own) → are_below own (map place (filter keep kids)) ≡ true
+row-below keep place own [] h = refl
+row-below keep place own (j ∷ kids) h = by_first (keep j) refl (row-below keep place own kids (λ i m. h i (inr m))) where
+  by_first : (b : Bool) → keep j ≡ b → are_below own (map place (filter keep kids)) ≡ true → are_below own (map place (cond b (j ∷ filter keep kids) (filter keep kids))) ≡ true
+  by_first true k more = and_from _ _ (lt-ltb (place j) own (h j (inl refl) k)) more
+  by_first false k more = more
+
+row-kind : (vars : ℕ) (values places : List ℕ) (cost : ℕ) (what : NodeKind) (kids : List ℕ) → kind_fits vars what kids ≡ true → kind_fits vars what (row_of values places cost kids) ≡ true
+row-kind vars values places cost (Literal var positive) kids fit =
+    let alone : kids ≡ [] = (literal vars var positive kids fit).alone in
+    subst (λ ks. kind_fits vars (Literal var positive) (row_of values places cost ks) ≡ true) (sym alone) (subst (λ ks. kind_fits vars (Literal var positive) ks ≡ true) alone fit)
+row-kind vars values places cost And kids fit = lt-ltb (length (row_of values places cost kids)) 4294967296 (omega (arith, row-le values places cost kids, ltb-true (length kids) 4294967296 fit))
+row-kind vars values places cost Or kids fit = lt-ltb (length (row_of values places cost kids)) 4294967296 (omega (arith, row-le values places cost kids, ltb-true (length kids) 4294967296 fit))
+
+keeps-out : (values : List ℕ) (cost j : ℕ) → keeps values cost j ≡ true → (0 < get_or values j 0) × (get_or values j 0 ≤ cost)
+keeps-out values cost j e = (ltb-true 0 (get_or values j 0) (and_left _ _ e), leb-true _ _ (and_right (nat_lt 0 (get_or values j 0)) _ e))
+
+keeps-not : (values : List ℕ) (cost j : ℕ) → keeps values cost j ≡ false → (get_or values j 0 ≡ 0) ⊎ (cost < get_or values j 0)
+keeps-not values cost j e = ⊎_elim
+    (λ (p : 0 < get_or values j 0). ⊎_elim (λ q. inr q) (λ (q : get_or values j 0 ≤ cost). absurd (false≢true (sym e ∙ and_from _ _ (lt-ltb 0 (get_or values j 0) p) (le-leb _ _ q)))) (cases_lt cost (get_or values j 0)))
+    (λ (p : get_or values j 0 ≤ 0). inl (omega arith))
+    (cases_lt 0 (get_or values j 0))
+
+-- ---- what stands at a place
+
+module _ (graph : Graph) (words costs : List ℕ) where
+  -- what stands at a place for a node, with no variable that the node has not
+  pub record IsPlace (nodes : List Node) (k c p : ℕ) : Type 0 where
+    pub there : p < length nodes
+    pub stands : StandsFor (known_at words) (part_cost costs) (length costs) (λ a. is_true graph.nodes k a) (λ v. mentions graph.nodes v k) c (λ a. is_true nodes p a)
+    pub inside : (v : ℕ) → mentions nodes v p ≡ true → mentions graph.nodes v k ≡ true
+
+  place-more : (nodes : List Node) (node : Node) (k c p : ℕ) → IsPlace nodes k c p → IsPlace (nodes ++ node ∷ []) k c p
+  place-more nodes node k c p is = record {
+    there = omega (arith, is.there, length-append nodes (node ∷ []));
+    stands = StandsFor-same (known_at words) (part_cost costs) (length costs) (λ a. refl) (λ v. refl) refl (λ a. value_of-before (truth_by a) nodes node p is.there) is.stands;
+    inside = λ v e. is.inside v (sym (value_of-before (mention_by v) nodes node p is.there) ∙ e);
+  }
+
+  -- the nodes of the graph before one were met: of those that are marked and cost something it is known what stands for them
+  pub record IsBuilt (values marks places : List ℕ) (nodes : List Node) (at : ℕ) : Type 0 where
+    pub are : AreNodes graph.vars nodes
+    pub few : length nodes ≤ at
+    pub few_edges : edges nodes ≤ edges (take at graph.nodes)
+    pub ahead : (k : ℕ) → at ≤ k → get_or places k 0 ≡ get_or marks k 0
+    pub built : (k c : ℕ) → k < at → get_or marks k 0 ≡ 1 → node_least graph words costs k ≡ Some c → 0 < c → IsPlace nodes k c (get_or places k 0)
+
+  pub built-none : (values marks : List ℕ) → IsBuilt values marks marks [] 0
+  built-none values marks = record {
+    are = record { fit = refl; apart = λ v. tt };
+    few = omega arith;
+    few_edges = omega arith;
+    ahead = λ k h. refl;
+    built = λ k c h. absurd (omega arith);
+  }
+
+module _ (graph : Graph) (words costs : List ℕ) (ok : IsGraph graph) (long : length words ≡ graph.vars) (within : length costs ≤ graph.vars) (total : total_cost costs < 2147483647)
+    (most : ℕ) (least_most : LeastIs graph costs words most) (values : List ℕ) (v : AreLeastCosts graph words costs values) (marks : List ℕ) (m : AreMarks graph.nodes values marks 0) where
+  abbrev root : ℕ
+  root = length graph.nodes - 1
+
+  value-at : (k : ℕ) → k < length graph.nodes → cost_in (get_or values k 0) ≡ node_least graph words costs k
+  value-at k h = value-is graph words costs ok long within total most least_most values v k h
+
+  marked-cost : (k : ℕ) → k < length graph.nodes → get_or marks k 0 ≡ 1 → node_least graph words costs k ≡ Some (get_or values k 0)
+  marked-cost k h e = sym (value-at k h) ∙ cost_in-some (get_or values k 0) (λ z. absurd (omega (arith, z, m.low k h e, root-low graph words costs ok long within total most least_most values v)))
+
+  cost-value : (k c : ℕ) → k < length graph.nodes → node_least graph words costs k ≡ Some c → get_or values k 0 ≡ c
+  cost-value k c h e = cost_in-is (get_or values k 0) c (value-at k h ∙ e)
+
+  -- a node that is passed over
+  pub built-past : (places : List ℕ) (nodes : List Node) (at : ℕ) → at < length graph.nodes → IsBuilt graph words costs values marks places nodes at → (get_or places at 0 ≡ 1 → get_or values at 0 ≡ 0)
+      → IsBuilt graph words costs values marks places nodes (at + 1)
+  built-past places nodes at lt is free = record {
+    are = is.are;
+    few = omega (arith, is.few);
+    few_edges = let e = slice_get-get_or graph.nodes at true_node lt in omega (arith, is.few_edges, ap edges (take-more graph.nodes at _ e), edges-push (take at graph.nodes) (node_at graph.nodes at));
+    ahead = λ k h. is.ahead k (omega arith);
+    built = λ k c h e f dear. ⊎_elim
+        (λ (q : k ≡ at). absurd (omega (arith, dear, cost-value k c (omega arith) f, ap (λ n. get_or values n 0) q, free (is.ahead at (omega arith) ∙ ap (λ n. get_or marks n 0) (sym q) ∙ e))))
+        (λ (q : k ≢ at). is.built k c (omega arith) e f dear)
+        (same_or_not k at);
+  }
+
+  module _ (places : List ℕ) (nodes : List Node) (at : ℕ) (lt : at < length graph.nodes) (is : IsBuilt graph words costs values marks places nodes at) (mark : get_or places at 0 ≡ 1) (costly : get_or values at 0 ≢ 0)
+      (what : NodeKind) (kids : List ℕ) (e : slice_get graph.nodes at ≡ Some (record { what = what; kids = kids })) where
+    abbrev c : ℕ
+    c = get_or values at 0
+
+    abbrev keep : ℕ → Bool
+    keep j = keeps values c j
+
+    abbrev place : ℕ → ℕ
+    place j = get_or places j 0
+
+    abbrev row : List ℕ
+    row = row_of values places c kids
+
+    node-mark : get_or marks at 0 ≡ 1
+    node-mark = sym (is.ahead at (omega arith)) ∙ mark
+
+    cost-is : node_least graph words costs at ≡ Some c
+    cost-is = marked-cost at lt node-mark
+
+    earlier : (j : ℕ) → In j kids → j < at
+    earlier j i = all-below at kids j (below graph words costs ok at _ e) i
+
+    kid-mark : (j : ℕ) → In j kids → get_or values j 0 ≤ c → get_or marks j 0 ≡ 1
+    kid-mark j i h = m.down at j (omega arith) lt node-mark (subst (λ (n : Node). is_kid n.kids j ≡ true) (sym (get_or_from_slice_get graph.nodes at _ true_node e)) (kid-in kids j i)) h
+
+    kid-place : (j : ℕ) → In j kids → keep j ≡ true → IsPlace graph words costs nodes j (get_or values j 0) (place j)
+    kid-place j i k =
+        let p = keeps-out values c j k in
+        let h = kid-mark j i p.1 in
+        is.built j (get_or values j 0) (earlier j i) h (marked-cost j (omega (arith, earlier j i)) h) p.0
+
+    kids-stand : KidsStand graph words costs ok keep place (λ p a. is_true nodes p a) kids c
+    kids-stand = record {
+      stay = λ j i k.
+          let p = keeps-out values c j k in
+          record { cost = get_or values j 0; is = marked-cost j (omega (arith, earlier j i)) (kid-mark j i p.1); cheap = p.1; stands = (kid-place j i k).stands };
+      rest = λ j d i k f.
+          let same = cost-value j d (omega (arith, earlier j i)) f in
+          subst (λ x. (x ≡ 0) ⊎ (c < x)) same (keeps-not values c j k);
+    }
+
+    stands : StandsFor (known_at words) (part_cost costs) (length costs) (λ a. is_true graph.nodes at a) (λ w. mentions graph.nodes w at) c (λ a. truth_by a what (map (λ p. is_true nodes p a) row))
+    stands = node-stands graph words costs ok keep place (λ p a. is_true nodes p a) at c what kids e cost-is (omega arith) kids-stand
+
+    inside : (w : ℕ) → mention_by w what (map (mentions nodes w) row) ≡ true → mentions graph.nodes w at ≡ true
+    inside w h = mention-at graph words costs ok at _ e w ∙ by_kind what h where
+      any : list_any (λ b. b) (map (mentions nodes w) row) ≡ true → list_any (λ b. b) (map (mentions graph.nodes w) kids) ≡ true
+      any h = narrower-any keep place (mentions nodes w) (mentions graph.nodes w) kids (λ j i k s. (kid-place j i k).inside w s) h
+
+      by_kind : (what : NodeKind) → mention_by w what (map (mentions nodes w) row) ≡ true → mention_by w what (map (mentions graph.nodes w) kids) ≡ true
+      by_kind (Literal var positive) h = h
+      by_kind And h = any h
+      by_kind Or h = any h
+
+    below-all : are_below (length nodes) row ≡ true
+    below-all = row-below keep place (length nodes) kids (λ j i k. (kid-place j i k).there)
+
+    fits : node_fits graph.vars (length nodes) (record { what = what; kids = row }) ≡ true
+    fits = and_from _ _ below-all (row-kind graph.vars values places c what kids (fits-get graph.vars graph.nodes at _ ok.nodes.fit e).kind)
+
+    apart : (w : ℕ) → apart_at (mentions nodes w) what row ≡ true
+    apart w = by_kind what (apart-get (mentions graph.nodes w) graph.nodes at _ (ok.nodes.apart w) e) where
+      by_kind : (what : NodeKind) → apart_at (mentions graph.nodes w) what kids ≡ true → apart_at (mentions nodes w) what row ≡ true
+      by_kind (Literal var positive) h = refl
+      by_kind And h = narrower-apart keep place (mentions nodes w) (mentions graph.nodes w) kids (λ j i k s. (kid-place j i k).inside w s) h
+      by_kind Or h = refl
+
+    pub are-pushed : AreNodes graph.vars (nodes ++ record { what = what; kids = row } ∷ [])
+    are-pushed = AreNodes-push graph.vars nodes (record { what = what; kids = row }) is.are fits apart
+
+    pub pushed : IsPlace graph words costs (nodes ++ record { what = what; kids = row } ∷ []) at c (length nodes)
+    pushed = record {
+      there = omega (arith, length-append nodes (record { what = what; kids = row } ∷ []));
+      stands = StandsFor-same (known_at words) (part_cost costs) (length costs) (λ a. refl) (λ w. refl) refl (λ a. value_of-last (truth_by a) nodes (record { what = what; kids = row })) stands;
+      inside = λ w h. inside w (sym (value_of-last (mention_by w) nodes (record { what = what; kids = row })) ∙ h);
+    }
+
+    -- one kid that stays stands for the node
+    only : (p : ℕ) → row ≡ p ∷ [] → IsPlace graph words costs nodes at c p
+    only p one = record {
+      there = ltb-true p (length nodes) (and_left _ _ (subst (λ ks. are_below (length nodes) ks ≡ true) one below-all));
+      stands = StandsFor-same (known_at words) (part_cost costs) (length costs) (λ a. refl) (λ w. refl) refl (λ a. sym (ap (λ ks. truth_by a what (map (λ q. is_true nodes q a) ks)) one ∙ truth-one a what e)) stands;
+      inside = λ w h. inside w (ap (λ ks. mention_by w what (map (mentions nodes w) ks)) one ∙ mention-one w what e h);
+    } where
+      no-literal : (var : ℕ) (positive : Bool) → slice_get graph.nodes at ≡ Some (record { what = Literal var positive; kids = kids }) → ⊥
+      no-literal var positive f =
+          let alone : kids ≡ [] = (literal graph.vars var positive kids (fits-get graph.vars graph.nodes at _ ok.nodes.fit f).kind).alone in
+          absurd (let none : [] ≡ p ∷ [] = sym (ap (row_of values places c) alone) ∙ one in cc)
+
+      truth-one : (a : Assignment) (what : NodeKind) → slice_get graph.nodes at ≡ Some (record { what = what; kids = kids }) → truth_by a what (map (λ q. is_true nodes q a) (p ∷ [])) ≡ is_true nodes p a
+      truth-one a (Literal var positive) f = absurd (no-literal var positive f)
+      truth-one a And f = and-true (is_true nodes p a)
+      truth-one a Or f = or-false (is_true nodes p a)
+
+      mention-one : (w : ℕ) (what : NodeKind) → slice_get graph.nodes at ≡ Some (record { what = what; kids = kids }) → mentions nodes w p ≡ true → mention_by w what (map (mentions nodes w) (p ∷ [])) ≡ true
+      mention-one w (Literal var positive) f h = absurd (no-literal var positive f)
+      mention-one w And f h = or-false (mentions nodes w p) ∙ h
+      mention-one w Or f h = or-false (mentions nodes w p) ∙ h
+
+    -- what stands for the node is there now
+    noted : (new : List Node) (p : ℕ) → at < length places → AreNodes graph.vars new → length new ≤ at + 1 → edges new ≤ edges (take (at + 1) graph.nodes)
+        → ((k d q : ℕ) → IsPlace graph words costs nodes k d q → IsPlace graph words costs new k d q) → IsPlace graph words costs new at c p
+        → IsBuilt graph words costs values marks (set places at p) new (at + 1)
+    noted new p room are few few_edges more here = record {
+      are = are;
+      few = few;
+      few_edges = few_edges;
+      ahead = λ k h. let ne : k ≢ at = omega arith in (rw get_or-set_other refl) ∙ is.ahead k (omega arith);
+      built = λ k d h f g dear. ⊎_elim
+          (λ (q : k ≡ at).
+          let same : c ≡ d = same_Some c d (sym cost-is ∙ ap (λ x. node_least graph words costs x) (sym q) ∙ g) in
+          let at_place : get_or (set places at p) k 0 ≡ p = ap (λ n. get_or (set places at p) n 0) q ∙ (rw get_or-set_same refl) in
+          subst (λ x. IsPlace graph words costs new k d x) (sym at_place) (subst (λ x. IsPlace graph words costs new k x p) same (subst (λ n. IsPlace graph words costs new n c p) (sym q) here)))
+          (λ (q : k ≢ at). subst (λ x. IsPlace graph words costs new k d x) (sym (rw get_or-set_other refl)) (more k d (get_or places k 0) (is.built k d (omega arith) f g dear)))
+          (same_or_not k at);
+    }
+
+    edges-so-far : edges nodes + length row ≤ edges (take (at + 1) graph.nodes)
+    edges-so-far = omega (arith, is.few_edges, ap edges (take-more graph.nodes at _ e), edges-push (take at graph.nodes) (record { what = what; kids = kids }), row-le values places c kids)
+
+    pub built-added : (new : List Node) (p : ℕ) → at < length places → Adds nodes (record { what = what; kids = row }) new p → IsBuilt graph words costs values marks (set places at p) new (at + 1)
+    built-added new p room (inl (same, one)) =
+        subst (λ ns. IsBuilt graph words costs values marks (set places at p) ns (at + 1)) (sym same)
+        (noted nodes p room is.are (omega (arith, is.few)) (omega (arith, edges-so-far)) (λ k d q x. x) (only p one))
+    built-added new p room (inr (same, last)) =
+        subst (λ ns. IsBuilt graph words costs values marks (set places at p) ns (at + 1)) (sym same)
+        (noted (nodes ++ record { what = what; kids = row } ∷ []) p room are-pushed (omega (arith, is.few, length-append nodes (record { what = what; kids = row } ∷ []))) (omega (arith, edges-so-far, edges-push nodes (record { what = what; kids = row })))
+        (λ k d q x. place-more graph words costs nodes (record { what = what; kids = row }) k d q x) (subst (λ q. IsPlace graph words costs (nodes ++ record { what = what; kids = row } ∷ []) at c q) (sym last) pushed))
+
+  -- ---- the root
+
+  end-is : (node : Node) (nodes : List Node) → length (nodes ++ node ∷ []) - 1 ≡ length nodes
+  end-is node nodes = omega (arith, length-append nodes (node ∷ []))
+
+  -- what stands for the root is the last node
+  pub record IsWhole (new : List Node) : Type 0 where
+    pub graph_is : IsGraph (record { nodes = new; vars = graph.vars })
+    pub distilled : IsDistilled graph words costs (record { nodes = new; vars = graph.vars })
+
+  whole : All (λ c. 0 < c) costs → (nodes : List Node) (node : Node) (c : ℕ) → AreNodes graph.vars (nodes ++ node ∷ []) → length nodes ≤ root → edges (nodes ++ node ∷ []) ≤ edges graph.nodes → node_least graph words costs root ≡ Some c
+      → StandsFor (known_at words) (part_cost costs) (length costs) (λ a. is_true graph.nodes root a) (λ w. mentions graph.nodes w root) c (λ a. is_true (nodes ++ node ∷ []) (length nodes) a) → IsWhole (nodes ++ node ∷ [])
+  whole dears nodes node c are few few_edges is stands =
+      let new : List Node = nodes ++ node ∷ [] in
+      let long_new : length new ≡ length nodes + 1 = length-append nodes (node ∷ []) in
+      let sound : IsGraph (record { nodes = new; vars = graph.vars }) = record { some = omega (arith, long_new); few = omega (arith, long_new, few, ok.some, ok.few); nodes = are } in
+      let at_end = subst (λ n. StandsFor (known_at words) (part_cost costs) (length costs) (λ a. is_true graph.nodes root a) (λ w. mentions graph.nodes w root) c (λ a. is_true new n a)) (sym (end-is node nodes)) stands in
+      record {
+        graph_is = sound;
+        distilled = record {
+          vars = refl;
+          least = small-least graph (record { nodes = new; vars = graph.vars }) words costs ok sound refl long within dears c is at_end ∙ sym (graph-least graph (record { nodes = new; vars = graph.vars }) words costs ok sound refl long within dears c is at_end);
+          diagnoses = same-diagnoses graph (record { nodes = new; vars = graph.vars }) words costs ok sound refl long within dears c is at_end;
+          few = omega (arith, long_new, few, ok.some);
+          few_edges = few_edges;
+        };
+      }
+
+  pub root-added : All (λ c. 0 < c) costs → (places : List ℕ) (nodes new : List Node) (at : ℕ) → at ≡ root → IsBuilt graph words costs values marks places nodes at → new ≡ nodes ++ root_node graph values places ∷ [] → IsWhole new
+  root-added dears places nodes new at end is same = subst IsWhole (sym same) (by_test (eqb (get_or values root 0) 0) refl) where
+    there : root < length graph.nodes
+    there = omega (arith, ok.some)
+
+    built : IsBuilt graph words costs values marks places nodes root
+    built = subst (λ n. IsBuilt graph words costs values marks places nodes n) end is
+
+    root-cost : node_least graph words costs root ≡ Some (get_or values root 0)
+    root-cost = marked-cost root there m.root
+
+    e : slice_get graph.nodes root ≡ Some (node_at graph.nodes root)
+    e = slice_get-get_or graph.nodes root true_node there
+
+    by_test : (b : Bool) → eqb (get_or values root 0) 0 ≡ b → IsWhole (nodes ++ cond b true_node (kept_node values places (get_or values root 0) (node_at graph.nodes root)) ∷ [])
+    by_test true z =
+        let free : node_least graph words costs root ≡ Some 0 = root-cost ∙ ap Some (eqb-true _ _ z) in
+        whole dears nodes true_node 0 (AreNodes-push graph.vars nodes true_node built.are refl (λ w. refl)) built.few
+        (omega (arith, edges-push nodes true_node, built.few_edges, sum_by-take-le (λ (x : Node). length x.kids) graph.nodes root)) free
+        (StandsFor-same (known_at words) (part_cost costs) (length costs) (λ a. refl) (λ w. refl) refl (λ a. value_of-last (truth_by a) nodes true_node)
+        (stands-free (known_at words) (part_cost costs) (length costs) (part_cost-none costs) (λ a. is_true graph.nodes root a) (λ w. mentions graph.nodes w root)
+        (subst (λ o. IsCost (known_at words) (part_cost costs) (length costs) (λ a. is_true graph.nodes root a) (λ w. mentions graph.nodes w root) o) free (is_cost graph words costs ok root))))
+    by_test false z =
+        let costly : get_or values root 0 ≢ 0 = eqb-false _ _ z in
+        let mark : get_or places root 0 ≡ 1 = built.ahead root (omega arith) ∙ m.root in
+        let node : Node = node_at graph.nodes root in
+        let here = pushed places nodes root there built mark costly node.what node.kids e in
+        whole dears nodes (kept_node values places (get_or values root 0) node) (get_or values root 0) (are-pushed places nodes root there built mark costly node.what node.kids e) built.few
+        (omega (arith, edges-push nodes (kept_node values places (get_or values root 0) node), edges-so-far places nodes root there built mark costly node.what node.kids e, sum_by-take-le (λ (x : Node). length x.kids) graph.nodes (root + 1))) root-cost here.stands

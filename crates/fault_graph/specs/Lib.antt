@@ -1,0 +1,3 @@
+pub mod Distilled
+pub mod Probing
+pub mod inner

@@ -1,36 +1,37 @@
 -- The nodes of the smaller graph, one after the other, and the places of what stands for the nodes so far.
-use Rattle.std.proofs.Common.{◌≡◌, ◌≢◌, ℕ, zero, suc, ◌+◌, ◌-◌, ◌<◌, ◌≤◌, Bool, true, false, cond, eqb, List, [], ◌∷◌, ◌++◌, map, length, take, get_or, set, All, Some, refl, ap, sym, ◌∙◌, subst, arith, inl, inr, ⊎_elim, length-append, get_or-set_same, get_or-set_other}
+use Rattle.std.proofs.Common.{◌≡◌, ◌≢◌, ℕ, zero, suc, ◌+◌, ◌-◌, ◌<◌, ◌≤◌, Bool, true, false, cond, List, [], ◌∷◌, ◌++◌, map, length, take, get_or, set, All, Some, refl, ap, sym, ◌∙◌, subst, arith, inl, inr, ⊎_elim, length-append, get_or-set_same, get_or-set_other}
 use Rattle.std.specs.Prelude.{◌⊎◌, slice_get, nat_lt}
 use Rattle.std.specs.List.{list_any, filter}
 use Rattle.std.proofs.Math.Bool.{and-true, or-false}
 use Rattle.std.proofs.Math.ListN.{length-map}
-use Rattle.std.proofs.lemmas.Bool.{and_from, cases_lt, eqb-true, eqb-false, leb-true, le-leb, ltb-true, lt-ltb, false≢true}
+use Rattle.std.proofs.lemmas.Bool.{and_from, cases_lt, leb-true, le-leb, ltb-true, lt-ltb, false≢true}
 use Rattle.std.proofs.lemmas.List.Sums.{sum_by-append, sum_by-take-le}
 use Rattle.std.proofs.lemmas.Option.{slice_get-get_or, get_or_from_slice_get, same_Some}
 use Rattle.ranking.specs.Assignments.{Assignment}
-use Rattle.ranking.proofs.Members.{In}
+use Rattle.ranking.proofs.Members.{In, In-map, In-filtered, AtMost}
 use Rattle.graph_rules.specs.declared.NodeKind.{NodeKind}
 use Rattle.graph_rules.specs.declared.NodeKind.TheVariants.{Literal, And, Or}
 use Rattle.graph_rules.specs.Graphs.{Node, Graph, true_node, node_at, truth_by, mention_by, is_true, mentions, apart_at, kind_fits, node_fits, AreNodes, IsGraph}
 use Rattle.graph_rules.specs.GraphTexts.{edges}
-use Rattle.graph_rules.proofs.NodeValues.{are_below, value_of-last, value_of-before}
+use Rattle.graph_rules.proofs.NodeValues.{are_below, value_of-last}
 use Rattle.graph_rules.proofs.NodesFit.{fits-get, apart-get, literal, AreNodes-push}
 use Rattle.conditioner.specs.Models.{total_cost}
-use Rattle.minimiser.specs.Costs.{part_cost, known_at}
+use Rattle.minimiser.specs.Costs.{part_cost, known_at, cheapest}
 use Rattle.minimiser.specs.Stored.{cost_in, AreLeastCosts}
 use Rattle.minimiser.specs.inner.Marked.{is_kid}
-use Rattle.minimiser.proofs.Costs.{IsCost, and_left, and_right}
-use Rattle.minimiser.proofs.Whole.{part_cost-none}
+use Rattle.minimiser.proofs.Costs.{and_left, and_right}
 use Rattle.minimiser.proofs.Models.{LeastIs, same_or_not}
 use Rattle.minimiser.proofs.Sums.{cost_in-some}
-use Rattle.minimiser.proofs.Derivations.{is_cost, mention-at, below, all-below}
-use Rattle.minimiser.proofs.Sweeping.{node_least, kid-in, value-is, root-low, cost_in-is}
-use Rattle.fault_graph.specs.Distilled.{IsDistilled}
-use Rattle.fault_graph.specs.inner.Marks.{AreMarks}
-use Rattle.fault_graph.specs.inner.Rows.{keeps, row_of, kept_node, Adds, root_node}
-use Rattle.fault_graph.proofs.Standing.{StandsFor, StandsFor-same, stands-free}
-use Rattle.fault_graph.proofs.Law.{graph-least, small-least, same-diagnoses}
+use Rattle.minimiser.proofs.Derivations.{mention-at, costs-at, below, all-below, cheapest-kid}
+use Rattle.minimiser.proofs.Sweeping.{node_least, kid-in, kid-out, kid_before, value-is, root-low, cost_in-is}
+use Rattle.fault_graph.specs.Small.{HasParent}
+use Rattle.fault_graph.specs.inner.Marks.{HasMarkedParent, AreMarks}
+use Rattle.fault_graph.specs.inner.Rows.{keeps, row_of, Adds, root_node}
+use Rattle.fault_graph.proofs.Standing.{StandsFor, StandsFor-same}
 use Rattle.fault_graph.proofs.Kin.{KidsStand, node-stands, narrower-any, narrower-apart}
+use Rattle.fault_graph.proofs.Places.{IsPlace, place-more, IsFrom, AreFrom, from-none, from-push, parent-more, parent-last, Waits, IsNeeded}
+use Rattle.fault_graph.proofs.Smallness.{small-from}
+use Rattle.fault_graph.proofs.Roots.{IsWhole, whole}
 
 -- ---- lists
 
@@ -56,6 +57,16 @@ filter-le keep (k ∷ kids) = by_first (keep k) (filter-le keep kids) where
 row-le : (values places : List ℕ) (cost : ℕ) (kids : List ℕ) → length (row_of values places cost kids) ≤ length kids
 row-le values places cost kids = omega (arith, length-map (filter (keeps values cost) kids) (λ k. get_or places k 0), filter-le (keeps values cost) kids)
 
+-- what is in a row is the place of a kid that stays
+row-source : (keep : ℕ → Bool) (place : ℕ → ℕ) (kids : List ℕ) (q : ℕ) → In q (map place (filter keep kids)) → (j : ℕ) × In j kids × (keep j ≡ true) × (place j ≡ q)
+row-source keep place [] q m = absurd m
+row-source keep place (k ∷ kids) q m = by_keep (λ i. row-source keep place kids q i) (keep k) refl m where
+  by_keep : (In q (map place (filter keep kids)) → (j : ℕ) × In j kids × (keep j ≡ true) × (place j ≡ q))
+      → (b : Bool) → keep k ≡ b → In q (map place (cond b (k ∷ filter keep kids) (filter keep kids))) → (j : ℕ) × In j (k ∷ kids) × (keep j ≡ true) × (place j ≡ q)
+  by_keep more true e (inl s) = (k, inl refl, e, sym s)
+  by_keep more true e (inr i) = let x = more i in (x.0, inr x.1, x.2, x.3)
+  by_keep more false e i = let x = more i in (x.0, inr x.1, x.2, x.3)
+
 row-below : (keep : ℕ → Bool) (place : ℕ → ℕ) (own : ℕ) (kids : List ℕ) → ((j : ℕ) → In j kids → keep j ≡ true → place j < own) → are_below own (map place (filter keep kids)) ≡ true
 row-below keep place own [] h = refl
 row-below keep place own (j ∷ kids) h = by_first (keep j) refl (row-below keep place own kids (λ i m. h i (inr m))) where
@@ -79,29 +90,18 @@ keeps-not values cost j e = ⊎_elim
     (λ (p : get_or values j 0 ≤ 0). inl (omega arith))
     (cases_lt 0 (get_or values j 0))
 
--- ---- what stands at a place
+-- ---- the nodes so far
 
 module _ (graph : Graph) (words costs : List ℕ) where
-  -- what stands at a place for a node, with no variable that the node has not
-  pub record IsPlace (nodes : List Node) (k c p : ℕ) : Type 0 where
-    pub there : p < length nodes
-    pub stands : StandsFor (known_at words) (part_cost costs) (length costs) (λ a. is_true graph.nodes k a) (λ v. mentions graph.nodes v k) c (λ a. is_true nodes p a)
-    pub inside : (v : ℕ) → mentions nodes v p ≡ true → mentions graph.nodes v k ≡ true
-
-  place-more : (nodes : List Node) (node : Node) (k c p : ℕ) → IsPlace nodes k c p → IsPlace (nodes ++ node ∷ []) k c p
-  place-more nodes node k c p is = record {
-    there = omega (arith, is.there, length-append nodes (node ∷ []));
-    stands = StandsFor-same (known_at words) (part_cost costs) (length costs) (λ a. refl) (λ v. refl) refl (λ a. value_of-before (truth_by a) nodes node p is.there) is.stands;
-    inside = λ v e. is.inside v (sym (value_of-before (mention_by v) nodes node p is.there) ∙ e);
-  }
-
   -- the nodes of the graph before one were met: of those that are marked and cost something it is known what stands for them
   pub record IsBuilt (values marks places : List ℕ) (nodes : List Node) (at : ℕ) : Type 0 where
     pub are : AreNodes graph.vars nodes
     pub few : length nodes ≤ at
     pub few_edges : edges nodes ≤ edges (take at graph.nodes)
     pub ahead : (k : ℕ) → at ≤ k → get_or places k 0 ≡ get_or marks k 0
-    pub built : (k c : ℕ) → k < at → get_or marks k 0 ≡ 1 → node_least graph words costs k ≡ Some c → 0 < c → IsPlace nodes k c (get_or places k 0)
+    pub built : (k c : ℕ) → k < at → get_or marks k 0 ≡ 1 → node_least graph words costs k ≡ Some c → 0 < c → IsPlace graph words costs nodes k c (get_or places k 0)
+    pub from : AreFrom graph words costs nodes
+    pub needed : (p : ℕ) → p < length nodes → IsNeeded graph values marks places nodes at p
 
   pub built-none : (values marks : List ℕ) → IsBuilt values marks marks [] 0
   built-none values marks = record {
@@ -110,6 +110,8 @@ module _ (graph : Graph) (words costs : List ℕ) where
     few_edges = omega arith;
     ahead = λ k h. refl;
     built = λ k c h. absurd (omega arith);
+    from = from-none graph words costs;
+    needed = λ p h. absurd (omega arith);
   }
 
 module _ (graph : Graph) (words costs : List ℕ) (ok : IsGraph graph) (long : length words ≡ graph.vars) (within : length costs ≤ graph.vars) (total : total_cost costs < 2147483647)
@@ -138,7 +140,26 @@ module _ (graph : Graph) (words costs : List ℕ) (ok : IsGraph graph) (long : l
         (λ (q : k ≡ at). absurd (omega (arith, dear, cost-value k c (omega arith) f, ap (λ n. get_or values n 0) q, free (is.ahead at (omega arith) ∙ ap (λ n. get_or marks n 0) (sym q) ∙ e))))
         (λ (q : k ≢ at). is.built k c (omega arith) e f dear)
         (same_or_not k at);
-  }
+    from = is.from;
+    needed = λ p h. past p (is.needed p h);
+  } where
+    past : (p : ℕ) → IsNeeded graph values marks places nodes at p → IsNeeded graph values marks places nodes (at + 1) p
+    past p (inl h) = inl h
+    past p (inr w) = inr (record {
+      parent = w.parent;
+      from = ⊎_elim
+          (λ (s : w.parent ≡ at). let none : get_or values w.parent 0 ≡ 0 = ap (λ n. get_or values n 0) s ∙ free (is.ahead at (omega arith) ∙ ap (λ n. get_or marks n 0) (sym s) ∙ w.marked) in
+          let p = keeps-out values (get_or values w.parent 0) w.kid w.stays in absurd (omega (arith, none, p.0, p.1)))
+          (λ (ne : w.parent ≢ at). omega (arith, ne, w.from))
+          (same_or_not w.parent at);
+      within = w.within;
+      marked = w.marked;
+      kid = w.kid;
+      met = omega (arith, w.met);
+      is_kid = w.is_kid;
+      stays = w.stays;
+      there = w.there;
+    })
 
   module _ (places : List ℕ) (nodes : List Node) (at : ℕ) (lt : at < length graph.nodes) (is : IsBuilt graph words costs values marks places nodes at) (mark : get_or places at 0 ≡ 1) (costly : get_or values at 0 ≢ 0)
       (what : NodeKind) (kids : List ℕ) (e : slice_get graph.nodes at ≡ Some (record { what = what; kids = kids })) where
@@ -240,11 +261,86 @@ module _ (graph : Graph) (words costs : List ℕ) (ok : IsGraph graph) (long : l
       mention-one w And f h = or-false (mentions nodes w p) ∙ h
       mention-one w Or f h = or-false (mentions nodes w p) ∙ h
 
+    -- ---- where it comes from, and what it is needed for
+
+    or-kid : what ≡ Or → (q : ℕ) → In q row → IsFrom graph words costs nodes c q
+    or-kid o q i =
+        let x = row-source keep place kids q i in
+        let p = keeps-out values c x.0 x.2 in
+        let is_cost = marked-cost x.0 (omega (arith, earlier x.0 x.1)) (kid-mark x.0 x.1 p.1) in
+        let least : cheapest (map (node_least graph words costs) kids) ≡ Some c = sym (costs-at graph words costs ok at _ (e ∙ ap (λ (w : NodeKind). Some (record { what = w; kids = kids })) o)) ∙ cost-is in
+        let high : c ≤ get_or values x.0 0 = subst (λ d. AtMost d (get_or values x.0 0)) least (cheapest-kid (node_least graph words costs) kids x.0 (get_or values x.0 0) x.1 is_cost) in
+        let same : get_or values x.0 0 ≡ c = omega (arith, high, p.1) in
+        subst (λ d. IsFrom graph words costs nodes d q) same
+        (subst (λ r. IsFrom graph words costs nodes (get_or values x.0 0) r) x.3 (record { node = x.0; dear = p.0; is = is_cost; place = kid-place x.0 x.1 x.2 }))
+
+    pub from-pushed : AreFrom graph words costs (nodes ++ record { what = what; kids = row } ∷ [])
+    from-pushed = from-push graph words costs nodes (record { what = what; kids = row }) c is.from (record { node = at; dear = omega arith; is = cost-is; place = pushed }) or-kid
+
+    -- what waits for this node is in its row
+    in-row : (q : ℕ) (w : Waits graph values marks places at q) → w.parent ≡ at → In q row
+    in-row q w s =
+        let kid : In w.kid kids = subst (λ (n : Node). In w.kid n.kids) (get_or_from_slice_get graph.nodes at _ true_node e) (subst (λ n. In w.kid (node_at graph.nodes n).kids) s w.is_kid) in
+        subst (λ x. In x row) w.there (In-map place w.kid (filter keep kids) (In-filtered keep w.kid kids kid (subst (λ n. keeps values (get_or values n 0) w.kid ≡ true) s w.stays)))
+
+    -- what waits for another goes on
+    carry : (new : List Node) (p q : ℕ) → Waits graph values marks places at q → (In q row → IsNeeded graph values marks (set places at p) new (at + 1) q) → IsNeeded graph values marks (set places at p) new (at + 1) q
+    carry new p q w met = ⊎_elim
+        (λ (s : w.parent ≡ at). met (in-row q w s))
+        (λ (ne : w.parent ≢ at).
+        let other : w.kid ≢ at = omega (arith, w.met) in
+        let same : get_or (set places at p) w.kid 0 ≡ get_or places w.kid 0 = rw get_or-set_other refl in
+        inr (record { parent = w.parent; from = omega (arith, ne, w.from); within = w.within; marked = w.marked; kid = w.kid; met = omega (arith, w.met); is_kid = w.is_kid; stays = w.stays; there = same ∙ w.there }))
+        (same_or_not w.parent at)
+
+    -- the node waits for a marked parent
+    waits : (p : ℕ) → at < root → at < length places → Waits graph values marks (set places at p) (at + 1) p
+    waits p early room = ⊎_elim
+        (λ (r : at ≡ length graph.nodes - 1). absurd (omega (arith, r, early)))
+        (λ (h : HasMarkedParent graph.nodes values marks at). record {
+          parent = h.parent;
+          from = omega (arith, kid_before graph h.parent at ok h.within h.kid);
+          within = h.within;
+          marked = h.marked;
+          kid = at;
+          met = omega arith;
+          is_kid = kid-out (node_at graph.nodes h.parent).kids at h.kid;
+          stays = and_from _ _ (lt-ltb 0 c (omega arith)) (le-leb _ _ h.cheap);
+          there = rw get_or-set_same refl;
+        })
+        (m.up at lt node-mark)
+
+    needed-pushed : at < root → at < length places → (q : ℕ) → q < length (nodes ++ record { what = what; kids = row } ∷ []) → IsNeeded graph values marks (set places at (length nodes)) (nodes ++ record { what = what; kids = row } ∷ []) (at + 1) q
+    needed-pushed early room q h = ⊎_elim
+        (λ (s : q ≡ length nodes). inr (subst (Waits graph values marks (set places at (length nodes)) (at + 1)) (sym s) (waits (length nodes) early room)))
+        (λ (ne : q ≢ length nodes). by_need (is.needed q (omega (arith, ne, h, length-append nodes (record { what = what; kids = row } ∷ [])))))
+        (same_or_not q (length nodes)) where
+          by_need : IsNeeded graph values marks places nodes at q → IsNeeded graph values marks (set places at (length nodes)) (nodes ++ record { what = what; kids = row } ∷ []) (at + 1) q
+          by_need (inl x) = inl (parent-more nodes (record { what = what; kids = row }) q x)
+          by_need (inr w) = carry (nodes ++ record { what = what; kids = row } ∷ []) (length nodes) q w (λ i. inl (parent-last nodes (record { what = what; kids = row }) q i))
+
+    needed-only : (p : ℕ) → row ≡ p ∷ [] → at < root → at < length places → (q : ℕ) → q < length nodes → IsNeeded graph values marks (set places at p) nodes (at + 1) q
+    needed-only p one early room q h = by_need (is.needed q h) where
+      same : In q (p ∷ []) → q ≡ p
+      same (inl s) = s
+      same (inr n) = absurd n
+
+      by_need : IsNeeded graph values marks places nodes at q → IsNeeded graph values marks (set places at p) nodes (at + 1) q
+      by_need (inl x) = inl x
+      by_need (inr w) = carry nodes p q w (λ i. inr (subst (Waits graph values marks (set places at p) (at + 1)) (sym (same (subst (In q) one i))) (waits p early room)))
+
+    -- where the node is the last of the graph, all that is there is needed
+    pub all-needed : length graph.nodes ≤ at + 1 → (q : ℕ) → q < length nodes → HasParent (nodes ++ record { what = what; kids = row } ∷ []) q
+    all-needed end q h = by_need (is.needed q h) where
+      by_need : IsNeeded graph values marks places nodes at q → HasParent (nodes ++ record { what = what; kids = row } ∷ []) q
+      by_need (inl x) = parent-more nodes (record { what = what; kids = row }) q x
+      by_need (inr w) = parent-last nodes (record { what = what; kids = row }) q (in-row q w (omega (arith, end, w.from, w.within)))
+
     -- what stands for the node is there now
     noted : (new : List Node) (p : ℕ) → at < length places → AreNodes graph.vars new → length new ≤ at + 1 → edges new ≤ edges (take (at + 1) graph.nodes)
         → ((k d q : ℕ) → IsPlace graph words costs nodes k d q → IsPlace graph words costs new k d q) → IsPlace graph words costs new at c p
-        → IsBuilt graph words costs values marks (set places at p) new (at + 1)
-    noted new p room are few few_edges more here = record {
+        → AreFrom graph words costs new → ((q : ℕ) → q < length new → IsNeeded graph values marks (set places at p) new (at + 1) q) → IsBuilt graph words costs values marks (set places at p) new (at + 1)
+    noted new p room are few few_edges more here from needed = record {
       are = are;
       few = few;
       few_edges = few_edges;
@@ -256,74 +352,45 @@ module _ (graph : Graph) (words costs : List ℕ) (ok : IsGraph graph) (long : l
           subst (λ x. IsPlace graph words costs new k d x) (sym at_place) (subst (λ x. IsPlace graph words costs new k x p) same (subst (λ n. IsPlace graph words costs new n c p) (sym q) here)))
           (λ (q : k ≢ at). subst (λ x. IsPlace graph words costs new k d x) (sym (rw get_or-set_other refl)) (more k d (get_or places k 0) (is.built k d (omega arith) f g dear)))
           (same_or_not k at);
+      from = from;
+      needed = needed;
     }
 
     edges-so-far : edges nodes + length row ≤ edges (take (at + 1) graph.nodes)
     edges-so-far = omega (arith, is.few_edges, ap edges (take-more graph.nodes at _ e), edges-push (take at graph.nodes) (record { what = what; kids = kids }), row-le values places c kids)
 
-    pub built-added : (new : List Node) (p : ℕ) → at < length places → Adds nodes (record { what = what; kids = row }) new p → IsBuilt graph words costs values marks (set places at p) new (at + 1)
-    built-added new p room (inl (same, one)) =
+    pub built-added : (new : List Node) (p : ℕ) → at < length places → at < root → Adds nodes (record { what = what; kids = row }) new p → IsBuilt graph words costs values marks (set places at p) new (at + 1)
+    built-added new p room early (inl (same, one)) =
         subst (λ ns. IsBuilt graph words costs values marks (set places at p) ns (at + 1)) (sym same)
-        (noted nodes p room is.are (omega (arith, is.few)) (omega (arith, edges-so-far)) (λ k d q x. x) (only p one))
-    built-added new p room (inr (same, last)) =
+        (noted nodes p room is.are (omega (arith, is.few)) (omega (arith, edges-so-far)) (λ k d q x. x) (only p one) is.from (needed-only p one early room))
+    built-added new p room early (inr (same, last)) =
         subst (λ ns. IsBuilt graph words costs values marks (set places at p) ns (at + 1)) (sym same)
-        (noted (nodes ++ record { what = what; kids = row } ∷ []) p room are-pushed (omega (arith, is.few, length-append nodes (record { what = what; kids = row } ∷ []))) (omega (arith, edges-so-far, edges-push nodes (record { what = what; kids = row })))
-        (λ k d q x. place-more graph words costs nodes (record { what = what; kids = row }) k d q x) (subst (λ q. IsPlace graph words costs (nodes ++ record { what = what; kids = row } ∷ []) at c q) (sym last) pushed))
+        (subst (λ q. IsBuilt graph words costs values marks (set places at q) (nodes ++ record { what = what; kids = row } ∷ []) (at + 1)) (sym last)
+        (noted (nodes ++ record { what = what; kids = row } ∷ []) (length nodes) room are-pushed (omega (arith, is.few, length-append nodes (record { what = what; kids = row } ∷ []))) (omega (arith, edges-so-far, edges-push nodes (record { what = what; kids = row })))
+        (λ k d q x. place-more graph words costs nodes (record { what = what; kids = row }) k d q x) pushed from-pushed (needed-pushed early room)))
 
   -- ---- the root
 
-  end-is : (node : Node) (nodes : List Node) → length (nodes ++ node ∷ []) - 1 ≡ length nodes
-  end-is node nodes = omega (arith, length-append nodes (node ∷ []))
+  pub root-added : All (λ c. 0 < c) costs → (places : List ℕ) (nodes new : List Node) (at : ℕ) → at ≡ root → get_or values root 0 ≢ 0 → IsBuilt graph words costs values marks places nodes at
+      → new ≡ nodes ++ root_node graph values places ∷ [] → IsWhole graph words costs ok long within new
+  root-added dears places nodes new at end costly is same = subst (IsWhole graph words costs ok long within) (sym same)
+      (whole graph words costs ok long within dears nodes node (get_or values root 0) (are-pushed places nodes root there built mark costly (node_at graph.nodes root).what (node_at graph.nodes root).kids e) built.few
+      (omega (arith, edges-push nodes node, edges-so-far places nodes root there built mark costly (node_at graph.nodes root).what (node_at graph.nodes root).kids e, sum_by-take-le (λ (x : Node). length x.kids) graph.nodes (root + 1)))
+      (marked-cost root there m.root) (pushed places nodes root there built mark costly (node_at graph.nodes root).what (node_at graph.nodes root).kids e).stands
+      (λ sound. small-from graph (record { nodes = nodes ++ node ∷ []; vars = graph.vars }) words costs ok sound
+      (from-pushed places nodes root there built mark costly (node_at graph.nodes root).what (node_at graph.nodes root).kids e)
+      (λ p h. all-needed places nodes root there built mark costly (node_at graph.nodes root).what (node_at graph.nodes root).kids e (omega arith) p (omega (arith, h, length-append nodes (node ∷ [])))))) where
+        there : root < length graph.nodes
+        there = omega (arith, ok.some)
 
-  -- what stands for the root is the last node
-  pub record IsWhole (new : List Node) : Type 0 where
-    pub graph_is : IsGraph (record { nodes = new; vars = graph.vars })
-    pub distilled : IsDistilled graph words costs (record { nodes = new; vars = graph.vars })
+        built : IsBuilt graph words costs values marks places nodes root
+        built = subst (λ n. IsBuilt graph words costs values marks places nodes n) end is
 
-  whole : All (λ c. 0 < c) costs → (nodes : List Node) (node : Node) (c : ℕ) → AreNodes graph.vars (nodes ++ node ∷ []) → length nodes ≤ root → edges (nodes ++ node ∷ []) ≤ edges graph.nodes → node_least graph words costs root ≡ Some c
-      → StandsFor (known_at words) (part_cost costs) (length costs) (λ a. is_true graph.nodes root a) (λ w. mentions graph.nodes w root) c (λ a. is_true (nodes ++ node ∷ []) (length nodes) a) → IsWhole (nodes ++ node ∷ [])
-  whole dears nodes node c are few few_edges is stands =
-      let new : List Node = nodes ++ node ∷ [] in
-      let long_new : length new ≡ length nodes + 1 = length-append nodes (node ∷ []) in
-      let sound : IsGraph (record { nodes = new; vars = graph.vars }) = record { some = omega (arith, long_new); few = omega (arith, long_new, few, ok.some, ok.few); nodes = are } in
-      let at_end = subst (λ n. StandsFor (known_at words) (part_cost costs) (length costs) (λ a. is_true graph.nodes root a) (λ w. mentions graph.nodes w root) c (λ a. is_true new n a)) (sym (end-is node nodes)) stands in
-      record {
-        graph_is = sound;
-        distilled = record {
-          vars = refl;
-          least = small-least graph (record { nodes = new; vars = graph.vars }) words costs ok sound refl long within dears c is at_end ∙ sym (graph-least graph (record { nodes = new; vars = graph.vars }) words costs ok sound refl long within dears c is at_end);
-          diagnoses = same-diagnoses graph (record { nodes = new; vars = graph.vars }) words costs ok sound refl long within dears c is at_end;
-          few = omega (arith, long_new, few, ok.some);
-          few_edges = few_edges;
-        };
-      }
+        e : slice_get graph.nodes root ≡ Some (node_at graph.nodes root)
+        e = slice_get-get_or graph.nodes root true_node there
 
-  pub root-added : All (λ c. 0 < c) costs → (places : List ℕ) (nodes new : List Node) (at : ℕ) → at ≡ root → IsBuilt graph words costs values marks places nodes at → new ≡ nodes ++ root_node graph values places ∷ [] → IsWhole new
-  root-added dears places nodes new at end is same = subst IsWhole (sym same) (by_test (eqb (get_or values root 0) 0) refl) where
-    there : root < length graph.nodes
-    there = omega (arith, ok.some)
+        mark : get_or places root 0 ≡ 1
+        mark = built.ahead root (omega arith) ∙ m.root
 
-    built : IsBuilt graph words costs values marks places nodes root
-    built = subst (λ n. IsBuilt graph words costs values marks places nodes n) end is
-
-    root-cost : node_least graph words costs root ≡ Some (get_or values root 0)
-    root-cost = marked-cost root there m.root
-
-    e : slice_get graph.nodes root ≡ Some (node_at graph.nodes root)
-    e = slice_get-get_or graph.nodes root true_node there
-
-    by_test : (b : Bool) → eqb (get_or values root 0) 0 ≡ b → IsWhole (nodes ++ cond b true_node (kept_node values places (get_or values root 0) (node_at graph.nodes root)) ∷ [])
-    by_test true z =
-        let free : node_least graph words costs root ≡ Some 0 = root-cost ∙ ap Some (eqb-true _ _ z) in
-        whole dears nodes true_node 0 (AreNodes-push graph.vars nodes true_node built.are refl (λ w. refl)) built.few
-        (omega (arith, edges-push nodes true_node, built.few_edges, sum_by-take-le (λ (x : Node). length x.kids) graph.nodes root)) free
-        (StandsFor-same (known_at words) (part_cost costs) (length costs) (λ a. refl) (λ w. refl) refl (λ a. value_of-last (truth_by a) nodes true_node)
-        (stands-free (known_at words) (part_cost costs) (length costs) (part_cost-none costs) (λ a. is_true graph.nodes root a) (λ w. mentions graph.nodes w root)
-        (subst (λ o. IsCost (known_at words) (part_cost costs) (length costs) (λ a. is_true graph.nodes root a) (λ w. mentions graph.nodes w root) o) free (is_cost graph words costs ok root))))
-    by_test false z =
-        let costly : get_or values root 0 ≢ 0 = eqb-false _ _ z in
-        let mark : get_or places root 0 ≡ 1 = built.ahead root (omega arith) ∙ m.root in
-        let node : Node = node_at graph.nodes root in
-        let here = pushed places nodes root there built mark costly node.what node.kids e in
-        whole dears nodes (kept_node values places (get_or values root 0) node) (get_or values root 0) (are-pushed places nodes root there built mark costly node.what node.kids e) built.few
-        (omega (arith, edges-push nodes (kept_node values places (get_or values root 0) node), edges-so-far places nodes root there built mark costly node.what node.kids e, sum_by-take-le (λ (x : Node). length x.kids) graph.nodes (root + 1))) root-cost here.stands
+        node : Node
+        node = root_node graph values places

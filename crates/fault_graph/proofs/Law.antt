@@ -7,17 +7,18 @@ use Rattle.std.proofs.lemmas.List.{ext_get_or}
 use Rattle.ranking.specs.Cases.{agrees_at}
 use Rattle.ranking.specs.Ranking.{Test, cost, states, passing, is_at_most}
 use Rattle.ranking.specs.Assignments.{Assignment}
-use Rattle.ranking.proofs.Members.{bits_length, AtMost, AtMost-le, filter_same}
+use Rattle.ranking.proofs.Members.{bits_length, filter_same}
 use Rattle.graph_rules.specs.Graphs.{Graph, is_true, mentions, IsGraph}
 use Rattle.conditioner.specs.Models.{has_model, fits_words, models, least_under, diagnoses_under}
 use Rattle.minimiser.specs.Costs.{part_cost, known_at}
 use Rattle.minimiser.specs.inner.Held.{held_cost}
 use Rattle.minimiser.proofs.Totals.{total, total-le}
-use Rattle.minimiser.proofs.Costs.{fault, Agrees, faults_in, all_faults, and_left, and_right}
+use Rattle.minimiser.proofs.Costs.{fault, all_faults, and_left, and_right}
 use Rattle.minimiser.proofs.Models.{same_or_not}
-use Rattle.minimiser.proofs.Whole.{AddHeld, from_bounds, least_is, state_of, assignment_of}
-use Rattle.minimiser.proofs.Derivations.{C, is_cost}
+use Rattle.minimiser.proofs.Whole.{AddHeld, least_is, state_of, assignment_of}
+use Rattle.minimiser.proofs.Derivations.{C}
 use Rattle.fault_graph.proofs.Standing.{StandsFor}
+use Rattle.fault_graph.proofs.Placing.{high, over, place-cost}
 
 -- ---- sums and bits
 
@@ -28,10 +29,6 @@ total-same f g h a (suc n) few v low high = ⊎_elim
     (λ (e : v ≡ a). subst (λ u. g u ≤ f u) (sym e) (omega (arith, few, total-le f g h (a + 1) n)))
     (λ (ne : v ≢ a). total-same f g h (a + 1) n (omega (arith, few, h a)) v (omega arith) (omega arith))
     (same_or_not v a)
-
-cond_le : (b : Bool) (w : ℕ) → cond b w 0 ≤ w
-cond_le true w = omega arith
-cond_le false w = omega arith
 
 -- bits that agree with what is known, and have the same fault where a fault costs something, are the same
 same_fault : (k : Option Bool) (w : ℕ) (x y : Bool) → 0 < w → agrees_at k x ≡ true → agrees_at k y ≡ true → fault k w x ≤ fault k w y → fault k w y ≤ fault k w x → x ≡ y
@@ -99,45 +96,17 @@ module _ (graph small : Graph) (words costs : List ℕ) (ok : IsGraph graph) (so
   within-small : length costs ≤ small.vars
   within-small = omega arith
 
-  -- what is among some variables is no more than what is among all
-  in_all : (m : ℕ → Bool) (a : Assignment) → faults_in kn price n m a ≤ all_faults kn price n a
-  in_all m a = total-le (λ v. cond (m v) (fault (kn v) (price v) (a v)) 0) (λ v. fault (kn v) (price v) (a v)) (λ v. cond_le (m v) (fault (kn v) (price v) (a v))) 1 n
-
-  -- what makes the root true costs no less
-  high : (a : Assignment) → Agrees kn price n a → is_true graph.nodes root a ≡ true → c ≤ all_faults kn price n a
-  high a ag h =
-      let low : c ≤ faults_in kn price n (λ v. mentions graph.nodes v root) a = subst (λ o. AtMost o (faults_in kn price n (λ v. mentions graph.nodes v root) a)) is ((is_cost graph words costs ok root).bound a ag h) in
-      omega (arith, low, in_all (λ v. mentions graph.nodes v root) a)
-
-  -- what makes the root true at its least cost makes the other true
-  over : (a : Assignment) → Agrees kn price n a → is_true graph.nodes root a ≡ true → all_faults kn price n a ≤ c → is_true small.nodes end a ≡ true
-  over a ag h few = stands.onto a ag h (omega (arith, few, in_all (λ v. mentions graph.nodes v root) a))
-
-  small-is : C small words costs sound end ≡ Some c
-  small-is = from_bounds (C small words costs sound end) c most low where
-    most : AtMost (C small words costs sound end) c
-    most =
-        let r = (is_cost graph words costs ok root).reached c is in
-        AtMost-le (C small words costs sound end) (faults_in kn price n (λ v. mentions small.nodes v end) r.by) c ((is_cost small words costs sound end).bound r.by r.agrees (over r.by r.agrees r.holds r.cheap))
-        (omega (arith, r.cheap, in_all (λ v. mentions small.nodes v end) r.by))
-
-    low : (k : ℕ) → C small words costs sound end ≡ Some k → c ≤ k
-    low k e =
-        let b = (is_cost small words costs sound end).reached k e in
-        let w = stands.back b.by b.agrees b.holds in
-        omega (arith, high w.by w.agrees w.holds, b.cheap, total-le (λ v. fault (kn v) (price v) (w.by v)) (λ v. fault (kn v) (price v) (b.by v)) w.fewer 1 n)
-
   pub graph-least : least_under graph words costs ≡ Some (held_cost costs words + c)
   graph-least = least_is graph words costs ok long within ∙ ap (AddHeld held) is
 
   pub small-least : least_under small words costs ≡ Some (held_cost costs words + c)
-  small-least = least_is small words costs sound long-small within-small ∙ ap (AddHeld held) small-is
+  small-least = least_is small words costs sound long-small within-small ∙ ap (AddHeld held) (place-cost graph small words costs ok sound root end c is stands)
 
   -- a state that the graph allows at the least cost, the other allows too
   to : (h : List Bool) → length h ≡ n → has_model graph (fits_words words) n h ≡ true → cost costs h ≤ held + c → has_model small (fits_words words) n h ≡ true
   to h l m few =
       let a = assignment_of graph words costs ok long within h l m in
-      let t = over a.by a.agrees a.holds (omega (arith, few, a.cost_is)) in
+      let t = over graph small words costs ok sound root end c is stands a.by a.agrees a.holds (omega (arith, few, a.cost_is)) in
       let s = state_of small words costs sound long-small within-small a.by a.agrees t in
       let same : s.state ≡ h = ext_get_or false s.state h (s.long_state ∙ sym l) (λ i g. s.bits i (omega (arith, g, s.long_state)) ∙ sym (a.bits i (omega (arith, g, s.long_state)))) in
       subst (λ x. has_model small (fits_words words) n x ≡ true) same s.model
@@ -149,7 +118,7 @@ module _ (graph small : Graph) (words costs : List ℕ) (ok : IsGraph graph) (so
       let w = stands.back b.by b.agrees b.holds in
       let s = state_of graph words costs ok long within w.by w.agrees w.holds in
       let most : all_faults kn price n b.by ≤ c = omega (arith, few, b.cost_is) in
-      let equal : all_faults kn price n b.by ≤ all_faults kn price n w.by = omega (arith, most, high w.by w.agrees w.holds) in
+      let equal : all_faults kn price n b.by ≤ all_faults kn price n w.by = omega (arith, most, high graph small words costs ok sound root end c is stands w.by w.agrees w.holds) in
       let bit : (i : ℕ) → i < n → w.by (1 + i) ≡ b.by (1 + i) = λ i g. same_fault (kn (1 + i)) (price (1 + i)) (w.by (1 + i)) (b.by (1 + i)) (costly i g) (w.agrees (1 + i)) (b.agrees (1 + i)) (w.fewer (1 + i))
       (total-same (λ v. fault (kn v) (price v) (w.by v)) (λ v. fault (kn v) (price v) (b.by v)) w.fewer 1 n equal (1 + i) (omega arith) (omega arith)) in
       let same : s.state ≡ h = ext_get_or false s.state h (s.long_state ∙ sym l)

@@ -6,7 +6,7 @@ use Rattle.graph_rules.specs.Graphs.{Node, node_at}
 use Rattle.minimiser.proofs.Costs.{and_left, and_right}
 use Rattle.minimiser.proofs.Models.{same_or_not}
 use Rattle.minimiser.specs.inner.Marked.{is_kid}
-use Rattle.fault_graph.specs.inner.Marks.{mark_of, AreMarks}
+use Rattle.fault_graph.specs.inner.Marks.{mark_of, HasMarkedParent, AreMarks}
 
 -- a mark that spreads stays, or is that of a kid that costs no more
 mark-new : (kids values : List ℕ) (cost j mark : ℕ) → mark_of kids values cost j mark ≡ 1 → (mark ≡ 1) ⊎ ((is_kid kids j ≡ true) × (get_or values j 0 ≤ cost))
@@ -34,6 +34,7 @@ module _ (nodes : List Node) (values xs : List ℕ) (at : ℕ) (s : AreMarks nod
         (λ (e : k ≡ at). absurd (none (sym (ap (λ n. get_or xs n 0) e) ∙ m)))
         (λ (e : k ≢ at). s.down k j (omega arith) g m i c)
         (same_or_not k at);
+    up = s.up;
   }
 
   -- a marked node is met, and marks its kids that cost no more
@@ -47,6 +48,10 @@ module _ (nodes : List Node) (values xs : List ℕ) (at : ℕ) (s : AreMarks nod
         (λ (q : k ≡ at). spreads j l ∙ mark-kid (node_at nodes at).kids values (get_or values at 0) j (get_or xs j 0) (subst (λ n. is_kid (node_at nodes n).kids j ≡ true) q i) (subst (λ n. get_or values j 0 ≤ get_or values n 0) q c))
         (λ (q : k ≢ at). kept j l (s.down k j (omega arith) g (old k h g e) i c))
         (same_or_not k at);
+    up = λ k h e. ⊎_elim
+        (λ p. ⊎_elim (λ r. inl r) (λ (x : HasMarkedParent nodes values xs k). inr (record { parent = x.parent; within = x.within; marked = kept x.parent x.within x.marked; kid = x.kid; cheap = x.cheap })) (s.up k h p))
+        (λ p. inr (record { parent = at; within = lt; marked = kept at lt m; kid = p.0; cheap = p.1 }))
+        (new k h e);
   } where
     kept : (k : ℕ) → k < length nodes → get_or xs k 0 ≡ 1 → get_or ys k 0 ≡ 1
     kept k h e = spreads k h ∙ mark-kept (node_at nodes at).kids values (get_or values at 0) k (get_or xs k 0) e

@@ -3,7 +3,7 @@ ghost use Rattle.ranking.specs.Ranking.{rest};
 ghost use Rattle.conditioner.specs.Models.{models, least_under, diagnoses_under, total_cost};
 ghost use Rattle.diagnosis_lister.specs.Listing.{bits_of, step_of, fault_count};
 ghost use Rattle.probe_report.specs.Verdicts.{blame_of};
-ghost use Rattle.fault_graph.specs.Distilled.{Serves};
+ghost use Rattle.fault_graph.specs.Distilled.{IsOf, Serves};
 
 use crate::distiller::Distiller;
 use diagnosis_lister::{Step, first, next};
@@ -15,7 +15,8 @@ use std::sync::ledger::Ledger;
 impl Distiller {
     /// The least cost, with the first diagnosis in the state, as [`diagnosis_lister::first`] gives them.
     ///
-    /// It takes a pass over the graph, and none where the words are those of the last time.
+    /// It takes one pass over the graph, and none where the words are those of the last time. The others are over what was
+    /// distilled.
     pub fn first<L: Ledger>(
         &mut self,
         graph: &Graph,
@@ -41,9 +42,14 @@ impl Distiller {
         ensures state { All (λ s. s < 2) state.new }
         ensures words { words.new ≡ words.old }
         ensures serves { Serves graph.now costs.now self.new }
-        ensures steps { steps.new ≤ steps.old + fault_count (bits_of state.new) + 3 }
+
+        // One pass over the graph, and the others over what was distilled; these alone where the words are as before.
+        ensures steps { steps.new ≤ steps.old + 1 + (fault_count (bits_of state.new) + 1) }
+        ensures again { IsOf words.old self.old → steps.new ≤ steps.old + (fault_count (bits_of state.new) + 1) }
     {
-        self.prepare(graph, words, costs, values, steps);
+        if matches!(self.prepare(graph, words, costs, values, steps), Ok(false)) {
+            return None;
+        }
         let small = self.known(graph);
         let values = &mut values[..small.len() as usize];
         first(small, words, costs, values, state, steps)
@@ -51,7 +57,8 @@ impl Distiller {
 
     /// Whether there is a diagnosis after the state, which it then becomes, as [`diagnosis_lister::next`] tells it.
     ///
-    /// It takes a pass over the graph, and none where the words are those of the last time.
+    /// It takes one pass over the graph, and none where the words are those of the last time. The others are over what was
+    /// distilled.
     pub fn next<L: Ledger>(
         &mut self,
         graph: &Graph,
@@ -79,10 +86,16 @@ impl Distiller {
         ensures state { All (λ s. s < 2) state.new }
         ensures words { words.new ≡ words.old }
         ensures serves { Serves graph.now costs.now self.new }
+
+        // One pass over the graph, and the others over what was distilled; these alone where the words are as before.
         ensures steps { steps.new
-            ≤ steps.old + fault_count (bits_of state.old) + fault_count (bits_of state.new) + 3 }
+            ≤ steps.old + 1 + (fault_count (bits_of state.old) + fault_count (bits_of state.new) + 1) }
+        ensures again { IsOf words.old self.old
+            → steps.new ≤ steps.old + (fault_count (bits_of state.old) + fault_count (bits_of state.new) + 1) }
     {
-        self.prepare(graph, words, costs, values, steps);
+        if matches!(self.prepare(graph, words, costs, values, steps), Ok(false)) {
+            return Step::Inconsistent;
+        }
         let small = self.known(graph);
         let values = &mut values[..small.len() as usize];
         next(small, words, costs, values, state, steps)
@@ -90,7 +103,8 @@ impl Distiller {
 
     /// Of each part whether it is faulty in all diagnoses, in some or in none, as [`blame_all`] tells it.
     ///
-    /// It takes a pass over the graph, and none where the words are those of the last time.
+    /// It takes one pass over the graph, and none where the words are those of the last time. The others are over what was
+    /// distilled.
     pub fn blame_all<L: Ledger>(
         &mut self,
         graph: &Graph,
@@ -117,10 +131,14 @@ impl Distiller {
         ensures words { words.new ≡ words.old }
         ensures state { All (λ s. s < 2) state.new }
         ensures serves { Serves graph.now costs.now self.new }
-        ensures steps { steps.new ≤ steps.old
-            + 2 * fault_count (slice_index_or (diagnoses_under graph.now words.old costs.now) 0 []) + 4 }
+
+        // One pass over the graph, and the others over what was distilled; these alone where the words are as before.
+        ensures steps { steps.new ≤ steps.old + 1
+            + (2 * fault_count (slice_index_or (diagnoses_under graph.now words.old costs.now) 0 []) + 2) }
+        ensures again { IsOf words.old self.old → steps.new ≤ steps.old
+            + (2 * fault_count (slice_index_or (diagnoses_under graph.now words.old costs.now) 0 []) + 2) }
     {
-        self.prepare(graph, words, costs, values, steps);
+        let _prepared = self.prepare(graph, words, costs, values, steps);
         let small = self.known(graph);
         let values = &mut values[..small.len() as usize];
         blame_all(small, words, costs, values, state, verdicts, steps)

@@ -1,9 +1,9 @@
-ghost use Rattle.std.specs.Prelude.{◌≡◌, ◌+◌, ◌<◌, ◌≤◌, length, true, All, IfOk, IfSome, IsSome, None, is_some};
+ghost use Rattle.std.specs.Prelude.{◌≡◌, ◌+◌, ◌<◌, ◌≤◌, ◌↔◌, length, true, All, IfOk, OnErr, IfSome, IsSome, IsTrue, Ok, None, is_some};
 ghost use Rattle.conditioner.specs.Models.{least_under, total_cost};
-ghost use Rattle.fault_graph.specs.Distilled.{IsDistilled, Serves};
+ghost use Rattle.fault_graph.specs.Distilled.{IsOf, Serves};
 
 use crate::distilling::distil;
-use minimiser::{Steps, TOTAL_LIMIT, least};
+use minimiser::{Steps, TOTAL_LIMIT};
 use node_store::{Graph, Nodes};
 use std::alloc::{AllocError, Global};
 use std::marker::Model;
@@ -60,10 +60,45 @@ impl Distiller {
         })
     }
 
-    /// Whether some state agrees with the words. What was distilled last is then of these words, if memory was there.
+    /// Whether some state agrees with the words; and then the graph is distilled under them. Where memory for that is wanting,
+    /// nothing is kept, and some state agrees.
     ///
-    /// It takes a pass, and none where the words are those of the last time; no memory is taken where the graph is the one that it was made for.
+    /// It takes one pass over the graph, and none where the words are those of the last time.
     pub fn prepare<L: Ledger>(
+        &mut self,
+        graph: &Graph,
+        words: &[u32],
+        costs: &[u32],
+        values: &mut [u32],
+        steps: &mut Steps<L>,
+    ) -> Result<bool, AllocError>
+        requires long { length words.now ≡ graph.now.vars }
+        requires words { All (λ w. w < 3) words.now }
+        requires parts { length costs.now ≤ graph.now.vars }
+        requires total { total_cost costs.now < TOTAL_LIMIT }
+        requires dear { All (λ c. 0 < c) costs.now }
+        requires room { length values.old ≡ length graph.now.nodes }
+        requires serves { Serves graph.now costs.now self.old }
+
+        ensures some { IfOk result (λ some. some ≡ is_some (least_under graph.now words.now costs.now)) }
+        ensures err { OnErr result (IsSome (least_under graph.now words.now costs.now)) }
+        ensures kept { result ≡ Ok true → IsOf words.now self.new }
+        ensures last { IfSome self.new.last (λ last. last.words ≡ words.now) }
+        ensures serves { Serves graph.now costs.now self.new }
+        ensures steps { steps.new ≤ steps.old + 1 }
+        ensures again { IsOf words.now self.old → steps.new ≡ steps.old }
+    {
+        if self.is_of(words) {
+            return Ok(true);
+        }
+        self.forget();
+        self.refill(graph, words, costs, values, steps)
+    }
+
+    /// Whether some state agrees with the words.
+    ///
+    /// It takes the passes that [`prepare`](Distiller::prepare) does.
+    pub fn is_consistent<L: Ledger>(
         &mut self,
         graph: &Graph,
         words: &[u32],
@@ -78,19 +113,14 @@ impl Distiller {
         requires dear { All (λ c. 0 < c) costs.now }
         requires room { length values.old ≡ length graph.now.nodes }
         requires serves { Serves graph.now costs.now self.old }
+
         ensures some { result ≡ is_some (least_under graph.now words.now costs.now) }
         ensures serves { Serves graph.now costs.now self.new }
-        ensures last { IfSome self.new.last (λ last. last.words ≡ words.now) }
-        ensures steps { steps.new ≤ steps.old + 2 }
+        ensures steps { steps.new ≤ steps.old + 1 }
+        ensures again { IsOf words.now self.old → steps.new ≡ steps.old }
     {
-        if self.is_of(words) {
-            return true;
-        }
-        self.forget();
-        match self.refill(graph, words, costs, values, steps) {
-            Ok(some) => some,
-            Err(_) => least(graph, words, costs, values, steps).is_some(),
-        }
+        self.prepare(graph, words, costs, values, steps)
+            .unwrap_or(true)
     }
 
     /// What was distilled last, or else the graph.
@@ -106,7 +136,7 @@ impl Distiller {
 
     // Whether something was distilled under these words.
     fn is_of(&self, words: &[u32]) -> bool
-        ensures { result ≡ true → IsSome self.now.last × IfSome self.now.last (λ last. last.words ≡ words.now) }
+        ensures { IsTrue result ↔ IsOf words.now self.now }
     {
         self.small.is_some() && self.words.as_slice() == words
     }
@@ -138,8 +168,10 @@ impl Distiller {
         requires empty { self.old.last ≡ None }
         requires serves { Serves graph.now costs.now self.old }
         ensures some { IfOk result (λ some. some ≡ is_some (least_under graph.now words.now costs.now)) }
-        ensures serves { Serves graph.now costs.now self.new }
+        ensures err { OnErr result (IsSome (least_under graph.now words.now costs.now)) }
+        ensures kept { result ≡ Ok true → IsOf words.now self.new }
         ensures last { IfSome self.new.last (λ last. last.words ≡ words.now) }
+        ensures serves { Serves graph.now costs.now self.new }
         ensures steps { steps.new ≡ steps.old + 1 }
     {
         let found = distil(

@@ -1,8 +1,8 @@
-ghost use Rattle.std.specs.Prelude.{◌≡◌, ℕ, ◌+◌, ◌-◌, ◌<◌, ◌≤◌, ◌++◌, [], ◌∷◌, length, All, OnOk, IfOk, MatchOption, Some, None, slice_index};
+ghost use Rattle.std.specs.Prelude.{◌≡◌, ◌+◌, ◌<◌, ◌≤◌, ◌++◌, [], ◌∷◌, length, All, IsSome, OnOk, OnErr, IfOk, MatchOption, Some, None, slice_index};
 ghost use Rattle.graph_rules.specs.Graphs.{node_at, IsGraph};
 ghost use Rattle.conditioner.specs.Models.{least_under, total_cost};
-ghost use Rattle.minimiser.specs.Stored.{AreLeastCosts};
 ghost use Rattle.fault_graph.specs.Distilled.{IsDistilled};
+ghost use Rattle.fault_graph.specs.Small.{IsSmall};
 ghost use Rattle.fault_graph.specs.inner.Rows.{row_of, kept_node, Adds, root_node};
 
 use crate::marking::mark;
@@ -15,7 +15,7 @@ use std::sync::ledger::Ledger;
 /// Marks a node that stands on a derivation of least cost.
 pub(crate) const MARKED: u32 = 1;
 
-// The least cost; the nodes are then those of the smaller graph.
+// The least cost; the nodes are then those of the smaller graph. Where nothing is wrong, that is one true node.
 pub(crate) fn distil<L: Ledger>(
     nodes: &mut Nodes,
     row: &mut Vec<u32>,
@@ -37,15 +37,22 @@ pub(crate) fn distil<L: Ledger>(
         (least_under graph.now words.now costs.now ≡ None)
         (λ cost. (least_under graph.now words.now costs.now ≡ Some cost)
         × IsGraph (record { nodes = nodes.new; vars = graph.now.vars })
-        × IsDistilled graph.now words.now costs.now (record { nodes = nodes.new; vars = graph.now.vars }))) }
+        × IsDistilled graph.now words.now costs.now (record { nodes = nodes.new; vars = graph.now.vars })
+        × IsSmall words.now costs.now (record { nodes = nodes.new; vars = graph.now.vars }))) }
+    ensures err { OnErr result (IsSome (least_under graph.now words.now costs.now)) }
     ensures steps { steps.new ≡ steps.old + 1 }
 {
     let Some(cost) = least(graph, words, costs, values, steps) else {
         return Ok(None);
     };
-    mark(graph, values, places);
     nodes.clear();
-    for at in 0..graph.len() - 1 {
+    let root = graph.len() - 1;
+    if values[root as usize] == 0 {
+        nodes.push(NodeKind::And, &[])?;
+        return Ok(Some(cost));
+    }
+    mark(graph, values, places);
+    for at in 0..root {
         if places[at as usize] == MARKED && values[at as usize] != 0 {
             let place = add(nodes, row, graph, values, places, at)?;
             places[at as usize] = place;
@@ -94,11 +101,7 @@ fn add_root(
     ensures { OnOk result (nodes.new ≡ nodes.old ++ root_node graph.now values.now places.now ∷ []) }
 {
     let root = graph.len() - 1;
-    let cost = values[root as usize];
-    if cost == 0 {
-        return nodes.push(NodeKind::And, &[]);
-    }
-    gather(row, graph.kids(root), values, places, cost)?;
+    gather(row, graph.kids(root), values, places, values[root as usize])?;
     nodes.push(graph.what(root), row)
 }
 

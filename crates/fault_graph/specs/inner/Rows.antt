@@ -1,7 +1,7 @@
 -- What stands for a node among the nodes of the smaller graph.
-use Rattle.std.specs.Prelude.{◌≡◌, ℕ, ◌-◌, Bool, ◌&&◌, ◌⊎◌, List, [], ◌∷◌, ◌++◌, map, length, slice_index, nat_le, nat_lt, ◌==◌, if◌then◌else◌}
+use Rattle.std.specs.Prelude.{◌≡◌, ℕ, ◌-◌, Bool, ◌&&◌, ◌⊎◌, List, [], ◌∷◌, ◌++◌, map, length, slice_index, nat_le, nat_lt}
 use Rattle.std.specs.List.{filter}
-use Rattle.graph_rules.specs.Graphs.{Node, Graph, true_node, node_at}
+use Rattle.graph_rules.specs.Graphs.{Node, Graph, node_at}
 
 -- what costs nothing is true, and left out; what costs more is not on a derivation of least cost
 abbrev pub keeps : List ℕ → ℕ → ℕ → Bool
@@ -21,5 +21,4 @@ Adds old node new place = ((new ≡ old) × (node.kids ≡ place ∷ [])) ⊎ ((
 -- the root stays a node of its own
 abbrev pub root_node : Graph → List ℕ → List ℕ → Node
 root_node graph values places =
-    let root = length graph.nodes - 1 in
-    if slice_index values root == 0 then true_node else kept_node values places (slice_index values root) (node_at graph.nodes root)
+    let root = length graph.nodes - 1 in kept_node values places (slice_index values root) (node_at graph.nodes root)

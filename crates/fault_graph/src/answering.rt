@@ -47,7 +47,7 @@ impl Distiller {
         ensures steps { steps.new ≤ steps.old + 1 + (fault_count (bits_of state.new) + 1) }
         ensures again { IsOf words.old self.old → steps.new ≤ steps.old + (fault_count (bits_of state.new) + 1) }
     {
-        if matches!(self.prepare(graph, words, costs, values, steps), Ok(false)) {
+        if let Ok(false) = self.prepare(graph, words, costs, values, steps) {
             return None;
         }
         let small = self.known(graph);
@@ -93,7 +93,7 @@ impl Distiller {
         ensures again { IsOf words.old self.old
             → steps.new ≤ steps.old + (fault_count (bits_of state.old) + fault_count (bits_of state.new) + 1) }
     {
-        if matches!(self.prepare(graph, words, costs, values, steps), Ok(false)) {
+        if let Ok(false) = self.prepare(graph, words, costs, values, steps) {
             return Step::Inconsistent;
         }
         let small = self.known(graph);

@@ -174,7 +174,7 @@ impl Distiller {
         ensures serves { Serves graph.now costs.now self.new }
         ensures steps { steps.new ≡ steps.old + 1 }
     {
-        let found = distil(
+        let Some(_cost) = distil(
             &mut self.nodes,
             &mut self.row,
             graph,
@@ -183,10 +183,10 @@ impl Distiller {
             values,
             &mut self.places,
             steps,
-        )?;
-        if found.is_none() {
+        )?
+        else {
             return Ok(false);
-        }
+        };
         let nodes = mem::replace(&mut self.nodes, Nodes::new(self.alloc));
         self.words.copy_from_slice(words);
         self.small = Some(Graph::new(nodes, graph.vars()));

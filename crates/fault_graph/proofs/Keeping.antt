@@ -33,6 +33,16 @@ serves-now graph costs words small nodes vars e f some distilled is_small = reco
   small = λ last s. subst (λ (l : Last). IsSmall l.words costs l.small) (same-last (record { words = words; small = small }) last s) is_small;
 }
 
+-- nothing was distilled yet
+pub serves-none : (graph : Graph) (costs : List ℕ) (nodes vars : ℕ) → nodes ≡ length graph.nodes → vars ≡ graph.vars → Serves graph costs (record { nodes = nodes; vars = vars; last = None })
+serves-none graph costs nodes vars e f = record {
+  nodes = e;
+  vars = f;
+  some = λ last s. absurd (cc);
+  distilled = λ last s. absurd (cc);
+  small = λ last s. absurd (cc);
+}
+
 itself : (graph : Graph) (words costs : List ℕ) → IsDistilled graph words costs graph
 itself graph words costs = record { vars = refl; least = refl; diagnoses = refl; few = omega arith; few_edges = omega arith }
 

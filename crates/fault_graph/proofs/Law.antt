@@ -6,7 +6,6 @@ use Rattle.std.proofs.lemmas.Bool.{and_from, leb-true}
 use Rattle.std.proofs.lemmas.List.{ext_get_or}
 use Rattle.ranking.specs.Cases.{agrees_at}
 use Rattle.ranking.specs.Ranking.{Test, cost, states, passing, is_at_most}
-use Rattle.ranking.specs.Assignments.{Assignment}
 use Rattle.ranking.proofs.Members.{bits_length, filter_same}
 use Rattle.graph_rules.specs.Graphs.{Graph, is_true, mentions, IsGraph}
 use Rattle.conditioner.specs.Models.{has_model, fits_words, models, least_under, diagnoses_under}

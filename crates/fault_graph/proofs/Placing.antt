@@ -1,5 +1,5 @@
 -- What stands for a node costs what the node does.
-use Rattle.std.proofs.Common.{◌≡◌, ℕ, ◌+◌, ◌≤◌, Bool, true, false, cond, List, length, Option, Some, subst, arith}
+use Rattle.std.proofs.Common.{◌≡◌, ℕ, ◌≤◌, Bool, true, false, cond, List, length, Option, Some, subst, arith}
 use Rattle.ranking.specs.Assignments.{Assignment}
 use Rattle.ranking.proofs.Members.{AtMost, AtMost-le}
 use Rattle.graph_rules.specs.Graphs.{Graph, is_true, mentions, IsGraph}

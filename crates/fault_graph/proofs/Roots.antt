@@ -1,6 +1,5 @@
 -- A graph whose last node stands for the root is distilled, and so is a true one where nothing is wrong.
-use Rattle.std.proofs.Common.{◌≡◌, ℕ, ◌+◌, ◌-◌, ◌<◌, ◌≤◌, true, List, [], ◌∷◌, ◌++◌, length, get_or, All, Some, refl, ap, sym, ◌∙◌, subst, arith, length-append}
-use Rattle.ranking.specs.Assignments.{Assignment}
+use Rattle.std.proofs.Common.{◌≡◌, ℕ, ◌+◌, ◌-◌, ◌<◌, ◌≤◌, List, [], ◌∷◌, ◌++◌, length, get_or, All, Some, refl, ap, sym, ◌∙◌, subst, arith, length-append}
 use Rattle.graph_rules.specs.Graphs.{Node, Graph, true_node, is_true, mentions, AreNodes, IsGraph}
 use Rattle.graph_rules.specs.GraphTexts.{edges}
 use Rattle.graph_rules.proofs.NodeValues.{value_of-last}

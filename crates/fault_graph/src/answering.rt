@@ -138,9 +138,21 @@ impl Distiller {
         ensures again { IsOf words.old self.old → steps.new ≤ steps.old
             + (2 * fault_count (slice_index_or (diagnoses_under graph.now words.old costs.now) 0 []) + 2) }
     {
-        let _prepared = self.prepare(graph, words, costs, values, steps);
+        if let Ok(false) = self.prepare(graph, words, costs, values, steps) {
+            tell_none(verdicts);
+            return;
+        }
         let small = self.known(graph);
         let values = &mut values[..small.len() as usize];
         blame_all(small, words, costs, values, state, verdicts, steps)
+    }
+}
+
+// There is no diagnosis.
+fn tell_none(verdicts: &mut [Blame])
+    ensures { (part : ℕ) → part < length verdicts.old → slice_get verdicts.new part ≡ Some Blame.Inconsistent }
+{
+    for verdict in verdicts.iter_mut() {
+        *verdict = Blame::Inconsistent;
     }
 }

@@ -1,4 +1,4 @@
-ghost use Rattle.std.specs.Prelude.{◌≡◌, ◌+◌, ◌<◌, ◌≤◌, ◌↔◌, length, true, All, IfOk, OnErr, IfSome, IsSome, IsTrue, Ok, None, is_some};
+ghost use Rattle.std.specs.Prelude.{◌≡◌, ℕ, ◌+◌, ◌<◌, ◌≤◌, ◌↔◌, List, length, true, All, IfOk, OnErr, IfSome, IsSome, IsTrue, Ok, None, is_some};
 ghost use Rattle.conditioner.specs.Models.{least_under, total_cost};
 ghost use Rattle.fault_graph.specs.Distilled.{IsOf, Serves};
 
@@ -42,8 +42,9 @@ impl Model for Distiller {
 impl Distiller {
     /// With room for whatever is distilled from a graph. Nothing is distilled yet.
     pub fn new(alloc: Global, graph: &Graph) -> Result<Distiller, AllocError>
-        ensures { IfOk result (λ made. made
+        ensures made { IfOk result (λ made. made
             ≡ record { nodes = length graph.now.nodes; vars = graph.now.vars; last = None }) }
+        ensures serves { IfOk result (λ made. (costs : List ℕ) → Serves graph.now costs made) }
     {
         let count = graph.len() as usize;
         let mut nodes = Nodes::new(alloc);

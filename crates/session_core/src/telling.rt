@@ -124,7 +124,7 @@ fn has_diagnosis<L: Ledger>(
     ensures some { result ≡ is_some (least_cost (system_of basis.now) (case_in basis.now words.now)) }
     ensures serves { Serves basis.now.graph basis.now.costs distiller.new }
 {
-    distiller.prepare(basis.graph(), words, basis.costs(), values, steps)
+    distiller.is_consistent(basis.graph(), words, basis.costs(), values, steps)
 }
 
 // The line of one wire, where some state agrees.

@@ -1,5 +1,5 @@
 -- The nodes of the smaller graph, one after the other, and the places of what stands for the nodes so far.
-use Rattle.std.proofs.Common.{◌≡◌, ◌≢◌, ℕ, zero, suc, ◌+◌, ◌-◌, ◌<◌, ◌≤◌, Bool, true, false, cond, List, [], ◌∷◌, ◌++◌, map, length, take, get_or, set, All, Some, refl, ap, sym, ◌∙◌, subst, arith, inl, inr, ⊎_elim, length-append, get_or-set_same, get_or-set_other}
+use Rattle.std.proofs.Common.{◌≡◌, ◌≢◌, ℕ, zero, suc, ◌+◌, ◌-◌, ◌<◌, ◌≤◌, Bool, true, false, cond, List, [], ◌∷◌, ◌++◌, map, length, take, get_or, set, All, Option, Some, refl, ap, sym, ◌∙◌, subst, arith, inl, inr, ⊎_elim, length-append, get_or-set_same, get_or-set_other}
 use Rattle.std.specs.Prelude.{◌⊎◌, slice_get, nat_lt}
 use Rattle.std.specs.List.{list_any, filter}
 use Rattle.std.proofs.Math.Bool.{and-true, or-false}
@@ -16,20 +16,21 @@ use Rattle.graph_rules.specs.GraphTexts.{edges}
 use Rattle.graph_rules.proofs.NodeValues.{are_below, value_of-last}
 use Rattle.graph_rules.proofs.NodesFit.{fits-get, apart-get, literal, AreNodes-push}
 use Rattle.conditioner.specs.Models.{total_cost}
-use Rattle.minimiser.specs.Costs.{part_cost, known_at, cheapest}
+use Rattle.minimiser.specs.Costs.{part_cost, known_at, sum_costs, cheapest}
 use Rattle.minimiser.specs.Stored.{cost_in, AreLeastCosts}
 use Rattle.minimiser.specs.inner.Marked.{is_kid}
-use Rattle.minimiser.proofs.Costs.{and_left, and_right}
+use Rattle.minimiser.proofs.Costs.{IsCost, from_add, and_left, and_right}
 use Rattle.minimiser.proofs.Models.{LeastIs, same_or_not}
 use Rattle.minimiser.proofs.Sums.{cost_in-some}
-use Rattle.minimiser.proofs.Derivations.{mention-at, costs-at, below, all-below, cheapest-kid}
-use Rattle.minimiser.proofs.Sweeping.{node_least, kid-in, kid-out, kid_before, value-is, root-low, cost_in-is}
-use Rattle.fault_graph.specs.Small.{HasParent}
+use Rattle.minimiser.proofs.Derivations.{is_cost, mention-at, costs-at, below, all-below, cheapest-kid}
+use Rattle.minimiser.proofs.Sweeping.{node_least, sum-kid, kid-in, kid-out, kid_before, value-is, root-low, cost_in-is}
+use Rattle.fault_graph.specs.Small.{HasParent, Joins}
 use Rattle.fault_graph.specs.inner.Marks.{HasMarkedParent, AreMarks}
 use Rattle.fault_graph.specs.inner.Rows.{keeps, row_of, Adds, root_node}
 use Rattle.fault_graph.proofs.Standing.{StandsFor, StandsFor-same}
 use Rattle.fault_graph.proofs.Kin.{KidsStand, node-stands, narrower-any, narrower-apart}
-use Rattle.fault_graph.proofs.Places.{IsPlace, place-more, IsFrom, AreFrom, from-none, from-push, parent-more, parent-last, Waits, IsNeeded}
+use Rattle.fault_graph.proofs.Placing.{faults_in-all}
+use Rattle.fault_graph.proofs.Places.{IsPlace, place-more, IsFrom, AreFrom, from-none, from-push, AllJoin, joins-before, joins-push, parent-more, parent-last, Waits, IsNeeded}
 use Rattle.fault_graph.proofs.Smallness.{small-from}
 use Rattle.fault_graph.proofs.Roots.{IsWhole, whole}
 
@@ -56,6 +57,17 @@ filter-le keep (k ∷ kids) = by_first (keep k) (filter-le keep kids) where
 
 row-le : (values places : List ℕ) (cost : ℕ) (kids : List ℕ) → length (row_of values places cost kids) ≤ length kids
 row-le values places cost kids = omega (arith, length-map (filter (keeps values cost) kids) (λ k. get_or places k 0), filter-le (keeps values cost) kids)
+
+empty : (xs : List ℕ) → length xs ≤ 0 → xs ≡ []
+empty [] h = refl
+empty (x ∷ xs) h = absurd (omega arith)
+
+-- a sum of nothing costs nothing
+free-sum : (C : ℕ → Option ℕ) (kids : List ℕ) (c : ℕ) → sum_costs (map C kids) ≡ Some c → ((j d : ℕ) → In j kids → C j ≡ Some d → d ≡ 0) → c ≡ 0
+free-sum C [] c e h = sym (same_Some 0 c e)
+free-sum C (k ∷ kids) c e h =
+    let s = from_add (C k) (sum_costs (map C kids)) c e in
+    omega (arith, s.sum_is, h k s.left (inl refl) s.left_is, free-sum C kids s.right s.right_is (λ j d i. h j d (inr i)))
 
 -- what is in a row is the place of a kid that stays
 row-source : (keep : ℕ → Bool) (place : ℕ → ℕ) (kids : List ℕ) (q : ℕ) → In q (map place (filter keep kids)) → (j : ℕ) × In j kids × (keep j ≡ true) × (place j ≡ q)
@@ -101,6 +113,7 @@ module _ (graph : Graph) (words costs : List ℕ) where
     pub ahead : (k : ℕ) → at ≤ k → get_or places k 0 ≡ get_or marks k 0
     pub built : (k c : ℕ) → k < at → get_or marks k 0 ≡ 1 → node_least graph words costs k ≡ Some c → 0 < c → IsPlace graph words costs nodes k c (get_or places k 0)
     pub from : AreFrom graph words costs nodes
+    pub joins : AllJoin nodes
     pub needed : (p : ℕ) → p < length nodes → IsNeeded graph values marks places nodes at p
 
   pub built-none : (values marks : List ℕ) → IsBuilt values marks marks [] 0
@@ -111,6 +124,7 @@ module _ (graph : Graph) (words costs : List ℕ) where
     ahead = λ k h. refl;
     built = λ k c h. absurd (omega arith);
     from = from-none graph words costs;
+    joins = λ p h. absurd (omega arith);
     needed = λ p h. absurd (omega arith);
   }
 
@@ -141,6 +155,7 @@ module _ (graph : Graph) (words costs : List ℕ) (ok : IsGraph graph) (long : l
         (λ (q : k ≢ at). is.built k c (omega arith) e f dear)
         (same_or_not k at);
     from = is.from;
+    joins = is.joins;
     needed = λ p h. past p (is.needed p h);
   } where
     past : (p : ℕ) → IsNeeded graph values marks places nodes at p → IsNeeded graph values marks places nodes (at + 1) p
@@ -277,6 +292,38 @@ module _ (graph : Graph) (words costs : List ℕ) (ok : IsGraph graph) (long : l
     pub from-pushed : AreFrom graph words costs (nodes ++ record { what = what; kids = row } ∷ [])
     from-pushed = from-push graph words costs nodes (record { what = what; kids = row }) c is.from (record { node = at; dear = omega arith; is = cost-is; place = pushed }) or-kid
 
+    -- an and or an or that costs something has a kid that stays
+    joined : length row ≢ 1 → Joins what (length row)
+    joined many = by_kind what refl where
+      out : row ≡ [] → (j : ℕ) → In j kids → keep j ≡ false
+      out none j i = by_keep (keep j) refl where
+        by_keep : (b : Bool) → keep j ≡ b → keep j ≡ false
+        by_keep true k = absurd (subst (In (place j)) none (In-map place j (filter keep kids) (In-filtered keep j kids i k)))
+        by_keep false k = k
+
+      no-and : what ≡ And → row ≡ [] → ⊥
+      no-and o none =
+          let sum : sum_costs (map (node_least graph words costs) kids) ≡ Some c = sym (costs-at graph words costs ok at _ (e ∙ ap (λ (w : NodeKind). Some (record { what = w; kids = kids })) o)) ∙ cost-is in
+          costly (free-sum (node_least graph words costs) kids c sum
+          (λ j d i f.
+          let most = sum-kid (node_least graph words costs) kids c j sum i in
+          let same : get_or values j 0 ≡ d = cost-value j d (omega (arith, earlier j i)) f in
+          ⊎_elim (λ (z : get_or values j 0 ≡ 0). omega (arith, z, same)) (λ (q : c < get_or values j 0). absurd (omega (arith, q, same, most.2, same_Some most.0 d (sym most.1 ∙ f)))) (keeps-not values c j (out none j i))))
+
+      no-or : what ≡ Or → row ≡ [] → ⊥
+      no-or o none =
+          let cost = subst (λ d. IsCost (known_at words) (part_cost costs) (length costs) (λ a. is_true graph.nodes at a) (λ w. mentions graph.nodes w at) d) cost-is (is_cost graph words costs ok at) in
+          let r = cost.reached c refl in
+          false≢true (subst (λ w. truth_by r.by w (map (λ p. is_true nodes p r.by) []) ≡ true) o (subst (λ ps. truth_by r.by what (map (λ p. is_true nodes p r.by) ps) ≡ true) none (stands.onto r.by r.agrees r.holds (omega (arith, r.cheap, faults_in-all (known_at words) (part_cost costs) (length costs) (λ w. mentions graph.nodes w at) r.by)))))
+
+      some : (row ≡ [] → ⊥) → 1 < length row
+      some not = ⊎_elim (λ (p : 1 < length row). p) (λ (p : length row ≤ 1). absurd (not (empty row (omega (arith, p, many))))) (cases_lt 1 (length row))
+
+      by_kind : (w : NodeKind) → what ≡ w → Joins w (length row)
+      by_kind (Literal var positive) o = tt
+      by_kind And o = some (no-and o)
+      by_kind Or o = some (no-or o)
+
     -- what waits for this node is in its row
     in-row : (q : ℕ) (w : Waits graph values marks places at q) → w.parent ≡ at → In q row
     in-row q w s =
@@ -339,8 +386,8 @@ module _ (graph : Graph) (words costs : List ℕ) (ok : IsGraph graph) (long : l
     -- what stands for the node is there now
     noted : (new : List Node) (p : ℕ) → at < length places → AreNodes graph.vars new → length new ≤ at + 1 → edges new ≤ edges (take (at + 1) graph.nodes)
         → ((k d q : ℕ) → IsPlace graph words costs nodes k d q → IsPlace graph words costs new k d q) → IsPlace graph words costs new at c p
-        → AreFrom graph words costs new → ((q : ℕ) → q < length new → IsNeeded graph values marks (set places at p) new (at + 1) q) → IsBuilt graph words costs values marks (set places at p) new (at + 1)
-    noted new p room are few few_edges more here from needed = record {
+        → AreFrom graph words costs new → AllJoin new → ((q : ℕ) → q < length new → IsNeeded graph values marks (set places at p) new (at + 1) q) → IsBuilt graph words costs values marks (set places at p) new (at + 1)
+    noted new p room are few few_edges more here from joins needed = record {
       are = are;
       few = few;
       few_edges = few_edges;
@@ -353,6 +400,7 @@ module _ (graph : Graph) (words costs : List ℕ) (ok : IsGraph graph) (long : l
           (λ (q : k ≢ at). subst (λ x. IsPlace graph words costs new k d x) (sym (rw get_or-set_other refl)) (more k d (get_or places k 0) (is.built k d (omega arith) f g dear)))
           (same_or_not k at);
       from = from;
+      joins = joins;
       needed = needed;
     }
 
@@ -362,12 +410,12 @@ module _ (graph : Graph) (words costs : List ℕ) (ok : IsGraph graph) (long : l
     pub built-added : (new : List Node) (p : ℕ) → at < length places → at < root → Adds nodes (record { what = what; kids = row }) new p → IsBuilt graph words costs values marks (set places at p) new (at + 1)
     built-added new p room early (inl (same, one)) =
         subst (λ ns. IsBuilt graph words costs values marks (set places at p) ns (at + 1)) (sym same)
-        (noted nodes p room is.are (omega (arith, is.few)) (omega (arith, edges-so-far)) (λ k d q x. x) (only p one) is.from (needed-only p one early room))
-    built-added new p room early (inr (same, last)) =
+        (noted nodes p room is.are (omega (arith, is.few)) (omega (arith, edges-so-far)) (λ k d q x. x) (only p one) is.from is.joins (needed-only p one early room))
+    built-added new p room early (inr (same, last, many)) =
         subst (λ ns. IsBuilt graph words costs values marks (set places at p) ns (at + 1)) (sym same)
         (subst (λ q. IsBuilt graph words costs values marks (set places at q) (nodes ++ record { what = what; kids = row } ∷ []) (at + 1)) (sym last)
         (noted (nodes ++ record { what = what; kids = row } ∷ []) (length nodes) room are-pushed (omega (arith, is.few, length-append nodes (record { what = what; kids = row } ∷ []))) (omega (arith, edges-so-far, edges-push nodes (record { what = what; kids = row })))
-        (λ k d q x. place-more graph words costs nodes (record { what = what; kids = row }) k d q x) pushed from-pushed (needed-pushed early room)))
+        (λ k d q x. place-more graph words costs nodes (record { what = what; kids = row }) k d q x) pushed from-pushed (joins-push nodes (record { what = what; kids = row }) is.joins (joined many)) (needed-pushed early room)))
 
   -- ---- the root
 
@@ -379,7 +427,8 @@ module _ (graph : Graph) (words costs : List ℕ) (ok : IsGraph graph) (long : l
       (marked-cost root there m.root) (pushed places nodes root there built mark costly (node_at graph.nodes root).what (node_at graph.nodes root).kids e).stands
       (λ sound. small-from graph (record { nodes = nodes ++ node ∷ []; vars = graph.vars }) words costs ok sound
       (from-pushed places nodes root there built mark costly (node_at graph.nodes root).what (node_at graph.nodes root).kids e)
-      (λ p h. all-needed places nodes root there built mark costly (node_at graph.nodes root).what (node_at graph.nodes root).kids e (omega arith) p (omega (arith, h, length-append nodes (node ∷ [])))))) where
+      (λ p h. all-needed places nodes root there built mark costly (node_at graph.nodes root).what (node_at graph.nodes root).kids e (omega arith) p (omega (arith, h, length-append nodes (node ∷ []))))
+      (λ p h. joins-before nodes node built.joins p (omega (arith, h, length-append nodes (node ∷ [])))))) where
         there : root < length graph.nodes
         there = omega (arith, ok.some)
 

@@ -9,7 +9,7 @@ use Rattle.graph_rules.proofs.NodeValues.{value_of-before}
 use Rattle.minimiser.specs.Costs.{part_cost, known_at}
 use Rattle.minimiser.proofs.Models.{same_or_not}
 use Rattle.minimiser.proofs.Sweeping.{node_least}
-use Rattle.fault_graph.specs.Small.{HasParent}
+use Rattle.fault_graph.specs.Small.{HasParent, Joins}
 use Rattle.fault_graph.specs.inner.Rows.{keeps}
 use Rattle.fault_graph.proofs.Standing.{StandsFor, StandsFor-same}
 
@@ -76,6 +76,19 @@ module _ (graph : Graph) (words costs : List ℕ) where
         (x.0, from-more nodes node x.0 p x.1, from-more nodes node x.0 q x.2))
         (same_or_not p (length nodes));
   }
+
+-- each and and each or joins two or more
+abbrev pub AllJoin : List Node → Type 0
+AllJoin nodes = (p : ℕ) → p < length nodes → Joins (node_at nodes p).what (length (node_at nodes p).kids)
+
+pub joins-before : (nodes : List Node) (node : Node) → AllJoin nodes → (p : ℕ) → p < length nodes → Joins (node_at (nodes ++ node ∷ []) p).what (length (node_at (nodes ++ node ∷ []) p).kids)
+joins-before nodes node all p h = subst (λ (x : Node). Joins x.what (length x.kids)) (sym (node_at-before nodes node p h)) (all p h)
+
+pub joins-push : (nodes : List Node) (node : Node) → AllJoin nodes → Joins node.what (length node.kids) → AllJoin (nodes ++ node ∷ [])
+joins-push nodes node all here p h = ⊎_elim
+    (λ (e : p ≡ length nodes). subst (λ (x : Node). Joins x.what (length x.kids)) (sym (ap (node_at (nodes ++ node ∷ [])) e ∙ node_at-last nodes node)) here)
+    (λ (ne : p ≢ length nodes). joins-before nodes node all p (omega (arith, ne, h, length-append nodes (node ∷ []))))
+    (same_or_not p (length nodes))
 
 -- ---- what is needed
 

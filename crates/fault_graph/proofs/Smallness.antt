@@ -11,7 +11,7 @@ use Rattle.graph_rules.specs.Graphs.{Graph, true_node, node_at, IsGraph}
 use Rattle.conditioner.specs.Words.{known_of, leaf_of}
 use Rattle.minimiser.specs.Costs.{part_cost, known_at, literal_cost, cost_by}
 use Rattle.minimiser.proofs.Derivations.{C, costs-at}
-use Rattle.fault_graph.specs.Small.{least_at, HasParent, SaysFaulty, IsSmall}
+use Rattle.fault_graph.specs.Small.{least_at, HasParent, SaysFaulty, Joins, IsSmall}
 use Rattle.fault_graph.proofs.Placing.{place-cost}
 use Rattle.fault_graph.proofs.Places.{IsFrom, AreFrom}
 
@@ -44,10 +44,12 @@ module _ (graph small : Graph) (words costs : List ℕ) (ok : IsGraph graph) (so
   cost-is : (c p : ℕ) → IsFrom graph words costs small.nodes c p → least_at small words costs p ≡ Some c
   cost-is c p is = place-cost graph small words costs ok sound is.node p c is.is is.place.stands
 
-  pub small-from : AreFrom graph words costs small.nodes → ((p : ℕ) → p + 1 < length small.nodes → HasParent small.nodes p) → IsSmall words costs small
-  small-from from needed = record {
+  pub small-from : AreFrom graph words costs small.nodes → ((p : ℕ) → p + 1 < length small.nodes → HasParent small.nodes p)
+      → ((p : ℕ) → p + 1 < length small.nodes → Joins (node_at small.nodes p).what (length (node_at small.nodes p).kids)) → IsSmall words costs small
+  small-from from needed joins = record {
     dear = λ p h. let x = from.each p (omega arith) in subst (λ (o : Option ℕ). IsSomeAnd o (λ c. 0 < c)) (sym (cost-is x.0 p x.1)) x.1.dear;
     needed = needed;
+    joins = joins;
     cheap = λ p h o k d lt.
         let q = get_or (node_at small.nodes p).kids k d in
         let x = from.ors p q h o (member (node_at small.nodes p).kids k d lt) in
@@ -67,6 +69,7 @@ pub small-true : (words costs : List ℕ) (vars : ℕ) → IsSmall words costs (
 small-true words costs vars = record {
   dear = λ p h. absurd (omega arith);
   needed = λ p h. absurd (omega arith);
+  joins = λ p h. absurd (omega arith);
   cheap = λ p h o. absurd (no_or p h o);
   faulty = says_none;
 } where

@@ -21,11 +21,18 @@ SaysFaulty words parts (Literal var positive) = (positive ≡ false) × (var ≤
 SaysFaulty words parts And = ⊤
 SaysFaulty words parts Or = ⊤
 
--- Each node but the root, which is the last, costs something and is a child of another. An or costs what each of its children
--- does, so that all of them are on states of least cost. There is no wire, no part that is held, and no literal that says ok.
+-- an and or an or with so many children joins two or more
+abbrev pub Joins : NodeKind → ℕ → Type 0
+Joins (Literal var positive) kids = ⊤
+Joins And kids = 1 < kids
+Joins Or kids = 1 < kids
+
+-- Each node but the root, which is the last, costs something, is a child of another, and joins two or more. An or costs
+-- what each of its children does, so that all of them are on states of least cost. There is no wire, no part that is held, and no literal that says ok.
 pub record IsSmall (words costs : List ℕ) (small : Graph) : Type 0 where
   pub dear : (node : ℕ) → node + 1 < length small.nodes → IsSomeAnd (least_at small words costs node) (λ cost. 0 < cost)
   pub needed : (node : ℕ) → node + 1 < length small.nodes → HasParent small.nodes node
+  pub joins : (node : ℕ) → node + 1 < length small.nodes → Joins (node_at small.nodes node).what (length (node_at small.nodes node).kids)
   pub cheap : (node : ℕ) → node < length small.nodes → (node_at small.nodes node).what ≡ Or
       → All (λ kid. least_at small words costs kid ≡ least_at small words costs node) (node_at small.nodes node).kids
   pub faulty : (node : ℕ) → node < length small.nodes → SaysFaulty words (length costs) (node_at small.nodes node).what

@@ -1,5 +1,5 @@
 -- What stands for a node among the nodes of the smaller graph.
-use Rattle.std.specs.Prelude.{◌≡◌, ℕ, ◌-◌, Bool, ◌&&◌, ◌⊎◌, List, [], ◌∷◌, ◌++◌, map, length, slice_index, nat_le, nat_lt}
+use Rattle.std.specs.Prelude.{◌≡◌, ◌≢◌, ℕ, ◌-◌, Bool, ◌&&◌, ◌⊎◌, List, [], ◌∷◌, ◌++◌, map, length, slice_index, nat_le, nat_lt}
 use Rattle.std.specs.List.{filter}
 use Rattle.graph_rules.specs.Graphs.{Node, Graph, node_at}
 
@@ -16,7 +16,7 @@ kept_node values places cost node = record { what = node.what; kids = row_of val
 
 -- a node left with one kid is that kid; else it comes behind the others
 abbrev pub Adds : List Node → Node → List Node → ℕ → Type 0
-Adds old node new place = ((new ≡ old) × (node.kids ≡ place ∷ [])) ⊎ ((new ≡ old ++ node ∷ []) × (place ≡ length old))
+Adds old node new place = ((new ≡ old) × (node.kids ≡ place ∷ [])) ⊎ ((new ≡ old ++ node ∷ []) × (place ≡ length old) × (length node.kids ≢ 1))
 
 -- the root stays a node of its own
 abbrev pub root_node : Graph → List ℕ → List ℕ → Node

@@ -2,8 +2,10 @@ ghost use Rattle.std.specs.Prelude.{◌≡◌, ◌-◌, ◌<◌, ◌≤◌, [], 
 ghost use Rattle.std.specs.Option.{option_map};
 ghost use Rattle.conditioner.specs.Models.{least_under, diagnoses_under, total_cost};
 ghost use Rattle.diagnosis_lister.specs.Listing.{bits_of};
+ghost use Rattle.fault_graph.specs.Distilled.{Serves};
 
-use diagnosis_lister::{Step, first, next};
+use diagnosis_lister::Step;
+use fault_graph::Distiller;
 use minimiser::{Steps, TOTAL_LIMIT};
 use node_store::Graph;
 use std::sync::ledger::Ledger;
@@ -19,6 +21,7 @@ pub struct Found {
 
 // Lists the diagnoses behind the first one, up to so many in all, and tells how many there are then. The last one is in the state.
 fn list_on<L: Ledger>(
+    distiller: &mut Distiller,
     graph: &Graph,
     words: &mut [u32],
     costs: &[u32],
@@ -36,15 +39,17 @@ fn list_on<L: Ledger>(
     requires state { length state.old ≡ length costs.now }
     requires state_words { All (λ s. s < 2) state.old }
     requires some { 1 ≤ most }
+    requires serves { Serves graph.now costs.now distiller.old }
     requires there { 0 < length (diagnoses_under graph.now words.old costs.now) }
     requires first { bits_of state.old ≡ slice_index_or (diagnoses_under graph.now words.old costs.now) 0 [] }
     ensures listed { result ≡ length (take most (diagnoses_under graph.now words.old costs.now)) }
     ensures last { bits_of state.new ≡ slice_index_or (diagnoses_under graph.now words.old costs.now) (result - 1) [] }
     ensures state { All (λ s. s < 2) state.new }
     ensures words { words.new ≡ words.old }
+    ensures serves { Serves graph.now costs.now distiller.new }
 {
     for count in 1..most {
-        match next(graph, words, costs, values, state, steps) {
+        match distiller.next(graph, words, costs, values, state, steps) {
             Step::Found => {}
             Step::End | Step::Inconsistent => return count,
         }
@@ -57,6 +62,7 @@ fn list_on<L: Ledger>(
 ///
 /// The words are the same afterwards.
 pub fn sample<L: Ledger>(
+    distiller: &mut Distiller,
     graph: &Graph,
     words: &mut [u32],
     costs: &[u32],
@@ -76,6 +82,7 @@ pub fn sample<L: Ledger>(
     requires first_words { All (λ s. s < 2) first_state.old }
     requires last_state { length last_state.old ≡ length costs.now }
     requires some { 1 ≤ most }
+    requires serves { Serves graph.now costs.now distiller.old }
     ensures least { option_map (λ found. found.fewest) result ≡ least_under graph.now words.old costs.now }
     ensures listed { IfSome result (λ found.
         found.listed ≡ length (take most (diagnoses_under graph.now words.old costs.now))) }
@@ -86,9 +93,12 @@ pub fn sample<L: Ledger>(
     ensures first_state { All (λ s. s < 2) first_state.new }
     ensures last_state { IfSome result (λ _. All (λ s. s < 2) last_state.new) }
     ensures words { words.new ≡ words.old }
+    ensures serves { Serves graph.now costs.now distiller.new }
 {
-    let fewest = first(graph, words, costs, values, first_state, steps)?;
+    let fewest = distiller.first(graph, words, costs, values, first_state, steps)?;
     last_state.copy_from_slice(first_state);
-    let listed = list_on(graph, words, costs, values, last_state, most, steps);
+    let listed = list_on(
+        distiller, graph, words, costs, values, last_state, most, steps,
+    );
     Some(Found { fewest, listed })
 }

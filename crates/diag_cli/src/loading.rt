@@ -21,6 +21,7 @@ use crate::words::DEFAULT_BUDGET;
 use adder_load::{Found, PLACE_LIMIT, adder_text, note_readings, sample};
 use device_model::{Device, Name};
 use diag_edge::{Sink, WriteFailed, put_line};
+use fault_graph::Distiller;
 use minimiser::Steps;
 use node_store::Graph;
 use session_core::put_faulty;
@@ -73,9 +74,11 @@ fn summary_by<L: Ledger>(
     let mut values = vec![in alloc; 0; graph.len() as usize]?;
     let mut first = vec![in alloc; 0; costs.len()]?;
     let mut last = vec![in alloc; 0; costs.len()]?;
+    let mut distiller = Distiller::new(alloc, graph)?;
     note_readings(&mut words, &device, places);
     let (parts, wires) = device.take_names(alloc)?;
     let found = sample(
+        &mut distiller,
         graph,
         &mut words,
         &costs,

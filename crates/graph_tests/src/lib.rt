@@ -6,6 +6,8 @@ mod compiling;
 #[cfg(test)]
 mod costs;
 #[cfg(test)]
+mod distilling;
+#[cfg(test)]
 mod listing;
 #[cfg(test)]
 mod projecting;

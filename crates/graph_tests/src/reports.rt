@@ -76,7 +76,7 @@ const ROWS: [Row; 8] = [
 ];
 
 // Three parts and a wire, which is 1, or else the first part or the second is faulty. No node mentions the third part.
-fn wire_is_high(alloc: Global) -> Result<Option<Graph>, AllocError> {
+pub(crate) fn wire_is_high(alloc: Global) -> Result<Option<Graph>, AllocError> {
     let mut builder = GraphBuilder::new(alloc, 4);
     let one = builder.push(
         NodeKind::Literal {

@@ -56,14 +56,14 @@ wider_right true true n = omega arith
 wider_right true false n = omega arith
 wider_right false q n = omega arith
 
-fault_cond : (k : Option Bool) (w : ℕ) (p x y : Bool) → fault k w (cond p x y) ≤ fault k w x + fault k w y
+pub fault_cond : (k : Option Bool) (w : ℕ) (p x y : Bool) → fault k w (cond p x y) ≤ fault k w x + fault k w y
 fault_cond None w true true y = omega arith
 fault_cond None w true false y = omega arith
 fault_cond None w false x true = omega arith
 fault_cond None w false x false = omega arith
 fault_cond (Some b) w p x y = omega arith
 
-usual_bit-fault : (k : Option Bool) (w : ℕ) → fault k w (usual_bit k) ≤ 0
+pub usual_bit-fault : (k : Option Bool) (w : ℕ) → fault k w (usual_bit k) ≤ 0
 usual_bit-fault None w = omega arith
 usual_bit-fault (Some b) w = omega arith
 

@@ -45,10 +45,10 @@ cost-at by nodes i n e below =
 
 -- ---- members of the kids
 
-any-kid : (f : ℕ → Bool) (kids : List ℕ) (k : ℕ) → In k kids → f k ≡ true → list_any (λ b. b) (map f kids) ≡ true
+pub any-kid : (f : ℕ → Bool) (kids : List ℕ) (k : ℕ) → In k kids → f k ≡ true → list_any (λ b. b) (map f kids) ≡ true
 any-kid f kids k m e = list_any-map (λ b. b) f kids ∙ any_in f k kids m e
 
-kid-with : (f : ℕ → Bool) (kids : List ℕ) → list_any (λ b. b) (map f kids) ≡ true → Passing f kids
+pub kid-with : (f : ℕ → Bool) (kids : List ℕ) → list_any (λ b. b) (map f kids) ≡ true → Passing f kids
 kid-with f kids e = any_from f kids (sym (list_any-map (λ b. b) f kids) ∙ e)
 
 pub all-below : (n : ℕ) (kids : List ℕ) (k : ℕ) → are_below n kids ≡ true → In k kids → k < n
@@ -85,23 +85,23 @@ module _ (graph : Graph) (words costs : List ℕ) (ok : IsGraph graph) where
   abbrev root : ℕ
   root = length graph.nodes - 1
 
-  is_cost : (k : ℕ) → IsCost kn price n (λ a. T a k) (λ v. M v k) (C k)
+  pub is_cost : (k : ℕ) → IsCost kn price n (λ a. T a k) (λ v. M v k) (C k)
   is_cost k = nodes_are kn price n (part_cost-none costs) graph.nodes (λ a. []) (λ v. []) []
       (λ k. false_is kn price n) (record { truths = λ a. refl; mentioned = λ v. refl }) (decomposed graph.vars graph.nodes ok.nodes) k
 
   pub below : (i : ℕ) (node : Node) → slice_get graph.nodes i ≡ Some node → are_below i node.kids ≡ true
   below i node e = (fits-get graph.vars graph.nodes i node ok.nodes.fit e).below
 
-  true-at : (i : ℕ) (node : Node) → slice_get graph.nodes i ≡ Some node → (a : Assignment) → T a i ≡ truth_by a node.what (map (T a) node.kids)
+  pub true-at : (i : ℕ) (node : Node) → slice_get graph.nodes i ≡ Some node → (a : Assignment) → T a i ≡ truth_by a node.what (map (T a) node.kids)
   true-at i node e a = value_of-get (truth_by a) graph.nodes i node e (below i node e)
 
-  mention-at : (i : ℕ) (node : Node) → slice_get graph.nodes i ≡ Some node → (v : ℕ) → M v i ≡ mention_by v node.what (map (M v) node.kids)
+  pub mention-at : (i : ℕ) (node : Node) → slice_get graph.nodes i ≡ Some node → (v : ℕ) → M v i ≡ mention_by v node.what (map (M v) node.kids)
   mention-at i node e v = value_of-get (mention_by v) graph.nodes i node e (below i node e)
 
   pub costs-at : (i : ℕ) (node : Node) → slice_get graph.nodes i ≡ Some node → C i ≡ cost_by kn price node.what (map C node.kids)
   costs-at i node e = cost-at (cost_by kn price) graph.nodes i node e (below i node e)
 
-  apart-kids : (i : ℕ) (kids : List ℕ) → slice_get graph.nodes i ≡ Some (record { what = And; kids = kids }) → (v : ℕ) → at_most_one (map (M v) kids) ≡ true
+  pub apart-kids : (i : ℕ) (kids : List ℕ) → slice_get graph.nodes i ≡ Some (record { what = And; kids = kids }) → (v : ℕ) → at_most_one (map (M v) kids) ≡ true
   apart-kids i kids e v = apart-get (mentions graph.nodes v) graph.nodes i (record { what = And; kids = kids }) (ok.nodes.apart v) e
 
   abbrev TA : List ℕ → Assignment → Bool
@@ -113,18 +113,18 @@ module _ (graph : Graph) (words costs : List ℕ) (ok : IsGraph graph) where
   abbrev SA : List ℕ → Option ℕ
   SA kids = sum_costs (map C kids)
 
-  Apart : List ℕ → Type 0
+  unfoldable pub Apart : List ℕ → Type 0
   Apart kids = (v : ℕ) → at_most_one (map (M v) kids) ≡ true
 
-  kids-cost : (kids : List ℕ) → Apart kids → IsCost kn price n (TA kids) (MA kids) (SA kids)
+  pub kids-cost : (kids : List ℕ) → Apart kids → IsCost kn price n (TA kids) (MA kids) (SA kids)
   unfolding Apart
   kids-cost kids apart = kids_and kn price n (part_cost-none costs) (λ a. values (truth a) graph.nodes) (λ v. values (mention v) graph.nodes) (values (node_cost kn price) graph.nodes) is_cost kids apart
 
-  apart-tail : (j : ℕ) (kids : List ℕ) → Apart (j ∷ kids) → Apart kids
+  pub apart-tail : (j : ℕ) (kids : List ℕ) → Apart (j ∷ kids) → Apart kids
   unfolding Apart
   apart-tail j kids apart v = at_most_one-tail (M v j) (map (M v) kids) (apart v)
 
-  apart-both : (j : ℕ) (kids : List ℕ) → Apart (j ∷ kids) → (v : ℕ) → (M v j && MA kids v) ≡ false
+  pub apart-both : (j : ℕ) (kids : List ℕ) → Apart (j ∷ kids) → (v : ℕ) → (M v j && MA kids v) ≡ false
   unfolding Apart
   apart-both j kids apart v = not_both (M v j) (map (M v) kids) (apart v)
 

@@ -57,14 +57,14 @@ marked v h = mark-in (v + 2147483648) (omega arith) (omega arith)
 unmarked-marked : (v : ℕ) → v < 2147483647 → unmarked (v + 2147483648) ≡ v
 unmarked-marked v h = unmarked-in (v + 2147483648) (marked v h) ∙ omega arith
 
-kid-out : (kids : List ℕ) (j : ℕ) → is_kid kids j ≡ true → In j kids
+pub kid-out : (kids : List ℕ) (j : ℕ) → is_kid kids j ≡ true → In j kids
 kid-out [] j e = absurd (cc)
 kid-out (k ∷ kids) j e = by_test (kid-out kids j) (eqb k j) refl e where
   by_test : (is_kid kids j ≡ true → In j kids) → (b : Bool) → eqb k j ≡ b → (b || is_kid kids j) ≡ true → In j (k ∷ kids)
   by_test more true q e = inl (sym (eqb-true _ _ q))
   by_test more false q e = inr (more e)
 
-kid-in : (kids : List ℕ) (j : ℕ) → In j kids → is_kid kids j ≡ true
+pub kid-in : (kids : List ℕ) (j : ℕ) → In j kids → is_kid kids j ≡ true
 kid-in [] j m = absurd m
 kid-in (k ∷ kids) j (inl q) = ap (λ b. b || is_kid kids j) (eq-eqb k j (sym q))
 kid-in (k ∷ kids) j (inr r) = ap (λ b. eqb k j || b) (kid-in kids j r) ∙ or-true (eqb k j)
@@ -182,14 +182,14 @@ kid_before graph k j ok h i =
 abbrev pub node_least : Graph → List ℕ → List ℕ → ℕ → Option ℕ
 node_least graph words costs k = cost_at (values (node_cost (known_at words) (part_cost costs)) graph.nodes) k
 
-sum-kid : (C : ℕ → Option ℕ) (kids : List ℕ) (c j : ℕ) → sum_costs (map C kids) ≡ Some c → In j kids → (d : ℕ) × (C j ≡ Some d) × (d ≤ c)
+pub sum-kid : (C : ℕ → Option ℕ) (kids : List ℕ) (c j : ℕ) → sum_costs (map C kids) ≡ Some c → In j kids → (d : ℕ) × (C j ≡ Some d) × (d ≤ c)
 sum-kid C [] c j e m = absurd m
 sum-kid C (k ∷ kids) c j e (inl q) = let s = from_add (C k) (sum_costs (map C kids)) c e in (s.left, ap C q ∙ s.left_is, omega (arith, s.sum_is))
 sum-kid C (k ∷ kids) c j e (inr r) =
     let s = from_add (C k) (sum_costs (map C kids)) c e in
     let more = sum-kid C kids s.right j s.right_is r in (more.0, more.1, omega (arith, more.2, s.sum_is))
 
-cost_in-is : (v c : ℕ) → cost_in v ≡ Some c → v ≡ c
+pub cost_in-is : (v c : ℕ) → cost_in v ≡ Some c → v ≡ c
 cost_in-is v c e = by_test (eqb v 4294967295) e where
   by_test : (b : Bool) → cond b None (Some v) ≡ Some c → v ≡ c
   by_test true q = absurd (cc)
@@ -213,7 +213,7 @@ module _ (graph : Graph) (words costs : List ℕ) (ok : IsGraph graph) (long : l
   room : length cs ≡ length graph.nodes
   room = length-least_costs graph words costs cs v
 
-  value-is : (k : ℕ) → k < length graph.nodes → cost_in (get_or cs k 0) ≡ node_least graph words costs k
+  pub value-is : (k : ℕ) → k < length graph.nodes → cost_in (get_or cs k 0) ≡ node_least graph words costs k
   unfolding costs_to
   value-is k h = sym (cost_at-map cs k (omega (arith, room))) ∙ ap (λ xs. cost_at xs k) v ∙ (λ i. cost_at (values (node_cost (known_at words) (part_cost costs)) (take-length graph.nodes i)) k)
 

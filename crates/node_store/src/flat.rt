@@ -79,6 +79,24 @@ impl Nodes {
         &self.kids[start..end]
     }
 
+    /// Takes memory for so many more nodes, which have so many children in all.
+    pub fn reserve(&mut self, nodes: usize, kids: usize) -> Result<(), AllocError>
+        ensures { self.new ≡ self.old }
+    {
+        self.kinds.reserve(nodes)?;
+        self.ends.reserve(nodes)?;
+        self.kids.reserve(kids)
+    }
+
+    /// Lets go of all nodes, and keeps their memory.
+    pub fn clear(&mut self)
+        ensures { self.new ≡ [] }
+    {
+        self.kinds.clear();
+        self.ends.clear();
+        self.kids.clear();
+    }
+
     /// Adds a node behind the others.
     pub fn push(&mut self, what: NodeKind, kids: &[u32]) -> Result<(), AllocError>
         ensures ok { OnOk result (self.new ≡ self.old ++ record { what = what; kids = kids.now } ∷ []) }

@@ -38,6 +38,13 @@ impl Graph {
         Graph { nodes, vars }
     }
 
+    /// The nodes, of which other graphs can be made.
+    pub fn into_nodes(self) -> Nodes
+        ensures { result ≡ self.nodes }
+    {
+        self.nodes
+    }
+
     /// The number of nodes.
     pub fn len(&self) -> u32
         ensures len { result ≡ length self.now.nodes }

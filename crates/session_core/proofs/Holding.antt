@@ -9,6 +9,7 @@ use Rattle.text_rules.specs.Tokens.{spaced}
 use Rattle.diag_edge.specs.Edge.{Puts}
 use Rattle.device_model.specs.Devices.{place_of}
 use Rattle.probe_report.specs.declared.verdicts.Blame.{Blame}
+use Rattle.fault_graph.specs.Distilled.{Kept}
 use Rattle.ranking.specs.Systems.{System}
 use Rattle.scratch_pool.specs.declared.region.Span.{Span}
 use Rattle.scratch_pool.specs.Words.{written}
@@ -39,14 +40,15 @@ pub place-within : (name : Name) (names : List Name) (place : ℕ) → Some plac
 place-within name names place e = (position-Some (same_name name) names place [] (sym e)).0
 
 -- parts of a service fit together also where the table is another
-pub holds_more : (subject : Subject) (old new : Opened) (scratch : Carved) (verdicts : List Blame) (table : Table) → HoldsTogether subject old scratch verdicts → new ≡ opened_with old table → HoldsTogether subject new scratch verdicts
-holds_more subject old new scratch verdicts table h e = record {
+pub holds_more : (subject : Subject) (old new : Opened) (scratch : Carved) (verdicts : List Blame) (kept : Kept) (table : Table) → HoldsTogether subject old scratch verdicts kept → new ≡ opened_with old table → HoldsTogether subject new scratch verdicts kept
+holds_more subject old new scratch verdicts kept table h e = record {
   parts = ap (λ (o : Opened). o.parts) e ∙ h.parts;
   wires = ap (λ (o : Opened). o.wires) e ∙ h.wires;
   vars = ap (λ (o : Opened). o.vars) e ∙ h.vars;
   unused = h.unused;
   room = h.room;
   one_a_part = h.one_a_part;
+  serves = h.serves;
 }
 
 -- a session became another, and a word was said

@@ -101,6 +101,7 @@ impl Sessions {
             self.open.words(place),
             self.scratch.run_mut(&run),
             &mut self.verdicts,
+            &mut self.distiller,
             session,
             question,
             out,

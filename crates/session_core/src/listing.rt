@@ -9,6 +9,7 @@ ghost use Rattle.ranking.specs.Ranking.{rest};
 ghost use Rattle.ranking.specs.Systems.{all_diagnoses};
 ghost use Rattle.diagnosis_lister.specs.Listing.{bits_of, step_of};
 ghost use Rattle.script_lang.specs.Script.{Next, Several, After};
+ghost use Rattle.fault_graph.specs.Distilled.{Serves};
 ghost use Rattle.session_rules.specs.GraphSystems.{system_of};
 ghost use Rattle.session_rules.specs.Replies.{diagnosis_line};
 ghost use Rattle.session_rules.specs.Sessions.{Entry, state_of, with_entry};
@@ -22,7 +23,8 @@ use crate::basis::Basis;
 use crate::replies::{put_faulty, put_refusal};
 use crate::sessions::Sessions;
 use diag_edge::{Sink, WriteFailed, put_line};
-use diagnosis_lister::{Step, first, next};
+use diagnosis_lister::Step;
+use fault_graph::Distiller;
 use minimiser::Steps;
 use session_rules::Refusal;
 use session_table::OpenSessions;
@@ -131,6 +133,7 @@ impl Sessions {
             &mut self.open,
             place,
             self.scratch.run_mut(&run),
+            &mut self.distiller,
             &mut Steps::<L>::new(blank),
         );
         self.scratch.release(run);
@@ -187,6 +190,7 @@ fn move_point<L: Ledger>(
     sessions: &mut OpenSessions,
     place: usize,
     scratch: &mut [u32],
+    distiller: &mut Distiller,
     steps: &mut Steps<L>,
 ) -> Step
     requires parts { sessions.old.parts ≡ length basis.now.parts }
@@ -194,10 +198,12 @@ fn move_point<L: Ledger>(
     requires vars { sessions.old.vars ≡ basis.now.graph.vars }
     requires place { place < length sessions.old.table }
     requires scratch { length scratch.old ≡ basis.now.graph.vars + (length basis.now.graph.nodes + length basis.now.parts) }
+    requires serves { Serves basis.now.graph basis.now.costs distiller.old }
     ensures moves { (session : Name) (entry : Entry) → StandsAt sessions.old.table place session entry
         → PointMoves basis.now sessions.old.table sessions.new.table place session entry result }
     ensures stays { sessions.new ≡ record sessions.old { table = sessions.new.table } }
     ensures still { place < length sessions.new.table }
+    ensures serves { Serves basis.now.graph basis.now.costs distiller.new }
 {
     let (state, work) = scratch.split_at_mut(basis.parts().len());
     match advance(
@@ -206,6 +212,7 @@ fn move_point<L: Ledger>(
         sessions.point(place),
         state,
         work,
+        distiller,
         steps,
     ) {
         Step::Found => {
@@ -269,12 +276,14 @@ fn advance<L: Ledger>(
     point: Option<&[u32]>,
     state: &mut [u32],
     work: &mut [u32],
+    distiller: &mut Distiller,
     steps: &mut Steps<L>,
 ) -> Step
     requires known { AreKnown basis.now known.now }
     requires point { IfSome point (λ old. (length old.now ≡ length basis.now.parts) × All (λ s. s < 2) old.now) }
     requires state { length state.old ≡ length basis.now.parts }
     requires work { length work.old ≡ basis.now.graph.vars + length basis.now.graph.nodes }
+    requires serves { Serves basis.now.graph basis.now.costs distiller.old }
     ensures step { let system = system_of basis.now in let case = case_in basis.now known.now in
         result ≡ step_of (system.consistent case)
         (rest (all_diagnoses system case) (option_map (λ old. bits_of old.now) point.entry)) }
@@ -282,14 +291,15 @@ fn advance<L: Ledger>(
         result ≡ Step.Found → bits_of state.new ≡ slice_index_or
         (rest (all_diagnoses system case) (option_map (λ old. bits_of old.now) point.entry)) 0 [] }
     ensures bits { All (λ s. s < 2) state.new }
+    ensures serves { Serves basis.now.graph basis.now.costs distiller.new }
 {
     let (words, values) = work.split_at_mut(basis.vars());
     words.copy_from_slice(known);
     match point {
-        None => begin(basis, words, values, state, steps),
+        None => begin(basis, words, values, state, distiller, steps),
         Some(old) => {
             state.copy_from_slice(old);
-            next(basis.graph(), words, basis.costs(), values, state, steps)
+            distiller.next(basis.graph(), words, basis.costs(), values, state, steps)
         }
     }
 }
@@ -300,19 +310,22 @@ fn begin<L: Ledger>(
     words: &mut [u32],
     values: &mut [u32],
     state: &mut [u32],
+    distiller: &mut Distiller,
     steps: &mut Steps<L>,
 ) -> Step
     requires words { AreKnown basis.now words.old }
     requires values { length values.old ≡ length basis.now.graph.nodes }
     requires state { length state.old ≡ length basis.now.parts }
+    requires serves { Serves basis.now.graph basis.now.costs distiller.old }
     ensures step { let system = system_of basis.now in let case = case_in basis.now words.old in
         result ≡ step_of (system.consistent case) (all_diagnoses system case) }
     ensures state { let system = system_of basis.now in let case = case_in basis.now words.old in
         result ≡ Step.Found → bits_of state.new ≡ slice_index_or (all_diagnoses system case) 0 [] }
     ensures bits { All (λ s. s < 2) state.new }
+    ensures serves { Serves basis.now.graph basis.now.costs distiller.new }
 {
     state.fill(0);
-    match first(basis.graph(), words, basis.costs(), values, state, steps) {
+    match distiller.first(basis.graph(), words, basis.costs(), values, state, steps) {
         Some(_) => Step::Found,
         None => Step::Inconsistent,
     }

@@ -12,6 +12,7 @@ use crate::replies::{put_line_refusal, put_refusal};
 use crate::telling::Question;
 use device_model::Name;
 use diag_edge::{Sink, WriteFailed, put_line};
+use fault_graph::Distiller;
 use node_store::Graph;
 use probe_report::Blame;
 use scratch_pool::Region;
@@ -28,6 +29,8 @@ pub(crate) struct Sessions {
     // what an answer works with: words for what it finds of variables, nodes, parts and wires, and a verdict for each part
     pub(crate) scratch: Region,
     pub(crate) verdicts: Vec<Blame>,
+    // and a smaller graph that has the diagnoses of the words that were asked last
+    pub(crate) distiller: Distiller,
 }
 
 impl Model for Sessions {
@@ -38,7 +41,7 @@ impl Model for Sessions {
 
     ghost view = { λ s. record { subject = s.basis; limit = s.open.limit; table = s.open.table } };
 
-    ghost invariant = { λ s. HoldsTogether s.basis s.open s.scratch s.verdicts.items };
+    ghost invariant = { λ s. HoldsTogether s.basis s.open s.scratch s.verdicts.items s.distiller };
 }
 
 impl Sessions {
@@ -52,12 +55,14 @@ impl Sessions {
         let vars = basis.vars() as u32;
         let verdicts = vec![in alloc; Blame::Never; parts]?;
         let scratch = Region::new(alloc, basis.room().max(basis.probe_room()))?;
+        let distiller = Distiller::new(alloc, basis.graph())?;
         let open = OpenSessions::new(alloc, parts as u32, wires, vars, sessions)?;
         Ok(Sessions {
             basis,
             open,
             scratch,
             verdicts,
+            distiller,
         })
     }
 
@@ -68,6 +73,7 @@ impl Sessions {
             open,
             scratch: _,
             verdicts: _,
+            distiller: _,
         } = self;
         open.finish();
     }

@@ -2,6 +2,7 @@
 ghost use Rattle.std.specs.Prelude.{◌≡◌, ◌+◌, ◌<◌, ◌++◌, ◌∷◌, [], length, is_some};
 ghost use Rattle.diag_edge.specs.Edge.{HasCause};
 ghost use Rattle.ranking.specs.Systems.{least_cost, all_diagnoses};
+ghost use Rattle.fault_graph.specs.Distilled.{Serves};
 ghost use Rattle.session_rules.specs.GraphSystems.{system_of};
 ghost use Rattle.session_rules.specs.Replies.{end_line, min_line, probe_line, probe_lines, blame_lines, if_any};
 ghost use Rattle.session_rules.specs.Spelling.{Replies};
@@ -11,9 +12,9 @@ ghost use Rattle.session_core.specs.inner.Telling.{told_of, HasPlace, unseen_lin
 use crate::basis::Basis;
 use crate::replies::{put_blame, put_min, put_probe};
 use diag_edge::{Sink, WriteFailed, put_line};
-use diagnosis_lister::first;
+use fault_graph::Distiller;
 use minimiser::{Steps, least};
-use probe_report::{Blame, blame_all, probe};
+use probe_report::{Blame, probe};
 use std::sync::ledger::Ledger;
 
 /// What is asked of a session's case.
@@ -33,6 +34,7 @@ pub(crate) fn tell<O: Sink, L: Ledger>(
     known: &[u32],
     scratch: &mut [u32],
     verdicts: &mut [Blame],
+    distiller: &mut Distiller,
     session: &[u8],
     question: Question<'_>,
     out: &mut O,
@@ -42,8 +44,10 @@ pub(crate) fn tell<O: Sink, L: Ledger>(
     requires question { HasPlace basis.now question }
     requires scratch { length scratch.old ≡ basis.now.graph.vars + (length basis.now.graph.nodes + length basis.now.parts) }
     requires verdicts { length verdicts.old ≡ length basis.now.parts }
+    requires serves { Serves basis.now.graph basis.now.costs distiller.old }
     ensures reply { Replies (O.got out.old) (O.got out.new) result
         (told_of (system_of basis.now) session.now (case_in basis.now known.now) question.entry) }
+    ensures serves { Serves basis.now.graph basis.now.costs distiller.new }
     ensures cause { HasCause (O.faults out.old) (O.faults out.new) result }
 {
     let (words, work) = scratch.split_at_mut(basis.vars());
@@ -51,12 +55,16 @@ pub(crate) fn tell<O: Sink, L: Ledger>(
     words.copy_from_slice(known);
     state.fill(0);
     match question {
-        Question::Minimum => tell_minimum(basis, words, values, state, session, out, steps),
+        Question::Minimum => {
+            tell_minimum(basis, words, values, state, distiller, session, out, steps)
+        }
         Question::Probe { wire, name } => {
             tell_probe(basis, words, values, session, name, wire, out, steps)
         }
         Question::Blame => {
-            tell_blame(basis, words, values, state, verdicts, session, out, steps)
+            tell_blame(
+                basis, words, values, state, verdicts, distiller, session, out, steps,
+            )
         }
     }
 }
@@ -67,18 +75,21 @@ fn tell_minimum<O: Sink, L: Ledger>(
     words: &mut [u32],
     values: &mut [u32],
     state: &mut [u32],
+    distiller: &mut Distiller,
     session: &[u8],
     out: &mut O,
     steps: &mut Steps<L>,
 ) -> Result<(), WriteFailed>
     requires words { AreKnown basis.now words.old }
     requires room { HasRoom basis.now values.old state.old }
+    requires serves { Serves basis.now.graph basis.now.costs distiller.old }
     ensures reply { let system = system_of basis.now in let known = case_in basis.now words.old in
         Replies (O.got out.old) (O.got out.new) result
         (min_line system session.now (least_cost system known) (all_diagnoses system known) ∷ []) }
+    ensures serves { Serves basis.now.graph basis.now.costs distiller.new }
     ensures cause { HasCause (O.faults out.old) (O.faults out.new) result }
 {
-    let fewest = first(basis.graph(), words, basis.costs(), values, state, steps);
+    let fewest = distiller.first(basis.graph(), words, basis.costs(), values, state, steps);
     put_min(out, session, basis.parts(), fewest, state)
 }
 
@@ -94,6 +105,23 @@ fn is_consistent<L: Ledger>(
     ensures { result ≡ is_some (least_cost (system_of basis.now) (case_in basis.now words.now)) }
 {
     least(basis.graph(), words, basis.costs(), values, steps).is_some()
+}
+
+// The same, and what was distilled last is then of these words.
+fn has_diagnosis<L: Ledger>(
+    basis: &Basis,
+    words: &[u32],
+    values: &mut [u32],
+    distiller: &mut Distiller,
+    steps: &mut Steps<L>,
+) -> bool
+    requires words { AreKnown basis.now words.now }
+    requires values { length values.old ≡ length basis.now.graph.nodes }
+    requires serves { Serves basis.now.graph basis.now.costs distiller.old }
+    ensures some { result ≡ is_some (least_cost (system_of basis.now) (case_in basis.now words.now)) }
+    ensures serves { Serves basis.now.graph basis.now.costs distiller.new }
+{
+    distiller.is_consistent(basis.graph(), words, basis.costs(), values, steps)
 }
 
 // The line of one wire, where some state agrees.
@@ -159,6 +187,7 @@ fn tell_blame<O: Sink, L: Ledger>(
     values: &mut [u32],
     state: &mut [u32],
     verdicts: &mut [Blame],
+    distiller: &mut Distiller,
     session: &[u8],
     out: &mut O,
     steps: &mut Steps<L>,
@@ -166,15 +195,17 @@ fn tell_blame<O: Sink, L: Ledger>(
     requires words { AreKnown basis.now words.old }
     requires room { HasRoom basis.now values.old state.old }
     requires verdicts { length verdicts.old ≡ length basis.now.parts }
+    requires serves { Serves basis.now.graph basis.now.costs distiller.old }
     ensures reply { let system = system_of basis.now in let ds = all_diagnoses system (case_in basis.now words.old) in
         Replies (O.got out.old) (O.got out.new) result
         (if_any session.now ds (blame_lines session.now ds 0 system.parts ++ end_line session.now ∷ [])) }
+    ensures serves { Serves basis.now.graph basis.now.costs distiller.new }
     ensures cause { HasCause (O.faults out.old) (O.faults out.new) result }
 {
-    if !is_consistent(basis, words, values, steps) {
+    if !has_diagnosis(basis, words, values, distiller, steps) {
         return put_line(out, &[session, b"inconsistent"]);
     }
-    blame_all(
+    distiller.blame_all(
         basis.graph(),
         words,
         basis.costs(),

@@ -22,6 +22,7 @@ returns-in-End g c =
       last = stays graph words costs count point kept.some kept.there kept.last (bits_of c.next.new.state) all next;
       state = c.next.ensures.state;
       words = c.next.ensures.words ∙ kept.words;
+      serves = c.next.ensures.serves;
     }
 
 pub loop-count-preserved : goal.loop-count-preserved
@@ -41,4 +42,5 @@ loop-count-preserved g c =
       some = omega arith;
       there = more;
       last = next_is graph words costs count point kept.some kept.there kept.last (bits_of c.next.new.state) point more next;
+      serves = c.next.ensures.serves;
     }

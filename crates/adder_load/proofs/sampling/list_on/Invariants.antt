@@ -1,6 +1,7 @@
 use Rattle.std.proofs.Common.{◌≡◌, ◌-◌, ◌<◌, ◌≤◌, [], length, All, get_or}
 use Rattle.conditioner.specs.Models.{diagnoses_under}
 use Rattle.diagnosis_lister.specs.Listing.{bits_of}
+use Rattle.fault_graph.specs.Distilled.{Serves}
 use Rattle.adder_load.proofs.sampling.list_on.Given as goal
 
 -- so many are listed, and the last of them is the state
@@ -13,4 +14,5 @@ invariant-loop-count g l =
       some : 1 ≤ l.count;
       there : l.count ≤ length ds;
       last : bits_of l.state ≡ get_or ds (l.count - 1) [];
+      serves : Serves l.fn.graph l.fn.costs l.distiller;
     }

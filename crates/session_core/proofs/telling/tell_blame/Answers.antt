@@ -19,14 +19,14 @@ use Rattle.session_core.proofs.Told.{replies_then, replies_broken}
 use Rattle.session_core.proofs.Questions.{if_diagnosis-none, if_diagnosis-some, has_diagnosis, blame_lines-are}
 use Rattle.session_core.proofs.telling.tell_blame.Goals as goal
 
-pub returns-then-not-is_consistent-clause-reply : goal.returns-then-not-is_consistent-clause-reply
-returns-then-not-is_consistent-clause-reply g c =
+pub returns-then-not-has_diagnosis-clause-reply : goal.returns-then-not-has_diagnosis-clause-reply
+returns-then-not-has_diagnosis-clause-reply g c =
     let system = system_of c.args.basis.now in
     let s = c.args.session.now in
     let known = case_in c.args.basis.now c.args.words.now in
     let ds = all_diagnoses system known in
     subst (λ (items : List Item). Replies (g.O.Sink.got c.args.out.now) (g.O.Sink.got c.put_line.new.out) c.put_line.result items)
-    (sym (if_diagnosis-none system.costs s (system.consistent known) (blame_lines s ds 0 system.parts ++ end_line s ∷ []) c.if-not-is_consistent.ensures))
+    (sym (if_diagnosis-none system.costs s (system.consistent known) (blame_lines s ds 0 system.parts ++ end_line s ∷ []) c.if-not-has_diagnosis.ensures.some))
     (replies_one _ _ _ (inconsistent s) _ refl c.put_line.ensures.bytes)
 
 -- the lines by the verdicts are those by the diagnoses
@@ -59,9 +59,9 @@ returns-in_err-put_blames-clause-reply g c =
     let known = case_in subject words in
     let ds = all_diagnoses system known in
     let lines = told_lines subject words s c.graph.result.now c.costs.result.now c.blame_all.new.verdicts c.graph.ensures.basis c.requires.words c.graph.ensures.graph c.costs.ensures
-    (c.blame_all.auto.verdicts ∙ c.requires.verdicts) c.if-not-is_consistent.ensures c.blame_all.ensures.blame in
+    (c.blame_all.auto.verdicts ∙ c.requires.verdicts) c.if-not-has_diagnosis.ensures.some c.blame_all.ensures.blame in
     subst (λ (items : List Item). Replies (g.O.Sink.got c.args.out.now) (g.O.Sink.got c.put_blames.new.out) c.from_residual.result items)
-    (sym (if_diagnosis-some system.costs s (system.consistent known) (blame_lines s ds 0 system.parts ++ end_line s ∷ []) c.if-not-is_consistent.ensures))
+    (sym (if_diagnosis-some system.costs s (system.consistent known) (blame_lines s ds 0 system.parts ++ end_line s ∷ []) c.if-not-has_diagnosis.ensures.some))
     (replies_broken _ _ _ (blame_lines s ds 0 system.parts) (end_line s ∷ []) c.from_residual.ensures.0
     (subst (λ (items : List Item). WritesPart (g.O.Sink.got c.args.out.now) (g.O.Sink.got c.put_blames.new.out) items) lines c.in_err-put_blames.ensures.reply) ((_, refl), tt))
 
@@ -74,9 +74,9 @@ returns-clause-reply g c =
     let known = case_in subject words in
     let ds = all_diagnoses system known in
     let lines = told_lines subject words s c.graph.result.now c.costs.result.now c.blame_all.new.verdicts c.graph.ensures.basis c.requires.words c.graph.ensures.graph c.costs.ensures
-    (c.blame_all.auto.verdicts ∙ c.requires.verdicts) c.if-not-is_consistent.ensures c.blame_all.ensures.blame in
+    (c.blame_all.auto.verdicts ∙ c.requires.verdicts) c.if-not-has_diagnosis.ensures.some c.blame_all.ensures.blame in
     subst (λ (items : List Item). Replies (g.O.Sink.got c.args.out.now) (g.O.Sink.got c.put_line-2.new.out) c.put_line-2.result items)
-    (sym (if_diagnosis-some system.costs s (system.consistent known) (blame_lines s ds 0 system.parts ++ end_line s ∷ []) c.if-not-is_consistent.ensures))
+    (sym (if_diagnosis-some system.costs s (system.consistent known) (blame_lines s ds 0 system.parts ++ end_line s ∷ []) c.if-not-has_diagnosis.ensures.some))
     (replies_then _ _ _ _ (blame_lines s ds 0 system.parts) (end_line s ∷ [])
     (subst (λ (items : List Item). Writes (g.O.Sink.got c.args.out.now) (g.O.Sink.got c.put_blames.new.out) items) lines c.in_ok-put_blames.ensures.reply)
     (replies_one _ _ _ (end_line s) _ refl c.put_line-2.ensures.bytes))

@@ -48,4 +48,4 @@ returns-in-Some-find_part-clause-obeys g c =
 pub invariant_of-self : goal.invariant_of-self
 invariant_of-self g c =
     let there = c.in-Some.ensures.some in
-    holds_more c.self.inside.basis c.self.inside.open c.hold.new.self c.self.inside.scratch c.self.inside.verdicts.items _ c.self.invariant (c.hold.ensures c.args.session.now there.0 there.1)
+    holds_more c.self.inside.basis c.self.inside.open c.hold.new.self c.self.inside.scratch c.self.inside.verdicts.items c.self.inside.distiller _ c.self.invariant (c.hold.ensures c.args.session.now there.0 there.1)

@@ -52,4 +52,4 @@ pub start-requires-clause-closed : goal.start-requires-clause-closed
 start-requires-clause-closed g c = c.in-None-2.ensures.none
 
 pub invariant_of-self : goal.invariant_of-self
-invariant_of-self g c = holds_more c.self.inside.basis c.self.inside.open c.start.new.self c.self.inside.scratch c.self.inside.verdicts.items _ c.self.invariant c.start.ensures
+invariant_of-self g c = holds_more c.self.inside.basis c.self.inside.open c.start.new.self c.self.inside.scratch c.self.inside.verdicts.items c.self.inside.distiller _ c.self.invariant c.start.ensures

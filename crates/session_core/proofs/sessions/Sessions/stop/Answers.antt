@@ -29,4 +29,4 @@ returns-in-Some-clause-obeys g c =
 pub invariant_of-self : goal.invariant_of-self
 invariant_of-self g c =
     let there = c.in-Some.ensures.some in
-    holds_more c.self.inside.basis c.self.inside.open c.stop.new.self c.self.inside.scratch c.self.inside.verdicts.items (without c.args.session.now c.self.inside.open.table) c.self.invariant (c.stop.ensures c.args.session.now there.0 there.1)
+    holds_more c.self.inside.basis c.self.inside.open c.stop.new.self c.self.inside.scratch c.self.inside.verdicts.items c.self.inside.distiller (without c.args.session.now c.self.inside.open.table) c.self.invariant (c.stop.ensures c.args.session.now there.0 there.1)

@@ -58,4 +58,5 @@ invariant_of-self g c =
       unused = released_runs c.self.inside.scratch c.carve.new.self c.unwrap-run.result c.self.invariant.unused at.1 c.release.new.self c.release.ensures.runs;
       room = released_words c.self.inside.scratch c.carve.new.self c.unwrap-run.result c.self.invariant.unused at.1 c.release.new.self c.tell-told.new.scratch c.release.ensures.words ∙ c.self.invariant.room;
       one_a_part = ap length (written_back c.self.inside.verdicts.len c.tell-told.new.verdicts c.self.inside.verdicts.items (sym (c.tell-told.auto.verdicts ∙ c.deref_mut.ensures.len))) ∙ (same ∙ c.self.invariant.one_a_part);
+      serves = c.tell-told.ensures.serves;
     }

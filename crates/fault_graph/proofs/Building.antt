@@ -1,0 +1,445 @@
+-- The nodes of the smaller graph, one after the other, and the places of what stands for the nodes so far.
+use Rattle.std.proofs.Common.{◌≡◌, ◌≢◌, ℕ, zero, suc, ◌+◌, ◌-◌, ◌<◌, ◌≤◌, Bool, true, false, cond, List, [], ◌∷◌, ◌++◌, map, length, take, get_or, set, All, Option, Some, refl, ap, sym, ◌∙◌, subst, arith, inl, inr, ⊎_elim, length-append, get_or-set_same, get_or-set_other}
+use Rattle.std.specs.Prelude.{◌⊎◌, slice_get, nat_lt}
+use Rattle.std.specs.List.{list_any, filter}
+use Rattle.std.proofs.Math.Bool.{and-true, or-false}
+use Rattle.std.proofs.Math.ListN.{length-map}
+use Rattle.std.proofs.lemmas.Bool.{and_from, cases_lt, leb-true, le-leb, ltb-true, lt-ltb, false≢true}
+use Rattle.std.proofs.lemmas.List.Sums.{sum_by-append, sum_by-take-le}
+use Rattle.std.proofs.lemmas.Option.{slice_get-get_or, get_or_from_slice_get, same_Some}
+use Rattle.ranking.specs.Assignments.{Assignment}
+use Rattle.ranking.proofs.Members.{In, In-map, In-filtered, AtMost}
+use Rattle.graph_rules.specs.declared.NodeKind.{NodeKind}
+use Rattle.graph_rules.specs.declared.NodeKind.TheVariants.{Literal, And, Or}
+use Rattle.graph_rules.specs.Graphs.{Node, Graph, true_node, node_at, truth_by, mention_by, is_true, mentions, apart_at, kind_fits, node_fits, AreNodes, IsGraph}
+use Rattle.graph_rules.specs.GraphTexts.{edges}
+use Rattle.graph_rules.proofs.NodeValues.{are_below, value_of-last}
+use Rattle.graph_rules.proofs.NodesFit.{fits-get, apart-get, literal, AreNodes-push}
+use Rattle.conditioner.specs.Models.{total_cost}
+use Rattle.minimiser.specs.Costs.{part_cost, known_at, sum_costs, cheapest}
+use Rattle.minimiser.specs.Stored.{cost_in, AreLeastCosts}
+use Rattle.minimiser.specs.inner.Marked.{is_kid}
+use Rattle.minimiser.proofs.Costs.{IsCost, from_add, and_left, and_right}
+use Rattle.minimiser.proofs.Models.{LeastIs, same_or_not}
+use Rattle.minimiser.proofs.Sums.{cost_in-some}
+use Rattle.minimiser.proofs.Derivations.{is_cost, mention-at, costs-at, below, all-below, cheapest-kid}
+use Rattle.minimiser.proofs.Sweeping.{node_least, sum-kid, kid-in, kid-out, kid_before, value-is, root-low, cost_in-is}
+use Rattle.fault_graph.specs.Small.{HasParent, Joins}
+use Rattle.fault_graph.specs.inner.Marks.{HasMarkedParent, AreMarks}
+use Rattle.fault_graph.specs.inner.Rows.{keeps, row_of, Adds, root_node}
+use Rattle.fault_graph.proofs.Standing.{StandsFor, StandsFor-same}
+use Rattle.fault_graph.proofs.Kin.{KidsStand, node-stands, narrower-any, narrower-apart}
+use Rattle.fault_graph.proofs.Placing.{faults_in-all}
+use Rattle.fault_graph.proofs.Places.{IsPlace, place-more, IsFrom, AreFrom, from-none, from-push, AllJoin, joins-before, joins-push, parent-more, parent-last, Waits, IsNeeded}
+use Rattle.fault_graph.proofs.Smallness.{small-from}
+use Rattle.fault_graph.proofs.Roots.{IsWhole, whole}
+
+-- ---- lists
+
+take-more : (nodes : List Node) (i : ℕ) (node : Node) → slice_get nodes i ≡ Some node → take (i + 1) nodes ≡ take i nodes ++ node ∷ []
+take-more nodes i node e = (let next : i + 1 ≡ suc i = omega arith in ap (λ n. take n nodes) next) ∙ go nodes i e where
+  go : (nodes : List Node) (i : ℕ) → slice_get nodes i ≡ Some node → take (suc i) nodes ≡ take i nodes ++ node ∷ []
+  go [] i e = absurd (cc)
+  go (m ∷ nodes) zero e = let s : m ≡ node = cc in λ j. s j ∷ []
+  go (m ∷ nodes) (suc i) e = ap (λ ns. m ∷ ns) (go nodes i e)
+
+edges-push : (nodes : List Node) (node : Node) → edges (nodes ++ node ∷ []) ≡ edges nodes + length node.kids
+edges-push nodes node =
+    let one : edges (node ∷ []) ≡ length node.kids = omega arith in
+    omega (arith, sum_by-append (λ (x : Node). length x.kids) nodes (node ∷ []), one)
+
+filter-le : (keep : ℕ → Bool) (kids : List ℕ) → length (filter keep kids) ≤ length kids
+filter-le keep [] = omega arith
+filter-le keep (k ∷ kids) = by_first (keep k) (filter-le keep kids) where
+  by_first : (b : Bool) → length (filter keep kids) ≤ length kids → length (cond b (k ∷ filter keep kids) (filter keep kids)) ≤ length (k ∷ kids)
+  by_first true h = omega arith
+  by_first false h = omega arith
+
+row-le : (values places : List ℕ) (cost : ℕ) (kids : List ℕ) → length (row_of values places cost kids) ≤ length kids
+row-le values places cost kids = omega (arith, length-map (filter (keeps values cost) kids) (λ k. get_or places k 0), filter-le (keeps values cost) kids)
+
+empty : (xs : List ℕ) → length xs ≤ 0 → xs ≡ []
+empty [] h = refl
+empty (x ∷ xs) h = absurd (omega arith)
+
+-- a sum of nothing costs nothing
+free-sum : (C : ℕ → Option ℕ) (kids : List ℕ) (c : ℕ) → sum_costs (map C kids) ≡ Some c → ((j d : ℕ) → In j kids → C j ≡ Some d → d ≡ 0) → c ≡ 0
+free-sum C [] c e h = sym (same_Some 0 c e)
+free-sum C (k ∷ kids) c e h =
+    let s = from_add (C k) (sum_costs (map C kids)) c e in
+    omega (arith, s.sum_is, h k s.left (inl refl) s.left_is, free-sum C kids s.right s.right_is (λ j d i. h j d (inr i)))
+
+-- what is in a row is the place of a kid that stays
+row-source : (keep : ℕ → Bool) (place : ℕ → ℕ) (kids : List ℕ) (q : ℕ) → In q (map place (filter keep kids)) → (j : ℕ) × In j kids × (keep j ≡ true) × (place j ≡ q)
+row-source keep place [] q m = absurd m
+row-source keep place (k ∷ kids) q m = by_keep (λ i. row-source keep place kids q i) (keep k) refl m where
+  by_keep : (In q (map place (filter keep kids)) → (j : ℕ) × In j kids × (keep j ≡ true) × (place j ≡ q))
+      → (b : Bool) → keep k ≡ b → In q (map place (cond b (k ∷ filter keep kids) (filter keep kids))) → (j : ℕ) × In j (k ∷ kids) × (keep j ≡ true) × (place j ≡ q)
+  by_keep more true e (inl s) = (k, inl refl, e, sym s)
+  by_keep more true e (inr i) = let x = more i in (x.0, inr x.1, x.2, x.3)
+  by_keep more false e i = let x = more i in (x.0, inr x.1, x.2, x.3)
+
+row-below : (keep : ℕ → Bool) (place : ℕ → ℕ) (own : ℕ) (kids : List ℕ) → ((j : ℕ) → In j kids → keep j ≡ true → place j < own) → are_below own (map place (filter keep kids)) ≡ true
+row-below keep place own [] h = refl
+row-below keep place own (j ∷ kids) h = by_first (keep j) refl (row-below keep place own kids (λ i m. h i (inr m))) where
+  by_first : (b : Bool) → keep j ≡ b → are_below own (map place (filter keep kids)) ≡ true → are_below own (map place (cond b (j ∷ filter keep kids) (filter keep kids))) ≡ true
+  by_first true k more = and_from _ _ (lt-ltb (place j) own (h j (inl refl) k)) more
+  by_first false k more = more
+
+row-kind : (vars : ℕ) (values places : List ℕ) (cost : ℕ) (what : NodeKind) (kids : List ℕ) → kind_fits vars what kids ≡ true → kind_fits vars what (row_of values places cost kids) ≡ true
+row-kind vars values places cost (Literal var positive) kids fit =
+    let alone : kids ≡ [] = (literal vars var positive kids fit).alone in
+    subst (λ ks. kind_fits vars (Literal var positive) (row_of values places cost ks) ≡ true) (sym alone) (subst (λ ks. kind_fits vars (Literal var positive) ks ≡ true) alone fit)
+row-kind vars values places cost And kids fit = lt-ltb (length (row_of values places cost kids)) 4294967296 (omega (arith, row-le values places cost kids, ltb-true (length kids) 4294967296 fit))
+row-kind vars values places cost Or kids fit = lt-ltb (length (row_of values places cost kids)) 4294967296 (omega (arith, row-le values places cost kids, ltb-true (length kids) 4294967296 fit))
+
+keeps-out : (values : List ℕ) (cost j : ℕ) → keeps values cost j ≡ true → (0 < get_or values j 0) × (get_or values j 0 ≤ cost)
+keeps-out values cost j e = (ltb-true 0 (get_or values j 0) (and_left _ _ e), leb-true _ _ (and_right (nat_lt 0 (get_or values j 0)) _ e))
+
+keeps-not : (values : List ℕ) (cost j : ℕ) → keeps values cost j ≡ false → (get_or values j 0 ≡ 0) ⊎ (cost < get_or values j 0)
+keeps-not values cost j e = ⊎_elim
+    (λ (p : 0 < get_or values j 0). ⊎_elim (λ q. inr q) (λ (q : get_or values j 0 ≤ cost). absurd (false≢true (sym e ∙ and_from _ _ (lt-ltb 0 (get_or values j 0) p) (le-leb _ _ q)))) (cases_lt cost (get_or values j 0)))
+    (λ (p : get_or values j 0 ≤ 0). inl (omega arith))
+    (cases_lt 0 (get_or values j 0))
+
+-- ---- the nodes so far
+
+module _ (graph : Graph) (words costs : List ℕ) where
+  -- the nodes of the graph before one were met: of those that are marked and cost something it is known what stands for them
+  pub record IsBuilt (values marks places : List ℕ) (nodes : List Node) (at : ℕ) : Type 0 where
+    pub are : AreNodes graph.vars nodes
+    pub few : length nodes ≤ at
+    pub few_edges : edges nodes ≤ edges (take at graph.nodes)
+    pub ahead : (k : ℕ) → at ≤ k → get_or places k 0 ≡ get_or marks k 0
+    pub built : (k c : ℕ) → k < at → get_or marks k 0 ≡ 1 → node_least graph words costs k ≡ Some c → 0 < c → IsPlace graph words costs nodes k c (get_or places k 0)
+    pub from : AreFrom graph words costs nodes
+    pub joins : AllJoin nodes
+    pub needed : (p : ℕ) → p < length nodes → IsNeeded graph values marks places nodes at p
+
+  pub built-none : (values marks : List ℕ) → IsBuilt values marks marks [] 0
+  built-none values marks = record {
+    are = record { fit = refl; apart = λ v. tt };
+    few = omega arith;
+    few_edges = omega arith;
+    ahead = λ k h. refl;
+    built = λ k c h. absurd (omega arith);
+    from = from-none graph words costs;
+    joins = λ p h. absurd (omega arith);
+    needed = λ p h. absurd (omega arith);
+  }
+
+module _ (graph : Graph) (words costs : List ℕ) (ok : IsGraph graph) (long : length words ≡ graph.vars) (within : length costs ≤ graph.vars) (total : total_cost costs < 2147483647)
+    (most : ℕ) (least_most : LeastIs graph costs words most) (values : List ℕ) (v : AreLeastCosts graph words costs values) (marks : List ℕ) (m : AreMarks graph.nodes values marks 0) where
+  abbrev root : ℕ
+  root = length graph.nodes - 1
+
+  value-at : (k : ℕ) → k < length graph.nodes → cost_in (get_or values k 0) ≡ node_least graph words costs k
+  value-at k h = value-is graph words costs ok long within total most least_most values v k h
+
+  marked-cost : (k : ℕ) → k < length graph.nodes → get_or marks k 0 ≡ 1 → node_least graph words costs k ≡ Some (get_or values k 0)
+  marked-cost k h e = sym (value-at k h) ∙ cost_in-some (get_or values k 0) (λ z. absurd (omega (arith, z, m.low k h e, root-low graph words costs ok long within total most least_most values v)))
+
+  cost-value : (k c : ℕ) → k < length graph.nodes → node_least graph words costs k ≡ Some c → get_or values k 0 ≡ c
+  cost-value k c h e = cost_in-is (get_or values k 0) c (value-at k h ∙ e)
+
+  -- a node that is passed over
+  pub built-past : (places : List ℕ) (nodes : List Node) (at : ℕ) → at < length graph.nodes → IsBuilt graph words costs values marks places nodes at → (get_or places at 0 ≡ 1 → get_or values at 0 ≡ 0)
+      → IsBuilt graph words costs values marks places nodes (at + 1)
+  built-past places nodes at lt is free = record {
+    are = is.are;
+    few = omega (arith, is.few);
+    few_edges = let e = slice_get-get_or graph.nodes at true_node lt in omega (arith, is.few_edges, ap edges (take-more graph.nodes at _ e), edges-push (take at graph.nodes) (node_at graph.nodes at));
+    ahead = λ k h. is.ahead k (omega arith);
+    built = λ k c h e f dear. ⊎_elim
+        (λ (q : k ≡ at). absurd (omega (arith, dear, cost-value k c (omega arith) f, ap (λ n. get_or values n 0) q, free (is.ahead at (omega arith) ∙ ap (λ n. get_or marks n 0) (sym q) ∙ e))))
+        (λ (q : k ≢ at). is.built k c (omega arith) e f dear)
+        (same_or_not k at);
+    from = is.from;
+    joins = is.joins;
+    needed = λ p h. past p (is.needed p h);
+  } where
+    past : (p : ℕ) → IsNeeded graph values marks places nodes at p → IsNeeded graph values marks places nodes (at + 1) p
+    past p (inl h) = inl h
+    past p (inr w) = inr (record {
+      parent = w.parent;
+      from = ⊎_elim
+          (λ (s : w.parent ≡ at). let none : get_or values w.parent 0 ≡ 0 = ap (λ n. get_or values n 0) s ∙ free (is.ahead at (omega arith) ∙ ap (λ n. get_or marks n 0) (sym s) ∙ w.marked) in
+          let p = keeps-out values (get_or values w.parent 0) w.kid w.stays in absurd (omega (arith, none, p.0, p.1)))
+          (λ (ne : w.parent ≢ at). omega (arith, ne, w.from))
+          (same_or_not w.parent at);
+      within = w.within;
+      marked = w.marked;
+      kid = w.kid;
+      met = omega (arith, w.met);
+      is_kid = w.is_kid;
+      stays = w.stays;
+      there = w.there;
+    })
+
+  module _ (places : List ℕ) (nodes : List Node) (at : ℕ) (lt : at < length graph.nodes) (is : IsBuilt graph words costs values marks places nodes at) (mark : get_or places at 0 ≡ 1) (costly : get_or values at 0 ≢ 0)
+      (what : NodeKind) (kids : List ℕ) (e : slice_get graph.nodes at ≡ Some (record { what = what; kids = kids })) where
+    abbrev c : ℕ
+    c = get_or values at 0
+
+    abbrev keep : ℕ → Bool
+    keep j = keeps values c j
+
+    abbrev place : ℕ → ℕ
+    place j = get_or places j 0
+
+    abbrev row : List ℕ
+    row = row_of values places c kids
+
+    node-mark : get_or marks at 0 ≡ 1
+    node-mark = sym (is.ahead at (omega arith)) ∙ mark
+
+    cost-is : node_least graph words costs at ≡ Some c
+    cost-is = marked-cost at lt node-mark
+
+    earlier : (j : ℕ) → In j kids → j < at
+    earlier j i = all-below at kids j (below graph words costs ok at _ e) i
+
+    kid-mark : (j : ℕ) → In j kids → get_or values j 0 ≤ c → get_or marks j 0 ≡ 1
+    kid-mark j i h = m.down at j (omega arith) lt node-mark (subst (λ (n : Node). is_kid n.kids j ≡ true) (sym (get_or_from_slice_get graph.nodes at _ true_node e)) (kid-in kids j i)) h
+
+    kid-place : (j : ℕ) → In j kids → keep j ≡ true → IsPlace graph words costs nodes j (get_or values j 0) (place j)
+    kid-place j i k =
+        let p = keeps-out values c j k in
+        let h = kid-mark j i p.1 in
+        is.built j (get_or values j 0) (earlier j i) h (marked-cost j (omega (arith, earlier j i)) h) p.0
+
+    kids-stand : KidsStand graph words costs ok keep place (λ p a. is_true nodes p a) kids c
+    kids-stand = record {
+      stay = λ j i k.
+          let p = keeps-out values c j k in
+          record { cost = get_or values j 0; is = marked-cost j (omega (arith, earlier j i)) (kid-mark j i p.1); cheap = p.1; stands = (kid-place j i k).stands };
+      rest = λ j d i k f.
+          let same = cost-value j d (omega (arith, earlier j i)) f in
+          subst (λ x. (x ≡ 0) ⊎ (c < x)) same (keeps-not values c j k);
+    }
+
+    stands : StandsFor (known_at words) (part_cost costs) (length costs) (λ a. is_true graph.nodes at a) (λ w. mentions graph.nodes w at) c (λ a. truth_by a what (map (λ p. is_true nodes p a) row))
+    stands = node-stands graph words costs ok keep place (λ p a. is_true nodes p a) at c what kids e cost-is (omega arith) kids-stand
+
+    inside : (w : ℕ) → mention_by w what (map (mentions nodes w) row) ≡ true → mentions graph.nodes w at ≡ true
+    inside w h = mention-at graph words costs ok at _ e w ∙ by_kind what h where
+      any : list_any (λ b. b) (map (mentions nodes w) row) ≡ true → list_any (λ b. b) (map (mentions graph.nodes w) kids) ≡ true
+      any h = narrower-any keep place (mentions nodes w) (mentions graph.nodes w) kids (λ j i k s. (kid-place j i k).inside w s) h
+
+      by_kind : (what : NodeKind) → mention_by w what (map (mentions nodes w) row) ≡ true → mention_by w what (map (mentions graph.nodes w) kids) ≡ true
+      by_kind (Literal var positive) h = h
+      by_kind And h = any h
+      by_kind Or h = any h
+
+    below-all : are_below (length nodes) row ≡ true
+    below-all = row-below keep place (length nodes) kids (λ j i k. (kid-place j i k).there)
+
+    fits : node_fits graph.vars (length nodes) (record { what = what; kids = row }) ≡ true
+    fits = and_from _ _ below-all (row-kind graph.vars values places c what kids (fits-get graph.vars graph.nodes at _ ok.nodes.fit e).kind)
+
+    apart : (w : ℕ) → apart_at (mentions nodes w) what row ≡ true
+    apart w = by_kind what (apart-get (mentions graph.nodes w) graph.nodes at _ (ok.nodes.apart w) e) where
+      by_kind : (what : NodeKind) → apart_at (mentions graph.nodes w) what kids ≡ true → apart_at (mentions nodes w) what row ≡ true
+      by_kind (Literal var positive) h = refl
+      by_kind And h = narrower-apart keep place (mentions nodes w) (mentions graph.nodes w) kids (λ j i k s. (kid-place j i k).inside w s) h
+      by_kind Or h = refl
+
+    pub are-pushed : AreNodes graph.vars (nodes ++ record { what = what; kids = row } ∷ [])
+    are-pushed = AreNodes-push graph.vars nodes (record { what = what; kids = row }) is.are fits apart
+
+    pub pushed : IsPlace graph words costs (nodes ++ record { what = what; kids = row } ∷ []) at c (length nodes)
+    pushed = record {
+      there = omega (arith, length-append nodes (record { what = what; kids = row } ∷ []));
+      stands = StandsFor-same (known_at words) (part_cost costs) (length costs) (λ a. refl) (λ w. refl) refl (λ a. value_of-last (truth_by a) nodes (record { what = what; kids = row })) stands;
+      inside = λ w h. inside w (sym (value_of-last (mention_by w) nodes (record { what = what; kids = row })) ∙ h);
+    }
+
+    -- one kid that stays stands for the node
+    only : (p : ℕ) → row ≡ p ∷ [] → IsPlace graph words costs nodes at c p
+    only p one = record {
+      there = ltb-true p (length nodes) (and_left _ _ (subst (λ ks. are_below (length nodes) ks ≡ true) one below-all));
+      stands = StandsFor-same (known_at words) (part_cost costs) (length costs) (λ a. refl) (λ w. refl) refl (λ a. sym (ap (λ ks. truth_by a what (map (λ q. is_true nodes q a) ks)) one ∙ truth-one a what e)) stands;
+      inside = λ w h. inside w (ap (λ ks. mention_by w what (map (mentions nodes w) ks)) one ∙ mention-one w what e h);
+    } where
+      no-literal : (var : ℕ) (positive : Bool) → slice_get graph.nodes at ≡ Some (record { what = Literal var positive; kids = kids }) → ⊥
+      no-literal var positive f =
+          let alone : kids ≡ [] = (literal graph.vars var positive kids (fits-get graph.vars graph.nodes at _ ok.nodes.fit f).kind).alone in
+          absurd (let none : [] ≡ p ∷ [] = sym (ap (row_of values places c) alone) ∙ one in cc)
+
+      truth-one : (a : Assignment) (what : NodeKind) → slice_get graph.nodes at ≡ Some (record { what = what; kids = kids }) → truth_by a what (map (λ q. is_true nodes q a) (p ∷ [])) ≡ is_true nodes p a
+      truth-one a (Literal var positive) f = absurd (no-literal var positive f)
+      truth-one a And f = and-true (is_true nodes p a)
+      truth-one a Or f = or-false (is_true nodes p a)
+
+      mention-one : (w : ℕ) (what : NodeKind) → slice_get graph.nodes at ≡ Some (record { what = what; kids = kids }) → mentions nodes w p ≡ true → mention_by w what (map (mentions nodes w) (p ∷ [])) ≡ true
+      mention-one w (Literal var positive) f h = absurd (no-literal var positive f)
+      mention-one w And f h = or-false (mentions nodes w p) ∙ h
+      mention-one w Or f h = or-false (mentions nodes w p) ∙ h
+
+    -- ---- where it comes from, and what it is needed for
+
+    or-kid : what ≡ Or → (q : ℕ) → In q row → IsFrom graph words costs nodes c q
+    or-kid o q i =
+        let x = row-source keep place kids q i in
+        let p = keeps-out values c x.0 x.2 in
+        let is_cost = marked-cost x.0 (omega (arith, earlier x.0 x.1)) (kid-mark x.0 x.1 p.1) in
+        let least : cheapest (map (node_least graph words costs) kids) ≡ Some c = sym (costs-at graph words costs ok at _ (e ∙ ap (λ (w : NodeKind). Some (record { what = w; kids = kids })) o)) ∙ cost-is in
+        let high : c ≤ get_or values x.0 0 = subst (λ d. AtMost d (get_or values x.0 0)) least (cheapest-kid (node_least graph words costs) kids x.0 (get_or values x.0 0) x.1 is_cost) in
+        let same : get_or values x.0 0 ≡ c = omega (arith, high, p.1) in
+        subst (λ d. IsFrom graph words costs nodes d q) same
+        (subst (λ r. IsFrom graph words costs nodes (get_or values x.0 0) r) x.3 (record { node = x.0; dear = p.0; is = is_cost; place = kid-place x.0 x.1 x.2 }))
+
+    pub from-pushed : AreFrom graph words costs (nodes ++ record { what = what; kids = row } ∷ [])
+    from-pushed = from-push graph words costs nodes (record { what = what; kids = row }) c is.from (record { node = at; dear = omega arith; is = cost-is; place = pushed }) or-kid
+
+    -- an and or an or that costs something has a kid that stays
+    joined : length row ≢ 1 → Joins what (length row)
+    joined many = by_kind what refl where
+      out : row ≡ [] → (j : ℕ) → In j kids → keep j ≡ false
+      out none j i = by_keep (keep j) refl where
+        by_keep : (b : Bool) → keep j ≡ b → keep j ≡ false
+        by_keep true k = absurd (subst (In (place j)) none (In-map place j (filter keep kids) (In-filtered keep j kids i k)))
+        by_keep false k = k
+
+      no-and : what ≡ And → row ≡ [] → ⊥
+      no-and o none =
+          let sum : sum_costs (map (node_least graph words costs) kids) ≡ Some c = sym (costs-at graph words costs ok at _ (e ∙ ap (λ (w : NodeKind). Some (record { what = w; kids = kids })) o)) ∙ cost-is in
+          costly (free-sum (node_least graph words costs) kids c sum
+          (λ j d i f.
+          let most = sum-kid (node_least graph words costs) kids c j sum i in
+          let same : get_or values j 0 ≡ d = cost-value j d (omega (arith, earlier j i)) f in
+          ⊎_elim (λ (z : get_or values j 0 ≡ 0). omega (arith, z, same)) (λ (q : c < get_or values j 0). absurd (omega (arith, q, same, most.2, same_Some most.0 d (sym most.1 ∙ f)))) (keeps-not values c j (out none j i))))
+
+      no-or : what ≡ Or → row ≡ [] → ⊥
+      no-or o none =
+          let cost = subst (λ d. IsCost (known_at words) (part_cost costs) (length costs) (λ a. is_true graph.nodes at a) (λ w. mentions graph.nodes w at) d) cost-is (is_cost graph words costs ok at) in
+          let r = cost.reached c refl in
+          false≢true (subst (λ w. truth_by r.by w (map (λ p. is_true nodes p r.by) []) ≡ true) o (subst (λ ps. truth_by r.by what (map (λ p. is_true nodes p r.by) ps) ≡ true) none (stands.onto r.by r.agrees r.holds (omega (arith, r.cheap, faults_in-all (known_at words) (part_cost costs) (length costs) (λ w. mentions graph.nodes w at) r.by)))))
+
+      some : (row ≡ [] → ⊥) → 1 < length row
+      some not = ⊎_elim (λ (p : 1 < length row). p) (λ (p : length row ≤ 1). absurd (not (empty row (omega (arith, p, many))))) (cases_lt 1 (length row))
+
+      by_kind : (w : NodeKind) → what ≡ w → Joins w (length row)
+      by_kind (Literal var positive) o = tt
+      by_kind And o = some (no-and o)
+      by_kind Or o = some (no-or o)
+
+    -- what waits for this node is in its row
+    in-row : (q : ℕ) (w : Waits graph values marks places at q) → w.parent ≡ at → In q row
+    in-row q w s =
+        let kid : In w.kid kids = subst (λ (n : Node). In w.kid n.kids) (get_or_from_slice_get graph.nodes at _ true_node e) (subst (λ n. In w.kid (node_at graph.nodes n).kids) s w.is_kid) in
+        subst (λ x. In x row) w.there (In-map place w.kid (filter keep kids) (In-filtered keep w.kid kids kid (subst (λ n. keeps values (get_or values n 0) w.kid ≡ true) s w.stays)))
+
+    -- what waits for another goes on
+    carry : (new : List Node) (p q : ℕ) → Waits graph values marks places at q → (In q row → IsNeeded graph values marks (set places at p) new (at + 1) q) → IsNeeded graph values marks (set places at p) new (at + 1) q
+    carry new p q w met = ⊎_elim
+        (λ (s : w.parent ≡ at). met (in-row q w s))
+        (λ (ne : w.parent ≢ at).
+        let other : w.kid ≢ at = omega (arith, w.met) in
+        let same : get_or (set places at p) w.kid 0 ≡ get_or places w.kid 0 = rw get_or-set_other refl in
+        inr (record { parent = w.parent; from = omega (arith, ne, w.from); within = w.within; marked = w.marked; kid = w.kid; met = omega (arith, w.met); is_kid = w.is_kid; stays = w.stays; there = same ∙ w.there }))
+        (same_or_not w.parent at)
+
+    -- the node waits for a marked parent
+    waits : (p : ℕ) → at < root → at < length places → Waits graph values marks (set places at p) (at + 1) p
+    waits p early room = ⊎_elim
+        (λ (r : at ≡ length graph.nodes - 1). absurd (omega (arith, r, early)))
+        (λ (h : HasMarkedParent graph.nodes values marks at). record {
+          parent = h.parent;
+          from = omega (arith, kid_before graph h.parent at ok h.within h.kid);
+          within = h.within;
+          marked = h.marked;
+          kid = at;
+          met = omega arith;
+          is_kid = kid-out (node_at graph.nodes h.parent).kids at h.kid;
+          stays = and_from _ _ (lt-ltb 0 c (omega arith)) (le-leb _ _ h.cheap);
+          there = rw get_or-set_same refl;
+        })
+        (m.up at lt node-mark)
+
+    needed-pushed : at < root → at < length places → (q : ℕ) → q < length (nodes ++ record { what = what; kids = row } ∷ []) → IsNeeded graph values marks (set places at (length nodes)) (nodes ++ record { what = what; kids = row } ∷ []) (at + 1) q
+    needed-pushed early room q h = ⊎_elim
+        (λ (s : q ≡ length nodes). inr (subst (Waits graph values marks (set places at (length nodes)) (at + 1)) (sym s) (waits (length nodes) early room)))
+        (λ (ne : q ≢ length nodes). by_need (is.needed q (omega (arith, ne, h, length-append nodes (record { what = what; kids = row } ∷ [])))))
+        (same_or_not q (length nodes)) where
+          by_need : IsNeeded graph values marks places nodes at q → IsNeeded graph values marks (set places at (length nodes)) (nodes ++ record { what = what; kids = row } ∷ []) (at + 1) q
+          by_need (inl x) = inl (parent-more nodes (record { what = what; kids = row }) q x)
+          by_need (inr w) = carry (nodes ++ record { what = what; kids = row } ∷ []) (length nodes) q w (λ i. inl (parent-last nodes (record { what = what; kids = row }) q i))
+
+    needed-only : (p : ℕ) → row ≡ p ∷ [] → at < root → at < length places → (q : ℕ) → q < length nodes → IsNeeded graph values marks (set places at p) nodes (at + 1) q
+    needed-only p one early room q h = by_need (is.needed q h) where
+      same : In q (p ∷ []) → q ≡ p
+      same (inl s) = s
+      same (inr n) = absurd n
+
+      by_need : IsNeeded graph values marks places nodes at q → IsNeeded graph values marks (set places at p) nodes (at + 1) q
+      by_need (inl x) = inl x
+      by_need (inr w) = carry nodes p q w (λ i. inr (subst (Waits graph values marks (set places at p) (at + 1)) (sym (same (subst (In q) one i))) (waits p early room)))
+
+    -- where the node is the last of the graph, all that is there is needed
+    pub all-needed : length graph.nodes ≤ at + 1 → (q : ℕ) → q < length nodes → HasParent (nodes ++ record { what = what; kids = row } ∷ []) q
+    all-needed end q h = by_need (is.needed q h) where
+      by_need : IsNeeded graph values marks places nodes at q → HasParent (nodes ++ record { what = what; kids = row } ∷ []) q
+      by_need (inl x) = parent-more nodes (record { what = what; kids = row }) q x
+      by_need (inr w) = parent-last nodes (record { what = what; kids = row }) q (in-row q w (omega (arith, end, w.from, w.within)))
+
+    -- what stands for the node is there now
+    noted : (new : List Node) (p : ℕ) → at < length places → AreNodes graph.vars new → length new ≤ at + 1 → edges new ≤ edges (take (at + 1) graph.nodes)
+        → ((k d q : ℕ) → IsPlace graph words costs nodes k d q → IsPlace graph words costs new k d q) → IsPlace graph words costs new at c p
+        → AreFrom graph words costs new → AllJoin new → ((q : ℕ) → q < length new → IsNeeded graph values marks (set places at p) new (at + 1) q) → IsBuilt graph words costs values marks (set places at p) new (at + 1)
+    noted new p room are few few_edges more here from joins needed = record {
+      are = are;
+      few = few;
+      few_edges = few_edges;
+      ahead = λ k h. let ne : k ≢ at = omega arith in (rw get_or-set_other refl) ∙ is.ahead k (omega arith);
+      built = λ k d h f g dear. ⊎_elim
+          (λ (q : k ≡ at).
+          let same : c ≡ d = same_Some c d (sym cost-is ∙ ap (λ x. node_least graph words costs x) (sym q) ∙ g) in
+          let at_place : get_or (set places at p) k 0 ≡ p = ap (λ n. get_or (set places at p) n 0) q ∙ (rw get_or-set_same refl) in
+          subst (λ x. IsPlace graph words costs new k d x) (sym at_place) (subst (λ x. IsPlace graph words costs new k x p) same (subst (λ n. IsPlace graph words costs new n c p) (sym q) here)))
+          (λ (q : k ≢ at). subst (λ x. IsPlace graph words costs new k d x) (sym (rw get_or-set_other refl)) (more k d (get_or places k 0) (is.built k d (omega arith) f g dear)))
+          (same_or_not k at);
+      from = from;
+      joins = joins;
+      needed = needed;
+    }
+
+    edges-so-far : edges nodes + length row ≤ edges (take (at + 1) graph.nodes)
+    edges-so-far = omega (arith, is.few_edges, ap edges (take-more graph.nodes at _ e), edges-push (take at graph.nodes) (record { what = what; kids = kids }), row-le values places c kids)
+
+    pub built-added : (new : List Node) (p : ℕ) → at < length places → at < root → Adds nodes (record { what = what; kids = row }) new p → IsBuilt graph words costs values marks (set places at p) new (at + 1)
+    built-added new p room early (inl (same, one)) =
+        subst (λ ns. IsBuilt graph words costs values marks (set places at p) ns (at + 1)) (sym same)
+        (noted nodes p room is.are (omega (arith, is.few)) (omega (arith, edges-so-far)) (λ k d q x. x) (only p one) is.from is.joins (needed-only p one early room))
+    built-added new p room early (inr (same, last, many)) =
+        subst (λ ns. IsBuilt graph words costs values marks (set places at p) ns (at + 1)) (sym same)
+        (subst (λ q. IsBuilt graph words costs values marks (set places at q) (nodes ++ record { what = what; kids = row } ∷ []) (at + 1)) (sym last)
+        (noted (nodes ++ record { what = what; kids = row } ∷ []) (length nodes) room are-pushed (omega (arith, is.few, length-append nodes (record { what = what; kids = row } ∷ []))) (omega (arith, edges-so-far, edges-push nodes (record { what = what; kids = row })))
+        (λ k d q x. place-more graph words costs nodes (record { what = what; kids = row }) k d q x) pushed from-pushed (joins-push nodes (record { what = what; kids = row }) is.joins (joined many)) (needed-pushed early room)))
+
+  -- ---- the root
+
+  pub root-added : All (λ c. 0 < c) costs → (places : List ℕ) (nodes new : List Node) (at : ℕ) → at ≡ root → get_or values root 0 ≢ 0 → IsBuilt graph words costs values marks places nodes at
+      → new ≡ nodes ++ root_node graph values places ∷ [] → IsWhole graph words costs ok long within new
+  root-added dears places nodes new at end costly is same = subst (IsWhole graph words costs ok long within) (sym same)
+      (whole graph words costs ok long within dears nodes node (get_or values root 0) (are-pushed places nodes root there built mark costly (node_at graph.nodes root).what (node_at graph.nodes root).kids e) built.few
+      (omega (arith, edges-push nodes node, edges-so-far places nodes root there built mark costly (node_at graph.nodes root).what (node_at graph.nodes root).kids e, sum_by-take-le (λ (x : Node). length x.kids) graph.nodes (root + 1)))
+      (marked-cost root there m.root) (pushed places nodes root there built mark costly (node_at graph.nodes root).what (node_at graph.nodes root).kids e).stands
+      (λ sound. small-from graph (record { nodes = nodes ++ node ∷ []; vars = graph.vars }) words costs ok sound
+      (from-pushed places nodes root there built mark costly (node_at graph.nodes root).what (node_at graph.nodes root).kids e)
+      (λ p h. all-needed places nodes root there built mark costly (node_at graph.nodes root).what (node_at graph.nodes root).kids e (omega arith) p (omega (arith, h, length-append nodes (node ∷ []))))
+      (λ p h. joins-before nodes node built.joins p (omega (arith, h, length-append nodes (node ∷ [])))))) where
+        there : root < length graph.nodes
+        there = omega (arith, ok.some)
+
+        built : IsBuilt graph words costs values marks places nodes root
+        built = subst (λ n. IsBuilt graph words costs values marks places nodes n) end is
+
+        e : slice_get graph.nodes root ≡ Some (node_at graph.nodes root)
+        e = slice_get-get_or graph.nodes root true_node there
+
+        mark : get_or places root 0 ≡ 1
+        mark = built.ahead root (omega arith) ∙ m.root
+
+        node : Node
+        node = root_node graph values places

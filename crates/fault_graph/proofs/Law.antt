@@ -1,0 +1,133 @@
+-- A graph whose root stands for that of another has the same least cost and the same diagnoses.
+use Rattle.std.proofs.Common.{◌≡◌, ◌≢◌, ℕ, zero, suc, ◌+◌, ◌-◌, ◌<◌, ◌≤◌, Bool, true, false, cond, ◌&&◌, List, [], ◌∷◌, length, All, Option, Some, None, refl, ap, sym, ◌∙◌, subst, arith, ⊎_elim}
+use Rattle.std.specs.Prelude.{nat_le}
+use Rattle.std.specs.List.{filter}
+use Rattle.std.proofs.lemmas.Bool.{and_from, leb-true}
+use Rattle.std.proofs.lemmas.List.{ext_get_or}
+use Rattle.ranking.specs.Cases.{agrees_at}
+use Rattle.ranking.specs.Ranking.{Test, cost, states, passing, is_at_most}
+use Rattle.ranking.proofs.Members.{bits_length, filter_same}
+use Rattle.graph_rules.specs.Graphs.{Graph, is_true, mentions, IsGraph}
+use Rattle.conditioner.specs.Models.{has_model, fits_words, models, least_under, diagnoses_under}
+use Rattle.minimiser.specs.Costs.{part_cost, known_at}
+use Rattle.minimiser.specs.inner.Held.{held_cost}
+use Rattle.minimiser.proofs.Totals.{total, total-le}
+use Rattle.minimiser.proofs.Costs.{fault, all_faults, and_left, and_right}
+use Rattle.minimiser.proofs.Models.{same_or_not}
+use Rattle.minimiser.proofs.Whole.{AddHeld, least_is, state_of, assignment_of}
+use Rattle.minimiser.proofs.Derivations.{C}
+use Rattle.fault_graph.proofs.Standing.{StandsFor}
+use Rattle.fault_graph.proofs.Placing.{high, over, place-cost}
+
+-- ---- sums and bits
+
+-- numbers that are no greater and not less together are the same
+total-same : (f g : ℕ → ℕ) → ((v : ℕ) → f v ≤ g v) → (a n : ℕ) → total g a n ≤ total f a n → (v : ℕ) → a ≤ v → v < a + n → g v ≤ f v
+total-same f g h a zero few v low high = absurd (omega arith)
+total-same f g h a (suc n) few v low high = ⊎_elim
+    (λ (e : v ≡ a). subst (λ u. g u ≤ f u) (sym e) (omega (arith, few, total-le f g h (a + 1) n)))
+    (λ (ne : v ≢ a). total-same f g h (a + 1) n (omega (arith, few, h a)) v (omega arith) (omega arith))
+    (same_or_not v a)
+
+-- bits that agree with what is known, and have the same fault where a fault costs something, are the same
+same_fault : (k : Option Bool) (w : ℕ) (x y : Bool) → 0 < w → agrees_at k x ≡ true → agrees_at k y ≡ true → fault k w x ≤ fault k w y → fault k w y ≤ fault k w x → x ≡ y
+same_fault None w true true dear p q h g = refl
+same_fault None w true false dear p q h g = absurd (omega arith)
+same_fault None w false true dear p q h g = absurd (omega arith)
+same_fault None w false false dear p q h g = refl
+same_fault (Some true) w x y dear p q h g = cc
+same_fault (Some false) w true y dear p q h g = absurd (cc)
+same_fault (Some false) w false true dear p q h g = absurd (cc)
+same_fault (Some false) w false false dear p q h g = refl
+
+-- ---- what passes two tests
+
+filter_twice : {A : Type 0} (p q : A → Bool) (xs : List A) → filter q (filter p xs) ≡ filter (λ x. p x && q x) xs
+filter_twice p q [] = refl
+filter_twice {A} p q (x ∷ xs) = by_first (p x) (filter_twice p q xs) where
+  by_first : (b : Bool) → filter q (filter p xs) ≡ filter (λ y. p y && q y) xs
+      → filter q (cond b (x ∷ filter p xs) (filter p xs)) ≡ cond (b && q x) (x ∷ filter (λ y. p y && q y) xs) (filter (λ y. p y && q y) xs)
+  by_first true e = ap (λ ys. cond (q x) (x ∷ ys) ys) e
+  by_first false e = e
+
+same_tests : (x y : Bool) → (x ≡ true → y ≡ true) → (y ≡ true → x ≡ true) → x ≡ y
+same_tests true y h g = sym (h refl)
+same_tests false true h g = g refl
+same_tests false false h g = refl
+
+-- the diagnoses are the states that pass and cost no more than the least
+diagnoses-same : (costs : List ℕ) (n most : ℕ) (p q : Test) → ((h : List Bool) → length h ≡ n → p h ≡ true → cost costs h ≤ most → q h ≡ true) → ((h : List Bool) → length h ≡ n → q h ≡ true → cost costs h ≤ most → p h ≡ true)
+    → filter (λ h. is_at_most (cost costs h) (Some most)) (passing n p) ≡ filter (λ h. is_at_most (cost costs h) (Some most)) (passing n q)
+diagnoses-same costs n most p q to from =
+    filter_twice p (λ h. nat_le (cost costs h) most) (states n)
+    ∙ filter_same (λ h. p h && nat_le (cost costs h) most) (λ h. q h && nat_le (cost costs h) most) (states n)
+    (λ h m. same_tests _ _
+    (λ e. and_from _ _ (to h (bits_length n h m) (and_left _ _ e) (leb-true _ _ (and_right (p h) _ e))) (and_right (p h) _ e))
+    (λ e. and_from _ _ (from h (bits_length n h m) (and_left _ _ e) (leb-true _ _ (and_right (q h) _ e))) (and_right (q h) _ e)))
+    ∙ sym (filter_twice q (λ h. nat_le (cost costs h) most) (states n))
+
+-- ---- the law
+
+module _ (graph small : Graph) (words costs : List ℕ) (ok : IsGraph graph) (sound : IsGraph small) (vars : small.vars ≡ graph.vars) (long : length words ≡ graph.vars) (within : length costs ≤ graph.vars)
+    (dear : All (λ c. 0 < c) costs) (c : ℕ) (is : C graph words costs ok (length graph.nodes - 1) ≡ Some c)
+    (stands : StandsFor (known_at words) (part_cost costs) (length costs) (λ a. is_true graph.nodes (length graph.nodes - 1) a) (λ v. mentions graph.nodes v (length graph.nodes - 1)) c (λ a. is_true small.nodes (length small.nodes - 1) a)) where
+  abbrev kn : ℕ → Option Bool
+  kn v = known_at words v
+
+  abbrev price : ℕ → ℕ
+  price v = part_cost costs v
+
+  abbrev n : ℕ
+  n = length costs
+
+  abbrev held : ℕ
+  held = held_cost costs words
+
+  abbrev root : ℕ
+  root = length graph.nodes - 1
+
+  abbrev end : ℕ
+  end = length small.nodes - 1
+
+  long-small : length words ≡ small.vars
+  long-small = long ∙ sym vars
+
+  within-small : length costs ≤ small.vars
+  within-small = omega arith
+
+  pub graph-least : least_under graph words costs ≡ Some (held_cost costs words + c)
+  graph-least = least_is graph words costs ok long within ∙ ap (AddHeld held) is
+
+  pub small-least : least_under small words costs ≡ Some (held_cost costs words + c)
+  small-least = least_is small words costs sound long-small within-small ∙ ap (AddHeld held) (place-cost graph small words costs ok sound root end c is stands)
+
+  -- a state that the graph allows at the least cost, the other allows too
+  to : (h : List Bool) → length h ≡ n → has_model graph (fits_words words) n h ≡ true → cost costs h ≤ held + c → has_model small (fits_words words) n h ≡ true
+  to h l m few =
+      let a = assignment_of graph words costs ok long within h l m in
+      let t = over graph small words costs ok sound root end c is stands a.by a.agrees a.holds (omega (arith, few, a.cost_is)) in
+      let s = state_of small words costs sound long-small within-small a.by a.agrees t in
+      let same : s.state ≡ h = ext_get_or false s.state h (s.long_state ∙ sym l) (λ i g. s.bits i (omega (arith, g, s.long_state)) ∙ sym (a.bits i (omega (arith, g, s.long_state)))) in
+      subst (λ x. has_model small (fits_words words) n x ≡ true) same s.model
+
+  -- and the other way round
+  back : (h : List Bool) → length h ≡ n → has_model small (fits_words words) n h ≡ true → cost costs h ≤ held + c → has_model graph (fits_words words) n h ≡ true
+  back h l m few =
+      let b = assignment_of small words costs sound long-small within-small h l m in
+      let w = stands.back b.by b.agrees b.holds in
+      let s = state_of graph words costs ok long within w.by w.agrees w.holds in
+      let most : all_faults kn price n b.by ≤ c = omega (arith, few, b.cost_is) in
+      let equal : all_faults kn price n b.by ≤ all_faults kn price n w.by = omega (arith, most, high graph small words costs ok sound root end c is stands w.by w.agrees w.holds) in
+      let bit : (i : ℕ) → i < n → w.by (1 + i) ≡ b.by (1 + i) = λ i g. same_fault (kn (1 + i)) (price (1 + i)) (w.by (1 + i)) (b.by (1 + i)) (costly i g) (w.agrees (1 + i)) (b.agrees (1 + i)) (w.fewer (1 + i))
+      (total-same (λ v. fault (kn v) (price v) (w.by v)) (λ v. fault (kn v) (price v) (b.by v)) w.fewer 1 n equal (1 + i) (omega arith) (omega arith)) in
+      let same : s.state ≡ h = ext_get_or false s.state h (s.long_state ∙ sym l)
+      (λ i g. s.bits i (omega (arith, g, s.long_state)) ∙ bit i (omega (arith, g, s.long_state)) ∙ sym (b.bits i (omega (arith, g, s.long_state)))) in
+      subst (λ x. has_model graph (fits_words words) n x ≡ true) same s.model where
+        costly : (i : ℕ) → i < n → 0 < price (1 + i)
+        costly i g = let one_more : 1 + i ≡ suc i = omega arith in subst (λ v. 0 < price v) (sym one_more) (dear i 0 g)
+
+  pub same-diagnoses : diagnoses_under small words costs ≡ diagnoses_under graph words costs
+  same-diagnoses =
+      ap (λ (o : Option ℕ). filter (λ h. is_at_most (cost costs h) o) (models small words n)) small-least
+      ∙ diagnoses-same costs n (held + c) (has_model small (fits_words words) n) (has_model graph (fits_words words) n) back to
+      ∙ sym (ap (λ (o : Option ℕ). filter (λ h. is_at_most (cost costs h) o) (models graph words n)) graph-least)

@@ -1,0 +1,11 @@
+pub mod Standing
+pub mod Spreading
+pub mod Rows
+pub mod Kin
+pub mod Placing
+pub mod Law
+pub mod Places
+pub mod Smallness
+pub mod Roots
+pub mod Building
+pub mod Keeping

@@ -1,0 +1,65 @@
+-- A graph whose last node stands for the root is distilled, and so is a true one where nothing is wrong.
+use Rattle.std.proofs.Common.{◌≡◌, ℕ, ◌+◌, ◌-◌, ◌<◌, ◌≤◌, List, [], ◌∷◌, ◌++◌, length, get_or, All, Some, refl, ap, sym, ◌∙◌, subst, arith, length-append}
+use Rattle.graph_rules.specs.Graphs.{Node, Graph, true_node, is_true, mentions, AreNodes, IsGraph}
+use Rattle.graph_rules.specs.GraphTexts.{edges}
+use Rattle.graph_rules.proofs.NodeValues.{value_of-last}
+use Rattle.graph_rules.proofs.NodesFit.{AreNodes-push}
+use Rattle.graph_rules.specs.Graphs.{truth_by}
+use Rattle.conditioner.specs.Models.{total_cost}
+use Rattle.minimiser.specs.Costs.{part_cost, known_at}
+use Rattle.minimiser.specs.Stored.{cost_in, AreLeastCosts}
+use Rattle.minimiser.proofs.Costs.{IsCost}
+use Rattle.minimiser.proofs.Whole.{part_cost-none}
+use Rattle.minimiser.proofs.Models.{LeastIs}
+use Rattle.minimiser.proofs.Derivations.{is_cost}
+use Rattle.minimiser.proofs.Sweeping.{node_least, value-is}
+use Rattle.fault_graph.specs.Distilled.{IsDistilled}
+use Rattle.fault_graph.specs.Small.{IsSmall}
+use Rattle.fault_graph.proofs.Standing.{StandsFor, StandsFor-same, stands-free}
+use Rattle.fault_graph.proofs.Law.{graph-least, small-least, same-diagnoses}
+use Rattle.fault_graph.proofs.Smallness.{small-true}
+
+module _ (graph : Graph) (words costs : List ℕ) (ok : IsGraph graph) (long : length words ≡ graph.vars) (within : length costs ≤ graph.vars) where
+  abbrev root : ℕ
+  root = length graph.nodes - 1
+
+  end-is : (node : Node) (nodes : List Node) → length (nodes ++ node ∷ []) - 1 ≡ length nodes
+  end-is node nodes = omega (arith, length-append nodes (node ∷ []))
+
+  -- the nodes are a graph, which is distilled and small
+  pub record IsWhole (new : List Node) : Type 0 where
+    pub graph_is : IsGraph (record { nodes = new; vars = graph.vars })
+    pub distilled : IsDistilled graph words costs (record { nodes = new; vars = graph.vars })
+    pub small : IsSmall words costs (record { nodes = new; vars = graph.vars })
+
+  pub whole : All (λ c. 0 < c) costs → (nodes : List Node) (node : Node) (c : ℕ) → AreNodes graph.vars (nodes ++ node ∷ []) → length nodes ≤ length graph.nodes - 1 → edges (nodes ++ node ∷ []) ≤ edges graph.nodes
+      → node_least graph words costs (length graph.nodes - 1) ≡ Some c
+      → StandsFor (known_at words) (part_cost costs) (length costs) (λ a. is_true graph.nodes (length graph.nodes - 1) a) (λ w. mentions graph.nodes w (length graph.nodes - 1)) c (λ a. is_true (nodes ++ node ∷ []) (length nodes) a)
+      → (IsGraph (record { nodes = nodes ++ node ∷ []; vars = graph.vars }) → IsSmall words costs (record { nodes = nodes ++ node ∷ []; vars = graph.vars })) → IsWhole (nodes ++ node ∷ [])
+  whole dears nodes node c are few few_edges is stands small =
+      let new : List Node = nodes ++ node ∷ [] in
+      let long_new : length new ≡ length nodes + 1 = length-append nodes (node ∷ []) in
+      let sound : IsGraph (record { nodes = new; vars = graph.vars }) = record { some = omega (arith, long_new); few = omega (arith, long_new, few, ok.some, ok.few); nodes = are } in
+      let at_end = subst (λ n. StandsFor (known_at words) (part_cost costs) (length costs) (λ a. is_true graph.nodes root a) (λ w. mentions graph.nodes w root) c (λ a. is_true new n a)) (sym (end-is node nodes)) stands in
+      record {
+        graph_is = sound;
+        distilled = record {
+          vars = refl;
+          least = small-least graph (record { nodes = new; vars = graph.vars }) words costs ok sound refl long within dears c is at_end ∙ sym (graph-least graph (record { nodes = new; vars = graph.vars }) words costs ok sound refl long within dears c is at_end);
+          diagnoses = same-diagnoses graph (record { nodes = new; vars = graph.vars }) words costs ok sound refl long within dears c is at_end;
+          few = omega (arith, long_new, few, ok.some);
+          few_edges = few_edges;
+        };
+        small = small sound;
+      }
+
+  -- where the root costs nothing
+  pub free-root : total_cost costs < 2147483647 → (most : ℕ) → LeastIs graph costs words most → (values : List ℕ) → AreLeastCosts graph words costs values → All (λ c. 0 < c) costs → get_or values (length graph.nodes - 1) 0 ≡ 0
+      → IsWhole (true_node ∷ [])
+  free-root total most least_most values v dears z =
+      let free : node_least graph words costs root ≡ Some 0 = sym (value-is graph words costs ok long within total most least_most values v root (omega (arith, ok.some))) ∙ ap cost_in z in
+      whole dears [] true_node 0 (AreNodes-push graph.vars [] true_node (record { fit = refl; apart = λ w. tt }) refl (λ w. refl)) (omega arith) (omega arith) free
+      (StandsFor-same (known_at words) (part_cost costs) (length costs) (λ a. refl) (λ w. refl) refl (λ a. value_of-last (truth_by a) [] true_node)
+      (stands-free (known_at words) (part_cost costs) (length costs) (part_cost-none costs) (λ a. is_true graph.nodes root a) (λ w. mentions graph.nodes w root)
+      (subst (λ o. IsCost (known_at words) (part_cost costs) (length costs) (λ a. is_true graph.nodes root a) (λ w. mentions graph.nodes w root) o) free (is_cost graph words costs ok root))))
+      (λ sound. small-true words costs graph.vars)

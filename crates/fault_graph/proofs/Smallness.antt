@@ -1,0 +1,82 @@
+-- A graph whose places are all needed, and all of nodes that cost something, is small.
+use Rattle.std.proofs.Common.{◌≡◌, ℕ, zero, suc, ◌+◌, ◌-◌, ◌<◌, ◌≤◌, Bool, true, false, List, [], ◌∷◌, map, length, get_or, Option, Some, refl, sym, ◌∙◌, subst, arith, inl, inr, ⊎_elim}
+use Rattle.std.specs.Prelude.{IsSomeAnd}
+use Rattle.std.proofs.lemmas.Bool.{cases_lt}
+use Rattle.std.proofs.lemmas.List.{get_or_past}
+use Rattle.std.proofs.lemmas.Option.{slice_get-get_or, same_Some}
+use Rattle.ranking.proofs.Members.{In}
+use Rattle.graph_rules.specs.declared.NodeKind.{NodeKind}
+use Rattle.graph_rules.specs.declared.NodeKind.TheVariants.{Literal, And, Or}
+use Rattle.graph_rules.specs.Graphs.{Graph, true_node, node_at, IsGraph}
+use Rattle.conditioner.specs.Words.{known_of, leaf_of}
+use Rattle.minimiser.specs.Costs.{part_cost, known_at, literal_cost, cost_by}
+use Rattle.minimiser.proofs.Derivations.{C, costs-at}
+use Rattle.fault_graph.specs.Small.{least_at, HasParent, SaysFaulty, Joins, IsSmall}
+use Rattle.fault_graph.proofs.Placing.{place-cost}
+use Rattle.fault_graph.proofs.Places.{IsFrom, AreFrom}
+
+-- what costs something is a part
+paid : (costs : List ℕ) (var c : ℕ) → part_cost costs var ≡ c → 0 < c → var ≤ length costs
+paid costs zero c e dear = omega arith
+paid costs (suc i) c e dear = ⊎_elim
+    (λ (h : i < length costs). omega arith)
+    (λ (h : length costs ≤ i). absurd (omega (arith, dear, e, get_or_past costs i 0 h)))
+    (cases_lt i (length costs))
+
+-- a literal that costs something says that an open part is faulty
+says : (words costs : List ℕ) (var c : ℕ) (positive : Bool) → literal_cost (leaf_of positive (known_at words var)) (part_cost costs var) positive ≡ Some c → 0 < c
+    → SaysFaulty words (length costs) (Literal var positive)
+says words costs var c positive e dear = by_word (get_or words (var - 1) 0) refl positive e where
+  by_word : (w : ℕ) → get_or words (var - 1) 0 ≡ w → (b : Bool) → literal_cost (leaf_of b (known_of w)) (part_cost costs var) b ≡ Some c → (b ≡ false) × (var ≤ length costs) × (get_or words (var - 1) 0 ≡ 0)
+  by_word zero z true q = absurd (let free : 0 ≡ c = same_Some 0 c q in omega arith)
+  by_word zero z false q = (refl, paid costs var c (same_Some (part_cost costs var) c q) dear, z)
+  by_word (suc zero) z true q = absurd (let free : 0 ≡ c = same_Some 0 c q in omega arith)
+  by_word (suc zero) z false q = absurd (cc)
+  by_word (suc (suc n)) z true q = absurd (cc)
+  by_word (suc (suc n)) z false q = absurd (let free : 0 ≡ c = same_Some 0 c q in omega arith)
+
+member : (xs : List ℕ) (k d : ℕ) → k < length xs → In (get_or xs k d) xs
+member [] k d h = absurd (omega arith)
+member (x ∷ xs) zero d h = inl refl
+member (x ∷ xs) (suc k) d h = inr (member xs k d (omega arith))
+
+module _ (graph small : Graph) (words costs : List ℕ) (ok : IsGraph graph) (sound : IsGraph small) where
+  cost-is : (c p : ℕ) → IsFrom graph words costs small.nodes c p → least_at small words costs p ≡ Some c
+  cost-is c p is = place-cost graph small words costs ok sound is.node p c is.is is.place.stands
+
+  pub small-from : AreFrom graph words costs small.nodes → ((p : ℕ) → p + 1 < length small.nodes → HasParent small.nodes p)
+      → ((p : ℕ) → p + 1 < length small.nodes → Joins (node_at small.nodes p).what (length (node_at small.nodes p).kids)) → IsSmall words costs small
+  small-from from needed joins = record {
+    dear = λ p h. let x = from.each p (omega arith) in subst (λ (o : Option ℕ). IsSomeAnd o (λ c. 0 < c)) (sym (cost-is x.0 p x.1)) x.1.dear;
+    needed = needed;
+    joins = joins;
+    cheap = λ p h o k d lt.
+        let q = get_or (node_at small.nodes p).kids k d in
+        let x = from.ors p q h o (member (node_at small.nodes p).kids k d lt) in
+        cost-is x.0 q x.2 ∙ sym (cost-is x.0 p x.1);
+    faulty = λ p h.
+        let x = from.each p h in
+        let node = node_at small.nodes p in
+        by_kind x.0 x.1.dear node.what node.kids (sym (costs-at small words costs sound p node (slice_get-get_or small.nodes p true_node h)) ∙ cost-is x.0 p x.1);
+  } where
+    by_kind : (c : ℕ) → 0 < c → (what : NodeKind) (kids : List ℕ) → cost_by (known_at words) (part_cost costs) what (map (C small words costs sound) kids) ≡ Some c → SaysFaulty words (length costs) what
+    by_kind c dear (Literal var positive) kids e = says words costs var c positive e dear
+    by_kind c dear And kids e = tt
+    by_kind c dear Or kids e = tt
+
+-- one true node
+pub small-true : (words costs : List ℕ) (vars : ℕ) → IsSmall words costs (record { nodes = true_node ∷ []; vars = vars })
+small-true words costs vars = record {
+  dear = λ p h. absurd (omega arith);
+  needed = λ p h. absurd (omega arith);
+  joins = λ p h. absurd (omega arith);
+  cheap = λ p h o. absurd (no_or p h o);
+  faulty = says_none;
+} where
+  no_or : (p : ℕ) → p < 1 → (node_at (true_node ∷ []) p).what ≡ Or → ⊥
+  no_or zero h o = cc
+  no_or (suc p) h o = omega arith
+
+  says_none : (p : ℕ) → p < 1 → SaysFaulty words (length costs) (node_at (true_node ∷ []) p).what
+  says_none zero h = tt
+  says_none (suc p) h = absurd (omega arith)

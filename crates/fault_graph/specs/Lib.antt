@@ -1,0 +1,3 @@
+pub mod Distilled
+pub mod Small
+pub mod inner

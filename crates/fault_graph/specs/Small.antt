@@ -1,0 +1,38 @@
+-- A graph of which nothing can be left out under words.
+use Rattle.std.specs.Prelude.{◌≡◌, ℕ, ◌+◌, ◌-◌, ◌<◌, ◌≤◌, false, List, length, All, Contains, Option, IsSomeAnd, slice_index, ⊤}
+use Rattle.ranking.specs.Values.{values}
+use Rattle.graph_rules.specs.declared.NodeKind.{NodeKind}
+use Rattle.graph_rules.specs.declared.NodeKind.TheVariants.{Literal, And, Or}
+use Rattle.graph_rules.specs.Graphs.{Node, Graph, node_at}
+use Rattle.minimiser.specs.Costs.{cost_at, node_cost, known_at, part_cost}
+
+-- the least cost at a node
+abbrev pub least_at : Graph → List ℕ → List ℕ → ℕ → Option ℕ
+least_at graph words costs node = cost_at (values (node_cost (known_at words) (part_cost costs)) graph.nodes) node
+
+pub record HasParent (nodes : List Node) (node : ℕ) : Type 0 where
+  pub parent : ℕ
+  pub within : parent < length nodes
+  pub kid : Contains (node_at nodes parent).kids node
+
+-- where it is a literal, it says that an open part is faulty; so many variables are parts
+abbrev pub SaysFaulty : List ℕ → ℕ → NodeKind → Type 0
+SaysFaulty words parts (Literal var positive) = (positive ≡ false) × (var ≤ parts) × (slice_index words (var - 1) ≡ 0)
+SaysFaulty words parts And = ⊤
+SaysFaulty words parts Or = ⊤
+
+-- an and or an or with so many children joins two or more
+abbrev pub Joins : NodeKind → ℕ → Type 0
+Joins (Literal var positive) kids = ⊤
+Joins And kids = 1 < kids
+Joins Or kids = 1 < kids
+
+-- Each node but the root, which is the last, costs something, is a child of another, and joins two or more. An or costs
+-- what each of its children does, so that all of them are on states of least cost. There is no wire, no part that is held, and no literal that says ok.
+pub record IsSmall (words costs : List ℕ) (small : Graph) : Type 0 where
+  pub dear : (node : ℕ) → node + 1 < length small.nodes → IsSomeAnd (least_at small words costs node) (λ cost. 0 < cost)
+  pub needed : (node : ℕ) → node + 1 < length small.nodes → HasParent small.nodes node
+  pub joins : (node : ℕ) → node + 1 < length small.nodes → Joins (node_at small.nodes node).what (length (node_at small.nodes node).kids)
+  pub cheap : (node : ℕ) → node < length small.nodes → (node_at small.nodes node).what ≡ Or
+      → All (λ kid. least_at small words costs kid ≡ least_at small words costs node) (node_at small.nodes node).kids
+  pub faulty : (node : ℕ) → node < length small.nodes → SaysFaulty words (length costs) (node_at small.nodes node).what

@@ -1,0 +1,25 @@
+-- Which nodes stand on derivations of least cost.
+use Rattle.std.specs.Prelude.{◌≡◌, ℕ, ◌-◌, ◌<◌, ◌≤◌, ◌⊎◌, true, ◌&&◌, List, length, slice_index, nat_le, if◌then◌else◌}
+use Rattle.graph_rules.specs.Graphs.{Node, node_at}
+use Rattle.minimiser.specs.inner.Marked.{is_kid}
+use Rattle.fault_graph.specs.declared.distilling.TheConstants.{MARKED}
+
+-- a kid is marked where it costs no more
+abbrev pub mark_of : List ℕ → List ℕ → ℕ → ℕ → ℕ → ℕ
+mark_of kids values cost node mark = if is_kid kids node && nat_le (slice_index values node) cost then MARKED else mark
+
+-- a node is a kid of a marked one, and costs no more
+pub record HasMarkedParent (nodes : List Node) (values marks : List ℕ) (node : ℕ) : Type 0 where
+  pub parent : ℕ
+  pub within : parent < length nodes
+  pub marked : slice_index marks parent ≡ MARKED
+  pub kid : is_kid (node_at nodes parent).kids node ≡ true
+  pub cheap : slice_index values node ≤ slice_index values parent
+
+-- The root is marked, and nothing that costs more; of each marked node from one on the kids that cost no more than it, and no others.
+pub record AreMarks (nodes : List Node) (values marks : List ℕ) (from : ℕ) : Type 0 where
+  pub root : slice_index marks (length nodes - 1) ≡ MARKED
+  pub low : (k : ℕ) → k < length nodes → slice_index marks k ≡ MARKED → slice_index values k ≤ slice_index values (length nodes - 1)
+  pub down : (k j : ℕ) → from ≤ k → k < length nodes → slice_index marks k ≡ MARKED
+      → is_kid (node_at nodes k).kids j ≡ true → slice_index values j ≤ slice_index values k → slice_index marks j ≡ MARKED
+  pub up : (k : ℕ) → k < length nodes → slice_index marks k ≡ MARKED → (k ≡ length nodes - 1) ⊎ HasMarkedParent nodes values marks k

@@ -1,0 +1,24 @@
+-- What stands for a node among the nodes of the smaller graph.
+use Rattle.std.specs.Prelude.{◌≡◌, ◌≢◌, ℕ, ◌-◌, Bool, ◌&&◌, ◌⊎◌, List, [], ◌∷◌, ◌++◌, map, length, slice_index, nat_le, nat_lt}
+use Rattle.std.specs.List.{filter}
+use Rattle.graph_rules.specs.Graphs.{Node, Graph, node_at}
+
+-- what costs nothing is true, and left out; what costs more is not on a derivation of least cost
+abbrev pub keeps : List ℕ → ℕ → ℕ → Bool
+keeps values cost kid = nat_lt 0 (slice_index values kid) && nat_le (slice_index values kid) cost
+
+-- the places of the kids that stay
+abbrev pub row_of : List ℕ → List ℕ → ℕ → List ℕ → List ℕ
+row_of values places cost kids = map (slice_index places) (filter (keeps values cost) kids)
+
+abbrev pub kept_node : List ℕ → List ℕ → ℕ → Node → Node
+kept_node values places cost node = record { what = node.what; kids = row_of values places cost node.kids }
+
+-- a node left with one kid is that kid; else it comes behind the others
+abbrev pub Adds : List Node → Node → List Node → ℕ → Type 0
+Adds old node new place = ((new ≡ old) × (node.kids ≡ place ∷ [])) ⊎ ((new ≡ old ++ node ∷ []) × (place ≡ length old) × (length node.kids ≢ 1))
+
+-- the root stays a node of its own
+abbrev pub root_node : Graph → List ℕ → List ℕ → Node
+root_node graph values places =
+    let root = length graph.nodes - 1 in kept_node values places (slice_index values root) (node_at graph.nodes root)

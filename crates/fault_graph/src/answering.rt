@@ -1,0 +1,158 @@
+ghost use Rattle.std.specs.Prelude.{◌≡◌, ℕ, ◌+◌, ◌*◌, ◌<◌, ◌≤◌, [], length, All, Some, slice_get, slice_index_or};
+ghost use Rattle.ranking.specs.Ranking.{rest};
+ghost use Rattle.conditioner.specs.Models.{models, least_under, diagnoses_under, total_cost};
+ghost use Rattle.diagnosis_lister.specs.Listing.{bits_of, step_of, fault_count};
+ghost use Rattle.probe_report.specs.Verdicts.{blame_of};
+ghost use Rattle.fault_graph.specs.Distilled.{IsOf, Serves};
+
+use crate::distiller::Distiller;
+use diagnosis_lister::{Step, first, next};
+use minimiser::{Steps, TOTAL_LIMIT};
+use node_store::Graph;
+use probe_report::{Blame, blame_all};
+use std::sync::ledger::Ledger;
+
+impl Distiller {
+    /// The least cost, with the first diagnosis in the state, as [`diagnosis_lister::first`] gives them.
+    ///
+    /// It takes one pass over the graph, and none where the words are those of the last time. The others are over what was
+    /// distilled.
+    pub fn first<L: Ledger>(
+        &mut self,
+        graph: &Graph,
+        words: &mut [u32],
+        costs: &[u32],
+        values: &mut [u32],
+        state: &mut [u32],
+        steps: &mut Steps<L>,
+    ) -> Option<u32>
+        requires long { length words.old ≡ graph.now.vars }
+        requires words { All (λ w. w < 3) words.old }
+        requires parts { length costs.now ≤ graph.now.vars }
+        requires total { total_cost costs.now < TOTAL_LIMIT }
+        requires dear { All (λ c. 0 < c) costs.now }
+        requires room { length values.old ≡ length graph.now.nodes }
+        requires state { length state.old ≡ length costs.now }
+        requires state_words { All (λ s. s < 2) state.old }
+        requires serves { Serves graph.now costs.now self.old }
+
+        ensures least { result ≡ least_under graph.now words.old costs.now }
+        ensures first { bits_of state.new
+            ≡ slice_index_or (diagnoses_under graph.now words.old costs.now) 0 (bits_of state.old) }
+        ensures state { All (λ s. s < 2) state.new }
+        ensures words { words.new ≡ words.old }
+        ensures serves { Serves graph.now costs.now self.new }
+
+        // One pass over the graph, and the others over what was distilled; these alone where the words are as before.
+        ensures steps { steps.new ≤ steps.old + 1 + (fault_count (bits_of state.new) + 1) }
+        ensures again { IsOf words.old self.old → steps.new ≤ steps.old + (fault_count (bits_of state.new) + 1) }
+    {
+        if let Ok(false) = self.prepare(graph, words, costs, values, steps) {
+            return None;
+        }
+        let small = self.known(graph);
+        let values = &mut values[..small.len() as usize];
+        first(small, words, costs, values, state, steps)
+    }
+
+    /// Whether there is a diagnosis after the state, which it then becomes, as [`diagnosis_lister::next`] tells it.
+    ///
+    /// It takes one pass over the graph, and none where the words are those of the last time. The others are over what was
+    /// distilled.
+    pub fn next<L: Ledger>(
+        &mut self,
+        graph: &Graph,
+        words: &mut [u32],
+        costs: &[u32],
+        values: &mut [u32],
+        state: &mut [u32],
+        steps: &mut Steps<L>,
+    ) -> Step
+        requires long { length words.old ≡ graph.now.vars }
+        requires words { All (λ w. w < 3) words.old }
+        requires parts { length costs.now ≤ graph.now.vars }
+        requires total { total_cost costs.now < TOTAL_LIMIT }
+        requires dear { All (λ c. 0 < c) costs.now }
+        requires room { length values.old ≡ length graph.now.nodes }
+        requires state { length state.old ≡ length costs.now }
+        requires state_words { All (λ s. s < 2) state.old }
+        requires serves { Serves graph.now costs.now self.old }
+
+        ensures step { result ≡ step_of (models graph.now words.old (length costs.now))
+            (rest (diagnoses_under graph.now words.old costs.now) (Some (bits_of state.old))) }
+        ensures next { bits_of state.new
+            ≡ slice_index_or (rest (diagnoses_under graph.now words.old costs.now) (Some (bits_of state.old)))
+            0 (bits_of state.old) }
+        ensures state { All (λ s. s < 2) state.new }
+        ensures words { words.new ≡ words.old }
+        ensures serves { Serves graph.now costs.now self.new }
+
+        // One pass over the graph, and the others over what was distilled; these alone where the words are as before.
+        ensures steps { steps.new
+            ≤ steps.old + 1 + (fault_count (bits_of state.old) + fault_count (bits_of state.new) + 1) }
+        ensures again { IsOf words.old self.old
+            → steps.new ≤ steps.old + (fault_count (bits_of state.old) + fault_count (bits_of state.new) + 1) }
+    {
+        if let Ok(false) = self.prepare(graph, words, costs, values, steps) {
+            return Step::Inconsistent;
+        }
+        let small = self.known(graph);
+        let values = &mut values[..small.len() as usize];
+        next(small, words, costs, values, state, steps)
+    }
+
+    /// Of each part whether it is faulty in all diagnoses, in some or in none, as [`blame_all`] tells it.
+    ///
+    /// It takes one pass over the graph, and none where the words are those of the last time. The others are over what was
+    /// distilled.
+    pub fn blame_all<L: Ledger>(
+        &mut self,
+        graph: &Graph,
+        words: &mut [u32],
+        costs: &[u32],
+        values: &mut [u32],
+        state: &mut [u32],
+        verdicts: &mut [Blame],
+        steps: &mut Steps<L>,
+    )
+        requires long { length words.old ≡ graph.now.vars }
+        requires words { All (λ w. w < 3) words.old }
+        requires parts { length costs.now ≤ graph.now.vars }
+        requires total { total_cost costs.now < TOTAL_LIMIT }
+        requires dear { All (λ c. 0 < c) costs.now }
+        requires room { length values.old ≡ length graph.now.nodes }
+        requires state { length state.old ≡ length costs.now }
+        requires state_words { All (λ s. s < 2) state.old }
+        requires verdicts { length verdicts.old ≡ length costs.now }
+        requires serves { Serves graph.now costs.now self.old }
+
+        ensures blame { (part : ℕ) → part < length costs.now
+            → slice_get verdicts.new part ≡ Some (blame_of graph.now words.old costs.now part) }
+        ensures words { words.new ≡ words.old }
+        ensures state { All (λ s. s < 2) state.new }
+        ensures serves { Serves graph.now costs.now self.new }
+
+        // One pass over the graph, and the others over what was distilled; these alone where the words are as before.
+        ensures steps { steps.new ≤ steps.old + 1
+            + (2 * fault_count (slice_index_or (diagnoses_under graph.now words.old costs.now) 0 []) + 2) }
+        ensures again { IsOf words.old self.old → steps.new ≤ steps.old
+            + (2 * fault_count (slice_index_or (diagnoses_under graph.now words.old costs.now) 0 []) + 2) }
+    {
+        if let Ok(false) = self.prepare(graph, words, costs, values, steps) {
+            tell_none(verdicts);
+            return;
+        }
+        let small = self.known(graph);
+        let values = &mut values[..small.len() as usize];
+        blame_all(small, words, costs, values, state, verdicts, steps)
+    }
+}
+
+// There is no diagnosis.
+fn tell_none(verdicts: &mut [Blame])
+    ensures { (part : ℕ) → part < length verdicts.old → slice_get verdicts.new part ≡ Some Blame.Inconsistent }
+{
+    for verdict in verdicts.iter_mut() {
+        *verdict = Blame::Inconsistent;
+    }
+}

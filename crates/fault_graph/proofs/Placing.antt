@@ -20,13 +20,13 @@ faults_in-all known cost parts m a = total-le (λ v. cond (m v) (fault (known v)
 
 module _ (graph small : Graph) (words costs : List ℕ) (ok : IsGraph graph) (sound : IsGraph small) (k p c : ℕ) (is : C graph words costs ok k ≡ Some c)
     (stands : StandsFor (known_at words) (part_cost costs) (length costs) (λ a. is_true graph.nodes k a) (λ v. mentions graph.nodes v k) c (λ a. is_true small.nodes p a)) where
-  abbrev pub kn : ℕ → Option Bool
+  abbrev kn : ℕ → Option Bool
   kn v = known_at words v
 
-  abbrev pub price : ℕ → ℕ
+  abbrev price : ℕ → ℕ
   price v = part_cost costs v
 
-  abbrev pub n : ℕ
+  abbrev n : ℕ
   n = length costs
 
   -- what makes the node true costs no less

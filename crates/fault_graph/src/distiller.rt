@@ -40,7 +40,7 @@ impl Model for Distiller {
 }
 
 impl Distiller {
-    /// With room for whatever is distilled from a graph. Nothing is distilled yet.
+    /// With room for whatever is distilled from a graph. Nothing is distilled yet. The only error is that there is no memory.
     pub fn new(alloc: Global, graph: &Graph) -> Result<Distiller, AllocError>
         ensures made { IfOk result (λ made. made
             ≡ record { nodes = length graph.now.nodes; vars = graph.now.vars; last = None }) }
@@ -61,8 +61,8 @@ impl Distiller {
         })
     }
 
-    /// Whether some state agrees with the words; and then the graph is distilled under them. Where memory for that is wanting,
-    /// nothing is kept, and some state agrees.
+    /// Whether some state agrees with the words; and then the graph is distilled under them. The only error is that some state
+    /// does, and memory to distil is wanting.
     ///
     /// It takes one pass over the graph, and none where the words are those of the last time.
     pub fn prepare<L: Ledger>(

@@ -83,6 +83,8 @@ fn answers<L: Ledger>(
     let mut values = [0; 4];
     let mut words = fixed;
     let mut state = [0; 3];
+    let some = distiller.prepare(graph, &words, &costs, &mut values, &mut steps)?;
+    assert_eq!(rt; some, fewest.is_some());
     let least = distiller.first(
         graph,
         &mut words,

@@ -57,4 +57,5 @@ invariant_of-self g c =
       unused = released_runs c.self.inside.scratch c.carve.new.self c.unwrap-run.result c.self.invariant.unused at.1 c.release.new.self c.release.ensures.runs;
       room = released_words c.self.inside.scratch c.carve.new.self c.unwrap-run.result c.self.invariant.unused at.1 c.release.new.self c.tell_probes-told.new.scratch c.release.ensures.words ∙ c.self.invariant.room;
       one_a_part = c.self.invariant.one_a_part;
+      serves = c.self.invariant.serves;
     }

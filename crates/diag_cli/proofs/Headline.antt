@@ -224,6 +224,7 @@ module _ (input new_input : Reading) (out new_out : Writing) (status : ℕ) wher
       usage = λ whole. ((λ two. absurd (other two)), λ none. absurd (let never : ⊥ = cc in never));
       no_name = λ none. absurd (let never : ⊥ = cc in never);
       file_taken = omega (arith, taken, small);
+      file_once = some_map (told_bytes (held path)) (λ bytes same. omega (arith, taken, ap length same)) is;
       absent_file = λ gone. absurd (there gone);
       no_file = λ moves. absurd (omega (arith, kept, moves));
       not_asked = idle_by command done;
@@ -318,6 +319,10 @@ module _ (order : ClauseList → ClauseList) (held : List ℕ → Holding) (shel
     completed : RoseExactly out.faults new_out.faults (status ≡ 5) → OutputsGiven → IfSome (told_bytes (held path)) (λ file. IfSome (output_by file) (IsComplete (Some (Over path command)) shelf new_shelf input input out new_out status))
     completed writes given = all_complete (Some (Over path command)) shelf new_shelf input input out new_out status writes (told_bytes (held path)) output_by given
 
+    -- no byte of the file was taken twice
+    abbrev TakenOnce : Type 0
+    TakenOnce = IfSome (told_bytes (held path)) (λ file. new_shelf.taken ≤ shelf.taken + length file)
+
     abbrev DoneOrShort : Type 0
     DoneOrShort = IsDone order (Some (Over path command)) (told_bytes (held path)) shelf new_shelf input input out new_out status
         ⊎ (IsSome (Some (Over path command)) × IsIdle input input × Gives no_memory status out.got new_out.got)
@@ -339,9 +344,9 @@ module _ (order : ClauseList → ClauseList) (held : List ℕ → Holding) (shel
     not_cut taken = absurd (omega (arith, taken))
 
     -- The file could not be read.
-    run_failed : shelf.faults < new_shelf.faults → new_shelf.taken ≤ shelf.taken + TEXT_LIMIT + 1 → RoseExactly out.faults new_out.faults (status ≡ 5)
+    run_failed : shelf.faults < new_shelf.faults → new_shelf.taken ≤ shelf.taken + TEXT_LIMIT + 1 → TakenOnce → RoseExactly out.faults new_out.faults (status ≡ 5)
         → Gives (says read_error 4) status out.got new_out.got → IsRun order (Some (Over path command)) held shelf new_shelf input input out new_out status
-    run_failed moves bounded writes said = record {
+    run_failed moves bounded once writes said = record {
       done = λ kept. absurd (omega (arith, kept, moves));
       few = few_of (says read_error 4) (omega arith) said;
       write_fault = writes;
@@ -350,6 +355,7 @@ module _ (order : ClauseList → ClauseList) (held : List ℕ → Holding) (shel
       usage = λ whole. ((λ two. absurd (known (says read_error 4) said 2 two (λ e. absurd (omega (arith, e))) (λ e. absurd (omega (arith, e))))), λ none. absurd (let never : ⊥ = cc in never));
       no_name = λ none. absurd (let never : ⊥ = cc in never);
       file_taken = bounded;
+      file_once = once;
       absent_file = λ gone. moves;
       no_file = λ rises. (idle, said);
       not_asked = λ asks. idle;
@@ -369,9 +375,9 @@ module _ (order : ClauseList → ClauseList) (held : List ℕ → Holding) (shel
 
     -- One output was given without a look at the script.
     run_told : (output : Output) → output.status ≤ 7 → DoneOrShort → output.status ≢ 0 → output.status ≢ 2 → output.status ≢ 4 → output.status ≢ 7 → IfSome (told_bytes (held path)) (IsRight order path command output)
-        → held path ≢ absent → new_shelf.faults ≡ shelf.faults → new_shelf.taken ≤ shelf.taken + TEXT_LIMIT + 1 → RoseExactly out.faults new_out.faults (status ≡ 5)
+        → held path ≢ absent → new_shelf.faults ≡ shelf.faults → new_shelf.taken ≤ shelf.taken + TEXT_LIMIT + 1 → TakenOnce → RoseExactly out.faults new_out.faults (status ≡ 5)
         → Gives output status out.got new_out.got → IsRun order (Some (Over path command)) held shelf new_shelf input input out new_out status
-    run_told output small done no0 no2 no4 no7 right there kept bounded writes said = record {
+    run_told output small done no0 no2 no4 no7 right there kept bounded once writes said = record {
       done = λ _. done;
       few = few_of output small said;
       write_fault = writes;
@@ -380,6 +386,7 @@ module _ (order : ClauseList → ClauseList) (held : List ℕ → Holding) (shel
       usage = λ whole. ((λ two. absurd (no2 (sym (said.whole whole).0 ∙ two))), λ none. absurd (let never : ⊥ = cc in never));
       no_name = λ none. absurd (let never : ⊥ = cc in never);
       file_taken = bounded;
+      file_once = once;
       absent_file = λ gone. absurd (there gone);
       no_file = λ moves. absurd (omega (arith, kept, moves));
       not_asked = λ asks. idle;
@@ -404,15 +411,16 @@ module _ (order : ClauseList → ClauseList) (held : List ℕ → Holding) (shel
 
     -- The file was not read.
     pub run_unread : (error : LoadError) → IsUnread error (held path) shelf.faults new_shelf.faults → new_shelf.taken ≤ shelf.taken + TEXT_LIMIT + 1
+        → IfSome (told_bytes (held path)) (λ file. new_shelf.taken ≤ shelf.taken + length file)
         → ((limit : ℕ) → error ≡ Long limit → new_shelf.taken ≡ shelf.taken + TEXT_LIMIT + 1) → RoseExactly out.faults new_out.faults (status ≡ 5)
         → Gives (not_loaded error) status out.got new_out.got → IsRun order (Some (Over path command)) held shelf new_shelf input input out new_out status
-    run_unread LoadFailed rises bounded taken writes said = run_failed rises bounded writes said
-    run_unread (Long limit) is bounded taken writes said =
+    run_unread LoadFailed rises bounded once taken writes said = run_failed rises bounded once writes said
+    run_unread (Long limit) is bounded once taken writes said =
         run_told (says long_file_line 1) (omega arith) (inl (long_done (told_bytes (held path)) is.0 (taken limit refl) said)) (λ e. omega (arith, e)) (λ e. omega (arith, e)) (λ e. omega (arith, e)) (λ e. omega (arith, e))
-        (long_is_right order path command (told_bytes (held path)) is.0) is.1 is.2 bounded writes said
-    run_unread Memory is bounded taken writes said =
+        (long_is_right order path command (told_bytes (held path)) is.0) is.1 is.2 bounded once writes said
+    run_unread Memory is bounded once taken writes said =
         run_told no_memory (omega arith) (inr (refl, idle, said)) (λ e. omega (arith, e)) (λ e. omega (arith, e)) (λ e. omega (arith, e)) (λ e. omega (arith, e))
-        (some_all (told_bytes (held path)) (λ file. inl refl)) is.0 is.1 bounded writes said
+        (some_all (told_bytes (held path)) (λ file. inl refl)) is.0 is.1 bounded once writes said
 
   -- The words have no form.
   pub run_usage : RoseExactly out.faults new_out.faults (status ≡ 5) → Gives (says usage_line 2) status out.got new_out.got
@@ -426,6 +434,7 @@ module _ (order : ClauseList → ClauseList) (held : List ℕ → Holding) (shel
     usage = λ whole. ((λ two. refl), λ none. (said.whole whole).0);
     no_name = λ none. record { left = refl; taken = refl; faults = refl };
     file_taken = omega arith;
+    file_once = tt;
     absent_file = tt;
     no_file = λ moves. absurd (omega (arith, moves));
     not_asked = λ asks. idle;
@@ -452,6 +461,7 @@ module _ (order : ClauseList → ClauseList) (held : List ℕ → Holding) (shel
     usage = λ whole. ((λ two. absurd (no2 two)), λ none. absurd (let never : ⊥ = cc in never));
     no_name = λ none. record { left = refl; taken = refl; faults = refl };
     file_taken = omega arith;
+    file_once = tt;
     absent_file = tt;
     no_file = λ moves. absurd (omega (arith, moves));
     not_asked = λ asks. idle;

@@ -47,6 +47,8 @@ pub record IsRun (order : ClauseList → ClauseList) (form : Option Form) (held 
   pub no_name : named_file form ≡ None → IsIdle shelf new_shelf
   -- Of the shelf at most one byte more than the limit of a file is taken.
   pub file_taken : new_shelf.taken ≤ shelf.taken + TEXT_LIMIT + 1
+  -- No byte of the file is taken twice.
+  pub file_once : IfSome (told_file held (named_file form)) (λ file. new_shelf.taken ≤ shelf.taken + length file)
   -- A file that is absent cannot be read. Where the file is not read, the script is not begun, and one line is written.
   pub absent_file : IfSome (named_file form) (λ name. held name ≡ absent → shelf.faults < new_shelf.faults)
   pub no_file : shelf.faults < new_shelf.faults → IsIdle input new_input × Gives (says read_error 4) status out.got new_out.got

@@ -1,5 +1,5 @@
 -- The copies of nodes, one after the other.
-use Rattle.std.proofs.Common.{◌≡◌, ℕ, zero, suc, ◌+◌, ◌-◌, ◌<◌, Bool, true, false, ◌&&◌, List, [], ◌∷◌, ◌++◌, map, length, take, get_or, Some, All, refl, ap, sym, ◌∙◌, subst, arith, inl, inr, length-append}
+use Rattle.std.proofs.Common.{◌≡◌, ℕ, zero, suc, ◌+◌, ◌-◌, ◌<◌, ◌≤◌, Bool, true, false, ◌&&◌, List, [], ◌∷◌, ◌++◌, map, length, take, get_or, Some, All, refl, ap, sym, ◌∙◌, subst, arith, inl, inr, length-append}
 use Rattle.std.specs.Prelude.{slice_get, slice_index, Contains, nat_lt, nat_le, ◌==◌, ◌⊎◌}
 use Rattle.std.specs.List.{list_all}
 use Rattle.std.proofs.lemmas.Bool.{and_from, lt-ltb, cases_lt}
@@ -273,6 +273,61 @@ module _ (store : Stored) (root : ℕ) (marks : List Bool) (copies : List Node) 
         kids_of : (m n : Node) → Some (renamed m) ≡ Some (renamed n) → map (slice_index numbers) m.kids ≡ map (slice_index numbers) n.kids
         kids_of m n e = let inner : renamed m ≡ renamed n = cc in ap (λ (x : Node). x.kids) inner
 
+  -- ---- where a copy comes from
+
+  origin_of : ℕ → ℕ
+  origin_of number = elim (cases_lt number (length copies)) [ inl less ↦ (copied.origin number less).0 | inr more ↦ 0 ]
+
+  -- it is the one marked node that has the number
+  origin_is : (k number : ℕ) → IsTaken k → slice_index numbers k ≡ number → number < length copies → origin_of number ≡ k
+  unfolding origin_of
+  origin_is k number taken e within_it = by (cases_lt number (length copies)) where
+    by : (side : (number < length copies) ⊎ (length copies ≤ number)) → elim side as (λ s. ℕ) [ inl less ↦ (copied.origin number less).0 | inr more ↦ 0 ] ≡ k
+    by (inl less) = let from = copied.origin number less in tell_apart from.0 k (from.1, from.2) taken (from.3 ∙ sym e)
+    by (inr more) = absurd (omega (arith, more, within_it))
+
+  origin_taken : (number : ℕ) → number < length copies → (k : ℕ) × IsTaken k × (slice_index numbers k ≡ number) × (origin_of number ≡ k)
+  origin_taken number less =
+      let from = copied.origin number less in
+      (from.0, (from.1, from.2), from.3, origin_is from.0 number (from.1, from.2) from.3 less)
+
+  kids_back : (ks : List ℕ) → All IsTaken ks → map origin_of (map (slice_index numbers) ks) ≡ ks
+  kids_back [] all = refl
+  kids_back (k ∷ ks) all =
+      let taken = all 0 0 (omega arith) in
+      λ j. origin_is k (slice_index numbers k) taken refl (copied.same k taken.0 taken.1).within j ∷ kids_back ks (λ i d h. all (suc i) d (omega arith)) j
+
+  abbrev renumbered : Node → Node
+  renumbered node = record { what = node.what; kids = map (slice_index numbers) node.kids }
+
+  abbrev as_before : Node → Node
+  as_before node = record { what = node.what; kids = map origin_of node.kids }
+
+  node_back : (node : Node) → All IsTaken node.kids → Some node ≡ Some (as_before (renumbered node))
+  node_back node all = ap (λ ks. Some (record { what = node.what; kids = ks })) (sym (kids_back node.kids all))
+
+  all_copied : (number : ℕ) (node : Node) → slice_get copies number ≡ Some node → slice_get store.nodes (origin_of number) ≡ Some (as_before node)
+  all_copied number node e =
+      let from = origin_taken number (slice_get_within copies number node e) in
+      let old = node_of from.0 from.1 in
+      let one : Some (renumbered old.0) ≡ Some node = sym (copied.copy from.0 old.0 from.1.0 from.1.1 old.1) ∙ (ap (slice_get copies) from.2 ∙ e) in
+      let is_node : renumbered old.0 ≡ node = cc in
+      let back : Some old.0 ≡ Some (as_before (renumbered old.0)) = node_back old.0 (kids_taken from.0 old.0 from.1 old.1) in
+      let there : slice_get store.nodes (origin_of number) ≡ Some old.0 = ap (slice_get store.nodes) from.3 ∙ old.1 in
+      there ∙ (back ∙ ap (λ (n : Node). Some (as_before n)) is_node)
+
+  all_in_order : (first second : ℕ) → first < second → second < length copies → origin_of first < origin_of second
+  all_in_order first second lt less =
+      let a = origin_taken first (omega (arith, lt, less)) in
+      let b = origin_taken second less in
+      elim (cases_lt a.0 b.0) [
+        | inl is_less ↦ omega (arith, is_less, a.3, b.3)
+        | inr ge ↦ elim (cases_lt b.0 a.0) [
+          | inl more ↦ absurd (omega (arith, lt, a.2, b.2, copied.rising b.0 a.0 more a.1.0 b.1.1 a.1.1))
+          | inr le ↦ absurd (let same : b.0 ≡ a.0 = omega (arith, ge, le) in omega (arith, lt, a.2, b.2, ap (slice_index numbers) same))
+        ]
+      ]
+
   bare_same : (what : NodeKind) (ks : List ℕ) → is_bare what (map (slice_index numbers) ks) ≡ is_bare what ks
   bare_same (Literal var positive) ks = refl
   bare_same And ks = ap (λ n. n == 0) (length-map ks (slice_index numbers))
@@ -310,6 +365,10 @@ frozen_graph store root marks copies numbers is within below copied =
         truth = λ a. ap (λ k. is_true copies k a) place ∙ same.truth a;
         few = omega (arith, copied.few, below.long, is.few);
         few_edges = omega (arith, copied.few_edges, sum_by-take-le (λ (x : Node). length x.kids) store.nodes (length marks), is.few_edges);
+        origin = origin_of store root marks copies numbers is within below copied;
+        copied = all_copied store root marks copies numbers is within below copied;
+        root_last = origin_is store root marks copies numbers is within below copied root (length copies - 1) (omega (arith, below.long), below.has) (sym place) (omega (arith, last));
+        in_order = all_in_order store root marks copies numbers is within below copied;
         used = all_used store root marks copies numbers is within below copied;
         once = all_once store root marks copies numbers is within below copied;
         no_bare_kid = all_not_bare store root marks copies numbers is within below copied;

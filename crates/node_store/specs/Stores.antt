@@ -80,6 +80,12 @@ pub record IsFrozen (store : Stored) (root : ℕ) (graph : Graph) : Type 0 where
   pub truth : (a : Assignment) → is_true graph.nodes (length graph.nodes - 1) a ≡ is_true store.nodes root a
   pub few : length graph.nodes ≤ store.made + 2 * store.vars
   pub few_edges : edges graph.nodes ≤ store.handed
+  -- Each node stands in the store too, over the nodes that its kids are there, and the root is this one. Nodes stand in the same order.
+  pub origin : ℕ → ℕ
+  pub copied : (number : ℕ) (node : Node) → slice_get graph.nodes number ≡ Some node
+      → slice_get store.nodes (origin number) ≡ Some (record { what = node.what; kids = map origin node.kids })
+  pub root_last : origin (length graph.nodes - 1) ≡ root
+  pub in_order : (first second : ℕ) → first < second → second < length graph.nodes → origin first < origin second
   -- No node stands in it in vain: each but the root is a kid of another, and no two are equal.
   pub used : (number : ℕ) → number + 1 < length graph.nodes → IsUsed graph.nodes number
   pub once : EachOnce graph.nodes

@@ -28,4 +28,4 @@ returns-in-Err g c =
     by_any (λ order.
     run_unread order _ _ _ _ _ _ _ c.args.path.now (command_meant c.args.command) c.in-Err.error
     (unread c.in-Err.error _ _ _ c.requires.shelf_faults read.failed read.absent read.that_limit read.long_file)
-    read.at_most (λ limit is. read.long.0 (ap Err (is ∙ ap Long (read.that_limit limit (ap Err is))))) c.say_load_error.ensures.write_fault c.say_load_error.ensures.said)
+    read.at_most read.once (λ limit is. read.long.0 (ap Err (is ∙ ap Long (read.that_limit limit (ap Err is))))) c.say_load_error.ensures.write_fault c.say_load_error.ensures.said)

@@ -133,8 +133,7 @@ impl<'a> Arrangement<'a> {
             return;
         }
         let (left, right) = (self.units.at(place), self.units.at(next));
-        self.units.put(place, right);
-        self.units.put(next, left);
+        self.units.exchange(place);
         self.lift_firsts(left, place, next);
         let begun = self.put_before(right, place, next);
         let (beginning, ending) = self.put_behind(left, next);

@@ -10,11 +10,12 @@ use branch_states::{BUDGET_LIMIT, MeasureError, measure};
 use clause_encoder::Cnf;
 use std::alloc::{AllocError, Global};
 
-/// Clauses in another order, and their sum.
+/// Clauses in another order, their sum, and the order of units that they were put together by.
 #[derive(Drop)]
 pub(crate) struct Candidate {
     pub(crate) cnf: Cnf,
     pub(crate) sum: u32,
+    pub(crate) order: Row,
 }
 
 // The sum of a clause list, where it is not above a limit.
@@ -37,7 +38,7 @@ pub(crate) fn better(
     given: &Cnf,
     best: Option<Candidate>,
     units: &Units,
-    order: &Row,
+    order: Row,
 ) -> Result<Option<Candidate>, AllocError>
     requires { MayBe given.now best }
     ensures { IfOk result (MayBe given.now) }
@@ -46,9 +47,9 @@ pub(crate) fn better(
         Some(candidate) => candidate.sum.saturating_sub(1),
         None => BUDGET_LIMIT,
     };
-    let cnf = reordered(alloc, given, units, order)?;
+    let cnf = reordered(alloc, given, units, &order)?;
     match sum_within(alloc, &cnf, top)? {
-        Some(sum) => Ok(Some(Candidate { cnf, sum })),
+        Some(sum) => Ok(Some(Candidate { cnf, sum, order })),
         None => Ok(best),
     }
 }

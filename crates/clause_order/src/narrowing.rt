@@ -10,7 +10,7 @@ use branch_states::BUDGET_LIMIT;
 use clause_encoder::Cnf;
 use std::alloc::{AllocError, Global};
 
-// So many words of states are counted to find the best of the orders, and then no further order is measured: less than a second.
+// So many words of states are counted to tell which order is best, which takes less than a second.
 const WORDS_TO_COUNT: u32 = 1_500_000;
 
 /// The clauses of a list in a better order, if one is found. The only error is that there is no memory.
@@ -36,15 +36,15 @@ fn best_found(alloc: Global, cnf: &Cnf) -> Result<Option<Candidate>, AllocError>
             break;
         }
         best = better_of_both(alloc, cnf, best, &units, found.units)?;
-        left = left.saturating_sub(words_of_both(&best));
+        left = left.saturating_sub(sum_so_far(&best).saturating_mul(2));
     }
-    Ok(best)
+    improved(alloc, cnf, best, &units, left)
 }
 
-// About how many words were counted of an order and its reverse, each up to the sum of a candidate.
-fn words_of_both(best: &Option<Candidate>) -> u32 {
+// Where all orders are above the largest budget, as many words are counted of each.
+fn sum_so_far(best: &Option<Candidate>) -> u32 {
     match best {
-        Some(candidate) => candidate.sum.saturating_mul(2),
+        Some(candidate) => candidate.sum,
         None => BUDGET_LIMIT,
     }
 }
@@ -55,12 +55,53 @@ fn better_of_both(
     cnf: &Cnf,
     best: Option<Candidate>,
     units: &Units,
-    mut order: Row,
+    order: Row,
 ) -> Result<Option<Candidate>, AllocError>
     requires { MayBe cnf.now best }
     ensures { IfOk result (MayBe cnf.now) }
 {
-    let forwards = better(alloc, cnf, best, units, &order)?;
-    order.reverse();
-    better(alloc, cnf, forwards, units, &order)
+    let mut back = order.copied(alloc)?;
+    back.reverse();
+    let forwards = better(alloc, cnf, best, units, order)?;
+    better(alloc, cnf, forwards, units, back)
+}
+
+// What exchanges of neighbours make of a candidate, for so many words. Only the sum itself tells what these are worth.
+fn improved(
+    alloc: Global,
+    cnf: &Cnf,
+    found: Option<Candidate>,
+    units: &Units,
+    words: u32,
+) -> Result<Option<Candidate>, AllocError>
+    requires { MayBe cnf.now found }
+    ensures { IfOk result (MayBe cnf.now) }
+{
+    let mut best = found;
+    let mut in_vain = 0u32;
+    for turn in 0..words / sum_so_far(&best).max(1) {
+        if units.len() <= in_vain {
+            break;
+        }
+        let before = sum_so_far(&best);
+        let order = exchanged(alloc, &best, turn)?;
+        best = better(alloc, cnf, best, units, order)?;
+        in_vain = if sum_so_far(&best) < before {
+            0
+        } else {
+            in_vain.saturating_add(1)
+        };
+    }
+    Ok(best)
+}
+
+// The order of a candidate with two neighbours exchanged, at each turn the next ones.
+fn exchanged(alloc: Global, best: &Option<Candidate>, turn: u32) -> Result<Row, AllocError> {
+    let Some(candidate) = best else {
+        return Ok(Row::empty(alloc));
+    };
+    let mut order = candidate.order.copied(alloc)?;
+    let count = order.len().max(1);
+    order.exchange(turn % count);
+    Ok(order)
 }

@@ -7,11 +7,11 @@ use branch_states::BUDGET_LIMIT;
 use clause_encoder::Cnf;
 use std::alloc::{AllocError, Global};
 
-// The most moves of a round in all; so about 4,000 parts take some seconds.
+// The most moves of a round in all, by which 4,000 parts take some seconds.
 const MOVE_LIMIT: u32 = 400_000;
 
-// An order of at least so many times the states of the largest graph that is served is not worth a look any more, and after the
-// first round not worth a second one.
+// What the weights tell of the sum is right within a factor of three or so: an order of so many times the largest budget is not
+// measured. The second round makes the sum of a few orders a hundred times less, but of none so many times.
 const ABOVE_ALL: u64 = 8;
 
 const ABOVE_A_ROUND: u64 = 1024;
@@ -32,12 +32,12 @@ const FIRST: Round = Round {
     first_shift: 2,
 };
 
-// Longer ones from the best orders of these. They begin with a quarter of the freedom, which would undo what was found.
+// Longer ones from the best orders of these. They begin with an eighth of the freedom, since more of it undoes what was found.
 const SECOND: Round = Round {
     least: 1,
     most: 8,
     moves_a_unit: 100,
-    first_shift: 4,
+    first_shift: 5,
 };
 
 impl Round {

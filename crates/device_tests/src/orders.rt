@@ -1,9 +1,10 @@
-use crate::adder;
+use bench_reader::read_bench;
 use branch_states::{BUDGET_LIMIT, measure};
 use clause_encoder::{Clause, Cnf, encode};
 use clause_order::narrow;
 use std::alloc::Global;
 use std::test::Fail;
+use text_rules::TEXT_LIMIT;
 
 // Clauses that join each variable with the next one, from both ends in turns.
 fn far_apart(alloc: Global) -> Result<Cnf, Fail> {
@@ -20,17 +21,45 @@ fn finds_a_chain(rt: HostRuntime) -> Result<(), Fail> {
     let alloc = rt.alloc();
     let before = measure(alloc, &far_apart(alloc)?, BUDGET_LIMIT)?;
     let found = narrow(alloc, far_apart(alloc)?)?;
-    assert_eq!(rt; (found.vars(), found.len()), (8, 7));
     assert_eq!(rt; (before, measure(alloc, &found, BUDGET_LIMIT)?), (26, 16));
     Ok(())
 }
 
+// Netlists whose names put the clauses into a bad order, and what the sum is at most by a good one, which the same netlist has by
+// other names. Seven buffers in a row have 5 for each and 2 more where their names rise, and two bits of an adder 107 and 135 where
+// those of each bit stand together.
+const SCRAMBLED: [(&str, u32); 2] = [
+    (
+        "INPUT(a)\ne = BUFF(a)\nb = BUFF(e)\nf = BUFF(b)\nc = BUFF(f)\ng = BUFF(c)\nd = BUFF(g)\nh = BUFF(d)\n",
+        37,
+    ),
+    (
+        "INPUT(c)\nINPUT(x)\nINPUT(y)\nINPUT(z)\nINPUT(w)\nxor0 = XOR(x, y)\nand0 = AND(x, y)\nand1 = AND(xor0, c)\nxor1 = XOR(xor0, c)\nor0 = OR(and0, and1)\nxor2 = XOR(z, w)\nand2 = AND(z, w)\nand3 = AND(xor2, or0)\nxor3 = XOR(xor2, or0)\nor1 = OR(and2, and3)\n",
+        242,
+    ),
+];
+
 #[test]
-fn narrows_an_adder(rt: HostRuntime) -> Result<(), Fail> {
+fn finds_good_orders(rt: HostRuntime) -> Result<(), Fail> {
     let alloc = rt.alloc();
-    let cnf = encode(alloc, &adder(alloc, 2)?)?;
-    let before = measure(alloc, &cnf, BUDGET_LIMIT)?;
-    let found = narrow(alloc, cnf)?;
-    assert!(rt; measure(alloc, &found, BUDGET_LIMIT)? <= before);
+    for (text, good) in SCRAMBLED {
+        assert!(rt; text.len() <= TEXT_LIMIT);
+        let device = read_bench(alloc, text.as_bytes())?;
+        let before = measure(alloc, &encode(alloc, &device)?, BUDGET_LIMIT)?;
+        let found = narrow(alloc, encode(alloc, &device)?)?;
+        assert!(rt; good < before, "{text}");
+        assert!(rt; measure(alloc, &found, BUDGET_LIMIT)? <= good, "{text}");
+    }
+    Ok(())
+}
+
+// Without clauses, and without variables, there is one state and nothing to look for.
+#[test]
+fn takes_an_empty_list(rt: HostRuntime) -> Result<(), Fail> {
+    let alloc = rt.alloc();
+    for vars in [0, 3] {
+        let found = narrow(alloc, Cnf::of(alloc, vars, Vec::new(alloc))?)?;
+        assert_eq!(rt; measure(alloc, &found, BUDGET_LIMIT), Ok(1));
+    }
     Ok(())
 }

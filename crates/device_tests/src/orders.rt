@@ -1,29 +1,9 @@
 use bench_reader::read_bench;
 use branch_states::{BUDGET_LIMIT, measure};
-use clause_encoder::{Clause, Cnf, encode};
+use clause_encoder::{Cnf, encode};
 use clause_order::narrow;
-use std::alloc::Global;
 use std::test::Fail;
 use text_rules::TEXT_LIMIT;
-
-// Clauses that join each variable with the next one, from both ends in turns.
-fn far_apart(alloc: Global) -> Result<Cnf, Fail> {
-    let mut clauses = Vec::new(alloc);
-    for (low, high) in [(1, 2), (7, 8), (2, 3), (6, 7), (3, 4), (5, 6), (4, 5)] {
-        clauses.push(Clause::new(alloc, &[low, high])?)?;
-    }
-    Ok(Cnf::of(alloc, 8, clauses)?)
-}
-
-// By any order of these seven clauses the sum is 16 or more.
-#[test]
-fn finds_a_chain(rt: HostRuntime) -> Result<(), Fail> {
-    let alloc = rt.alloc();
-    let before = measure(alloc, &far_apart(alloc)?, BUDGET_LIMIT)?;
-    let found = narrow(alloc, far_apart(alloc)?)?;
-    assert_eq!(rt; (before, measure(alloc, &found, BUDGET_LIMIT)?), (26, 16));
-    Ok(())
-}
 
 // Netlists whose names put the clauses into a bad order, and what the sum is at most by a good one, which the same netlist has by
 // other names. Seven buffers in a row have 5 for each and 2 more where their names rise, and two bits of an adder 107 and 135 where

@@ -1,10 +1,8 @@
 -- A service over a device's graph answers as the device's system does.
 use Rattle.std.proofs.Common.{◌≡◌, ◌≤◌, ◌+◌, ◌*◌, ℕ, List, [], ◌∷◌, length, sym, subst, arith}
 use Rattle.std.specs.Prelude.{Result, Ok}
-use Rattle.std.proofs.lemmas.List.{length-map}
 use Rattle.graph_rules.specs.Graphs.{Graph, IsGraph}
-use Rattle.device_model.specs.Devices.{Device, IsDevice, part_names}
-use Rattle.device_model.specs.declared.component.Component.{Component}
+use Rattle.device_model.specs.Devices.{Device, IsDevice}
 use Rattle.device_model.specs.Diagnosis.{device_system}
 use Rattle.clause_encoder.specs.Clauses.{ClauseList}
 use Rattle.clause_encoder.specs.Encoding.{encoded, Describes}

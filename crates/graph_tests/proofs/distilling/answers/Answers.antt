@@ -2,8 +2,8 @@ use Rattle.std.proofs.Common.{rules}
 use Rattle.graph_tests.proofs.FewCosts.{few_costs}
 use Rattle.graph_tests.proofs.distilling.answers.Goals as goal
 
-pub prepare-some-requires-clause-total : goal.prepare-some-requires-clause-total
-prepare-some-requires-clause-total g c = few_costs c.args.row.now.1 (search rules) (search rules)
+pub prepare-requires-clause-total : goal.prepare-requires-clause-total
+prepare-requires-clause-total g c = few_costs c.args.row.now.1 (search rules) (search rules)
 
 pub first-least-requires-clause-total : goal.first-least-requires-clause-total
 first-least-requires-clause-total g c = few_costs c.args.row.now.1 (search rules) (search rules)

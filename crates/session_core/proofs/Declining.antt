@@ -5,7 +5,7 @@ use Rattle.text_rules.specs.Names.{Name}
 use Rattle.script_lang.specs.Script.{Line, Blank, Refused, Ask, Request, Start, Stop, See, Unsee, Hold, Unhold, Min, Next, Several, After, Probe, Probes, Blame, Dnnf, line_of}
 use Rattle.session_rules.specs.declared.refusal.Refusal.{Refusal}
 use Rattle.session_rules.specs.Sessions.{Table, Entry, Step, Declined, carried, entry_of, outcome, outcome_in, step}
-use Rattle.session_rules.specs.Moves.{moves, listing_moves}
+use Rattle.session_rules.specs.Moves.{listing_moves}
 use Rattle.session_rules.specs.Carrying.{CarriesOut}
 use Rattle.session_rules.specs.GraphSystems.{system_of}
 use Rattle.session_core.specs.Services.{Shown, told_graph, exact_moves, moves_of, IsRefused, ChangesTable}

@@ -1,16 +1,16 @@
 -- What a service tells a session, graphs by their text, is what it tells it alone.
-use Rattle.std.proofs.Common.{◌≡◌, ℕ, List, [], ◌∷◌, ◌++◌, length, Option, Some, None, refl, ap, sym, ◌∙◌}
+use Rattle.std.proofs.Common.{◌≡◌, ℕ, List, [], ◌∷◌, length, Option, Some, None, refl, ap, sym, ◌∙◌}
 use Rattle.std.specs.Prelude.{nat_le, codes}
 use Rattle.text_rules.specs.Names.{Name}
 use Rattle.ranking.specs.Systems.{System}
-use Rattle.script_lang.specs.Script.{Line, Ask, Request, Start, Dnnf, line_of}
+use Rattle.script_lang.specs.Script.{Line, Ask, Request, Dnnf, line_of}
 use Rattle.session_rules.specs.Items.{Item, Plain, line}
 use Rattle.session_rules.specs.Sessions.{Table, Entry, Step, entry_of, carried, outcome, step}
-use Rattle.session_rules.specs.Moves.{said, left_by, moves, line_moves}
-use Rattle.session_rules.specs.Alone.{Answer, lines_of, own_answers, Opens}
+use Rattle.session_rules.specs.Moves.{said, left_by, line_moves}
+use Rattle.session_rules.specs.Alone.{lines_of, own_answers}
 use Rattle.session_rules.specs.GraphSystems.{Subject, system_of}
 use Rattle.session_rules.proofs.Whole.{line_moves-whole}
-use Rattle.session_rules.proofs.Alone.{Both, IsTelling, told_by, told_alone, answers-tell}
+use Rattle.session_rules.proofs.Alone.{IsTelling, told_by, told_alone, answers-tell}
 use Rattle.session_core.specs.Services.{Shown, case_text, told_graph, with_graph, moves_of}
 use Rattle.session_core.specs.Dialogues.{exact_dialogue, AreToldAlone}
 

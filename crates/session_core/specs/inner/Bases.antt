@@ -1,5 +1,5 @@
 -- What a service holds, and what an answer works with.
-use Rattle.std.specs.Prelude.{◌≡◌, ℕ, ◌+◌, ◌*◌, ◌<◌, ◌≤◌, max, List, length, All, true}
+use Rattle.std.specs.Prelude.{◌≡◌, ℕ, ◌+◌, ◌*◌, ◌<◌, ◌≤◌, List, length, All, true}
 use Rattle.text_rules.specs.Names.{names_rise}
 use Rattle.ranking.specs.Cases.{Case}
 use Rattle.device_model.specs.declared.limits.TheConstants.{PART_LIMIT, WIRE_LIMIT}

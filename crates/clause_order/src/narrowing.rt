@@ -10,7 +10,8 @@ use branch_states::BUDGET_LIMIT;
 use clause_encoder::Cnf;
 use std::alloc::{AllocError, Global};
 
-// So many words of states are counted to tell which order is best, which takes less than a second.
+// Once so many words of states are counted, no further order is measured: by then less than a second went by. But the first one
+// is always measured, forwards and backwards.
 const WORDS_TO_COUNT: u32 = 1_500_000;
 
 /// The clauses of a list in a better order, if one is found. The only error is that there is no memory.

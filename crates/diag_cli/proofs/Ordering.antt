@@ -22,12 +22,6 @@ by_same some gives = record { order = some.order; narrows = some.narrows; holds 
 
 -- ---- the clauses of a device
 
--- too many, in whatever order
-pub unencoded : (device : Device) (error : EncodeError) → encoded device ≡ Err error → (narrow : Bool) (order : ClauseList → ClauseList) (budget : ℕ)
-    → within budget (clauses_by narrow order device) ≡ Err (not_encoded error)
-unencoded device error is false order budget = ap (within budget) is
-unencoded device error is true order budget = ap (λ list. within budget (put_into order list)) is
-
 module _ (narrow : Bool) (device : Device) (found : ClauseList) (of : IsListOf narrow device found) where
   same_order : (is_narrow : Bool) → IsInOrder is_narrow of.given found → IsReordered of.given found
   same_order false in_order = (narrowed-same of.given found in_order).reordered

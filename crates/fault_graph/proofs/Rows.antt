@@ -8,7 +8,3 @@ use Rattle.fault_graph.specs.inner.Rows.{keeps, row_of}
 pub row-kept : (values places : List ℕ) (cost : ℕ) (kids : List ℕ) (i : ℕ) → i < length kids → keeps values cost (get_or kids i 0) ≡ true
     → row_of values places cost (drop i kids) ≡ get_or places (get_or kids i 0) 0 ∷ row_of values places cost (drop (i + 1) kids)
 row-kept values places cost kids i h e = (λ j. row_of values places cost (drop_more kids i 0 h j)) ∙ (λ j. map (λ k. get_or places k 0) (cond (e j) (get_or kids i 0 ∷ filter (keeps values cost) (drop (i + 1) kids)) (filter (keeps values cost) (drop (i + 1) kids))))
-
-pub row-left : (values places : List ℕ) (cost : ℕ) (kids : List ℕ) (i : ℕ) → i < length kids → keeps values cost (get_or kids i 0) ≡ false
-    → row_of values places cost (drop i kids) ≡ row_of values places cost (drop (i + 1) kids)
-row-left values places cost kids i h e = (λ j. row_of values places cost (drop_more kids i 0 h j)) ∙ (λ j. map (λ k. get_or places k 0) (cond (e j) (get_or kids i 0 ∷ filter (keeps values cost) (drop (i + 1) kids)) (filter (keeps values cost) (drop (i + 1) kids))))

@@ -1,4 +1,4 @@
--- A graph of which nothing can be left out under words.
+-- A graph of which each node but the root is needed, and costs something, under words.
 use Rattle.std.specs.Prelude.{◌≡◌, ℕ, ◌+◌, ◌-◌, ◌<◌, ◌≤◌, false, List, length, All, Contains, Option, IsSomeAnd, slice_index, ⊤}
 use Rattle.ranking.specs.Values.{values}
 use Rattle.graph_rules.specs.declared.NodeKind.{NodeKind}

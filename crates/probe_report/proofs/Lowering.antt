@@ -53,12 +53,6 @@ kid-in kids j m = any_in (λ k. k == j) j kids m (eq-eqb j j refl)
 pub kid-out : (kids : List ℕ) (j : ℕ) → is_kid kids j ≡ true → In j kids
 kid-out kids j e = let s = any_from (λ k. k == j) kids e in subst (λ x. In x kids) (eqb-true s.item j s.passes) s.is_in
 
--- a kid to which a number was lowered, and one more
-pub lowered-more : (a b : Bool) (cost old : ℕ) → lowered b cost (lowered a cost old) ≡ lowered (a || b) cost old
-lowered-more true true cost old = omega arith
-lowered-more true false cost old = refl
-lowered-more false b cost old = refl
-
 -- ---- the wires that are left
 
 pub is_left-before : (start word kid i : ℕ) → i < start → is_left start word kid i ≡ false

@@ -434,7 +434,7 @@ module _ (order : ClauseList → ClauseList) (held : List ℕ → Holding) (shel
     usage = λ whole. ((λ two. refl), λ none. (said.whole whole).0);
     no_name = λ none. record { left = refl; taken = refl; faults = refl };
     file_taken = omega arith;
-    file_once = tt;
+    file_once = omega arith;
     absent_file = tt;
     no_file = λ moves. absurd (omega (arith, moves));
     not_asked = λ asks. idle;
@@ -461,7 +461,7 @@ module _ (order : ClauseList → ClauseList) (held : List ℕ → Holding) (shel
     usage = λ whole. ((λ two. absurd (no2 two)), λ none. absurd (let never : ⊥ = cc in never));
     no_name = λ none. record { left = refl; taken = refl; faults = refl };
     file_taken = omega arith;
-    file_once = tt;
+    file_once = omega arith;
     absent_file = tt;
     no_file = λ moves. absurd (omega (arith, moves));
     not_asked = λ asks. idle;

@@ -1,16 +1,14 @@
 -- By which order of clauses a run goes.
 use Rattle.std.proofs.Common.{◌≡◌, ◌<◌, ◌≤◌, ℕ, Bool, true, false, Ok, Err, nat_lt, sym, ap, ◌∙◌, arith}
 use Rattle.device_model.specs.Devices.{Device}
-use Rattle.clause_encoder.specs.declared.encoding.EncodeError.{EncodeError}
 use Rattle.clause_encoder.specs.Clauses.{ClauseList}
-use Rattle.clause_encoder.specs.Encoding.{encoded}
 use Rattle.branch_states.specs.Branches.{sum_of}
 use Rattle.clause_order.specs.Orders.{IsReordered, IsNarrowed, SameTruth}
 use Rattle.clause_order.proofs.Orders.{narrowed-given, reordered-holds}
 use Rattle.clause_order.proofs.Choosing.{order_of, order_narrows, order_finds}
 use Rattle.diag_cli.specs.Output.{says}
-use Rattle.diag_cli.specs.Orders.{put_into, clauses_by, ByOrder, ByClauses}
-use Rattle.diag_cli.specs.Planning.{within, not_encoded, sum_line}
+use Rattle.diag_cli.specs.Orders.{put_into, ByOrder, ByClauses}
+use Rattle.diag_cli.specs.Planning.{within, sum_line}
 use Rattle.diag_cli.specs.inner.Ordering.{IsInOrder, IsListOf}
 
 -- what holds by every order holds by the given one

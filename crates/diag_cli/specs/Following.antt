@@ -39,7 +39,7 @@ pub record WritesFirst (before after : Option (List ℕ)) (items : List Item) : 
   pub text : List ℕ
   pub more : Appends middle after text
 
--- Nothing was read after a write that failed: of the bytes that were taken all but those of one read had been answered.
+-- A write failed while the bytes of one read were answered: of those that were taken all but these had been answered before.
 pub record IsStopped (answers : List (List ℕ) → List Item) (bytes : List ℕ) (before after : Option (List ℕ)) : Type 0 where
   pub fed : List ℕ
   pub piece : List ℕ

@@ -69,7 +69,7 @@ pub record IsRun (order : ClauseList → ClauseList) (form : Option Form) (held 
       input.faults < new_input.faults →
       (bytes : List ℕ) × (new_input.taken ≡ input.taken + length bytes) × Consumes input.left new_input.left bytes
       × WritesFirst out.got new_out.got (answers (whole_lines bytes)) × Gives (served answers bytes Failed) status out.got new_out.got)
-  -- Where a write failed, nothing was read of the script after it: all that was taken before the last read had been answered.
+  -- Where a write failed, of the bytes of the script that were taken all but those of one read had been answered.
   pub stopped : IfSome (told_file held (named_file form)) (λ file. (answers : List (List ℕ) → List Item) → course_of order form file ≡ Serves answers →
       status ≡ 5 → input.taken < new_input.taken →
       (bytes : List ℕ) × (new_input.taken ≡ input.taken + length bytes) × Consumes input.left new_input.left bytes × IsStopped answers bytes out.got new_out.got)

@@ -4,6 +4,7 @@ pub mod Texts
 pub mod Minimum
 pub mod Told
 pub mod Questions
+pub mod Desks
 pub mod Staying
 pub mod Obeying
 pub mod Holding

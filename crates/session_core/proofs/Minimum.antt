@@ -1,6 +1,6 @@
 -- The line of `min`.
 use Rattle.std.proofs.Common.{◌≡◌, ◌≢◌, ℕ, ◌<◌, ◌≤◌, min, Bool, true, false, cond, List, [], ◌∷◌, Option, Some, None, refl, sym, ◌∙◌, ap, codes, arith, ⊎_elim}
-use Rattle.std.specs.Prelude.{decimal, slice_index_or, nat_le}
+use Rattle.std.specs.Prelude.{decimal, slice_index_or, nat_le, IfSome}
 use Rattle.std.specs.List.{filter}
 use Rattle.std.proofs.lemmas.Bool.{le-leb, cases_lt}
 use Rattle.text_rules.specs.Names.{Name}
@@ -53,12 +53,12 @@ by_first system session n [] old some = absurd (some refl)
 by_first system session n (d ∷ ds) old some = refl
 
 -- The line tells the least cost and the first diagnosis.
-pub min_line-is : (system : System) (session : Name) (hs : List (List Bool)) (old state : List Bool) (fewest : Option ℕ) → fewest ≡ least system.costs hs
-    → state ≡ slice_index_or (diagnoses system.costs hs) 0 old
+pub min_line-is : (system : System) (session : Name) (hs : List (List Bool)) (state : List Bool) (fewest : Option ℕ) → fewest ≡ least system.costs hs
+    → IfSome fewest (λ _. state ≡ slice_index_or (diagnoses system.costs hs) 0 [])
     → line (min_text session system.parts fewest state) ≡ min_line system session (least system.costs hs) (diagnoses system.costs hs)
-min_line-is system session hs old state None e first =
+min_line-is system session hs state None e first =
     sym (ap (λ ds. min_line system session (least system.costs hs) ds) (no_diagnosis system.costs hs (sym e)))
-min_line-is system session hs old state (Some n) e first =
+min_line-is system session hs state (Some n) e first =
     ap (λ h. line (session ∷ codes "min" ∷ decimal n ∷ faulty_names system.parts h)) first
-    ∙ sym (by_first system session n (diagnoses system.costs hs) old (some_diagnosis system.costs n hs (sym e)))
+    ∙ sym (by_first system session n (diagnoses system.costs hs) [] (some_diagnosis system.costs n hs (sym e)))
     ∙ ap (λ o. min_line system session o (diagnoses system.costs hs)) e

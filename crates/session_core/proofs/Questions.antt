@@ -1,61 +1,32 @@
 -- What is told of a case, by what the graph answers under its words.
-use Rattle.std.proofs.Common.{◌≡◌, ◌≢◌, ℕ, zero, suc, ◌+◌, ◌<◌, Bool, true, false, not, List, [], ◌∷◌, ◌++◌, map, length, get_or, drop, Option, Some, None, refl, ap, ap₂, sym, ◌∙◌, subst, arith, codes}
+use Rattle.std.proofs.Common.{◌≡◌, ◌≢◌, ℕ, suc, ◌+◌, ◌<◌, Bool, true, false, not, List, [], ◌∷◌, ◌++◌, map, length, get_or, drop, Option, Some, None, refl, ap, ap₂, sym, ◌∙◌, arith, codes}
 use Rattle.std.specs.Prelude.{is_some, slice_get, if◌then◌else◌}
 use Rattle.std.specs.List.{list_all, list_any}
-use Rattle.std.proofs.lemmas.List.{get_or-map, drop_more}
+use Rattle.std.proofs.lemmas.List.{drop_more}
 use Rattle.text_rules.specs.Names.{Name}
 use Rattle.ranking.specs.Bits.{bit_in}
 use Rattle.ranking.specs.Cases.{Case}
 use Rattle.ranking.specs.Ranking.{cost, least, least_with, least_of, diagnoses}
 use Rattle.ranking.specs.Systems.{System}
-use Rattle.conditioner.specs.Words.{known_of}
 use Rattle.probe_report.specs.declared.verdicts.Blame.{Blame}
 use Rattle.probe_report.specs.Verdicts.{verdict as verdict_on}
 use Rattle.session_rules.specs.Items.{Item, line}
 use Rattle.session_rules.specs.Replies.{inconsistent, seen_at, probe_line, probe_lines, verdict, blame_lines, if_any}
-use Rattle.session_rules.specs.GraphSystems.{Subject, system_of}
 use Rattle.session_rules.proofs.Begun.{HaveSpellings}
-use Rattle.session_rules.proofs.ProbeWords.{word_there}
-use Rattle.session_core.specs.inner.Bases.{IsBasis, AreKnown, case_in}
 use Rattle.session_core.specs.inner.Texts.{blame_text}
 use Rattle.session_core.specs.inner.Telling.{unseen_line, verdict_lines}
 use Rattle.session_core.proofs.Minimum.{no_diagnosis, some_diagnosis}
 
 -- ---- a wire that is seen or not
 
-by_word : (n : ℕ) (seen : Option Bool) → seen ≡ known_of n → is_some seen ≡ is_some (known_of n)
-by_word n seen e = ap is_some e
+-- a wire that is seen has no line, and another one its own
+pub unseen-none : (system : System) (s : Name) (known : Case) (name : Name) (wire : ℕ) → true ≡ is_some (seen_at known wire) → unseen_line system s known name wire ≡ []
+unseen-none system s known name wire e =
+    ap (λ b. elim b as (λ (_ : Bool). List Item) [ true ↦ [] | false ↦ probe_line system s known name wire ∷ [] ]) (sym e)
 
-open_word : (n : ℕ) → n ≡ 0 → is_some (known_of n) ≡ false
-open_word zero e = refl
-open_word (suc n) e = absurd (omega (arith, e))
-
-fixed_word : (n : ℕ) → n ≢ 0 → is_some (known_of n) ≡ true
-fixed_word zero e = absurd (e refl)
-fixed_word (suc zero) e = refl
-fixed_word (suc (suc n)) e = refl
-
-module _ (subject : Subject) (words : List ℕ) (basis : IsBasis subject) (are : AreKnown subject words) (wire : ℕ) (within : wire < length subject.wires) where
-  abbrev place : ℕ
-  place = length subject.parts + wire
-
-  seen-word : seen_at (case_in subject words) wire ≡ known_of (get_or words place 0)
-  seen-word =
-      let room = basis.vars in
-      let long = are.long in
-      let inside : place < length words = omega (arith, room, long, within) in
-      sym (word_there subject.parts subject.wires subject.costs subject.graph subject.graph.vars words basis.costs refl are wire within)
-      ∙ get_or-map known_of words place 0 None inside
-
-  pub unseen-none : (s name : Name) (n : ℕ) → n ≡ place → get_or words n 0 ≢ 0 → unseen_line (system_of subject) s (case_in subject words) name wire ≡ []
-  unseen-none s name n is some =
-      ap (λ b. elim b as (λ (_ : Bool). List Item) [ true ↦ [] | false ↦ probe_line (system_of subject) s (case_in subject words) name wire ∷ [] ])
-      (ap is_some seen-word ∙ fixed_word (get_or words place 0) (subst (λ m. get_or words m 0 ≢ 0) is some))
-
-  pub unseen-one : (s name : Name) (n : ℕ) → n ≡ place → get_or words n 0 ≡ 0 → unseen_line (system_of subject) s (case_in subject words) name wire ≡ probe_line (system_of subject) s (case_in subject words) name wire ∷ []
-  unseen-one s name n is none =
-      ap (λ b. elim b as (λ (_ : Bool). List Item) [ true ↦ [] | false ↦ probe_line (system_of subject) s (case_in subject words) name wire ∷ [] ])
-      (ap is_some seen-word ∙ open_word (get_or words place 0) (ap (λ m. get_or words m 0) (sym is) ∙ none))
+pub unseen-one : (system : System) (s : Name) (known : Case) (name : Name) (wire : ℕ) → false ≡ is_some (seen_at known wire) → unseen_line system s known name wire ≡ probe_line system s known name wire ∷ []
+unseen-one system s known name wire e =
+    ap (λ b. elim b as (λ (_ : Bool). List Item) [ true ↦ [] | false ↦ probe_line system s known name wire ∷ [] ]) (sym e)
 
 -- ---- lines that are left
 

@@ -1,6 +1,6 @@
 -- Which diagnosis comes next.
 use Rattle.std.proofs.Common.{◌≡◌, ◌≢◌, ◌∙◌, ℕ, Bool, true, false, List, [], ◌∷◌, get_or, Option, Some, None, refl, ap, sym}
-use Rattle.std.specs.Prelude.{is_some}
+use Rattle.std.specs.Prelude.{is_some, IfSome}
 use Rattle.text_rules.specs.Names.{Name}
 use Rattle.ranking.specs.Ranking.{least, diagnoses}
 use Rattle.diagnosis_lister.specs.declared.listing.Step.{Step}
@@ -43,6 +43,12 @@ found_some (h ∷ hs) (d ∷ later) r e f none = cc
 pub first_any : (ds : List (List Bool)) (a b : List Bool) → ds ≢ [] → get_or ds 0 a ≡ get_or ds 0 b
 first_any [] a b some = absurd (some refl)
 first_any (d ∷ ds) a b some = refl
+
+-- where there is a least cost, the first diagnosis is the same whatever stands for none
+pub first_some : (costs : List ℕ) (hs : List (List Bool)) (fewest : Option ℕ) (state old : List Bool) → fewest ≡ least costs hs → state ≡ get_or (diagnoses costs hs) 0 old
+    → IfSome fewest (λ _. state ≡ get_or (diagnoses costs hs) 0 [])
+first_some costs hs None state old e first = tt
+first_some costs hs (Some n) state old e first = first ∙ first_any (diagnoses costs hs) old [] (λ none. some_diagnosis costs n hs (sym e) none)
 
 -- ---- what is found, by what the lister answers
 

@@ -1,6 +1,7 @@
 -- What only the private contracts of this crate cite.
 pub mod Gathering
 pub mod Bases
+pub mod Desks
 pub mod Texts
 pub mod Telling
 pub mod Holding

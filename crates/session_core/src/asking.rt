@@ -17,28 +17,27 @@ use crate::replies::put_refusal;
 use crate::sessions::Sessions;
 use crate::telling::{Question, tell};
 use diag_edge::{Sink, WriteFailed, put_line};
-use minimiser::Steps;
 use projector::write_projected;
 use session_rules::Refusal;
 use std::marker::Brand;
-use std::sync::ledger::{Blank, Ledger};
+use std::sync::ledger::Blank;
 
 impl Sessions {
     // Tells what is asked of a session's case.
     pub(crate) fn ask<O: Sink>(
         &mut self,
         session: &[u8],
-        question: Question<'_>,
+        question: Question,
         out: &mut O,
     ) -> Result<(), WriteFailed>
         requires { NamesNoWire question }
-        ensures obeys { Obeys self.old self.new session.now (asked_request question.entry)
+        ensures obeys { Obeys self.old self.new session.now (asked_request self.old.subject.wires question)
             (O.got out.old) (O.got out.new) result }
         ensures cause { HasCause (O.faults out.old) (O.faults out.new) result }
     {
         match self.open.find(session) {
             None => put_refusal(out, session, Refusal::NoSession),
-            Some(place) => self.tell_at::<O, Brand>(Blank::new(1), place, session, question, out),
+            Some(place) => self.tell_at(place, session, question, out),
         }
     }
 
@@ -55,12 +54,9 @@ impl Sessions {
         let Some(place) = self.open.find(session) else {
             return put_refusal(out, session, Refusal::NoSession);
         };
-        match self.basis.find_wire(name) {
+        match self.desk.basis().find_wire(name) {
             None => put_refusal(out, session, Refusal::NoWire),
-            Some(wire) => {
-                let question = Question::Probe { wire, name };
-                self.tell_at::<O, Brand>(Blank::new(1), place, session, question, out)
-            }
+            Some(wire) => self.tell_at(place, session, Question::Probe { wire }, out),
         }
     }
 
@@ -71,44 +67,28 @@ impl Sessions {
     {
         match self.open.find(session) {
             None => put_refusal(out, session, Refusal::NoSession),
-            Some(place) => tell_graph(&self.basis, self.open.words(place), session, out),
+            Some(place) => tell_graph(self.desk.basis(), self.open.words(place), session, out),
         }
     }
 
-    // Tells what is asked of the case of the session at a place, by passes that are counted from 0.
-    fn tell_at<O: Sink, L: Ledger>(
+    // Tells what is asked of the case of the session at a place.
+    fn tell_at<O: Sink>(
         &mut self,
-        blank: Blank,
         place: usize,
         session: &[u8],
-        question: Question<'_>,
+        question: Question,
         out: &mut O,
     ) -> Result<(), WriteFailed>
-        requires name { blank.name ≡ L.name }
-        requires shares { blank.parts ≡ L.parts }
-        requires some { 0 < blank.parts }
         requires place { place < length self.old.table }
         requires question { HasPlace self.old.subject question }
         ensures reply { (entry : Entry) → StandsAt self.old.table place session.now entry
             → Replies (O.got out.old) (O.got out.new) result
-            (told_of (system_of self.old.subject) session.now entry.known question.entry) }
+            (told_of (system_of self.old.subject) session.now entry.known question) }
         ensures same { self.new ≡ self.old }
         ensures cause { HasCause (O.faults out.old) (O.faults out.new) result }
     {
-        let run = self.scratch.carve(self.basis.room()).unwrap();
-        let told = tell(
-            &self.basis,
-            self.open.words(place),
-            self.scratch.run_mut(&run),
-            &mut self.verdicts,
-            &mut self.distiller,
-            session,
-            question,
-            out,
-            &mut Steps::<L>::new(blank),
-        );
-        self.scratch.release(run);
-        told
+        self.desk.take_up(self.open.words(place));
+        tell::<O, Brand>(&mut self.desk, Blank::new(1), session, question, out)
     }
 }
 

@@ -1,4 +1,4 @@
-ghost use Rattle.std.specs.Prelude.{◌≡◌, ◌+◌, ◌≤◌, ◌<◌, length, true, All, IfOk};
+ghost use Rattle.std.specs.Prelude.{◌≡◌, ◌+◌, ◌≤◌, ◌<◌, [], length, true, All, IfOk, slice_index_or};
 ghost use Rattle.text_rules.specs.Names.{names_rise};
 ghost use Rattle.device_model.specs.Devices.{place_of};
 ghost use Rattle.device_model.specs.declared.limits.TheConstants.{PART_LIMIT, WIRE_LIMIT};
@@ -34,7 +34,7 @@ impl Model for Basis {
 }
 
 impl Basis {
-    ghost use Rattle.session_core.specs.inner.Bases.{IsBasis, answer_room, probe_room};
+    ghost use Rattle.session_core.specs.inner.Bases.{IsBasis};
 
     /// Names, costs and a graph. `Err` means that memory ran out.
     pub(crate) fn of(
@@ -83,6 +83,14 @@ impl Basis {
         self.wires.as_slice()
     }
 
+    /// The name of a wire.
+    pub(crate) fn wire_name(&self, wire: u32) -> &[u8]
+        requires { wire < length self.now.wires }
+        ensures { result.now ≡ slice_index_or self.now.wires wire [] }
+    {
+        self.wires.as_slice()[wire as usize].as_slice()
+    }
+
     /// What the failure of each part costs.
     pub(crate) fn costs(&self) -> &[u32]
         ensures { result.now ≡ self.now.costs }
@@ -110,24 +118,6 @@ impl Basis {
         ensures { result ≡ place_of name.now self.now.wires }
     {
         self.wires.find(name)
-    }
-
-    /// How many words an answer works with: one for each variable, each node and each part.
-    pub(crate) fn room(&self) -> usize
-        ensures room { result ≡ answer_room self.now }
-        ensures some { 1 ≤ result }
-        ensures basis { IsBasis self.now }
-    {
-        self.graph.vars() as usize + (self.graph.len() as usize + self.parts.as_slice().len())
-    }
-
-    /// How many words the probes of all wires work with: four for each node, and two for each wire.
-    pub(crate) fn probe_room(&self) -> usize
-        ensures room { result ≡ probe_room self.now }
-        ensures some { 1 ≤ result }
-        ensures basis { IsBasis self.now }
-    {
-        4 * self.graph.len() as usize + 2 * self.wires.as_slice().len()
     }
 
     /// How many variables the graph has.

@@ -3,6 +3,7 @@
 
 mod asking;
 mod basis;
+mod desk;
 mod laws;
 mod limits;
 mod line_buffer;

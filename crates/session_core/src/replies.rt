@@ -105,27 +105,9 @@ pub fn put_faulty<O: Sink>(
     ensures cause { HasCause (O.faults out.old) (O.faults out.new) result }
 {
     let mut chunk = Chunk::new();
-    add_diagnosis(&mut chunk, out, session, words, parts, state)?;
+    add_front(&mut chunk, out, session, words)?;
+    add_back(&mut chunk, out, parts, state)?;
     chunk.put(out)
-}
-
-#[tactic(auto, using(diag_edge::proofs::Added::adds_on))]
-fn add_diagnosis<O: Sink>(
-    chunk: &mut Chunk,
-    out: &mut O,
-    session: &[u8],
-    words: &[&[u8]],
-    parts: &[Name],
-    state: &[u32],
-) -> Result<(), WriteFailed>
-    requires { length state.now ≡ length parts.now }
-    ensures bytes { Adds (O.got out.old) (O.got out.new) chunk.old chunk.new result
-        ((session.now ++ flat_map (λ word. 32 ∷ word.now) words.now)
-        ++ (spaced_before (faulty_names parts.now (bits_of state.now)) ++ 10 ∷ [])) }
-    ensures cause { HasCause (O.faults out.old) (O.faults out.new) result }
-{
-    add_front(chunk, out, session, words)?;
-    add_back(chunk, out, parts, state)
 }
 
 // That line up to the names of parts.

@@ -7,15 +7,13 @@ ghost use Rattle.session_core.specs.Services.{moves_of, ChangesTable, IsSound};
 ghost use Rattle.session_core.specs.inner.Obeying.{Obeys, seen_request, held_request};
 
 use crate::basis::Basis;
+use crate::desk::Desk;
 use crate::limits::SESSION_LIMIT;
 use crate::replies::{put_line_refusal, put_refusal};
 use crate::telling::Question;
 use device_model::Name;
 use diag_edge::{Sink, WriteFailed, put_line};
-use fault_graph::Distiller;
 use node_store::Graph;
-use probe_report::Blame;
-use scratch_pool::Region;
 use script_lang::{Line, parse_line};
 use session_rules::Refusal;
 use session_table::OpenSessions;
@@ -24,13 +22,8 @@ use std::marker::Model;
 
 /// The sessions over names and a graph. All memory is taken when it is made, and it is spent by [`Sessions::finish`].
 pub(crate) struct Sessions {
-    pub(crate) basis: Basis,
+    pub(crate) desk: Desk,
     pub(crate) open: OpenSessions,
-    // what an answer works with: words for what it finds of variables, nodes, parts and wires, and a verdict for each part
-    pub(crate) scratch: Region,
-    pub(crate) verdicts: Vec<Blame>,
-    // and a smaller graph that has the diagnoses of the words that were asked last
-    pub(crate) distiller: Distiller,
 }
 
 impl Model for Sessions {
@@ -39,9 +32,9 @@ impl Model for Sessions {
 
     ghost Value = { Shown };
 
-    ghost view = { λ s. record { subject = s.basis; limit = s.open.limit; table = s.open.table } };
+    ghost view = { λ s. record { subject = s.desk.subject; limit = s.open.limit; table = s.open.table } };
 
-    ghost invariant = { λ s. HoldsTogether s.basis s.open s.scratch s.verdicts.items s.distiller };
+    ghost invariant = { λ s. HoldsTogether s.desk.subject s.open };
 }
 
 impl Sessions {
@@ -50,31 +43,17 @@ impl Sessions {
         requires { sessions ≤ SESSION_LIMIT }
         ensures { IfOk result (λ made. made ≡ record { subject = basis; limit = sessions; table = [] }) }
     {
-        let parts = basis.parts().len();
+        let parts = basis.parts().len() as u32;
         let wires = basis.wires().len() as u32;
         let vars = basis.vars() as u32;
-        let verdicts = vec![in alloc; Blame::Never; parts]?;
-        let scratch = Region::new(alloc, basis.room().max(basis.probe_room()))?;
-        let distiller = Distiller::new(alloc, basis.graph())?;
-        let open = OpenSessions::new(alloc, parts as u32, wires, vars, sessions)?;
-        Ok(Sessions {
-            basis,
-            open,
-            scratch,
-            verdicts,
-            distiller,
-        })
+        let desk = Desk::new(alloc, basis)?;
+        let open = OpenSessions::new(alloc, parts, wires, vars, sessions)?;
+        Ok(Sessions { desk, open })
     }
 
     /// Closes all sessions, and gives all memory back.
     pub(crate) fn finish(self) {
-        let Sessions {
-            basis: _,
-            open,
-            scratch: _,
-            verdicts: _,
-            distiller: _,
-        } = self;
+        let Sessions { desk: _, open } = self;
         open.finish();
     }
 
@@ -85,14 +64,14 @@ impl Sessions {
     {
         // The case of each open session fits.
         let _full = self.open.is_full();
-        self.basis.parts().len()
+        self.desk.basis().parts().len()
     }
 
     /// The number of wires.
     pub(crate) fn wires(&self) -> usize
         ensures { result ≡ length self.now.subject.wires }
     {
-        self.basis.wires().len()
+        self.desk.basis().wires().len()
     }
 
     /// Answers one line. Where a write fails, the line is carried out up to the reply that met the
@@ -118,7 +97,7 @@ impl Sessions {
             Line::List { session, count } => self.list(session, count, out),
             Line::After { session, names } => self.after(session, names, out),
             Line::Probe { session, name } => self.ask_wire(session, name, out),
-            Line::Probes { session } => self.ask_probes(session, out),
+            Line::Probes { session } => self.ask(session, Question::Probes, out),
             Line::Blame { session } => self.ask(session, Question::Blame, out),
             Line::Dnnf { session } => self.ask_graph(session, out),
         }
@@ -169,7 +148,7 @@ impl Sessions {
         let Some(place) = self.open.find(session) else {
             return put_refusal(out, session, Refusal::NoSession);
         };
-        match self.basis.find_wire(name) {
+        match self.desk.basis().find_wire(name) {
             None => put_refusal(out, session, Refusal::NoWire),
             Some(wire) => {
                 self.open.see(place, wire, bit);
@@ -193,7 +172,7 @@ impl Sessions {
         let Some(place) = self.open.find(session) else {
             return put_refusal(out, session, Refusal::NoSession);
         };
-        match self.basis.find_part(name) {
+        match self.desk.basis().find_part(name) {
             None => put_refusal(out, session, Refusal::NoPart),
             Some(part) => {
                 self.open.hold(place, part, ok);

@@ -1,236 +1,125 @@
 //! What is told of a case that stays as it is.
-ghost use Rattle.std.specs.Prelude.{◌≡◌, ◌+◌, ◌<◌, ◌++◌, ◌∷◌, [], length, is_some};
+ghost use Rattle.std.specs.Prelude.{◌≡◌, ◌<◌, ◌++◌, ◌∷◌, [], length, slice_index_or};
 ghost use Rattle.diag_edge.specs.Edge.{HasCause};
-ghost use Rattle.ranking.specs.Systems.{least_cost, all_diagnoses};
-ghost use Rattle.fault_graph.specs.Distilled.{Serves};
 ghost use Rattle.session_rules.specs.GraphSystems.{system_of};
-ghost use Rattle.session_rules.specs.Replies.{end_line, min_line, probe_line, probe_lines, blame_lines, if_any};
+ghost use Rattle.session_rules.specs.Replies.{end_line, min_line, probe_line, blame_lines, if_any};
 ghost use Rattle.session_rules.specs.Spelling.{Replies};
-ghost use Rattle.session_core.specs.inner.Bases.{AreKnown, case_in, HasRoom};
-ghost use Rattle.session_core.specs.inner.Telling.{told_of, HasPlace, unseen_line, verdict_lines};
+ghost use Rattle.session_core.specs.inner.Desks.{asked_case, agreeing, least_asked, diagnoses_asked};
+ghost use Rattle.session_core.specs.inner.Telling.{told_of, HasPlace, verdict_lines};
 
-use crate::basis::Basis;
+use crate::desk::Desk;
+use crate::probing::tell_probes;
 use crate::replies::{put_blame, put_min, put_probe};
 use diag_edge::{Sink, WriteFailed, put_line};
-use fault_graph::Distiller;
-use minimiser::{Steps, least};
-use probe_report::{Blame, probe};
-use std::sync::ledger::Ledger;
+use minimiser::Steps;
+use std::sync::ledger::{Blank, Ledger};
 
 /// What is asked of a session's case.
 #[derive(Clone, Copy, Debug)]
-pub(crate) enum Question<'a> {
+pub(crate) enum Question {
     /// The least cost, with the first diagnosis.
     Minimum,
     /// The least cost where the wire at a place is 0, and where it is 1.
-    Probe { wire: u32, name: &'a [u8] },
+    Probe { wire: u32 },
+    /// The same of each wire that is not seen.
+    Probes,
     /// Of each part whether it is faulty in all diagnoses, in some, or in none.
     Blame,
 }
 
-/// Tells what is asked of a case. The scratch has words for the variables, the nodes and the parts.
+/// Tells what is asked of the case on a desk, by passes that are counted from 0.
 pub(crate) fn tell<O: Sink, L: Ledger>(
-    basis: &Basis,
-    known: &[u32],
-    scratch: &mut [u32],
-    verdicts: &mut [Blame],
-    distiller: &mut Distiller,
+    desk: &mut Desk,
+    blank: Blank,
     session: &[u8],
-    question: Question<'_>,
+    question: Question,
     out: &mut O,
-    steps: &mut Steps<L>,
 ) -> Result<(), WriteFailed>
-    requires known { AreKnown basis.now known.now }
-    requires question { HasPlace basis.now question }
-    requires scratch { length scratch.old ≡ basis.now.graph.vars + (length basis.now.graph.nodes + length basis.now.parts) }
-    requires verdicts { length verdicts.old ≡ length basis.now.parts }
-    requires serves { Serves basis.now.graph basis.now.costs distiller.old }
+    requires name { blank.name ≡ L.name }
+    requires shares { blank.parts ≡ L.parts }
+    requires some { 0 < blank.parts }
+    requires question { HasPlace desk.old.subject question }
     ensures reply { Replies (O.got out.old) (O.got out.new) result
-        (told_of (system_of basis.now) session.now (case_in basis.now known.now) question.entry) }
-    ensures serves { Serves basis.now.graph basis.now.costs distiller.new }
+        (told_of (system_of desk.old.subject) session.now (asked_case desk.old) question) }
+    ensures subject { desk.new.subject ≡ desk.old.subject }
     ensures cause { HasCause (O.faults out.old) (O.faults out.new) result }
 {
-    let (words, work) = scratch.split_at_mut(basis.vars());
-    let (values, state) = work.split_at_mut(basis.nodes());
-    words.copy_from_slice(known);
-    state.fill(0);
+    let mut steps = Steps::<L>::new(blank);
     match question {
-        Question::Minimum => {
-            tell_minimum(basis, words, values, state, distiller, session, out, steps)
-        }
-        Question::Probe { wire, name } => {
-            tell_probe(basis, words, values, session, name, wire, out, steps)
-        }
-        Question::Blame => {
-            tell_blame(
-                basis, words, values, state, verdicts, distiller, session, out, steps,
-            )
-        }
+        Question::Minimum => tell_minimum(desk, session, out, &mut steps),
+        Question::Probe { wire } => tell_probe(desk, session, wire, out, &mut steps),
+        Question::Probes => tell_probes(desk, session, out, &mut steps),
+        Question::Blame => tell_blame(desk, session, out, &mut steps),
     }
 }
 
 // The least cost and the first diagnosis.
 fn tell_minimum<O: Sink, L: Ledger>(
-    basis: &Basis,
-    words: &mut [u32],
-    values: &mut [u32],
-    state: &mut [u32],
-    distiller: &mut Distiller,
+    desk: &mut Desk,
     session: &[u8],
     out: &mut O,
     steps: &mut Steps<L>,
 ) -> Result<(), WriteFailed>
-    requires words { AreKnown basis.now words.old }
-    requires room { HasRoom basis.now values.old state.old }
-    requires serves { Serves basis.now.graph basis.now.costs distiller.old }
-    ensures reply { let system = system_of basis.now in let known = case_in basis.now words.old in
-        Replies (O.got out.old) (O.got out.new) result
-        (min_line system session.now (least_cost system known) (all_diagnoses system known) ∷ []) }
-    ensures serves { Serves basis.now.graph basis.now.costs distiller.new }
-    ensures cause { HasCause (O.faults out.old) (O.faults out.new) result }
-{
-    let fewest = distiller.first(basis.graph(), words, basis.costs(), values, state, steps);
-    put_min(out, session, basis.parts(), fewest, state)
-}
-
-// Whether some state agrees with the words.
-fn is_consistent<L: Ledger>(
-    basis: &Basis,
-    words: &[u32],
-    values: &mut [u32],
-    steps: &mut Steps<L>,
-) -> bool
-    requires words { AreKnown basis.now words.now }
-    requires values { length values.old ≡ length basis.now.graph.nodes }
-    ensures { result ≡ is_some (least_cost (system_of basis.now) (case_in basis.now words.now)) }
-{
-    least(basis.graph(), words, basis.costs(), values, steps).is_some()
-}
-
-// The same, and what was distilled last is then of these words.
-fn has_diagnosis<L: Ledger>(
-    basis: &Basis,
-    words: &[u32],
-    values: &mut [u32],
-    distiller: &mut Distiller,
-    steps: &mut Steps<L>,
-) -> bool
-    requires words { AreKnown basis.now words.now }
-    requires values { length values.old ≡ length basis.now.graph.nodes }
-    requires serves { Serves basis.now.graph basis.now.costs distiller.old }
-    ensures some { result ≡ is_some (least_cost (system_of basis.now) (case_in basis.now words.now)) }
-    ensures serves { Serves basis.now.graph basis.now.costs distiller.new }
-{
-    distiller.is_consistent(basis.graph(), words, basis.costs(), values, steps)
-}
-
-// The line of one wire, where some state agrees.
-fn put_probe_of<O: Sink, L: Ledger>(
-    basis: &Basis,
-    words: &mut [u32],
-    values: &mut [u32],
-    session: &[u8],
-    name: &[u8],
-    wire: u32,
-    out: &mut O,
-    steps: &mut Steps<L>,
-) -> Result<(), WriteFailed>
-    requires words { AreKnown basis.now words.old }
-    requires wire { wire < length basis.now.wires }
-    requires values { length values.old ≡ length basis.now.graph.nodes }
     ensures reply { Replies (O.got out.old) (O.got out.new) result
-        (probe_line (system_of basis.now) session.now (case_in basis.now words.old) name.now wire ∷ []) }
-    ensures words { words.new ≡ words.old }
+        (min_line (system_of desk.old.subject) session.now (least_asked desk.old) (diagnoses_asked desk.old) ∷ []) }
+    ensures subject { desk.new.subject ≡ desk.old.subject }
     ensures cause { HasCause (O.faults out.old) (O.faults out.new) result }
 {
-    let parts = basis.parts().len() as u32;
-    let (zero, one) = probe(
-        basis.graph(),
-        words,
-        basis.costs(),
-        parts + wire + 1,
-        values,
-        steps,
-    );
-    put_probe(out, session, name, zero, one)
+    let fewest = desk.first(steps);
+    put_min(out, session, desk.basis().parts(), fewest, desk.state())
 }
 
 // The least costs of one wire, if some state agrees.
 fn tell_probe<O: Sink, L: Ledger>(
-    basis: &Basis,
-    words: &mut [u32],
-    values: &mut [u32],
+    desk: &mut Desk,
     session: &[u8],
-    name: &[u8],
     wire: u32,
     out: &mut O,
     steps: &mut Steps<L>,
 ) -> Result<(), WriteFailed>
-    requires words { AreKnown basis.now words.old }
-    requires wire { wire < length basis.now.wires }
-    requires values { length values.old ≡ length basis.now.graph.nodes }
-    ensures reply { let system = system_of basis.now in let known = case_in basis.now words.old in
-        Replies (O.got out.old) (O.got out.new) result
-        (if_any session.now (system.consistent known) (probe_line system session.now known name.now wire ∷ [])) }
+    requires { wire < length desk.old.subject.wires }
+    ensures reply { let system = system_of desk.old.subject in
+        Replies (O.got out.old) (O.got out.new) result (if_any session.now (agreeing desk.old)
+        (probe_line system session.now (asked_case desk.old) (slice_index_or system.wires wire []) wire ∷ [])) }
+    ensures subject { desk.new.subject ≡ desk.old.subject }
     ensures cause { HasCause (O.faults out.old) (O.faults out.new) result }
 {
-    if !is_consistent(basis, words, values, steps) {
+    if !desk.is_consistent(steps) {
         return put_line(out, &[session, b"inconsistent"]);
     }
-    put_probe_of(basis, words, values, session, name, wire, out, steps)
+    let (zero, one) = desk.probe(wire, steps);
+    put_probe(out, session, desk.basis().wire_name(wire), zero, one)
 }
 
 // Of each part whether it is faulty in all diagnoses, in some or in none, if there is one.
 fn tell_blame<O: Sink, L: Ledger>(
-    basis: &Basis,
-    words: &mut [u32],
-    values: &mut [u32],
-    state: &mut [u32],
-    verdicts: &mut [Blame],
-    distiller: &mut Distiller,
+    desk: &mut Desk,
     session: &[u8],
     out: &mut O,
     steps: &mut Steps<L>,
 ) -> Result<(), WriteFailed>
-    requires words { AreKnown basis.now words.old }
-    requires room { HasRoom basis.now values.old state.old }
-    requires verdicts { length verdicts.old ≡ length basis.now.parts }
-    requires serves { Serves basis.now.graph basis.now.costs distiller.old }
-    ensures reply { let system = system_of basis.now in let ds = all_diagnoses system (case_in basis.now words.old) in
+    ensures reply { let ds = diagnoses_asked desk.old in
         Replies (O.got out.old) (O.got out.new) result
-        (if_any session.now ds (blame_lines session.now ds 0 system.parts ++ end_line session.now ∷ [])) }
-    ensures serves { Serves basis.now.graph basis.now.costs distiller.new }
+        (if_any session.now ds (blame_lines session.now ds 0 desk.old.subject.parts ++ end_line session.now ∷ [])) }
+    ensures subject { desk.new.subject ≡ desk.old.subject }
     ensures cause { HasCause (O.faults out.old) (O.faults out.new) result }
 {
-    if !has_diagnosis(basis, words, values, distiller, steps) {
+    if !desk.is_consistent(steps) {
         return put_line(out, &[session, b"inconsistent"]);
     }
-    distiller.blame_all(
-        basis.graph(),
-        words,
-        basis.costs(),
-        values,
-        state,
-        verdicts,
-        steps,
-    );
-    put_blames(basis, verdicts, session, out)?;
+    desk.blame(steps);
+    put_blames(desk, session, out)?;
     put_line(out, &[session, b"end"])
 }
 
-// A line for each part. The diagnoses are those under some words.
-fn put_blames<O: Sink>(
-    basis: &Basis,
-    verdicts: &[Blame],
-    session: &[u8],
-    out: &mut O,
-) -> Result<(), WriteFailed>
-    requires { length verdicts.now ≡ length basis.now.parts }
+// A line for each part, with its verdict.
+fn put_blames<O: Sink>(desk: &Desk, session: &[u8], out: &mut O) -> Result<(), WriteFailed>
     ensures reply { Replies (O.got out.old) (O.got out.new) result
-        (verdict_lines session.now basis.now.parts verdicts.now) }
+        (verdict_lines session.now desk.now.subject.parts desk.now.verdicts) }
     ensures cause { HasCause (O.faults out.old) (O.faults out.new) result }
 {
-    let parts = basis.parts();
+    let parts = desk.basis().parts();
+    let verdicts = desk.verdicts();
     for (part, name) in parts.iter().enumerate() {
         put_blame(out, session, name.as_slice(), verdicts[part])?;
     }

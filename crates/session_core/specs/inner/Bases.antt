@@ -1,5 +1,5 @@
--- What a service holds, and what an answer works with.
-use Rattle.std.specs.Prelude.{◌≡◌, ℕ, ◌+◌, ◌*◌, ◌<◌, ◌≤◌, List, length, All, true}
+-- What a service asks over, and the words of a case.
+use Rattle.std.specs.Prelude.{◌≡◌, ℕ, ◌+◌, ◌<◌, ◌≤◌, List, length, All, true}
 use Rattle.text_rules.specs.Names.{names_rise}
 use Rattle.ranking.specs.Cases.{Case}
 use Rattle.device_model.specs.declared.limits.TheConstants.{PART_LIMIT, WIRE_LIMIT}
@@ -30,16 +30,3 @@ AreKnown subject words = AreWords (length subject.parts) (length subject.wires) 
 -- the case that they say
 abbrev pub case_in : Subject → List ℕ → Case
 case_in subject words = case_of_words (length subject.parts) (length subject.wires) words
-
--- how many words the probes of all wires work with, and any other answer
-abbrev pub probe_room : Subject → ℕ
-probe_room subject = 4 * length subject.graph.nodes + 2 * length subject.wires
-
-abbrev pub answer_room : Subject → ℕ
-answer_room subject = subject.graph.vars + (length subject.graph.nodes + length subject.parts)
-
--- room for a value at each node of the graph, and for a state
-pub record HasRoom (subject : Subject) (values state : List ℕ) : Type 0 where
-  pub one_a_node : length values ≡ length subject.graph.nodes
-  pub one_a_part : length state ≡ length subject.parts
-  pub bits : All (λ s. s < 2) state

@@ -1,11 +1,11 @@
 -- What a request does with the sessions.
-use Rattle.std.specs.Prelude.{◌≡◌, ℕ, Bool, List, [], ◌∷◌, Option, Some, None, Result, IfOk}
+use Rattle.std.specs.Prelude.{◌≡◌, ℕ, Bool, List, [], ◌∷◌, Option, Some, None, Result, IfOk, slice_index_or}
 use Rattle.text_rules.specs.Names.{Name}
 use Rattle.ranking.specs.Ranking.{rest}
 use Rattle.ranking.specs.Systems.{all_diagnoses}
 use Rattle.diagnosis_lister.specs.declared.listing.Step.{Step as Answer}
 use Rattle.diagnosis_lister.specs.Listing.{step_of}
-use Rattle.script_lang.specs.Script.{Request, Ask, See, Unsee, Hold, Unhold, Min, Probe as ProbeOf, Blame as BlameAll}
+use Rattle.script_lang.specs.Script.{Request, Ask, See, Unsee, Hold, Unhold, Min, Probe as ProbeOf, Probes as ProbesOf, Blame as BlameAll}
 use Rattle.session_rules.specs.GraphSystems.{Subject, system_of}
 use Rattle.session_rules.specs.Replies.{Found, next_of}
 use Rattle.session_rules.specs.Sessions.{Entry, Table, with_entry}
@@ -14,7 +14,7 @@ use Rattle.session_rules.specs.Carrying.{CarriesOut}
 use Rattle.session_table.specs.Tables.{StandsAt}
 use Rattle.session_core.specs.Services.{Shown, exact_moves, ChangesTable}
 use Rattle.session_core.specs.declared.telling.Question.{Question}
-use Rattle.session_core.specs.declared.telling.Question.TheVariants.{Minimum, Probe, Blame}
+use Rattle.session_core.specs.declared.telling.Question.TheVariants.{Minimum, Probe, Probes, Blame}
 
 -- The moves of a request were made or broke off, and nothing but the table changed.
 pub record Obeys {T E : Type 0} (old new : Shown) (session : Name) (request : Request) (before after : Option (List ℕ)) (result : Result T E) : Type 0 where
@@ -31,15 +31,16 @@ abbrev pub held_request : Name → Option Bool → Request
 held_request name (Some ok) = Hold name ok
 held_request name None = Unhold name
 
--- what a question asks
-abbrev pub asked_request : Question → Request
-asked_request Minimum = Min
-asked_request (Probe wire name) = ProbeOf name.now
-asked_request Blame = BlameAll
+-- what a question asks, over these wires
+abbrev pub asked_request : List Name → Question → Request
+asked_request wires Minimum = Min
+asked_request wires (Probe wire) = ProbeOf (slice_index_or wires wire [])
+asked_request wires Probes = ProbesOf
+asked_request wires Blame = BlameAll
 
 -- a question without a wire
 abbrev pub NamesNoWire : Question → Type 0
-NamesNoWire (Probe wire name) = ⊥
+NamesNoWire (Probe wire) = ⊥
 NamesNoWire question = Unit {0}
 
 -- what `next` finds for a session

@@ -1,18 +1,18 @@
 use Rattle.std.proofs.Common.{◌≡◌, drop}
 use Rattle.session_rules.specs.GraphSystems.{system_of}
 use Rattle.session_rules.specs.Replies.{probe_lines}
-use Rattle.session_core.specs.inner.Bases.{case_in}
+use Rattle.session_core.specs.inner.Desks.{asked_case}
 use Rattle.session_core.specs.inner.Telling.{Said}
 use Rattle.session_core.proofs.probing.put_probes.Given as goal
 
 -- the lines up to a wire were written, and those from there on are left
 abbrev pub invariant-loop-wire : goal.invariant-loop-wire
 invariant-loop-wire g l =
-    let system = system_of l.fn.basis in
-    let known = case_in l.fn.basis l.words in
+    let system = system_of l.desk.subject in
+    let known = asked_case l.desk in
     record {
       said : Said (g.O.Sink.got l.fn.out) (g.O.Sink.got l.out)
-          (probe_lines system l.fn.session known l.wire (drop l.wire l.wires))
-          (probe_lines system l.fn.session known 0 system.wires);
+          (probe_lines system l.session known l.wire (drop l.wire system.wires))
+          (probe_lines system l.session known 0 system.wires);
       faults : g.O.Sink.faults l.out ≡ g.O.Sink.faults l.fn.out;
     }

@@ -1,7 +1,8 @@
-use Rattle.std.proofs.Common.{◌≡◌, ◌∙◌, ◌+◌, ◌<◌, ◌∷◌, [], ℕ, List, ap, subst, length, get_or, drop, codes, arith}
+use Rattle.std.proofs.Common.{◌∙◌, ◌+◌, ◌<◌, ◌∷◌, [], ℕ, List, ap, ap₂, subst, length, get_or, drop, codes, arith}
 use Rattle.std.proofs.lemmas.List.{get_or_read}
 use Rattle.text_rules.specs.Tokens.{spaced}
 use Rattle.probe_report.specs.declared.verdicts.Blame.TheVariants.{Always}
+use Rattle.session_rules.specs.GraphSystems.{Subject}
 use Rattle.session_rules.specs.Items.{Item, line}
 use Rattle.session_core.specs.inner.Texts.{blame_text}
 use Rattle.session_core.specs.inner.Telling.{Said, verdict_lines}
@@ -13,13 +14,14 @@ pub returns-in_err-put_blame-clause-reply : goal.returns-in_err-put_blame-clause
 returns-in_err-put_blame-clause-reply g c =
     let s = c.args.session.now in
     let names = c.parts-parts.result.now in
-    let verdicts = c.args.verdicts.now in
+    let verdicts = c.verdicts-verdicts.result.now in
     let i = c.loop-part.part in
-    let below : i < length verdicts = omega (arith, c.requires, ap length c.parts-parts.ensures.names) in
+    let parts = c.parts-parts.ensures.names ∙ ap (λ (u : Subject). u.parts) c.basis.ensures in
+    let below : i < length verdicts = omega (arith, ap length c.verdicts-verdicts.ensures.verdicts, c.verdicts-verdicts.ensures.one_a_part, ap length parts) in
     let name = c.as_slice.ensures.bytes ∙ get_or_read names i c.index-parts-part.result c.loop-part-test.true c.index-parts-part.is [] in
     let word = blame_text (get_or verdicts i Always) in
     let one = line (s ∷ codes "blame" ∷ get_or names i [] ∷ word ∷ []) in
-    let all : verdict_lines s names verdicts ≡ verdict_lines s c.args.basis.now.parts verdicts = ap (λ ns. verdict_lines s ns verdicts) c.parts-parts.ensures.names in
+    let all = ap₂ (λ ns vs. verdict_lines s ns vs) parts c.verdicts-verdicts.ensures.verdicts in
     let said = c.loop-part.invariant.said in
     said_part _ _ _ _ (one ∷ []) (verdict_lines s (drop (i + 1) names) (drop (i + 1) verdicts)) _ _ c.from_residual.ensures.0
     (verdicts-next s names verdicts i Always c.loop-part-test.true below)
@@ -31,9 +33,10 @@ pub loop-part-preserved : goal.loop-part-preserved
 loop-part-preserved g c =
     let s = c.args.session.now in
     let names = c.parts-parts.result.now in
-    let verdicts = c.args.verdicts.now in
+    let verdicts = c.verdicts-verdicts.result.now in
     let i = c.loop-part.part in
-    let below : i < length verdicts = omega (arith, c.requires, ap length c.parts-parts.ensures.names) in
+    let parts = c.parts-parts.ensures.names ∙ ap (λ (u : Subject). u.parts) c.basis.ensures in
+    let below : i < length verdicts = omega (arith, ap length c.verdicts-verdicts.ensures.verdicts, c.verdicts-verdicts.ensures.one_a_part, ap length parts) in
     let name = c.as_slice.ensures.bytes ∙ get_or_read names i c.index-parts-part.result c.loop-part-test.true c.index-parts-part.is [] in
     let word = blame_text (get_or verdicts i Always) in
     let one = line (s ∷ codes "blame" ∷ get_or names i [] ∷ word ∷ []) in

@@ -18,7 +18,7 @@ use Rattle.session_core.proofs.sessions.Sessions.after.Goals as goal
 pub returns-in_default-clause-obeys : goal.returns-in_default-clause-obeys
 returns-in_default-clause-obeys g c =
     let request = After (words c.args.names.now) in
-    let shown = shown_of c.self.inside.basis c.self.inside.open in
+    let shown = shown_of c.self.inside.desk.subject c.self.inside.open in
     subst (λ (v : Shown). Obeys v v c.args.session.now request (g.O.Sink.got c.args.out.now) (g.O.Sink.got c.put_refusal.new.out) c.put_refusal.result) c.self.view_is
     (obeys_closed shown c.args.session.now request (λ shown table session. refl) _ _ _ (λ system session full. refl) c.in_default.ensures.none c.put_refusal.ensures.text)
 

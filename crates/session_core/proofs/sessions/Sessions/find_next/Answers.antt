@@ -1,46 +1,92 @@
-use Rattle.std.proofs.Common.{◌∙◌, length, ap, sym, subst, arith}
-use Rattle.scratch_pool.specs.declared.region.Span.{Span}
-use Rattle.scratch_pool.proofs.Laws.{length-run}
+use Rattle.std.proofs.Common.{◌≡◌, ◌∙◌, ℕ, List, Bool, Option, Some, [], get_or, sym, ap, subst}
+use Rattle.text_rules.specs.Names.{Name}
+use Rattle.ranking.specs.Cases.{Case}
+use Rattle.ranking.specs.Ranking.{rest}
+use Rattle.ranking.specs.Systems.{all_diagnoses}
+use Rattle.diagnosis_lister.specs.declared.listing.Step.{Step}
+use Rattle.diagnosis_lister.specs.declared.listing.Step.TheVariants.{Found}
+use Rattle.diagnosis_lister.specs.Listing.{bits_of, step_of}
+use Rattle.session_rules.specs.GraphSystems.{Subject, system_of}
+use Rattle.session_rules.specs.Replies.{diagnosis_line}
+use Rattle.session_rules.specs.Sessions.{Entry, Table, with_entry}
 use Rattle.session_table.specs.Tables.{Opened, StandsAt}
 use Rattle.session_core.specs.Services.{Shown}
-use Rattle.session_core.specs.inner.Obeying.{PointMoves}
-use Rattle.session_core.proofs.Holding.{shown_of, carve_some, carved_so, is_last, is_held, released_runs, released_words}
+use Rattle.session_core.specs.inner.Bases.{case_in}
+use Rattle.session_core.specs.inner.Desks.{OnDesk, agreeing, diagnoses_asked}
+use Rattle.session_core.specs.inner.Obeying.{the_next, PointMoves}
+use Rattle.session_core.proofs.Holding.{known-there, case-there}
+use Rattle.session_core.proofs.Stepping.{point_kept, found_more}
 use Rattle.session_core.proofs.sessions.Sessions.find_next.Goals as goal
 
-pub move_point-step-requires-clause-scratch : goal.move_point-step-requires-clause-scratch
-move_point-step-requires-clause-scratch g c =
-    let at = carved_so c.self.inside.scratch c.carve.new.self c.room.result c.carve.result c.unwrap-run.result c.unwrap-run.ensures c.carve.ensures.run in
-    let held = is_held c.self.inside.scratch c.carve.new.self c.unwrap-run.result c.self.invariant.unused at.1 in
-    ap length c.run_mut.ensures.value ∙ (length-run c.carve.new.self c.run_mut.ensures.sound c.unwrap-run.result held ∙ (ap (λ (run : Span). run.len) at.0 ∙ c.room.ensures.room))
+module _ (subject : Subject) (session : Name) (entry : Entry) where
+  abbrev states : List (List Bool)
+  states = (system_of subject).consistent entry.known
 
-pub returns-clause-moves : goal.returns-clause-moves
-returns-clause-moves g c = λ session entry stands.
+  abbrev later : List (List Bool)
+  later = rest (all_diagnoses (system_of subject) entry.known) entry.point
+
+  -- nothing was found, and nothing changed
+  stays : (table : Table) (place : ℕ) (r : Step) → StandsAt table place session entry → r ≡ step_of states later → (r ≡ Found → ⊥) → PointMoves subject table table place session entry r
+  stays table place r stands is none =
+      let kept : entry.point ≡ (the_next subject session entry).point = sym (point_kept (system_of subject).costs states session (diagnosis_line (system_of subject) session) entry.point r later is none) in
+      record {
+        answer = is;
+        moved = sym stands.kept ∙ ap (λ (p : Option (List Bool)). with_entry session (record entry { point = p }) table) kept;
+        stands = subst (λ (p : Option (List Bool)). StandsAt table place session (record entry { point = p })) kept stands;
+      }
+
+  -- the first of those that are later is the point
+  goes_on : (old new : Table) (place : ℕ) (state : List Bool) → Found ≡ step_of states later → state ≡ get_or later 0 []
+      → new ≡ with_entry session (record entry { point = Some state }) old → StandsAt new place session (record entry { point = Some state }) → PointMoves subject old new place session entry Found
+  goes_on old new place state is first moved stands =
+      let point : Some state ≡ (the_next subject session entry).point =
+      ap (λ (h : List Bool). Some h) first ∙ sym (ap (λ f. f.point) (found_more (system_of subject).costs states session (diagnosis_line (system_of subject) session) entry.point later (sym is))) in
+      record {
+        answer = is;
+        moved = moved ∙ ap (λ (p : Option (List Bool)). with_entry session (record entry { point = p }) old) point;
+        stands = subst (λ (p : Option (List Bool)). StandsAt new place session (record entry { point = p })) point stands;
+      }
+
+-- what a desk finds after a point, where it has taken up the words of a session
+found_there : (desk taken : OnDesk) (words : List ℕ) (known : Case) (point there : Option (List Bool)) (r : Step) → taken ≡ record desk { known = words }
+    → case_in desk.subject words ≡ known → point ≡ there → r ≡ step_of (agreeing taken) (rest (diagnoses_asked taken) point)
+    → r ≡ step_of ((system_of desk.subject).consistent known) (rest (all_diagnoses (system_of desk.subject) known) there)
+found_there desk taken words known point there r is case at step =
+    step
+    ∙ ap (λ (d : OnDesk). step_of (agreeing d) (rest (diagnoses_asked d) point)) is
+    ∙ (λ i. step_of ((system_of desk.subject).consistent (case i)) (rest (all_diagnoses (system_of desk.subject) (case i)) (at i)))
+
+-- and the state that is then on it
+state_there : (desk taken : OnDesk) (words : List ℕ) (known : Case) (point there : Option (List Bool)) (state : List Bool) → taken ≡ record desk { known = words }
+    → case_in desk.subject words ≡ known → point ≡ there → state ≡ get_or (rest (diagnoses_asked taken) point) 0 []
+    → state ≡ get_or (rest (all_diagnoses (system_of desk.subject) known) there) 0 []
+state_there desk taken words known point there state is case at first =
+    first
+    ∙ ap (λ (d : OnDesk). get_or (rest (diagnoses_asked d) point) 0 []) is
+    ∙ (λ i. get_or (rest (all_diagnoses (system_of desk.subject) (case i)) (at i)) 0 [])
+
+pub take_up-requires : goal.take_up-requires
+take_up-requires g c = known-there c.self.inside.desk.subject c.self.inside.open c.self.invariant c.words.result.now c.words.ensures.words
+
+pub returns-in_default-clause-moves : goal.returns-in_default-clause-moves
+returns-in_default-clause-moves g c = λ session entry stands.
+    let desk = c.self.inside.desk in
+    let opened = c.self.inside.open in
     let here = subst (λ (v : Shown). StandsAt v.table c.args.place session entry) (sym c.self.view_is) stands in
-    subst (λ (v : Shown). PointMoves v.subject v.table c.move_point-step.new.sessions.table c.args.place session entry c.move_point-step.result) c.self.view_is
-    (c.move_point-step.ensures.moves session entry here)
+    let case = case-there desk.subject opened c.self.invariant c.words.result.now entry.known (c.words.ensures.known session entry here) in
+    let is = found_there desk c.take_up.new.self c.words.result.now entry.known _ entry.point c.next-step.result c.take_up.ensures case (sym (c.point.ensures.point session entry here)) c.next-step.ensures.step in
+    subst (λ (v : Shown). PointMoves v.subject v.table opened.table c.args.place session entry c.next-step.result) c.self.view_is
+    (stays desk.subject session entry opened.table c.args.place c.next-step.result here is c.in_default.not-Found)
 
-pub unwrap-run-requires : goal.unwrap-run-requires
-unwrap-run-requires g c =
-    carve_some c.self.inside.scratch c.room.result c.carve.result c.self.invariant.unused (omega (arith, c.self.invariant.room, c.room.ensures.room)) c.carve.ensures.none.0
-
-pub release-requires : goal.release-requires
-release-requires g c =
-    let at = carved_so c.self.inside.scratch c.carve.new.self c.room.result c.carve.result c.unwrap-run.result c.unwrap-run.ensures c.carve.ensures.run in
-    record { last = is_last c.self.inside.scratch c.carve.new.self c.unwrap-run.result c.self.invariant.unused at.1 }
-
-pub returns-clause-stays : goal.returns-clause-stays
-returns-clause-stays g c =
-    ap (shown_of c.self.inside.basis) c.move_point-step.ensures.stays ∙ ap (λ (v : Shown). record v { table = c.move_point-step.new.sessions.table }) c.self.view_is
-
-pub invariant_of-self : goal.invariant_of-self
-invariant_of-self g c =
-    let at = carved_so c.self.inside.scratch c.carve.new.self c.room.result c.carve.result c.unwrap-run.result c.unwrap-run.ensures c.carve.ensures.run in
-    record {
-      parts = ap (λ (o : Opened). o.parts) c.move_point-step.ensures.stays ∙ c.self.invariant.parts;
-      wires = ap (λ (o : Opened). o.wires) c.move_point-step.ensures.stays ∙ c.self.invariant.wires;
-      vars = ap (λ (o : Opened). o.vars) c.move_point-step.ensures.stays ∙ c.self.invariant.vars;
-      unused = released_runs c.self.inside.scratch c.carve.new.self c.unwrap-run.result c.self.invariant.unused at.1 c.release.new.self c.release.ensures.runs;
-      room = released_words c.self.inside.scratch c.carve.new.self c.unwrap-run.result c.self.invariant.unused at.1 c.release.new.self c.move_point-step.new.scratch c.release.ensures.words ∙ c.self.invariant.room;
-      one_a_part = c.self.invariant.one_a_part;
-      serves = c.move_point-step.ensures.serves;
-    }
+pub returns-in-Found-clause-moves : goal.returns-in-Found-clause-moves
+returns-in-Found-clause-moves g c = λ session entry stands.
+    let desk = c.self.inside.desk in
+    let opened = c.self.inside.open in
+    let here = subst (λ (v : Shown). StandsAt v.table c.args.place session entry) (sym c.self.view_is) stands in
+    let case = case-there desk.subject opened c.self.invariant c.words.result.now entry.known (c.words.ensures.known session entry here) in
+    let at = sym (c.point.ensures.point session entry here) in
+    let is = sym c.in-Found.is ∙ found_there desk c.take_up.new.self c.words.result.now entry.known _ entry.point c.next-step.result c.take_up.ensures case at c.next-step.ensures.step in
+    let first = ap bits_of c.state.ensures.state ∙ state_there desk c.take_up.new.self c.words.result.now entry.known _ entry.point (bits_of c.next-step.new.self.state) c.take_up.ensures case at (c.next-step.ensures.state c.in-Found.is) in
+    subst (λ (v : Shown). PointMoves v.subject v.table c.set_point.new.self.table c.args.place session entry Found) c.self.view_is
+    (goes_on desk.subject session entry opened.table c.set_point.new.self.table c.args.place (bits_of c.state.result.now) is first
+    (ap (λ (o : Opened). o.table) (c.set_point.ensures.point session entry here)) (c.set_point.ensures.stands session entry here))

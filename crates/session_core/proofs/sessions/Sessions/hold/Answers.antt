@@ -1,6 +1,7 @@
-use Rattle.std.proofs.Common.{◌∙◌, subst, codes, arith}
+use Rattle.std.proofs.Common.{◌∙◌, ap, subst, codes, arith}
+use Rattle.device_model.specs.Devices.{place_of}
 use Rattle.session_rules.specs.declared.refusal.Refusal.TheVariants.{NoPart}
-use Rattle.session_rules.specs.GraphSystems.{system_of}
+use Rattle.session_rules.specs.GraphSystems.{Subject, system_of}
 use Rattle.session_rules.specs.Sessions.{with_held}
 use Rattle.session_core.specs.Services.{Shown}
 use Rattle.session_core.specs.inner.Obeying.{Obeys, held_request}
@@ -10,7 +11,7 @@ use Rattle.session_core.proofs.sessions.Sessions.hold.Goals as goal
 
 pub returns-in_default-clause-obeys : goal.returns-in_default-clause-obeys
 returns-in_default-clause-obeys g c =
-    let shown = shown_of c.self.inside.basis c.self.inside.open in
+    let shown = shown_of c.self.inside.desk.subject c.self.inside.open in
     let s = c.args.session.now in
     let request = held_request c.args.name.now c.args.ok in
     subst (λ (v : Shown). Obeys v v s request (g.O.Sink.got c.args.out.now) (g.O.Sink.got c.put_refusal.new.out) c.put_refusal.result) c.self.view_is
@@ -18,23 +19,23 @@ returns-in_default-clause-obeys g c =
 
 pub hold-requires-clause-part : goal.hold-requires-clause-part
 hold-requires-clause-part g c =
-    let here = place-within c.args.name.now c.self.inside.basis.parts c.in-Some-find_part.part c.in-Some-find_part.ensures in omega (arith, here, c.self.invariant.parts)
+    let here = place-within c.args.name.now c.self.inside.desk.subject.parts c.in-Some-find_part.part (c.in-Some-find_part.ensures ∙ ap (λ (u : Subject). place_of c.args.name.now u.parts) c.basis.ensures) in omega (arith, here, c.self.invariant.parts)
 
 pub returns-in-None-clause-obeys : goal.returns-in-None-clause-obeys
 returns-in-None-clause-obeys g c =
-    let shown = shown_of c.self.inside.basis c.self.inside.open in
-    let system = system_of c.self.inside.basis in
+    let shown = shown_of c.self.inside.desk.subject c.self.inside.open in
+    let system = system_of c.self.inside.desk.subject in
     let s = c.args.session.now in
     let request = held_request c.args.name.now c.args.ok in
     let there = c.in-Some.ensures.some in
     subst (λ (v : Shown). Obeys v v s request (g.O.Sink.got c.args.out.now) (g.O.Sink.got c.put_refusal-in-None.new.out) c.put_refusal-in-None.result) c.self.view_is
     (obeys_refusal shown s request (held-move c.args.name.now c.args.ok) _ _ _ NoPart
-    (asked_open shown s request there.0 there.1.found ∙ held-nowhere system s there.0 c.args.name.now c.args.ok c.in-None.ensures)
+    (asked_open shown s request there.0 there.1.found ∙ held-nowhere system s there.0 c.args.name.now c.args.ok (c.in-None.ensures ∙ ap (λ (u : Subject). place_of c.args.name.now u.parts) c.basis.ensures))
     c.put_refusal-in-None.ensures.text)
 
 pub returns-in-Some-find_part-clause-obeys : goal.returns-in-Some-find_part-clause-obeys
 returns-in-Some-find_part-clause-obeys g c =
-    let subject = c.self.inside.basis in
+    let subject = c.self.inside.desk.subject in
     let opened = c.self.inside.open in
     let s = c.args.session.now in
     let request = held_request c.args.name.now c.args.ok in
@@ -42,10 +43,10 @@ returns-in-Some-find_part-clause-obeys g c =
     let entry = with_held there.0 c.in-Some-find_part.part c.args.ok in
     subst (λ (v : Shown). Obeys v (shown_of subject c.hold.new.self) s request (g.O.Sink.got c.args.out.now) (g.O.Sink.got c.put_line.new.out) c.put_line.result) c.self.view_is
     (obeys_becomes subject opened c.hold.new.self s request entry (codes "ok") _ _ _ (held-move c.args.name.now c.args.ok)
-    (asked_open (shown_of subject opened) s request there.0 there.1.found ∙ held-at (system_of subject) s there.0 c.args.name.now c.args.ok c.in-Some-find_part.part c.in-Some-find_part.ensures)
+    (asked_open (shown_of subject opened) s request there.0 there.1.found ∙ held-at (system_of subject) s there.0 c.args.name.now c.args.ok c.in-Some-find_part.part (c.in-Some-find_part.ensures ∙ ap (λ (u : Subject). place_of c.args.name.now u.parts) c.basis.ensures))
     (c.hold.ensures s there.0 there.1) c.put_line.ensures.bytes)
 
 pub invariant_of-self : goal.invariant_of-self
 invariant_of-self g c =
     let there = c.in-Some.ensures.some in
-    holds_more c.self.inside.basis c.self.inside.open c.hold.new.self c.self.inside.scratch c.self.inside.verdicts.items c.self.inside.distiller _ c.self.invariant (c.hold.ensures c.args.session.now there.0 there.1)
+    holds_more c.self.inside.desk.subject c.self.inside.open c.hold.new.self _ c.self.invariant (c.hold.ensures c.args.session.now there.0 there.1)

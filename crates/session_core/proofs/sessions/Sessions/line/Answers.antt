@@ -70,7 +70,7 @@ pub returns-in-Probe-clause-carried : goal.returns-in-Probe-clause-carried
 returns-in-Probe-clause-carried g c = line_carried c.args.self.now c.ask_wire.new.self _ _ c.args.line.now _ _ _ c.in-Probe.ensures c.ask_wire.ensures.obeys
 
 pub returns-in-Probes-clause-carried : goal.returns-in-Probes-clause-carried
-returns-in-Probes-clause-carried g c = line_carried c.args.self.now c.ask_probes.new.self _ _ c.args.line.now _ _ _ c.in-Probes.ensures c.ask_probes.ensures.obeys
+returns-in-Probes-clause-carried g c = line_carried c.args.self.now c.ask-in-Probes.new.self _ _ c.args.line.now _ _ _ c.in-Probes.ensures c.ask-in-Probes.ensures.obeys
 
 pub returns-in-Blame-clause-carried : goal.returns-in-Blame-clause-carried
 returns-in-Blame-clause-carried g c = line_carried c.args.self.now c.ask-in-Blame.new.self _ _ c.args.line.now _ _ _ c.in-Blame.ensures c.ask-in-Blame.ensures.obeys

@@ -14,7 +14,7 @@ not_less count counter less = omega (arith, less)
 
 pub returns-in_default-clause-obeys : goal.returns-in_default-clause-obeys
 returns-in_default-clause-obeys g c =
-    let shown = shown_of c.self.inside.basis c.self.inside.open in
+    let shown = shown_of c.self.inside.desk.subject c.self.inside.open in
     subst (λ (v : Shown). Obeys v v c.args.session.now (Several c.args.count) (g.O.Sink.got c.args.out.now) (g.O.Sink.got c.put_refusal.new.out) c.put_refusal.result) c.self.view_is
     (obeys_unopened shown c.args.session.now _ _ _ c.args.count (c.args.count - 1) (let one = c.requires in omega (arith, one)) c.in_default.ensures.none c.put_refusal.ensures.text)
 

@@ -10,7 +10,7 @@ use Rattle.session_core.proofs.sessions.Sessions.next.Goals as goal
 
 pub returns-in-None-clause-obeys : goal.returns-in-None-clause-obeys
 returns-in-None-clause-obeys g c =
-    let shown = shown_of c.self.inside.basis c.self.inside.open in
+    let shown = shown_of c.self.inside.desk.subject c.self.inside.open in
     subst (λ (v : Shown). Obeys v v c.args.session.now Next (g.O.Sink.got c.args.out.now) (g.O.Sink.got c.put_refusal.new.out) c.put_refusal.result) c.self.view_is
     (obeys_closed shown c.args.session.now Next (λ shown table session. refl) _ _ _ (λ system session full. refl) c.in-None.ensures.none c.put_refusal.ensures.text)
 

@@ -1,10 +1,11 @@
 use Rattle.std.proofs.Common.{◌∙◌, subst, arith}
 use Rattle.session_core.specs.Services.{IsSound}
+use Rattle.session_core.specs.inner.Bases.{IsBasis}
 use Rattle.session_core.proofs.sessions.Sessions.parts.Goals as goal
 
 pub returns-clause-sound : goal.returns-clause-sound
 returns-clause-sound c =
-    let basis = c.parts.ensures.basis in
+    let basis = subst IsBasis c.basis.ensures c.parts.ensures.basis in
     subst IsSound c.self.view_is (record {
       valid = basis.valid;
       room = basis.vars;

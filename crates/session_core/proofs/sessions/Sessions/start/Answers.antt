@@ -15,7 +15,7 @@ use Rattle.session_core.proofs.sessions.Sessions.start.Goals as goal
 
 pub returns-in-Some-clause-obeys : goal.returns-in-Some-clause-obeys
 returns-in-Some-clause-obeys g c =
-    let shown = shown_of c.self.inside.basis c.self.inside.open in
+    let shown = shown_of c.self.inside.desk.subject c.self.inside.open in
     let s = c.args.session.now in
     let there = c.in-Some.ensures.some in
     subst (λ (v : Shown). Obeys v v s Start (g.O.Sink.got c.args.out.now) (g.O.Sink.got c.put_refusal.new.out) c.put_refusal.result) c.self.view_is
@@ -29,14 +29,14 @@ opened shown s full none e =
 
 pub returns-in-None-clause-obeys : goal.returns-in-None-clause-obeys
 returns-in-None-clause-obeys g c =
-    let shown = shown_of c.self.inside.basis c.self.inside.open in
+    let shown = shown_of c.self.inside.desk.subject c.self.inside.open in
     let s = c.args.session.now in
     subst (λ (v : Shown). Obeys v v s Start (g.O.Sink.got c.args.out.now) (g.O.Sink.got c.put_refusal-in-None.new.out) c.put_refusal-in-None.result) c.self.view_is
     (obeys_refusal shown s Start (λ shown table session. refl) _ _ _ Full (opened shown s true c.in-None.ensures.none c.if-is_full.ensures.full) c.put_refusal-in-None.ensures.text)
 
 pub returns-in-None-2-clause-obeys : goal.returns-in-None-2-clause-obeys
 returns-in-None-2-clause-obeys g c =
-    let subject = c.self.inside.basis in
+    let subject = c.self.inside.desk.subject in
     let sessions = c.self.inside.open in
     let s = c.args.session.now in
     let fresh : c.start.new.self ≡ opened_with sessions (with_entry s (new_entry (system_of subject)) sessions.table) =
@@ -52,4 +52,4 @@ pub start-requires-clause-closed : goal.start-requires-clause-closed
 start-requires-clause-closed g c = c.in-None-2.ensures.none
 
 pub invariant_of-self : goal.invariant_of-self
-invariant_of-self g c = holds_more c.self.inside.basis c.self.inside.open c.start.new.self c.self.inside.scratch c.self.inside.verdicts.items c.self.inside.distiller _ c.self.invariant c.start.ensures
+invariant_of-self g c = holds_more c.self.inside.desk.subject c.self.inside.open c.start.new.self _ c.self.invariant c.start.ensures

@@ -13,11 +13,11 @@ pub returns-in-None-clause-obeys : goal.returns-in-None-clause-obeys
 returns-in-None-clause-obeys g c =
     let s = c.args.session.now in
     subst (λ (v : Shown). Obeys v v s Stop (g.O.Sink.got c.args.out.now) (g.O.Sink.got c.put_refusal.new.out) c.put_refusal.result) c.self.view_is
-    (obeys_closed (shown_of c.self.inside.basis c.self.inside.open) s Stop (λ shown table session. refl) _ _ _ (λ system session full. refl) c.in-None.ensures.none c.put_refusal.ensures.text)
+    (obeys_closed (shown_of c.self.inside.desk.subject c.self.inside.open) s Stop (λ shown table session. refl) _ _ _ (λ system session full. refl) c.in-None.ensures.none c.put_refusal.ensures.text)
 
 pub returns-in-Some-clause-obeys : goal.returns-in-Some-clause-obeys
 returns-in-Some-clause-obeys g c =
-    let subject = c.self.inside.basis in
+    let subject = c.self.inside.desk.subject in
     let shown = shown_of subject c.self.inside.open in
     let s = c.args.session.now in
     let there = c.in-Some.ensures.some in
@@ -29,4 +29,4 @@ returns-in-Some-clause-obeys g c =
 pub invariant_of-self : goal.invariant_of-self
 invariant_of-self g c =
     let there = c.in-Some.ensures.some in
-    holds_more c.self.inside.basis c.self.inside.open c.stop.new.self c.self.inside.scratch c.self.inside.verdicts.items c.self.inside.distiller (without c.args.session.now c.self.inside.open.table) c.self.invariant (c.stop.ensures c.args.session.now there.0 there.1)
+    holds_more c.self.inside.desk.subject c.self.inside.open c.stop.new.self (without c.args.session.now c.self.inside.open.table) c.self.invariant (c.stop.ensures c.args.session.now there.0 there.1)

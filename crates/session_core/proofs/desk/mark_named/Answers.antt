@@ -5,7 +5,7 @@ use Rattle.std.proofs.lemmas.Grind.{common_steps}
 use Rattle.text_rules.specs.Names.{is_among}
 use Rattle.text_rules.specs.Tokens.{words, tokens_left}
 use Rattle.session_core.proofs.Naming.{AreMarked, is_among-at, is_among-nowhere, marked_more, marked_all}
-use Rattle.session_core.proofs.listing.mark_named.Goals as goal
+use Rattle.session_core.proofs.desk.mark_named.Goals as goal
 
 pub returns-in-None-find_part-clause-named : goal.returns-in-None-find_part-clause-named
 returns-in-None-find_part-clause-named c =

@@ -1,0 +1,21 @@
+use Rattle.std.proofs.Common.{◌∙◌, ◌+◌, ◌<◌, List, false, true, length, ap, sym, subst}
+use Rattle.text_rules.specs.Names.{Name}
+use Rattle.session_core.specs.inner.Desks.{OnDesk, least_seen}
+use Rattle.session_core.proofs.Desks.{seen-asked}
+use Rattle.session_core.proofs.desk.Desk.probe.Goals as goal
+
+pub returns-clause-zero : goal.returns-clause-zero
+returns-clause-zero g c =
+    let within = subst (λ (desk : OnDesk). c.args.wire < length desk.subject.wires) (sym c.self.view_is) c.requires.wire in
+    c.probe.ensures.zero
+    ∙ seen-asked c.self.inside.basis c.self.inside.known.items c.graph.ensures.basis c.self.invariant.known _ _ _ c.graph.ensures.graph c.deref_mut.ensures.value c.costs.ensures
+    c.args.wire _ false within (ap (λ (names : List Name). length names + c.args.wire + 1) c.parts.ensures.names)
+    ∙ ap (λ (desk : OnDesk). least_seen desk c.args.wire false) c.self.view_is
+
+pub returns-clause-one : goal.returns-clause-one
+returns-clause-one g c =
+    let within = subst (λ (desk : OnDesk). c.args.wire < length desk.subject.wires) (sym c.self.view_is) c.requires.wire in
+    c.probe.ensures.one
+    ∙ seen-asked c.self.inside.basis c.self.inside.known.items c.graph.ensures.basis c.self.invariant.known _ _ _ c.graph.ensures.graph c.deref_mut.ensures.value c.costs.ensures
+    c.args.wire _ true within (ap (λ (names : List Name). length names + c.args.wire + 1) c.parts.ensures.names)
+    ∙ ap (λ (desk : OnDesk). least_seen desk c.args.wire true) c.self.view_is

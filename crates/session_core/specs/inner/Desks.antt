@@ -1,0 +1,56 @@
+-- What answers are worked out with.
+use Rattle.std.specs.Prelude.{◌≡◌, ℕ, ◌*◌, ◌<◌, Bool, not, List, [], map, length, All, Option}
+use Rattle.ranking.specs.Bits.{bit_in}
+use Rattle.ranking.specs.Cases.{Case}
+use Rattle.ranking.specs.Systems.{least_cost, all_diagnoses}
+use Rattle.probe_report.specs.Verdicts.{verdict}
+use Rattle.probe_report.specs.declared.verdicts.Blame.{Blame}
+use Rattle.fault_graph.specs.Distilled.{Kept, Serves}
+use Rattle.scratch_pool.specs.Regions.{Carved}
+use Rattle.session_rules.specs.GraphSystems.{Subject, system_of}
+use Rattle.session_rules.specs.Replies.{least_at, seen_at}
+use Rattle.session_core.specs.inner.Bases.{AreKnown, case_in}
+
+-- what is asked over, the words of the case that is asked, and what was found last: a state, a verdict for each part, and two
+-- numbers for each wire
+pub record OnDesk : Type 0 where
+  pub subject : Subject
+  pub known : List ℕ
+  pub state : List ℕ
+  pub verdicts : List Blame
+  pub numbers : List ℕ
+
+-- All of it fits together, with a value for each node, with room of which none is in use for the probes of all wires, and with a
+-- smaller graph that has the diagnoses of some words.
+pub record FitsTogether (desk : OnDesk) (values : List ℕ) (room : Carved) (kept : Kept) : Type 0 where
+  pub known : AreKnown desk.subject desk.known
+  pub one_a_part : length desk.state ≡ length desk.subject.parts
+  pub bits : All (λ s. s < 2) desk.state
+  pub verdict_a_part : length desk.verdicts ≡ length desk.subject.parts
+  pub two_a_wire : length desk.numbers ≡ 2 * length desk.subject.wires
+  pub one_a_node : length values ≡ length desk.subject.graph.nodes
+  pub four_a_node : length room.words ≡ 4 * length desk.subject.graph.nodes
+  pub unused : room.runs ≡ []
+  pub serves : Serves desk.subject.graph desk.subject.costs kept
+
+-- the case that is asked, the states that agree with it, their least cost, and those that have it
+abbrev pub asked_case : OnDesk → Case
+asked_case desk = case_in desk.subject desk.known
+
+abbrev pub agreeing : OnDesk → List (List Bool)
+agreeing desk = (system_of desk.subject).consistent (asked_case desk)
+
+abbrev pub least_asked : OnDesk → Option ℕ
+least_asked desk = least_cost (system_of desk.subject) (asked_case desk)
+
+abbrev pub diagnoses_asked : OnDesk → List (List Bool)
+diagnoses_asked desk = all_diagnoses (system_of desk.subject) (asked_case desk)
+
+-- the least cost where a wire is seen so too, if that is not against what was seen
+abbrev pub least_seen : OnDesk → ℕ → Bool → Option ℕ
+least_seen desk wire bit =
+    let known = asked_case desk in least_at (system_of desk.subject) known wire bit (seen_at known wire)
+
+-- in all diagnoses, in some, or in none a part is faulty
+abbrev pub blame_asked : OnDesk → ℕ → Blame
+blame_asked desk part = verdict (map (λ state. not (bit_in state part)) (diagnoses_asked desk))

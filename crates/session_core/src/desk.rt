@@ -1,0 +1,303 @@
+//! What all answers are worked out with.
+ghost use Rattle.std.specs.Prelude.{◌≡◌, ℕ, ◌<◌, [], Bool, true, false, Some, All, IfOk, IfSome, length, slice_get, slice_index_or, is_some};
+ghost use Rattle.std.specs.Option.{option_map};
+ghost use Rattle.std.specs.List.{list_all};
+ghost use Rattle.text_rules.specs.Names.{is_among};
+ghost use Rattle.text_rules.specs.Tokens.{words};
+ghost use Rattle.ranking.specs.Ranking.{rest};
+ghost use Rattle.diagnosis_lister.specs.Listing.{bits_of, step_of};
+ghost use Rattle.probe_report.specs.Probed.{probed};
+ghost use Rattle.session_rules.specs.Sessions.{state_of};
+ghost use Rattle.session_rules.specs.Replies.{seen_at};
+ghost use Rattle.session_core.specs.inner.Bases.{AreKnown};
+ghost use Rattle.session_core.specs.inner.Desks.{asked_case, agreeing, least_asked, diagnoses_asked, least_seen, blame_asked};
+
+use crate::basis::Basis;
+use diagnosis_lister::Step;
+use fault_graph::Distiller;
+use minimiser::Steps;
+use probe_report::{Blame, cost_of, probe, probe_all};
+use scratch_pool::Region;
+use std::alloc::{AllocError, Global};
+use std::marker::Model;
+use std::sync::ledger::Ledger;
+use text_rules::Tokens;
+
+/// What is asked over, the words of the case that is asked, and the memory that answers are worked out in. All of it is taken when
+/// a desk is made.
+#[derive(Drop)]
+pub(crate) struct Desk {
+    basis: Basis,
+    // a word for each variable, which passes change and put back
+    known: Vec<u32>,
+    // what a pass finds at each node
+    values: Vec<u32>,
+    // what was found last: a state, a verdict for each part, and two numbers for each wire
+    state: Vec<u32>,
+    verdicts: Vec<Blame>,
+    numbers: Vec<u32>,
+    // a smaller graph that has the diagnoses of the words that were asked last
+    distiller: Distiller,
+    // room for the probes of all wires, which no other answer clears
+    room: Region,
+}
+
+impl Model for Desk {
+    ghost use Rattle.session_core.specs.inner.Desks.{OnDesk, FitsTogether};
+
+    ghost Value = { OnDesk };
+
+    ghost view = { λ d. record {
+      subject = d.basis;
+      known = d.known.items;
+      state = d.state.items;
+      verdicts = d.verdicts.items;
+      numbers = d.numbers.items;
+    } };
+
+    ghost invariant = { λ d. FitsTogether (record {
+      subject = d.basis;
+      known = d.known.items;
+      state = d.state.items;
+      verdicts = d.verdicts.items;
+      numbers = d.numbers.items;
+    }) d.values.items d.room d.distiller };
+}
+
+impl Desk {
+    /// A desk for what is asked over a basis: of the first case nothing is known. `Err` means that memory ran out.
+    pub(crate) fn new(alloc: Global, basis: Basis) -> Result<Desk, AllocError>
+        ensures { IfOk result (λ desk. desk.subject ≡ basis) }
+    {
+        let parts = basis.parts().len();
+        let wires = basis.wires().len();
+        let nodes = basis.nodes();
+        Ok(Desk {
+            known: vec![in alloc; 0; basis.vars()]?,
+            values: vec![in alloc; 0; nodes]?,
+            state: vec![in alloc; 0; parts]?,
+            verdicts: vec![in alloc; Blame::Never; parts]?,
+            numbers: vec![in alloc; 0; 2 * wires]?,
+            distiller: Distiller::new(alloc, basis.graph())?,
+            room: Region::new(alloc, 4 * nodes)?,
+            basis,
+        })
+    }
+
+    /// What is asked over.
+    pub(crate) fn basis(&self) -> &Basis
+        ensures { result.now ≡ self.now.subject }
+    {
+        &self.basis
+    }
+
+    /// The state that was found last.
+    pub(crate) fn state(&self) -> &[u32]
+        ensures state { result.now ≡ self.now.state }
+        ensures one_a_part { length self.now.state ≡ length self.now.subject.parts }
+        ensures bits { All (λ s. s < 2) self.now.state }
+    {
+        &self.state
+    }
+
+    /// The verdicts that were found last.
+    pub(crate) fn verdicts(&self) -> &[Blame]
+        ensures verdicts { result.now ≡ self.now.verdicts }
+        ensures one_a_part { length self.now.verdicts ≡ length self.now.subject.parts }
+    {
+        &self.verdicts
+    }
+
+    /// From here on the case of these words is asked.
+    pub(crate) fn take_up(&mut self, words: &[u32])
+        requires { AreKnown self.old.subject words.now }
+        ensures { self.new ≡ record self.old { known = words.now } }
+    {
+        self.known.copy_from_slice(words);
+    }
+
+    /// Whether a wire is seen in the case.
+    pub(crate) fn is_seen(&self, wire: u32) -> bool
+        requires { wire < length self.now.subject.wires }
+        ensures { result ≡ is_some (seen_at (asked_case self.now) wire) }
+    {
+        self.known[self.basis.parts().len() + wire as usize] != 0
+    }
+
+    /// Whether some state agrees with the case.
+    pub(crate) fn is_consistent<L: Ledger>(&mut self, steps: &mut Steps<L>) -> bool
+        ensures some { result ≡ is_some (least_asked self.old) }
+        ensures same { self.new ≡ self.old }
+    {
+        self.distiller.is_consistent(
+            self.basis.graph(),
+            &self.known,
+            self.basis.costs(),
+            &mut self.values,
+            steps,
+        )
+    }
+
+    /// The least cost; the state is then the first diagnosis.
+    pub(crate) fn first<L: Ledger>(&mut self, steps: &mut Steps<L>) -> Option<u32>
+        ensures least { result ≡ least_asked self.old }
+        ensures first { IfSome result (λ _. bits_of self.new.state ≡ slice_index_or (diagnoses_asked self.old) 0 []) }
+        ensures stays { self.new ≡ record self.old { state = self.new.state } }
+    {
+        self.state.fill(0);
+        self.distiller.first(
+            self.basis.graph(),
+            &mut self.known,
+            self.basis.costs(),
+            &mut self.values,
+            &mut self.state,
+            steps,
+        )
+    }
+
+    /// Whether there is a diagnosis after a point, or at all where there is none; the state is then the first such one.
+    pub(crate) fn next<L: Ledger>(&mut self, point: Option<&[u32]>, steps: &mut Steps<L>) -> Step
+        requires { IfSome point (λ old. (length old.now ≡ length self.old.subject.parts) × All (λ s. s < 2) old.now) }
+        ensures step { result ≡ step_of (agreeing self.old)
+            (rest (diagnoses_asked self.old) (option_map (λ old. bits_of old.now) point.entry)) }
+        ensures state { result ≡ Step.Found → bits_of self.new.state ≡ slice_index_or
+            (rest (diagnoses_asked self.old) (option_map (λ old. bits_of old.now) point.entry)) 0 [] }
+        ensures stays { self.new ≡ record self.old { state = self.new.state } }
+    {
+        match point {
+            None => self.begin(steps),
+            Some(old) => self.go_on(old, steps),
+        }
+    }
+
+    // Whether there is a diagnosis; the first one is then the state.
+    fn begin<L: Ledger>(&mut self, steps: &mut Steps<L>) -> Step
+        ensures step { result ≡ step_of (agreeing self.old) (diagnoses_asked self.old) }
+        ensures state { result ≡ Step.Found → bits_of self.new.state ≡ slice_index_or (diagnoses_asked self.old) 0 [] }
+        ensures stays { self.new ≡ record self.old { state = self.new.state } }
+    {
+        match self.first(steps) {
+            Some(_) => Step::Found,
+            None => Step::Inconsistent,
+        }
+    }
+
+    // Whether there is a diagnosis after a state; the first such one is then the state.
+    fn go_on<L: Ledger>(&mut self, old: &[u32], steps: &mut Steps<L>) -> Step
+        requires long { length old.now ≡ length self.old.subject.parts }
+        requires bits { All (λ s. s < 2) old.now }
+        ensures step { result ≡ step_of (agreeing self.old) (rest (diagnoses_asked self.old) (Some (bits_of old.now))) }
+        ensures state { result ≡ Step.Found
+            → bits_of self.new.state ≡ slice_index_or (rest (diagnoses_asked self.old) (Some (bits_of old.now))) 0 [] }
+        ensures stays { self.new ≡ record self.old { state = self.new.state } }
+    {
+        self.state.copy_from_slice(old);
+        self.distiller.next(
+            self.basis.graph(),
+            &mut self.known,
+            self.basis.costs(),
+            &mut self.values,
+            &mut self.state,
+            steps,
+        )
+    }
+
+    /// Of each part whether it is faulty in all diagnoses, in some or in none. The state is spoilt.
+    pub(crate) fn blame<L: Ledger>(&mut self, steps: &mut Steps<L>)
+        ensures blame { (part : ℕ) → part < length self.old.subject.parts
+            → slice_get self.new.verdicts part ≡ Some (blame_asked self.old part) }
+        ensures long { length self.new.verdicts ≡ length self.new.subject.parts }
+        ensures stays { self.new ≡ record self.old { state = self.new.state; verdicts = self.new.verdicts } }
+    {
+        self.distiller.blame_all(
+            self.basis.graph(),
+            &mut self.known,
+            self.basis.costs(),
+            &mut self.values,
+            &mut self.state,
+            &mut self.verdicts,
+            steps,
+        );
+    }
+
+    /// The least cost where a wire is 0, and where it is 1.
+    pub(crate) fn probe<L: Ledger>(
+        &mut self,
+        wire: u32,
+        steps: &mut Steps<L>,
+    ) -> (Option<u32>, Option<u32>)
+        requires wire { wire < length self.old.subject.wires }
+        ensures zero { result.0 ≡ least_seen self.old wire false }
+        ensures one { result.1 ≡ least_seen self.old wire true }
+        ensures same { self.new ≡ self.old }
+    {
+        probe(
+            self.basis.graph(),
+            &mut self.known,
+            self.basis.costs(),
+            self.basis.parts().len() as u32 + wire + 1,
+            &mut self.values,
+            steps,
+        )
+    }
+
+    /// Whether some state agrees with the case; and the numbers of all wires. What it works with is carved for it alone, since no
+    /// other answer needs so much.
+    pub(crate) fn probe_all<L: Ledger>(&mut self, steps: &mut Steps<L>) -> bool
+        ensures some { result ≡ is_some (least_asked self.old) }
+        ensures probed { (wire : ℕ) (bit : Bool) → wire < length self.old.subject.wires
+            → probed self.new.numbers wire bit ≡ least_seen self.old wire bit }
+        ensures stays { self.new ≡ record self.old { numbers = self.new.numbers } }
+    {
+        let run = self.room.carve(4 * self.basis.nodes()).unwrap();
+        let least = probe_all(
+            self.basis.graph(),
+            &self.known,
+            self.basis.costs(),
+            self.room.run_mut(&run),
+            &mut self.numbers,
+            steps,
+        );
+        self.room.release(run);
+        least.is_some()
+    }
+
+    /// The least costs of a wire, by the numbers.
+    pub(crate) fn probed(&self, wire: u32) -> (Option<u32>, Option<u32>)
+        requires { wire < length self.now.subject.wires }
+        ensures zero { result.0 ≡ probed self.now.numbers wire false }
+        ensures one { result.1 ≡ probed self.now.numbers wire true }
+    {
+        let zero = cost_of(&self.numbers, wire as usize, false);
+        let one = cost_of(&self.numbers, wire as usize, true);
+        (zero, one)
+    }
+
+    /// Whether each name is a part's; the state is then the one in which these are faulty.
+    pub(crate) fn mark(&mut self, names: &[u8]) -> bool
+        ensures named { result ≡ list_all (is_among self.old.subject.parts) (words names.now) }
+        ensures state { result ≡ true → bits_of self.new.state ≡ state_of (words names.now) self.old.subject.parts }
+        ensures stays { self.new ≡ record self.old { state = self.new.state } }
+    {
+        mark_named(&self.basis, names, &mut self.state)
+    }
+}
+
+// Whether each name is a part's; and then the state in which these are faulty.
+fn mark_named(basis: &Basis, names: &[u8], state: &mut [u32]) -> bool
+    requires { length state.old ≡ length basis.now.parts }
+    ensures named { result ≡ list_all (is_among basis.now.parts) (words names.now) }
+    ensures state { result ≡ true → bits_of state.new ≡ state_of (words names.now) basis.now.parts }
+    ensures bits { All (λ s. s < 2) state.new }
+{
+    // the names of parts rise, so that no two parts have one name
+    let _parts = basis.parts();
+    state.fill(0);
+    for name in Tokens::words(names) {
+        match basis.find_part(name) {
+            None => return false,
+            Some(part) => state[part as usize] = 1,
+        }
+    }
+    true
+}

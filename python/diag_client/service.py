@@ -86,7 +86,8 @@ class Service:
         words += ["serve", os.fspath(file)] if health is None else ["ask", os.fspath(file), str(health)]
         words += option_words({"narrow": narrow, "budget": budget, "sessions": sessions, "frames": frames, **options})
         self.file = pathlib.Path(file)
-        self._taken: set[str] = set()
+        self._numbers = itertools.count(1)
+        self._given: set[str] = set()
         self._names: tuple[tuple[str, ...], tuple[str, ...]] | None = None
         try:
             self._child = Child(words)
@@ -130,7 +131,10 @@ class Service:
 
     @property
     def parts(self) -> tuple[str, ...]:
-        """The names of all parts, in name order. They are asked once, in a session that is opened for it and closed again."""
+        """The names of all parts, in name order. They are asked once, in a session that is opened for it and closed again.
+
+        Raises `Inconsistent` where no bits of the wires fit the device at all, since the program then names nothing.
+        """
         return self._all_names()[0]
 
     @property
@@ -149,8 +153,9 @@ class Service:
         Raises `Refused` where as many are open as may be, where one of this name is, or where it is no name.
         """
         if name is None:
-            name = next(made for made in map("s{}".format, itertools.count(1)) if made not in self._taken)
-        self._taken.add(name)
+            name = next(made for number in self._numbers if (made := f"s{number}") not in self._given)
+        else:
+            self._given.add(name)
         session = Session(self, name)
         session.open()
         return session

@@ -71,6 +71,7 @@ class Troubleshoot(unittest.TestCase):
     def test_says_what_is_wrong(self):
         for words, why in (
             (("nowhere.bench",), "nowhere.bench"), ((C17, "99"), "no gate 99"), ((TOP / "examples/latch.bench",), "cycle"),
+            ((TOP / "examples/adder.dev",), "netlist"),
         ):
             status, _, said = self.run_script(*words)
             self.assertNotEqual(status, 0)

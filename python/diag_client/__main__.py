@@ -14,7 +14,7 @@ from .service import Service
 
 def words_of() -> argparse.ArgumentParser:
     """What may stand behind `python -m diag_client`."""
-    parser = argparse.ArgumentParser(prog="diag_client", description="Tools around the program `diag`; see docs/PYTHON.md.")
+    parser = argparse.ArgumentParser(prog="python3 -m diag_client", description="Tools around the program `diag`; see docs/PYTHON.md.")
     commands = parser.add_subparsers(dest="command", required=True, metavar="COMMAND")
     served = argparse.ArgumentParser(add_help=False)
     served.add_argument("file", metavar="FILE", help="a netlist (.bench) or a design (.dev)")

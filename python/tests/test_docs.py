@@ -60,6 +60,7 @@ class Troubleshoot(unittest.TestCase):
         self.assertIn(f"left: {stuck}\nreplaced {stuck}: the outputs are right\n", told)
         advised, named = map(int, re.search(r"measurements: ([0-9]+); in name order it takes ([0-9]+)", told).groups())
         self.assertEqual(told.count("\nmeasure "), advised)
+        self.assertIn(told, (TOP / "docs/PYTHON.md").read_text())
         self.assertLess(advised, named)
 
     def test_every_gate(self):

@@ -3,11 +3,12 @@
 import contextlib
 import io
 import pathlib
+import re
 import tempfile
 import unittest
 from unittest import mock
 
-from support import C17, needs_program, replies
+from support import C17, TOP, needs_program, replies
 
 from diag_client import Proposal, Service, manual, shell
 
@@ -35,6 +36,14 @@ class Lines(unittest.TestCase):
         self.assertEqual(self.say("best"), [str(Proposal("10", 2, 1, 1, True))])
         self.assertEqual(self.say("hold 10=ok", "min", "case"), ["ok", "min 1 22", "seen: 1=0 2=0 3=0 6=0 7=0 22=1 23=0", "held: 10=ok"])
         self.assertEqual(self.say("after 16 19"), ["ok"])
+
+    def test_page(self):
+        """What docs/PYTHON.md shows of it."""
+        shown = re.search(r"Type \? for help\.\n(diag> .*?)```", (TOP / "docs/PYTHON.md").read_text(), re.DOTALL)[1]
+        rows = [row.splitlines() for row in shown.split("diag> ")[1:]]
+        self.assertGreater(len(rows), 3)
+        for line, *told in rows:
+            self.assertEqual(self.say(line), told)
 
     def test_all_commands_are_there(self):
         """What the help names is answered as the program answers it."""

@@ -5,6 +5,7 @@ from __future__ import annotations
 import itertools
 import os
 import pathlib
+import subprocess
 import types
 from collections.abc import Callable, Iterable, Iterator, Mapping, Sequence
 from typing import TYPE_CHECKING
@@ -28,7 +29,8 @@ Program = str | os.PathLike[str] | Sequence[str]
 def find_program() -> str:
     """The path of what is started where nothing else is said.
 
-    It is what the environment's DIAG_PROGRAM names, and else the launcher `diag` of the checkout in which this module stands.
+    It is what the environment's DIAG_PROGRAM names, and else the built program of the checkout in which this module stands, where no
+    source is newer. Raises `NotBuilt` where there is none.
     """
     named = os.environ.get("DIAG_PROGRAM")
     if named:
@@ -36,9 +38,14 @@ def find_program() -> str:
     launcher, built = TOP / "diag", TOP / "crates/diag/out/diag"
     if not launcher.exists():
         raise NotBuilt(f"there is no launcher {launcher}: give program=, or set DIAG_PROGRAM, to the path of the built program")
+    build = f"`{launcher} --build` proves and builds it, which takes some minutes and needs the kit"
     if not built.exists():
-        raise NotBuilt(f"diag is not built: `{launcher} --build` proves and builds it, which takes some minutes and needs the kit")
-    return str(launcher)
+        raise NotBuilt(f"diag is not built: {build}")
+    # The launcher knows which files a program is made of.
+    asked = subprocess.run(["bash", "-c", '. "$0" --help >/dev/null && is_current', launcher], check=False)
+    if asked.returncode != 0:
+        raise NotBuilt(f"a source is newer than the built program: {build}; DIAG_PROGRAM={built} runs it as it is")
+    return str(built)
 
 
 def option_words(options: Mapping[str, int | bool | None]) -> list[str]:

@@ -1,12 +1,15 @@
 """Sessions over the built program. What commands and refusals are called is taken from the program's own replies."""
 
+import os
 import re
+import shutil
 import tempfile
 import threading
+import time
 import unittest
 from unittest import mock
 
-from support import C17, EXAMPLES, needs_program, replies
+from support import C17, EXAMPLES, TOP, needs_program, replies
 
 from diag_client import Blame, Diagnosis, Ended, Inconsistent, Minimum, NotBuilt, Probe, Refused, Service, Verdict, find_program, service
 
@@ -299,12 +302,21 @@ class Services(unittest.TestCase):
 
     def test_not_built(self):
         with tempfile.TemporaryDirectory() as top, mock.patch.dict("os.environ"):
-            del service.os.environ["DIAG_PROGRAM"]
+            del os.environ["DIAG_PROGRAM"]
             with mock.patch.object(service, "TOP", service.pathlib.Path(top)):
                 with self.assertRaisesRegex(NotBuilt, "DIAG_PROGRAM"):
                     find_program()
-                (service.TOP / "diag").touch()
-                with self.assertRaisesRegex(NotBuilt, "diag --build"):
+                shutil.copy(TOP / "diag", top)
+                with self.assertRaisesRegex(NotBuilt, "not built: .*diag --build"):
+                    find_program()
+                source, built = service.TOP / "crates/diag/src/main.rt", service.TOP / "crates/diag/out/diag"
+                for path in (source, built, service.TOP / "crates.txt", service.TOP / "HANDLES"):
+                    path.parent.mkdir(parents=True, exist_ok=True)
+                    path.touch(0o755)
+                os.utime(built, (time.time() + 10,) * 2)
+                self.assertEqual(find_program(), str(built))
+                os.utime(source, (time.time() + 20,) * 2)
+                with self.assertRaisesRegex(NotBuilt, "newer .*diag --build"):
                     find_program()
 
 

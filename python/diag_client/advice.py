@@ -1,0 +1,66 @@
+"""The next measurement: which wire splits the diagnoses at hand best. It is advice, and not proved."""
+
+from __future__ import annotations
+
+import dataclasses
+import fractions
+from collections.abc import Iterable
+from typing import TYPE_CHECKING
+
+if TYPE_CHECKING:
+    from .service import Session
+
+# So many diagnoses are at hand where nothing else is said.
+AT_HAND = 100
+
+
+@dataclasses.dataclass(frozen=True)
+class Proposal:
+    """A wire that may be measured, and why: of the diagnoses at hand so many go on where it is 0, and so many where it is 1.
+
+    One goes on where it is still a diagnosis once the wire was seen so. It may go on with both bits, where the wire may be either. With
+    `complete` the diagnoses at hand are all that there are, and else the first of them.
+    """
+
+    wire: str
+    at_hand: int
+    with_zero: int
+    with_one: int
+    complete: bool
+
+    @property
+    def expected_left(self) -> fractions.Fraction:
+        """How many go on, on average: each diagnosis at hand is taken to be as likely, and of one that goes on with both each bit."""
+        total = self.at_hand * (self.with_zero + self.with_one) + (self.with_zero - self.with_one) ** 2
+        return fractions.Fraction(total, 2 * self.at_hand)
+
+    @property
+    def reduction(self) -> fractions.Fraction:
+        """How many fewer these are than now."""
+        return self.at_hand - self.expected_left
+
+    def __str__(self) -> str:
+        goes = "goes" if self.with_zero == 1 else "go"
+        of = f"of {self.at_hand} diagnoses" if self.complete else f"of the first {self.at_hand} diagnoses"
+        counts = f"{of} {self.with_zero} {goes} on with 0 and {self.with_one} with 1"
+        return f"measure {self.wire}: {counts}, so that {float(self.expected_left):.1f} are expected to be left"
+
+
+def rank(session: Session, among: Iterable[str] | None, limit: int) -> list[Proposal]:
+    """The unseen wires of `among`, else all, with what they split: see `Session.rank_probes`."""
+    if limit < 1:
+        raise ValueError(f"the number of diagnoses at hand is at least 1, and not {limit}")
+    with session.copy() as scratch:
+        # One more tells whether these are all.
+        found = list(scratch.diagnoses(limit + 1))
+        at_hand = frozenset(found[:limit])
+        cost = scratch.minimum().cost
+        unseen = None if among is None else sorted(set(among) - session.seen.keys())
+        proposals = []
+        for probe in scratch.probes() if unseen is None else scratch.probe_each(unseen):
+            # Where the least cost rises with a bit no diagnosis goes on with it, and so all do with the other one.
+            zero, one = (len(at_hand) if bit == cost else 0 for bit in (probe.if_zero, probe.if_one))
+            if zero and one:
+                zero, one = (len(at_hand.intersection(going_on)) for going_on in scratch.diagnoses_with(probe.wire, limit))
+            proposals.append(Proposal(probe.wire, len(at_hand), zero, one, len(found) <= limit))
+    return sorted(proposals, key=lambda row: (-row.reduction, max(row.with_zero, row.with_one), row.wire))

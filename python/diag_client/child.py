@@ -1,0 +1,221 @@
+"""A program that runs beside this one: lines go in and come out as they come, and neither side waits for the other to read."""
+
+from __future__ import annotations
+
+import collections
+import contextlib
+import os
+import selectors
+import signal
+import subprocess
+import sys
+import threading
+from collections.abc import Sequence
+from typing import IO
+
+from .errors import Ended
+from .replies import NotAReply, Request
+
+PIECE = 65536
+# So many seconds a program that writes nothing more may take to end.
+PATIENCE = 10.0
+# So much of what was said on standard error is kept.
+SAID = 4096
+
+
+class Child:
+    """The running program, and what it still has to answer.
+
+    What is asked is written whole, and while it is written all that is answered is read, so that no pipe stands full on both sides.
+    An interrupt leaves all in step: what was asked stays asked, and its replies are taken when they come.
+    """
+
+    def __init__(self, words: Sequence[str]) -> None:
+        self._words = tuple(words)
+        # A group of its own: an interrupt at the terminal is for the one who asks.
+        self._process = subprocess.Popen(
+            self._words, stdin=subprocess.PIPE, stdout=subprocess.PIPE, stderr=subprocess.PIPE, bufsize=0, process_group=0
+        )
+        assert self._process.stdin and self._process.stdout and self._process.stderr
+        self._input = self._process.stdin
+        self._output = self._process.stdout
+        self._errors = self._process.stderr
+        self._selector = selectors.DefaultSelector()
+        for end in (self._input, self._output, self._errors):
+            os.set_blocking(end.fileno(), False)
+        self._watched: set[IO[bytes]] = set()
+        self._watch(self._output, selectors.EVENT_READ)
+        self._watch(self._errors, selectors.EVENT_READ)
+        self._lock = threading.RLock()
+        self._unsent = bytearray()
+        self._begun = bytearray()
+        self._awaited: collections.deque[Request] = collections.deque()
+        self._last_line = ""
+        self._said = ""
+        self._in_step = True
+        self._over: Ended | None = None
+
+    @property
+    def is_running(self) -> bool:
+        """Whether it still answers, as far as was seen."""
+        return self._over is None
+
+    def expect(self, request: Request) -> None:
+        """Waits for what it says unasked."""
+        with self._lock:
+            self._awaited.append(request)
+            self._run_until(request)
+
+    def ask(self, requests: Sequence[Request]) -> None:
+        """Asks all of these at once, and waits for their replies."""
+        if not requests:
+            return
+        text = "".join(f"{request.line}\n" for request in requests).encode("utf-8", "surrogateescape")
+        with self._lock:
+            if not self._in_step:
+                self.stop()
+            if self._over is not None:
+                raise self.ended()
+            self._in_step = False
+            self._unsent += text
+            self._awaited.extend(requests)
+            self._in_step = True
+            self._run_until(requests[-1])
+
+    def close(self) -> int:
+        """Ends the script, waits for what is still to be answered and for the end, and gives the exit status."""
+        with self._lock:
+            if self._over is None:
+                if not self._in_step:
+                    self.stop()
+                    return self._process.returncode
+                while self._unsent and not self._is_out():
+                    self._turn()
+                self._hang_up()
+                while not self._is_out():
+                    self._turn()
+                self._finish()
+            return self._process.returncode
+
+    def stop(self) -> None:
+        """Ends it at once, whatever it does."""
+        with self._lock:
+            if self._over is None:
+                with contextlib.suppress(ProcessLookupError):
+                    os.killpg(self._process.pid, signal.SIGKILL)
+                self._finish()
+
+    def ended(self) -> Ended:
+        """How it ended, as an error of its own for each who asks."""
+        assert self._over is not None
+        return Ended(*self._over.args)
+
+    def _run_until(self, request: Request) -> None:
+        """Writes and reads until the request is answered, and all before it."""
+        while not request.is_answered:
+            if self._is_out():
+                self._finish()
+                raise self.ended()
+            self._turn()
+
+    def _turn(self) -> None:
+        """Waits until some end is ready, and serves those that are. An interrupt comes while it waits, or else the step is lost."""
+        if self._unsent:
+            self._watch(self._input, selectors.EVENT_WRITE)
+        ready = [key.fileobj for key, _ in self._selector.select()]
+        self._in_step = False
+        if self._input in ready:
+            self._write()
+        if self._output in ready:
+            self._read()
+        if self._errors in ready:
+            self._hear()
+        self._in_step = True
+
+    def _write(self) -> None:
+        try:
+            written = os.write(self._input.fileno(), bytes(self._unsent[:PIECE]))
+        except BlockingIOError:
+            return
+        except BrokenPipeError:
+            self._hang_up()
+            return
+        del self._unsent[:written]
+        if not self._unsent:
+            self._ignore(self._input)
+
+    def _read(self) -> None:
+        came = os.read(self._output.fileno(), PIECE)
+        if not came:
+            self._ignore(self._output)
+            self._last_line = self._text(self._begun) or self._last_line
+            return
+        self._begun += came
+        *lines, rest = self._begun.split(b"\n")
+        self._begun = rest
+        for line in lines:
+            self._last_line = self._text(line)
+            if not self._input.closed or self._awaited:
+                self._hand(self._last_line)
+
+    def _hand(self, line: str) -> None:
+        """Gives a line to the request that it answers. Where it answers none the program ends, or is none that answers scripts."""
+        try:
+            if not self._awaited:
+                raise NotAReply(line)
+            if self._awaited[0].take(line):
+                self._awaited.popleft().is_answered = True
+        except NotAReply:
+            self._awaited.clear()
+            self._hang_up()
+
+    def _hear(self) -> None:
+        """What is said on standard error is passed on, and the last line kept."""
+        came = os.read(self._errors.fileno(), PIECE)
+        if not came:
+            self._ignore(self._errors)
+            return
+        text = self._text(came)
+        print(text, end="", file=sys.stderr, flush=True)
+        self._said = (self._said + text)[-SAID:]
+
+    def _hang_up(self) -> None:
+        """No more is written. The program sees the end of its script."""
+        self._unsent.clear()
+        self._ignore(self._input)
+        self._input.close()
+
+    def _is_out(self) -> bool:
+        return self._output not in self._watched
+
+    def _watch(self, end: IO[bytes], event: int) -> None:
+        if end not in self._watched:
+            self._watched.add(end)
+            self._selector.register(end, event)
+
+    def _ignore(self, end: IO[bytes]) -> None:
+        if end in self._watched:
+            self._watched.remove(end)
+            self._selector.unregister(end)
+
+    def _finish(self) -> None:
+        """Waits for the end, and lets go of all that was held."""
+        self._hang_up()
+        try:
+            self._process.wait(PATIENCE)
+        except subprocess.TimeoutExpired:
+            self._process.kill()
+            self._process.wait()
+        if self._errors in self._watched:
+            with contextlib.suppress(BlockingIOError):
+                self._hear()
+        self._selector.close()
+        self._output.close()
+        self._errors.close()
+        self._awaited.clear()
+        said = self._said.strip().split("\n")[-1] if self._in_step else "stopped, since an interrupt came in the midst of a reply"
+        self._over = Ended(self._words, self._process.returncode, self._last_line, said)
+
+    @staticmethod
+    def _text(data: bytes | bytearray) -> str:
+        return data.decode("utf-8", "surrogateescape")

@@ -1,0 +1,114 @@
+"""Netlists and designs as plain data, to draw and to simulate them.
+
+The program has read a file before it is read here, so nothing is looked for that it refuses: docs/FORMATS.md has both languages.
+"""
+
+from __future__ import annotations
+
+import dataclasses
+import os
+import pathlib
+import re
+
+GATES = ("AND", "OR", "NAND", "NOR", "XOR", "XNOR", "NOT", "BUFF")
+FLIP_FLOP = "DFF"
+
+
+@dataclasses.dataclass(frozen=True)
+class Part:
+    """A part: its wires stand in the order of its ports, of a gate and of a flip-flop the output last."""
+
+    name: str
+    kind: str
+    wires: tuple[str, ...]
+
+    @property
+    def is_directed(self) -> bool:
+        """Whether its last wire is what it puts out. Ports of a type have no direction."""
+        return self.kind in GATES or self.kind == FLIP_FLOP
+
+
+@dataclasses.dataclass
+class Device:
+    """Parts over wires, both in name order. `blocks` has the kind of each instance of a block, by its path; a netlist has none."""
+
+    parts: list[Part]
+    wires: list[str]
+    inputs: frozenset[str] = frozenset()
+    outputs: frozenset[str] = frozenset()
+    blocks: dict[str, str] = dataclasses.field(default_factory=dict)
+    ports: dict[str, tuple[str, ...]] = dataclasses.field(default_factory=dict)
+
+
+def read_device(path: str | os.PathLike[str]) -> Device:
+    """The device in a file, which the program has read without a fault."""
+    path = pathlib.Path(path)
+    text = path.read_text(encoding="utf-8", errors="surrogateescape")
+    device = read_design(text) if path.suffix == ".dev" else read_netlist(text)
+    device.parts.sort(key=lambda part: part.name)
+    device.wires.sort()
+    return device
+
+
+def read_netlist(text: str) -> Device:
+    """The device of a netlist."""
+    inputs: set[str] = set()
+    outputs: set[str] = set()
+    parts = []
+    for line in text.split("\n"):
+        words = re.findall(r"[^ \t\r(),=]+", line.split("#")[0])
+        if not words:
+            continue
+        if "=" in line.split("#")[0]:
+            name, kind, *reads = words
+            kind = kind.upper()
+            parts.append(Part(name, "BUFF" if kind == "BUF" else kind, (*reads, name)))
+        else:
+            (inputs if words[0].upper() == "INPUT" else outputs).add(words[1])
+    return Device(parts, sorted(inputs | {part.name for part in parts}), frozenset(inputs), frozenset(outputs))
+
+
+@dataclasses.dataclass
+class _Block:
+    ports: list[str]
+    wires: list[str]
+    parts: list[tuple[str, str, list[str]]]
+
+
+def read_design(text: str) -> Device:
+    """The flat device of a design."""
+    ports_of: dict[str, tuple[str, ...]] = {}
+    blocks: dict[str, _Block] = {}
+    block = _Block([], [], [])
+    device = Device([], [])
+    for line in text.split("\n"):
+        match line.split("#")[0].split():
+            case ["type", name, *ports]:
+                ports_of[name] = tuple(ports)
+            case ["block", name, *ports]:
+                block = blocks[name] = _Block(ports, [], [])
+            case ["wire", *wires]:
+                block.wires += wires
+            case ["part", name, kind, *arguments]:
+                block.parts.append((name, kind, arguments))
+            case ["top", name]:
+                top = blocks[name]
+                device.wires += top.ports
+                _flatten(device, blocks, top, "", {port: port for port in top.ports})
+    device.ports = ports_of
+    return device
+
+
+def _flatten(device: Device, blocks: dict[str, _Block], block: _Block, path: str, passed: dict[str, str]) -> None:
+    """Adds what the instance of a block has, its ports being the wires passed to it."""
+    own = {wire: path + wire for wire in block.wires}
+    device.wires += own.values()
+    known = passed | own
+    for name, kind, arguments in block.parts:
+        wires = [known[argument] for argument in arguments]
+        if kind in blocks:
+            device.blocks[path + name] = kind
+            inner = blocks[kind]
+            _flatten(device, blocks, inner, f"{path}{name}.", dict(zip(inner.ports, wires)))
+        else:
+            device.parts.append(Part(path + name, kind, tuple(wires)))

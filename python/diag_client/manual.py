@@ -1,0 +1,166 @@
+"""The launcher's help, read into its entries, and the manual page that is made of them.
+
+What commands, options and statuses there are is told by the launcher alone: the terminal, the manual page and the tests of both and
+of the completion have it from here.
+"""
+
+from __future__ import annotations
+
+import dataclasses
+import re
+import subprocess
+import textwrap
+from collections.abc import Sequence
+
+from .errors import NotBuilt
+from .service import TOP
+
+# So long are the lines of the page's source.
+LINE = 120
+SUMMARY = (
+    "`diag` reads the design of a digital device, and then what was seen on its wires. Where the readings disagree with the design, it says"
+    " which sets of faulty parts explain them at the least cost."
+)
+
+
+@dataclasses.dataclass
+class Entry:
+    """What is explained, and how. `options` explain words that may follow it; `notes` stand behind these."""
+
+    head: str
+    text: str = ""
+    options: list[Entry] = dataclasses.field(default_factory=list)
+    notes: str = ""
+    indent: int = dataclasses.field(default=0, repr=False)
+
+    def option_heads(self) -> list[str]:
+        """The options that may follow, by whatever is said of it, with the number that stands behind one."""
+        said = [self.text, self.notes] + [option.head for option in self.options]
+        return sorted(set(re.findall(r"--[a-z]+(?: [A-Z]\b)?", " ".join(said))))
+
+
+@dataclasses.dataclass
+class Section:
+    """Entries under a title, which the first section has not."""
+
+    title: str
+    entries: list[Entry] = dataclasses.field(default_factory=list)
+
+
+@dataclasses.dataclass(frozen=True)
+class Usage:
+    """One command of a script: `see` with the words that stand behind the session's name."""
+
+    command: str
+    words: tuple[str, ...]
+    text: str
+
+
+def read_help() -> list[Section]:
+    """What `diag --help` says now."""
+    launcher = TOP / "diag"
+    if not launcher.exists():
+        raise NotBuilt(f"there is no launcher {launcher}, whose help says which commands there are")
+    done = subprocess.run([launcher, "--help"], capture_output=True, text=True, check=True)
+    return sections(done.stdout)
+
+
+def sections(text: str) -> list[Section]:
+    """The sections of a help text. Blank lines part them, and the first line of each but the first is its title.
+
+    An entry begins at the left edge; what explains it stands behind two spaces or more, or indented below it. An indented line that
+    begins with an option and is explained in the same way begins an option of the entry, whose text is indented further.
+
+    >>> found = sections("diag go  goes:\\n         --far   farther\\n                 than that\\n         where it is\\n")
+    >>> entry = found[0].entries[0]
+    >>> entry.head, entry.text, entry.notes, [(option.head, option.text) for option in entry.options]
+    ('diag go', 'goes:', 'where it is', [('--far', 'farther than that')])
+    """
+    found = []
+    for number, chunk in enumerate(text.strip("\n").split("\n\n")):
+        lines = chunk.split("\n")
+        section = Section("" if number == 0 else lines.pop(0).rstrip(":"))
+        for line in lines:
+            _add_line(section, line)
+        found.append(section)
+    return found
+
+
+def _add_line(section: Section, line: str) -> None:
+    indent = len(line) - len(line.lstrip())
+    head, _, text = line.strip().partition("  ")
+    if indent == 0:
+        section.entries.append(Entry(head, text.strip()))
+        return
+    entry = section.entries[-1]
+    if head.startswith("--") and text:
+        entry.options.append(Entry(head, text.strip(), indent=indent))
+    elif entry.options and indent > entry.options[-1].indent:
+        option = entry.options[-1]
+        option.text = f"{option.text} {line.strip()}"
+    elif entry.options or entry.notes or "FILE ends in" in line:
+        # What is said of FILE is said of more than one entry, and stands by itself.
+        entry.notes = f"{entry.notes} {line.strip()}".strip()
+    else:
+        entry.text = f"{entry.text} {line.strip()}".strip()
+
+
+def usages(found: Sequence[Section]) -> dict[str, Usage]:
+    """The commands of a script, by their words: those of the section whose entries name a session."""
+    rows = {}
+    for section in found:
+        if not section.title.startswith("Lines of a script"):
+            continue
+        for entry in section.entries:
+            # One explanation may be that of several lines, and they are parted by the same mark or not at all.
+            texts = [text.strip() for text in entry.text.split(";")]
+            heads = entry.head.split(", ")
+            for number, head in enumerate(heads):
+                command, _, *words = head.split()
+                rows[command] = Usage(command, tuple(words), entry.text if len(texts) != len(heads) else texts[number])
+    return rows
+
+
+def _roff(text: str) -> str:
+    """A text as the formatter reads it back, in lines. What stands between backquotes is set in bold."""
+    text = text.replace("\\", "\\e").replace("-", "\\-").replace("'", "\\(aq")
+    text = re.sub(r"`([^`]*)`", r"\\fB\1\\fP", text)
+    lines = textwrap.wrap(text, LINE, break_long_words=False, break_on_hyphens=False)
+    # A dot at the left edge would be a request to the formatter.
+    return "\n".join("\\&" + line if line.startswith(".") else line for line in lines)
+
+
+def _entry_lines(entry: Entry) -> list[str]:
+    lines = [".TP", f".B {_roff(entry.head)}", _roff(entry.text)]
+    if entry.options:
+        lines.append(".RS")
+        for option in entry.options:
+            lines += _entry_lines(option)
+        lines.append(".RE")
+    if entry.notes:
+        lines += [".IP", _roff(entry.notes)]
+    return lines
+
+
+def page(found: Sequence[Section]) -> str:
+    """The manual page: each entry of the help under a heading of its section."""
+    forms, *others = found
+    lines = [
+        ".\\\" Made of the launcher's help by `python3 -m diag_client man`. Do not edit.",
+        ".TH DIAG 1",
+        ".SH NAME",
+        "diag \\- verified diagnosis of digital devices",
+        ".SH SYNOPSIS",
+    ]
+    for entry in forms.entries:
+        options = "".join(f" [{option}]" for option in entry.option_heads())
+        lines += [f".B {_roff(entry.head + options)}", ".br"]
+    lines[-1] = ".SH DESCRIPTION"
+    lines.append(_roff(SUMMARY))
+    for section, title in [(forms, "Forms")] + [(section, section.title) for section in others]:
+        heading, _, more = title.partition(", ")
+        lines += [f".SH {_roff(heading.upper())}"] + ([_roff(more[:1].upper() + more[1:] + ".")] if more else [])
+        for entry in section.entries:
+            lines += _entry_lines(entry)
+    lines += [".SH SEE ALSO", "README.md, docs/FORMATS.md and docs/PYTHON.md in the checkout."]
+    return "\n".join(lines) + "\n"

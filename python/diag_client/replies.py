@@ -1,0 +1,223 @@
+"""Lines of a script and their replies: where each reply ends, and the answers that are read from it."""
+
+from __future__ import annotations
+
+import dataclasses
+import enum
+import os
+import pathlib
+import re
+from collections.abc import Callable
+
+from .errors import Refused
+
+REFUSAL = re.compile(r"error ([0-9]+) (.+)")
+# A command that there is not, so that its reply marks the end of what came before.
+MARK = "."
+
+
+class NotAReply(Exception):
+    """A line that does not answer what was asked: the last line of a program that ends."""
+
+
+@dataclasses.dataclass(frozen=True)
+class Minimum:
+    """The least cost of a set of faulty parts that explains the case, and the first such set, in name order."""
+
+    cost: int
+    faulty: tuple[str, ...]
+
+
+@dataclasses.dataclass(frozen=True)
+class Diagnosis:
+    """A cheapest set of faulty parts that explains the case. It is empty where nothing is wrong."""
+
+    faulty: tuple[str, ...]
+
+    def __str__(self) -> str:
+        return " ".join(self.faulty) or "nothing"
+
+
+@dataclasses.dataclass(frozen=True)
+class Probe:
+    """The least cost where a wire is seen as 0 too, and where it is seen as 1 too; None where no set explains that."""
+
+    wire: str
+    if_zero: int | None
+    if_one: int | None
+
+
+class Verdict(enum.StrEnum):
+    """Whether a part is faulty in all diagnoses, in some but not all, or in none."""
+
+    ALWAYS = "always"
+    SOMETIMES = "sometimes"
+    NEVER = "never"
+
+
+@dataclasses.dataclass(frozen=True)
+class Blame:
+    """What the diagnoses say of one part."""
+
+    part: str
+    verdict: Verdict
+
+
+@dataclasses.dataclass(frozen=True)
+class Graph:
+    """A decomposable graph over the parts, as `.nnf` text. Variable i is the i-th part in name order, true where it is ok."""
+
+    text: str
+
+    @property
+    def nodes(self) -> int:
+        """How many nodes it has."""
+        return int(self._header()[1])
+
+    @property
+    def edges(self) -> int:
+        """How many children its nodes have together."""
+        return int(self._header()[2])
+
+    @property
+    def parts(self) -> int:
+        """How many parts it is over."""
+        return int(self._header()[3])
+
+    def write(self, path: str | os.PathLike[str]) -> None:
+        """Writes the text to a file, which `diag check` and `diag ask` read."""
+        pathlib.Path(path).write_text(self.text, encoding="ascii")
+
+    def _header(self) -> list[str]:
+        return self.text.split("\n", 1)[0].split()
+
+
+class Request:
+    """One line of a script, and its reply as it comes."""
+
+    def __init__(self, session: str, line: str) -> None:
+        self.session = session
+        self.line = line
+        self.is_answered = False
+        self.refused: Refused | None = None
+
+    def take(self, line: str) -> bool:
+        """Takes the next line of the reply, and says whether it was the last one."""
+        raise NotImplementedError
+
+    def refuse(self, line: str) -> bool:
+        """Whether a line refuses the request: as the session's own reply, or as that to a line that names none."""
+        said = REFUSAL.fullmatch(line.removeprefix(f"{self.session} "))
+        if said is not None:
+            self.refused = Refused(int(said[1]), said[2], self.line)
+        return said is not None
+
+
+class Ready(Request):
+    """The line that comes unasked, once the device is compiled."""
+
+    def __init__(self) -> None:
+        super().__init__("", "")
+        self.parts = self.wires = 0
+
+    def take(self, line: str) -> bool:
+        told = re.fullmatch(r"ready ([0-9]+) ([0-9]+)", line)
+        if told is None:
+            raise NotAReply(line)
+        self.parts, self.wires = int(told[1]), int(told[2])
+        return True
+
+
+class Listing(Request):
+    """A line whose reply has lines that begin with the session and a word.
+
+    A line with a word in `more` is followed by another one, but for the one that makes them `most`; one with a word in `last` ends it.
+    `rows` are the words of all of them, the session left out.
+    """
+
+    def __init__(self, session: str, line: str, last: str, more: str = "", most: int | None = None) -> None:
+        super().__init__(session, line)
+        self._last = last.split()
+        self._more = more.split()
+        self._most = most
+        self.rows: list[list[str]] = []
+
+    def take(self, line: str) -> bool:
+        if self.refuse(line):
+            return True
+        name, *row = line.split(" ")
+        if name != self.session or not row or row[0] not in self._last + self._more:
+            raise NotAReply(line)
+        self.rows.append(row)
+        return row[0] in self._last or len(self.rows) == self._most
+
+    @property
+    def is_inconsistent(self) -> bool:
+        """Whether no health state agrees with the case."""
+        return self.rows[-1:] == [["inconsistent"]]
+
+    def told(self, word: str) -> list[list[str]]:
+        """What stands behind the word in each line that begins with it."""
+        return [row[1:] for row in self.rows if row[0] == word]
+
+
+class Change(Listing):
+    """A line that changes what a session knows, and what is to be noted once it is carried out."""
+
+    def __init__(self, session: str, line: str, reply: str, note: Callable[[], None]) -> None:
+        super().__init__(session, line, last=reply)
+        self._note = note
+
+    def take(self, line: str) -> bool:
+        ends = super().take(line)
+        if self.refused is None:
+            self._note()
+        return ends
+
+
+class GraphText(Request):
+    """A line whose reply is one line and then a graph, whose header says how many lines follow."""
+
+    def __init__(self, session: str, line: str, word: str) -> None:
+        super().__init__(session, line)
+        self._word = word
+        self._awaited: int | None = None
+        self.lines: list[str] = []
+
+    def take(self, line: str) -> bool:
+        if self._awaited is None:
+            if self.refuse(line):
+                return True
+            if line != f"{self.session} {self._word}":
+                raise NotAReply(line)
+            self._awaited = 1
+            return False
+        self.lines.append(line)
+        if len(self.lines) == 1:
+            header = line.split(" ")
+            if header[0] != "nnf" or len(header) != 4:
+                raise NotAReply(line)
+            self._awaited += int(header[1])
+        return len(self.lines) == self._awaited
+
+    @property
+    def text(self) -> str:
+        """The graph's text."""
+        return "".join(f"{line}\n" for line in self.lines)
+
+
+class AnyLine(Request):
+    """Any line of a script that has a reply, whatever its command: with a mark behind it, whose reply ends that to the line."""
+
+    def __init__(self, line: str, session: str = "") -> None:
+        super().__init__(session, f"{line}\n{MARK}")
+        self.lines: list[str] = []
+
+    def take(self, line: str) -> bool:
+        # Only the first line of a reply can be a refusal that names no session.
+        if self.lines and REFUSAL.fullmatch(line):
+            return True
+        if not self.lines:
+            self.refuse(line)
+        self.lines.append(line)
+        return False

@@ -1,0 +1,324 @@
+"""Sessions over the built program. What commands and refusals are called is taken from the program's own replies."""
+
+import os
+import re
+import shutil
+import tempfile
+import threading
+import time
+import unittest
+from unittest import mock
+
+from support import C17, EXAMPLES, TOP, needs_program, replies
+
+from diag_client import Blame, Diagnosis, Ended, Inconsistent, Minimum, NotBuilt, Probe, Refused, Service, Verdict, find_program, service
+
+ZERO = {"1": 0, "2": 0, "3": 0, "6": 0, "7": 0}
+CASE = {**ZERO, "22": 1, "23": 0}
+
+
+@needs_program
+class Readme(unittest.TestCase):
+    """The case of the README over C17, line by line as its stored replies have it."""
+
+    def test_case(self):
+        told = iter((EXAMPLES / "c17.expected").read_text().splitlines())
+        self.assertEqual(next(told), "ready 6 11")
+        with Service(C17) as served, served.session("S") as session:
+            self.assertEqual((served.part_count, served.wire_count), (6, 11))
+            session.see(CASE)
+            least = session.minimum()
+            self.assertEqual(f"S min {least.cost} {' '.join(least.faulty)}", self.skip_to(told, "S min"))
+            listed = [f"S diag {diagnosis}" for diagnosis in session.diagnoses(9)]
+            self.assertEqual(listed, [next(told), next(told)])
+            self.assertEqual(next(told), "S end")
+            probe = session.probe("10")
+            self.assertEqual(f"S probe {probe.wire} {probe.if_zero} {probe.if_one}", next(told))
+            for row in session.blame():
+                self.assertEqual(f"S blame {row.part} {row.verdict}", next(told))
+            session.hold({"10": "ok"})
+            self.assertEqual(f"S min {session.minimum().cost} {' '.join(session.minimum().faulty)}", self.skip_to(told, "S min"))
+
+    @staticmethod
+    def skip_to(lines, begin):
+        return next(line for line in lines if line.startswith(begin))
+
+
+@needs_program
+class Answers(unittest.TestCase):
+    """Each answer is what the program tells."""
+
+    def setUp(self):
+        self.service = self.enterContext(Service(C17))
+        self.session = self.enterContext(self.service.session("S"))
+
+    def test_answers(self):
+        self.session.see(CASE)
+        self.assertEqual(self.session.minimum(), Minimum(1, ("10",)))
+        self.assertEqual([diagnosis.faulty for diagnosis in self.session.diagnoses()], [("10",), ("22",)])
+        self.assertEqual(self.session.probe("16"), Probe("16", 2, 1))
+        self.assertEqual(self.session.probe("22"), Probe("22", None, 1))
+        told = [" ".join(["S", "probe", row.wire, str(row.if_zero), str(row.if_one)]) for row in self.session.probes()] + ["S end"]
+        self.assertEqual(told, replies(["open S", *(f"see S {wire}={bit}" for wire, bit in CASE.items()), "probes S"])[-5:])
+        self.assertIn(Blame("22", Verdict.SOMETIMES), self.session.blame())
+
+    def test_names(self):
+        self.assertEqual(self.service.parts, ("10", "11", "16", "19", "22", "23"))
+        self.assertEqual(self.service.wires, ("1", "10", "11", "16", "19", "2", "22", "23", "3", "6", "7"))
+
+    def test_taken_back(self):
+        self.session.see(CASE)
+        self.session.hold({"10": "ok", "22": "ok"})
+        self.assertEqual(self.session.minimum(), Minimum(2, ("16", "23")))
+        self.session.unhold("10")
+        self.session.unsee("22", "23")
+        self.assertEqual(self.session.minimum(), Minimum(0, ()))
+        self.assertEqual((dict(self.session.seen), dict(self.session.held)), (ZERO, {"22": "ok"}))
+
+    def test_inconsistent(self):
+        self.session.see(CASE)
+        self.session.hold({"10": "ok", "22": "ok", "23": "ok"})
+        for ask in (
+            self.session.minimum, self.session.probes, self.session.blame, self.session.best_probe, lambda: next(self.session.diagnoses()),
+            lambda: self.session.probe("10"),
+        ):
+            with self.assertRaises(Inconsistent):
+                ask()
+        self.assertEqual(self.session.graph().parts, 6)
+
+    def test_graph(self):
+        self.session.see({"22": 1})
+        graph = self.session.graph()
+        # Its text has the lines that its header tells, and the next answer is in step.
+        self.assertEqual((graph.nodes + 1, graph.parts), (graph.text.count("\n"), 6))
+        self.assertEqual(self.session.minimum().cost, 0)
+        with tempfile.NamedTemporaryFile(suffix=".nnf") as file:
+            graph.write(file.name)
+            with Service(file.name, health=6) as asked, asked.session() as session:
+                self.assertEqual(session.minimum(), Minimum(0, ()))
+                self.assertEqual(asked.parts[0], "00001")
+
+    def test_any_command(self):
+        self.assertEqual(self.session.ask("see", "22=1"), ["S ok"])
+        self.assertEqual(dict(self.session.seen), {"22": 1})
+        self.assertEqual(self.session.ask("list", "3"), replies(["open S", "see S 22=1", "list S 3"])[2:])
+        self.assertEqual(self.session.ask("probes"), replies(["open S", "see S 22=1", "probes S"])[2:])
+        self.assertEqual(self.session.ask("dnnf")[0], "S dnnf")
+        with self.assertRaises(Refused):
+            self.session.ask("dance")
+        for command in ("close", "open", "# see", "", "see S"):
+            with self.assertRaises(ValueError):
+                self.session.ask(command)
+        for line in ("", "  ", "# see"):
+            self.assertEqual(self.service.ask(line), [])
+        with self.assertRaises(ValueError):
+            self.service.ask("min S\nmin S")
+        # A listing that was begun by hand does not disturb one that is begun here.
+        self.assertEqual(list(self.session.diagnoses()), [Diagnosis(())])
+
+    def test_words(self):
+        for word in ("a b", "a\nclose S", "a\tb", "a\r"):
+            for wrong in ({word: 1}, {"1": word}):
+                with self.assertRaises(ValueError):
+                    self.session.see(wrong)
+        with self.assertRaises(ValueError):
+            self.session.unsee("")
+        self.assertEqual(dict(self.session.seen), {})
+
+    def test_bits(self):
+        self.session.see({"1": True, "2": False})
+        self.assertEqual(dict(self.session.seen), {"1": 1, "2": 0})
+
+    def test_copy(self):
+        self.session.see(CASE)
+        self.session.hold({"10": "ok"})
+        with self.session.copy() as other:
+            self.assertEqual(other.minimum(), self.session.minimum())
+            other.unhold("10")
+            self.assertEqual(other.minimum().faulty, ("10",))
+        self.assertEqual(self.session.minimum().faulty, ("22",))
+
+
+@needs_program
+class Listing(unittest.TestCase):
+    """Diagnoses are told from the first on, however they are paged and whatever else is asked between."""
+
+    WIDE = EXAMPLES / "ripple_64.bench"
+
+    def setUp(self):
+        self.served = self.enterContext(Service(self.WIDE))
+        self.session = self.enterContext(self.served.session("S"))
+        # All that is added is 0, and four sums far from each other were seen as 1.
+        inputs = re.findall(r"INPUT\((.+?)\)", self.WIDE.read_text())
+        sums = re.findall(r"OUTPUT\((.+?)\)", self.WIDE.read_text())
+        self.session.see(dict.fromkeys(inputs, 0) | {wire: int(number in (10, 26, 42)) for number, wire in enumerate(sums)})
+        seen = [f"see S {wire}={bit}" for wire, bit in self.session.seen.items()]
+        told = replies(["open S", *seen, "list S 1000000"], file=self.WIDE)
+        self.all = [line.removeprefix("S diag ") for line in told if line.startswith("S diag ")]
+
+    def told(self, *limit):
+        return [str(diagnosis) for diagnosis in self.session.diagnoses(*limit)]
+
+    def test_pages(self):
+        self.assertGreater(len(self.all), 100)
+        self.assertEqual(self.told(), self.all)
+        self.assertEqual(self.told(), self.all)
+        for limit in (0, 1, 7, 8, 9, 24, 25, 100):
+            self.assertEqual(self.told(limit), self.all[:limit])
+
+    def test_two_at_once(self):
+        one, two = self.session.diagnoses(), self.session.diagnoses()
+        for expected in self.all[:30]:
+            self.assertEqual((str(next(one)), str(next(two))), (expected, expected))
+            self.session.minimum()
+
+    def test_after(self):
+        self.session.after(*self.all[40].split())
+        self.assertEqual(self.told(3), self.all[41:44])
+        self.assertEqual(self.told(3), self.all[41:44])
+        self.session.see({next(iter(self.session.seen)): 0})
+        self.assertEqual(self.told(3), self.all[:3])
+        self.session.after(*self.all[-1].split())
+        self.assertEqual(self.told(), [])
+
+    def test_changed_between(self):
+        listing = self.session.diagnoses()
+        next(listing)
+        self.session.hold({self.served.parts[0]: "ok"})
+        with self.assertRaises(RuntimeError):
+            next(listing)
+
+    def test_nothing_known(self):
+        with self.served.session() as empty:
+            for _ in range(3):
+                self.assertEqual(list(empty.diagnoses()), [Diagnosis(())])
+
+
+@needs_program
+class Refusals(unittest.TestCase):
+    """Each refusal is an exception with the number and the text that the program has for it."""
+
+    # A script whose last line is refused, and the same by the client. The session S is open.
+    ROWS = {
+        "dance S": lambda session: session.ask("dance"),
+        "min S S": lambda session: session.ask("min", "S"),
+        "probe S (": lambda session: session.probe("("),
+        "see S 1=2": lambda session: session.see({"1": 2}),
+        "hold S 10=fine": lambda session: session.hold({"10": "fine"}),
+        "open S": lambda session: session.service.session("S"),
+        "see S 99=1": lambda session: session.see({"99": 1}),
+        "probe S 99": lambda session: session.best_probe(among=["99"]),
+        "hold S 1=ok": lambda session: session.hold({"1": "ok"}),
+        "after S 10 1": lambda session: session.after("10", "1"),
+        "see S " + "1" * 1_048_576 + "=1": lambda session: session.see({"1" * 1_048_576: 1}),
+    }
+
+    def check(self, caught, line, *before, sessions=()):
+        said = replies([*before, line], *sessions)[-1]
+        self.assertEqual(f"error {caught.number} {caught.text}", said.removeprefix("S ").removeprefix("T "))
+        return caught.number
+
+    def test_refusals(self):
+        numbers = set()
+        for line, ask in self.ROWS.items():
+            with self.subTest(line[:40]), Service(C17) as served, served.session("S") as session:
+                with self.assertRaises(Refused) as caught:
+                    ask(session)
+                numbers.add(self.check(caught.exception, line, "open S"))
+                self.assertEqual((dict(session.seen), dict(session.held)), ({}, {}))
+                self.assertEqual(session.minimum().cost, 0)
+        with Service(C17, sessions=1) as served, served.session("S") as session:
+            with self.assertRaises(Refused) as caught:
+                served.session("T")
+            numbers.add(self.check(caught.exception, "open T", "open S", sessions=("--sessions", "1")))
+            session.close()
+            with self.assertRaises(Refused) as caught:
+                session.minimum()
+            numbers.add(self.check(caught.exception, "min S"))
+        # All that there are: the numbers stand in a row.
+        self.assertEqual(numbers, set(range(1, len(numbers) + 1)))
+        self.assertGreaterEqual(len(numbers), 10)
+
+    def test_the_others_are_carried_out(self):
+        with Service(C17) as served, served.session() as session:
+            with self.assertRaises(Refused) as caught:
+                session.see({"1": 0, "99": 1, "2": 1, "98": 1})
+            self.assertIn("99=1", caught.exception.line)
+            self.assertEqual(dict(session.seen), {"1": 0, "2": 1})
+
+    def test_best_probe_needs_room(self):
+        with Service(C17, sessions=1) as served, served.session("S") as session:
+            with self.assertRaises(Refused) as caught:
+                session.best_probe()
+            self.check(caught.exception, "open T", "open S", sessions=("--sessions", "1"))
+            self.assertEqual(session.minimum().cost, 0)
+
+
+@needs_program
+class Services(unittest.TestCase):
+    """How a service begins and ends."""
+
+    def test_refused_files(self):
+        with tempfile.NamedTemporaryFile(suffix=".bench", mode="w") as file:
+            file.write("INPUT(a)\ny = NOT(a)\ny = NOT(a)\n")
+            file.flush()
+            with self.assertRaisesRegex(Ended, "status 1: error: line 3: fault 6 driven twice"):
+                Service(file.name)
+        for status, last_line, given in (
+            (4, "error: read", {"file": "nowhere.bench"}),
+            (2, "error: usage", {"file": C17, "budget": 0}),
+            (3, "error: sum above 9", {"file": C17, "budget": 9}),
+            (2, "error: usage", {"file": C17, "no_such_option": True}),
+        ):
+            with self.subTest(given), self.assertRaises(Ended) as caught:
+                Service(**given)
+            self.assertEqual((caught.exception.status, caught.exception.last_line), (status, last_line))
+
+    def test_options(self):
+        given = {"narrow": True, "budget": None, "frames": 3, "levels": 2, "least": False}
+        self.assertEqual(service.option_words(given), ["--narrow", "--frames", "3", "--levels", "2"])
+        with Service(EXAMPLES / "narrow/multiplier.bench", narrow=True, sessions=2) as served:
+            self.assertTrue(served.is_running)
+
+    def test_made_names(self):
+        with Service(C17) as served, served.session("s1"), served.session() as made:
+            self.assertEqual(made.name, "s2")
+
+    def test_threads(self):
+        with Service(C17, sessions=8) as served:
+            found = []
+
+            def ask():
+                with served.session() as session:
+                    session.see(CASE)
+                    found.append([list(session.diagnoses()) for _ in range(50)])
+
+            threads = [threading.Thread(target=ask) for _ in range(8)]
+            for thread in threads:
+                thread.start()
+            for thread in threads:
+                thread.join()
+        self.assertEqual(found, [[[Diagnosis(("10",)), Diagnosis(("22",))]] * 50] * 8)
+
+    def test_not_built(self):
+        with tempfile.TemporaryDirectory() as top, mock.patch.dict("os.environ"):
+            del os.environ["DIAG_PROGRAM"]
+            with mock.patch.object(service, "TOP", service.pathlib.Path(top)):
+                with self.assertRaisesRegex(NotBuilt, "DIAG_PROGRAM"):
+                    find_program()
+                shutil.copy(TOP / "diag", top)
+                with self.assertRaisesRegex(NotBuilt, "not built: .*diag --build"):
+                    find_program()
+                source, built = service.TOP / "crates/diag/src/main.rt", service.TOP / "crates/diag/out/diag"
+                for path in (source, built, service.TOP / "crates.txt", service.TOP / "HANDLES"):
+                    path.parent.mkdir(parents=True, exist_ok=True)
+                    path.touch(0o755)
+                os.utime(built, (time.time() + 10,) * 2)
+                self.assertEqual(find_program(), str(built))
+                os.utime(source, (time.time() + 20,) * 2)
+                with self.assertRaisesRegex(NotBuilt, "newer .*diag --build"):
+                    find_program()
+
+
+if __name__ == "__main__":
+    unittest.main()

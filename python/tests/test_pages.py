@@ -1,0 +1,108 @@
+"""The manual page and the completion say what the launcher's help says."""
+
+import os
+import re
+import shutil
+import subprocess
+import tempfile
+import unittest
+
+from support import TOP
+
+from diag_client import manual
+
+COMPLETION = TOP / "completions/diag.bash"
+PAGE = TOP / "docs/diag.1"
+
+
+class Help(unittest.TestCase):
+    """How the help text is read."""
+
+    def setUp(self):
+        self.text = subprocess.run([TOP / "diag", "--help"], capture_output=True, text=True, check=True).stdout
+        self.found = manual.read_help()
+
+    def test_nothing_is_lost(self):
+        entries = [entry for section in self.found for entry in section.entries]
+        entries += [option for entry in entries for option in entry.options]
+        said = " ".join([section.title for section in self.found] + [text for row in entries for text in (row.head, row.text, row.notes)])
+        self.assertEqual(sorted(said.replace(":", " ").split()), sorted(self.text.replace(":", " ").split()))
+
+    def test_commands(self):
+        usages = manual.usages(self.found)
+        self.assertEqual(usages["see"].words, ("w=b",))
+        self.assertEqual(usages["after"].words, ("p1", "..", "pk"))
+        self.assertEqual(usages["min"].words, ())
+
+
+class Page(unittest.TestCase):
+    """`docs/diag.1`."""
+
+    def test_is_the_help(self):
+        self.assertEqual(
+            PAGE.read_text(), manual.page(manual.read_help()), "docs/diag.1: make it anew by `PYTHONPATH=python python3 -m diag_client man`"
+        )
+
+    @unittest.skipUnless(shutil.which("man"), "there is no man")
+    def test_is_set(self):
+        env = {"MANWIDTH": "200", "PATH": os.environ["PATH"], "LC_ALL": "C.UTF-8"}
+        done = subprocess.run(["man", "--warnings", "-l", str(PAGE)], capture_output=True, text=True, check=True, env=env)
+        self.assertEqual(done.stderr, "")
+        text = " ".join(re.sub("\x1b\\[[0-9]*m|.\b", "", done.stdout).split())
+        for section in manual.read_help():
+            for entry in section.entries:
+                for said in (entry.head, entry.text.replace("`", ""), entry.notes):
+                    self.assertIn(said, text)
+
+
+class Completion(unittest.TestCase):
+    """`completions/diag.bash`, asked as bash asks it."""
+
+    def setUp(self):
+        entries = [entry for section in manual.read_help() for entry in section.entries]
+        self.forms = {entry.head.split()[1]: entry for entry in entries if entry.head.startswith("diag ")}
+
+    def complete(self, *words, folder=TOP):
+        script = 'source "$1"; shift; COMP_WORDS=(diag "$@"); COMP_CWORD=$#; _diag; printf "%s\\n" "${COMPREPLY[@]}"'
+        done = subprocess.run(
+            ["bash", "-c", script, "bash", str(COMPLETION), *words], capture_output=True, text=True, check=True, cwd=folder
+        )
+        self.assertEqual(done.stderr, "")
+        return sorted(done.stdout.split())
+
+    def test_forms(self):
+        self.assertEqual(self.complete(""), sorted(self.forms))
+        self.assertEqual(self.complete("--b"), ["--build"])
+
+    def test_options(self):
+        for form, entry in self.forms.items():
+            file = [word for word in entry.head.split()[2:] if word.isupper()]
+            if "FILE" not in file:
+                self.assertEqual(self.complete(form, ""), [])
+                continue
+            told = {head.split()[0]: len(head.split()) == 2 for head in entry.option_heads()}
+            self.assertEqual(self.complete(form, *file, ""), sorted(told), form)
+            for option, takes_number in told.items():
+                behind = self.complete(form, *file, option, "")
+                self.assertEqual(behind, [] if takes_number else sorted(told.keys() - {option}))
+                given = [option, "1"] if takes_number else [option]
+                self.assertEqual(self.complete(form, *file, *given, ""), sorted(told.keys() - {option}))
+            if len(file) == 2:
+                self.assertEqual(self.complete(form, file[0], ""), [])
+
+    def test_files(self):
+        # What the help says of FILE: its endings, and for which forms.
+        notes = [entry.notes for entry in self.forms.values() if entry.notes]
+        self.assertEqual([re.findall(r"\.[a-z]+", note) for note in notes], [[".bench", ".dev"], [".nnf"]])
+        with tempfile.TemporaryDirectory() as folder:
+            for name in ("a.bench", "b.dev", "c.nnf", "d.txt"):
+                open(f"{folder}/{name}", "w").close()
+            for form in ("serve", "plan", "compile"):
+                self.assertEqual(self.complete(form, "", folder=folder), ["a.bench", "b.dev"])
+            for form in ("check", "ask"):
+                self.assertEqual(self.complete(form, "", folder=folder), ["c.nnf"])
+        self.assertIn("examples/", self.complete("serve", "ex"))
+
+
+if __name__ == "__main__":
+    unittest.main()

@@ -107,9 +107,11 @@ class Interrupts(unittest.TestCase):
 
     def test_while_it_waits(self):
         with served("sleeps") as service, service.session("S") as session:
-            threading.Timer(0.2, signal.pthread_kill, [threading.get_ident(), signal.SIGINT]).start()
+            alarm = threading.Timer(0.2, signal.pthread_kill, [threading.get_ident(), signal.SIGINT])
             with self.assertRaises(KeyboardInterrupt):
-                session.minimum()
+                alarm.start()
+                while True:
+                    session.minimum()
             # The reply that was not waited for comes first, and is none to this.
             session.see(a=1)
             self.assertEqual(session.minimum().cost, 0)

@@ -10,7 +10,8 @@ import signal
 import subprocess
 import sys
 import threading
-from collections.abc import Sequence
+import types
+from collections.abc import Iterator, Sequence
 from typing import IO
 
 from .errors import Ended
@@ -21,6 +22,22 @@ PIECE = 65536
 PATIENCE = 10.0
 # So much of what was said on standard error is kept.
 SAID = 4096
+
+
+@contextlib.contextmanager
+def interrupts_held_back() -> Iterator[None]:
+    """An interrupt comes at the end of the block, and not within it. No thread but the main one is ever interrupted."""
+    if threading.current_thread() is not threading.main_thread() or signal.getsignal(signal.SIGINT) is None:
+        yield
+        return
+    came: list[tuple[int, types.FrameType | None]] = []
+    before = signal.signal(signal.SIGINT, lambda number, frame: came.append((number, frame)))
+    try:
+        yield
+    finally:
+        signal.signal(signal.SIGINT, before)
+    if came and callable(before):
+        before(*came[-1])
 
 
 class Child:
@@ -76,10 +93,11 @@ class Child:
                 self.stop()
             if self._over is not None:
                 raise self.ended()
-            self._in_step = False
-            self._unsent += text
-            self._awaited.extend(requests)
-            self._in_step = True
+            with self._a_step():
+                self._unsent += text
+                self._awaited.extend(requests)
+                if not self._input.closed:
+                    self._watch(self._input, selectors.EVENT_WRITE)
             self._run_until(requests[-1])
 
     def close(self) -> int:
@@ -119,18 +137,23 @@ class Child:
             self._turn()
 
     def _turn(self) -> None:
-        """Waits until some end is ready, and serves those that are. An interrupt comes while it waits, or else the step is lost."""
-        if self._unsent:
-            self._watch(self._input, selectors.EVENT_WRITE)
+        """Waits until some end is ready, and serves those that are. An interrupt comes while it waits."""
         ready = [key.fileobj for key, _ in self._selector.select()]
-        self._in_step = False
-        if self._input in ready:
-            self._write()
-        if self._output in ready:
-            self._read()
-        if self._errors in ready:
-            self._hear()
-        self._in_step = True
+        with self._a_step():
+            if self._input in ready:
+                self._write()
+            if self._output in ready:
+                self._read()
+            if self._errors in ready:
+                self._hear()
+
+    @contextlib.contextmanager
+    def _a_step(self) -> Iterator[None]:
+        """What is done whole. Where an error ends it all the same it is not known what was read and what was not."""
+        with interrupts_held_back():
+            self._in_step = False
+            yield
+            self._in_step = True
 
     def _write(self) -> None:
         try:
@@ -213,7 +236,7 @@ class Child:
         self._output.close()
         self._errors.close()
         self._awaited.clear()
-        said = self._said.strip().split("\n")[-1] if self._in_step else "stopped, since an interrupt came in the midst of a reply"
+        said = self._said.strip().split("\n")[-1] if self._in_step else "stopped, since an error came in the midst of a reply"
         self._over = Ended(self._words, self._process.returncode, self._last_line, said)
 
     @staticmethod

@@ -182,7 +182,7 @@ class Drawing:
     def _wire_style(self, wire: str, others: int) -> str:
         bits = self.readings[wire]
         times = [f"= {bit}" if not time else f"@{time} = {bit}" for time, bit in bits.items()]
-        told = ("\n" if len(times) > 1 else " ").join([wire, *times]) + (f"\n+{others} parts" if others else "")
+        told = ("\n" if len(times) > 1 else " ").join([wire, *times]) + (f"\n+{others} part{'s' * (others > 1)}" if others else "")
         if not bits:
             return attributes(label=told, shape="plaintext", style="", fontsize=10)
         fill = BITS[next(iter(bits.values()))] if len(set(bits.values())) == 1 else "white"

@@ -85,7 +85,7 @@ class Texts(unittest.TestCase):
         drawn = re.findall(r'"part (w[0-9]+)" \[label', text)
         self.assertEqual(drawn, [f"w{number:03}" for number in range(190, 211)])
         self.assertIn("21 of 300 parts are drawn, those that are nearest to the suspects", text)
-        self.assertIn('label="w189\\n+1 parts"', text)
+        self.assertIn('label="w189\\n+1 part"', text)
         self.render(text)
         seen = picture.dot_text(device, picture.Case({"w300": 0}, {}, {}, 0), "t", most=2)
         self.assertEqual(re.findall(r'"part (w[0-9]+)" \[label', seen), ["w299", "w300"])

@@ -6,9 +6,11 @@ import signal
 import threading
 import unittest
 
-from support import C17, needs_program, stand_in
+from support import C17, EXAMPLES, needs_program, stand_in
 
 from diag_client import Ended, NotBuilt, Service
+
+RIPPLE = EXAMPLES / "ripple_64.bench"
 
 
 def served(how):
@@ -105,13 +107,28 @@ class Interrupts(unittest.TestCase):
 
     def test_while_it_waits(self):
         with served("sleeps") as service, service.session("S") as session:
-            threading.Timer(0.2, signal.pthread_kill, [threading.get_ident(), signal.SIGINT]).start()
+            alarm = threading.Timer(0.2, signal.pthread_kill, [threading.get_ident(), signal.SIGINT])
             with self.assertRaises(KeyboardInterrupt):
-                session.minimum()
+                alarm.start()
+                while True:
+                    session.minimum()
             # The reply that was not waited for comes first, and is none to this.
             session.see(a=1)
             self.assertEqual(session.minimum().cost, 0)
             self.assertEqual(dict(session.seen), {"a": 1})
+
+    @needs_program
+    def test_at_any_time(self):
+        """Most of a long reply's time goes into reading it, and an interrupt comes then."""
+        with Service(RIPPLE) as service, service.session() as session:
+            nodes = session.graph().nodes
+            for number in range(20):
+                alarm = threading.Timer(0.003 * number, signal.pthread_kill, [threading.get_ident(), signal.SIGINT])
+                with self.assertRaises(KeyboardInterrupt):
+                    alarm.start()
+                    while True:
+                        session.graph()
+                self.assertEqual((session.minimum().cost, session.graph().nodes), (0, nodes))
 
     def test_within_a_step(self):
         """Where it cannot be known how far a reply was read the program is stopped, and that is told."""
@@ -120,7 +137,7 @@ class Interrupts(unittest.TestCase):
             request.take = lambda _: (_ for _ in ()).throw(KeyboardInterrupt())
             with self.assertRaises(KeyboardInterrupt):
                 session._carry_out([request])
-            with self.assertRaisesRegex(Ended, "interrupt"):
+            with self.assertRaisesRegex(Ended, "in the midst of a reply"):
                 session.see(a=1)
 
     def test_at_the_terminal_is_not_for_the_program(self):

@@ -52,6 +52,8 @@ class Lines(unittest.TestCase):
             if name not in ("open", "close"):
                 behind = " ".join(words[word] for word in usage.words)
                 told = [line.removeprefix("S ") for line in replies(["open S", f"{name} S {behind}"])[1:]]
+                # A command that needs an option is refused, which is told in words.
+                told[0] = re.sub(r"^error ([0-9]+) (.*)$", rf"refused: \2 (error \1); it is {' '.join([name, *usage.words])}", told[0])
                 with self.subTest(name), self.service.session("T") as self.shell.session:
                     self.assertEqual(self.say(f"{name} {behind}"), told)
 

@@ -10,12 +10,16 @@ use Rattle.diag_edge.specs.declared.loading.LoadError.{LoadError}
 use Rattle.diag_edge.specs.declared.loading.LoadError.TheVariants.{Failed as LoadFailed, Long, Memory}
 use Rattle.session_rules.specs.Items.{Item}
 use Rattle.session_rules.specs.Spelling.{Writes}
+use Rattle.ranking.specs.Systems.{System}
 use Rattle.device_model.specs.Devices.{Device}
+use Rattle.device_model.specs.Diagnosis.{device_system}
+use Rattle.bench_reader.specs.SequentialNetlists.{sequential_netlist}
 use Rattle.diag_cli.specs.declared.serving.TheConstants.{SCRIPT_LIMIT}
-use Rattle.diag_cli.specs.Words.{Form, Load, Over, Command, Serve, Plan, Check, Compile, asks_script}
-use Rattle.diag_cli.specs.Describing.{long_file_line, described, device_in}
+use Rattle.diag_cli.specs.Words.{Form, Load, Over, Command, Serve, ServeFrames, Plan, Check, Compile, asks_script}
+use Rattle.diag_cli.specs.Describing.{netlist_line, long_file_line, or_line, described, device_in}
+use Rattle.diag_cli.specs.Frames.{sequential_in, if_unrolled}
 use Rattle.diag_cli.specs.Output.{Output, Gives, says, no_memory}
-use Rattle.diag_cli.specs.Courses.{End, Ended, Failed, Cut, Course, Tells, Serves, usage_line, read_error, not_loaded, served, wholly_served, whole_output, if_within, served_or_refused, course_by}
+use Rattle.diag_cli.specs.Courses.{End, Ended, Failed, Cut, Course, Tells, Serves, usage_line, read_error, not_loaded, served, wholly_served, whole_output, if_within, system_served, served_or_refused, course_by}
 use Rattle.diag_cli.specs.Loads.{loaded}
 use Rattle.diag_cli.specs.Refusals.{or_memory}
 use Rattle.diag_cli.specs.Runs.{Reading, Writing, IsIdle, GivesUnlessShort, IsRun}
@@ -33,11 +37,20 @@ same_file file bytes (Some all) same is = same ∙ is
 pub short_file : (path file : List ℕ) → length file ≤ TEXT_LIMIT → device_in path file ≡ described path file
 short_file path file short = let few : nat_le (length file) TEXT_LIMIT ≡ true = grind arith in rw few
 
+pub short_netlist : (file : List ℕ) → length file ≤ TEXT_LIMIT → sequential_in file ≡ or_line netlist_line (sequential_netlist file)
+short_netlist file short = let few : nat_le (length file) TEXT_LIMIT ≡ true = grind arith in rw few
+
 -- what is said of a short text is said of its file
 pub refused_in : (fault : Option Output) (path file : List ℕ) (budget : ℕ) → length file ≤ TEXT_LIMIT → IsExpectedFault fault (described path file)
     → IsExpectedFault fault (if_within budget (device_in path file))
 refused_in None path file budget short is = tt
 refused_in (Some output) path file budget short is = ap (if_within budget) (short_file path file short ∙ is)
+
+-- the same of a netlist over several times
+pub refused_frames : (fault : Option Output) (file : List ℕ) (frames budget : ℕ) → length file ≤ TEXT_LIMIT → IsExpectedFault fault (or_line netlist_line (sequential_netlist file))
+    → IsExpectedFault fault (if_unrolled frames budget (sequential_in file))
+refused_frames None file frames budget short is = tt
+refused_frames (Some output) file frames budget short is = ap (if_unrolled frames budget) (short_netlist file short ∙ is)
 
 -- words with a form may run out of memory
 with_form : (form : Form) {output : Output} {status : ℕ} {a b : Option (List ℕ)} → GivesUnlessMemory output status a b → GivesUnlessShort (Some form) output status a b
@@ -82,16 +95,20 @@ module _ (input new_input : Reading) (out new_out : Writing) (status : ℕ) wher
   zero_is_not_six : Gives no_memory status out.got new_out.got → status ≡ 0 → IsAtEnd new_input.left
   zero_is_not_six said zero = absurd (omega (arith, zero, (said.whole (λ five. omega (arith, zero, five))).0))
 
-  by_memory : (sessions : ℕ) (expected : Result Device Output) → IsIdle input new_input → Gives no_memory status out.got new_out.got
-      → Follows (served_or_refused sessions expected) input new_input out new_out status
-  by_memory sessions (Ok device) idle said = record { answer = inl (idle, said); all_read = zero_is_not_six said }
-  by_memory sessions (Err output) idle said = (idle, inl said)
+  by_memory : {A : Type 0} (system_by : A → System) (sessions : ℕ) (expected : Result A Output) → IsIdle input new_input → Gives no_memory status out.got new_out.got
+      → Follows (system_served system_by sessions expected) input new_input out new_out status
+  by_memory system_by sessions (Ok found) idle said = record { answer = inl (idle, said); all_read = zero_is_not_six said }
+  by_memory system_by sessions (Err output) idle said = (idle, inl said)
+
+  pub follows_fault : {A : Type 0} (system_by : A → System) (sessions : ℕ) (expected : Result A Output) (fault : Option Output) → IsExpectedFault fault expected → IsIdle input new_input
+      → Gives (or_memory fault) status out.got new_out.got → Follows (system_served system_by sessions expected) input new_input out new_out status
+  follows_fault system_by sessions expected None is idle said = by_memory system_by sessions expected idle said
+  follows_fault system_by sessions expected (Some output) is idle said =
+      subst (λ e. Follows (system_served system_by sessions e) input new_input out new_out status) (sym is) (idle, inr said)
 
   pub follows_refusal : (sessions : ℕ) (expected : Result Device Output) (fault : Option Output) → IsExpectedFault fault expected → IsIdle input new_input
       → Gives (or_memory fault) status out.got new_out.got → Follows (served_or_refused sessions expected) input new_input out new_out status
-  follows_refusal sessions expected None is idle said = by_memory sessions expected idle said
-  follows_refusal sessions expected (Some output) is idle said =
-      subst (λ e. Follows (served_or_refused sessions e) input new_input out new_out status) (sym is) (idle, inr said)
+  follows_refusal sessions expected fault is idle said = follows_fault device_system sessions expected fault is idle said
 
   -- ---- clauses of a run over the file
 
@@ -174,6 +191,7 @@ module _ (input new_input : Reading) (out new_out : Writing) (status : ℕ) wher
       where
         idle_by : (any : Command) → Follows (course_by path any file) input new_input out new_out status → asks_script (Some (Over path any)) ≡ false → IsIdle input new_input
         idle_by (Serve budget sessions) done asks = absurd (let never : ⊥ = cc in never)
+        idle_by (ServeFrames frames budget sessions) done asks = absurd (let never : ⊥ = cc in never)
         idle_by Plan done asks = done.0
         idle_by Check done asks = done.0
         idle_by (Compile budget) done asks = done.0
@@ -200,6 +218,7 @@ long_course path command file long = by command
     no_more = grind arith
 
     by : (any : Command) → course_by path any file ≡ Tells (says long_file_line 1)
+    by (ServeFrames frames budget sessions) = rw no_more
     by (Serve budget sessions) = rw no_more
     by Plan = rw no_more
     by Check = rw no_more

@@ -2,6 +2,7 @@ mod Examples
 pub mod WordLemmas
 pub mod Running
 pub mod ServedDevices
+pub mod ServedFrames
 pub mod Failing
 pub mod Unread
 pub mod Scripts

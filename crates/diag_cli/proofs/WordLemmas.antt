@@ -7,11 +7,12 @@ use Rattle.text_rules.specs.Names.{same_name}
 use Rattle.text_rules.specs.Numbers.{value_behind, are_digits, has_leading_zero, number_in, plain_number_in}
 use Rattle.adder_load.specs.declared.adders.TheConstants.{PLACE_LIMIT}
 use Rattle.branch_states.specs.declared.measuring.TheConstants.{BUDGET_LIMIT}
+use Rattle.frame_unroller.specs.declared.unrolling.TheConstants.{FRAME_LIMIT}
 use Rattle.session_core.specs.declared.limits.TheConstants.{SESSION_LIMIT}
 use Rattle.diag_cli.specs.declared.words.TheConstants.{DEFAULT_BUDGET, DEFAULT_SESSIONS}
 use Rattle.diag_cli.specs.declared.words.Options.{Options}
 use Rattle.diag_cli.specs.declared.words.Form.{Form as FormRead}
-use Rattle.diag_cli.specs.Words.{Form, Load, Over, Serve, Plan, Check, Compile, no_options, given_once, with_budget, with_sessions, and_option, and_options, form_by, form_over, form_load, form_of, is_device_path, is_graph_path, are_none, only_if}
+use Rattle.diag_cli.specs.Words.{Form, Load, Over, Serve, ServeFrames, Plan, Check, Compile, no_options, given_once, with_budget, with_sessions, with_frames, and_option, and_options, form_serve, form_by, form_over, form_load, form_of, is_netlist_path, is_device_path, is_graph_path, are_none, only_if}
 use Rattle.diag_cli.specs.inner.Forms.{meant, IsWithinLimits}
 
 -- ---- words of the code and words of the definition
@@ -59,63 +60,104 @@ over_words f words command next long c p is =
     form_behind f words command next long c p ∙ ap (λ b. if b then form_load (f next) rest else form_over (f command) (f next) rest) is
 
 -- no options yet
-pub over_options : (given : Options) (command path : List ℕ) (words : List (List ℕ)) (found : Option Options) → (given.budget ≡ None) × (given.sessions ≡ None)
+pub over_options : (given : Options) (command path : List ℕ) (words : List (List ℕ)) (found : Option Options) → (given.budget ≡ None) × ((given.sessions ≡ None) × (given.frames ≡ None))
     → and_options given words ≡ found → form_over command path words ≡ option_and_then (form_by command path) found
 over_options given command path words found none is =
-    let no_more : no_options ≡ given = λ k. record { budget = sym none.0 k; sessions = sym none.1 k } in
+    let no_more : no_options ≡ given = λ k. record { budget = sym none.0 k; sessions = sym none.1.0 k; frames = sym none.1.1 k } in
     ap (λ options. option_and_then (form_by command path) (and_options options words)) no_more ∙ ap (option_and_then (form_by command path)) is
 
 -- ---- the order of options does not matter
 
 -- `and_option`, over what an option is and what its value spells
-abbrev one_more : (is_budget is_sessions : Bool) (budget sessions : Option ℕ) → Options → Option Options
-one_more is_budget is_sessions budget sessions given =
+abbrev one_more : (is_budget is_sessions is_frames : Bool) (budget sessions frames : Option ℕ) → Options → Option Options
+one_more is_budget is_sessions is_frames budget sessions frames given =
     if is_budget then with_budget given budget
     else if is_sessions then with_sessions given sessions
+    else if is_frames then with_frames given frames
     else None
 
-abbrev as_options : Option ℕ → Option ℕ → Options
-as_options x y = record { budget = x; sessions = y }
+abbrev as_options : Option ℕ → Option ℕ → Option ℕ → Options
+as_options x y z = record { budget = x; sessions = y; frames = z }
 
-two_budgets : (s t : Bool) (m l x y n k : Option ℕ) → option_and_then (one_more true t k l) (one_more true s n m (as_options x y)) ≡ option_and_then (one_more true s n m) (one_more true t k l (as_options x y))
-two_budgets s t m l (Some x) y n k = refl
-two_budgets s t m l None y None None = refl
-two_budgets s t m l None y None (Some k) = refl
-two_budgets s t m l None y (Some n) None = refl
-two_budgets s t m l None y (Some n) (Some k) = refl
+-- two options, in either order
+abbrev InEitherOrder : (Options → Option Options) → (Options → Option Options) → Options → Type 0
+InEitherOrder f g given = option_and_then g (f given) ≡ option_and_then f (g given)
 
-two_sessions : (n k x y m l : Option ℕ) → option_and_then (one_more false true k l) (one_more false true n m (as_options x y)) ≡ option_and_then (one_more false true n m) (one_more false true k l (as_options x y))
-two_sessions n k x (Some y) m l = refl
-two_sessions n k x None None None = refl
-two_sessions n k x None None (Some l) = refl
-two_sessions n k x None (Some m) None = refl
-two_sessions n k x None (Some m) (Some l) = refl
+two_budgets : (x y z n k : Option ℕ) → InEitherOrder (λ more. with_budget more n) (λ more. with_budget more k) (as_options x y z)
+two_budgets (Some x) y z n k = refl
+two_budgets None y z None None = refl
+two_budgets None y z None (Some k) = refl
+two_budgets None y z (Some n) None = refl
+two_budgets None y z (Some n) (Some k) = refl
 
-one_of_each : (s : Bool) (m k x y n l : Option ℕ) → option_and_then (one_more false true k l) (one_more true s n m (as_options x y)) ≡ option_and_then (one_more true s n m) (one_more false true k l (as_options x y))
-one_of_each s m k (Some x) (Some y) n l = refl
-one_of_each s m k (Some x) None n None = refl
-one_of_each s m k (Some x) None n (Some l) = refl
-one_of_each s m k None (Some y) None l = refl
-one_of_each s m k None (Some y) (Some n) l = refl
-one_of_each s m k None None None None = refl
-one_of_each s m k None None None (Some l) = refl
-one_of_each s m k None None (Some n) None = refl
-one_of_each s m k None None (Some n) (Some l) = refl
+two_sessions : (x y z n k : Option ℕ) → InEitherOrder (λ more. with_sessions more n) (λ more. with_sessions more k) (as_options x y z)
+two_sessions x (Some y) z n k = refl
+two_sessions x None z None None = refl
+two_sessions x None z None (Some k) = refl
+two_sessions x None z (Some n) None = refl
+two_sessions x None z (Some n) (Some k) = refl
 
-neither : (k l : Option ℕ) (o : Option Options) → option_and_then (one_more false false k l) o ≡ None
-neither k l None = refl
-neither k l (Some given) = refl
+two_frames : (x y z n k : Option ℕ) → InEitherOrder (λ more. with_frames more n) (λ more. with_frames more k) (as_options x y z)
+two_frames x y (Some z) n k = refl
+two_frames x y None None None = refl
+two_frames x y None None (Some k) = refl
+two_frames x y None (Some n) None = refl
+two_frames x y None (Some n) (Some k) = refl
 
-either_first : (b s c t : Bool) (n m k l x y : Option ℕ) → option_and_then (one_more c t k l) (one_more b s n m (as_options x y)) ≡ option_and_then (one_more b s n m) (one_more c t k l (as_options x y))
-either_first true s true t n m k l x y = two_budgets s t m l x y n k
-either_first true s false true n m k l x y = one_of_each s m k x y n l
-either_first true s false false n m k l x y = neither k l (one_more true s n m (as_options x y))
-either_first false true true t n m k l x y = sym (one_of_each t l n x y k m)
-either_first false true false true n m k l x y = two_sessions n k x y m l
-either_first false true false false n m k l x y = neither k l (one_more false true n m (as_options x y))
-either_first false false true t n m k l x y = sym (neither n m (one_more true t k l (as_options x y)))
-either_first false false false true n m k l x y = sym (neither n m (one_more false true k l (as_options x y)))
-either_first false false false false n m k l x y = refl
+budget_sessions : (x y z n k : Option ℕ) → InEitherOrder (λ more. with_budget more n) (λ more. with_sessions more k) (as_options x y z)
+budget_sessions (Some x) (Some y) z n k = refl
+budget_sessions (Some x) None z n None = refl
+budget_sessions (Some x) None z n (Some k) = refl
+budget_sessions None (Some y) z None k = refl
+budget_sessions None (Some y) z (Some n) k = refl
+budget_sessions None None z None None = refl
+budget_sessions None None z None (Some k) = refl
+budget_sessions None None z (Some n) None = refl
+budget_sessions None None z (Some n) (Some k) = refl
+
+budget_frames : (x y z n k : Option ℕ) → InEitherOrder (λ more. with_budget more n) (λ more. with_frames more k) (as_options x y z)
+budget_frames (Some x) y (Some z) n k = refl
+budget_frames (Some x) y None n None = refl
+budget_frames (Some x) y None n (Some k) = refl
+budget_frames None y (Some z) None k = refl
+budget_frames None y (Some z) (Some n) k = refl
+budget_frames None y None None None = refl
+budget_frames None y None None (Some k) = refl
+budget_frames None y None (Some n) None = refl
+budget_frames None y None (Some n) (Some k) = refl
+
+sessions_frames : (x y z n k : Option ℕ) → InEitherOrder (λ more. with_sessions more n) (λ more. with_frames more k) (as_options x y z)
+sessions_frames x (Some y) (Some z) n k = refl
+sessions_frames x (Some y) None n None = refl
+sessions_frames x (Some y) None n (Some k) = refl
+sessions_frames x None (Some z) None k = refl
+sessions_frames x None (Some z) (Some n) k = refl
+sessions_frames x None None None None = refl
+sessions_frames x None None None (Some k) = refl
+sessions_frames x None None (Some n) None = refl
+sessions_frames x None None (Some n) (Some k) = refl
+
+neither : (o : Option Options) → ◌≡◌ {A = Option Options} (option_and_then (λ (more : Options). None) o) None
+neither None = refl
+neither (Some given) = refl
+
+either_first : (b s f c t u : Bool) (n m l k i j x y z : Option ℕ) → InEitherOrder (one_more b s f n m l) (one_more c t u k i j) (as_options x y z)
+either_first true s f true t u n m l k i j x y z = two_budgets x y z n k
+either_first true s f false true u n m l k i j x y z = budget_sessions x y z n i
+either_first true s f false false true n m l k i j x y z = budget_frames x y z n j
+either_first true s f false false false n m l k i j x y z = neither (with_budget (as_options x y z) n)
+either_first false true f true t u n m l k i j x y z = sym (budget_sessions x y z k m)
+either_first false true f false true u n m l k i j x y z = two_sessions x y z m i
+either_first false true f false false true n m l k i j x y z = sessions_frames x y z m j
+either_first false true f false false false n m l k i j x y z = neither (with_sessions (as_options x y z) m)
+either_first false false true true t u n m l k i j x y z = sym (budget_frames x y z k l)
+either_first false false true false true u n m l k i j x y z = sym (sessions_frames x y z i l)
+either_first false false true false false true n m l k i j x y z = two_frames x y z l j
+either_first false false true false false false n m l k i j x y z = neither (with_frames (as_options x y z) l)
+either_first false false false true t u n m l k i j x y z = sym (neither (with_budget (as_options x y z) k))
+either_first false false false false true u n m l k i j x y z = sym (neither (with_sessions (as_options x y z) i))
+either_first false false false false false true n m l k i j x y z = sym (neither (with_frames (as_options x y z) j))
+either_first false false false false false false n m l k i j x y z = refl
 
 then_then : {A B C : Type 0} (f : B → Option C) (g : A → Option B) (o : Option A) → option_and_then (λ x. option_and_then f (g x)) o ≡ option_and_then f (option_and_then g o)
 then_then f g None = refl
@@ -125,7 +167,7 @@ pub options_in_either_order : (given : Options) (a x b y : List ℕ) (words : Li
     → and_options given (a ∷ x ∷ b ∷ y ∷ words) ≡ and_options given (b ∷ y ∷ a ∷ x ∷ words)
 options_in_either_order given a x b y words =
     then_then (λ more. and_options more words) (λ more. and_option more b y) (and_option given a x)
-    ∙ ap (option_and_then (λ more. and_options more words)) (either_first _ _ _ _ _ _ _ _ given.budget given.sessions)
+    ∙ ap (option_and_then (λ more. and_options more words)) (either_first _ _ _ _ _ _ _ _ _ _ _ _ given.budget given.sessions given.frames)
     ∙ sym (then_then (λ more. and_options more words) (λ more. and_option more a x) (and_option given b y))
 
 -- words ask for the same in whatever order their options stand
@@ -163,6 +205,7 @@ plain_number_in-range most low high word =
 record AreWithin (options : Options) : Type 0 where
   budget : IfSome options.budget (IsWithin 1 BUDGET_LIMIT)
   sessions : IfSome options.sessions (IsWithin 1 SESSION_LIMIT)
+  frames : IfSome options.frames (IsWithin 1 FRAME_LIMIT)
 
 once_within : (P : ℕ → Type 0) (earlier number : Option ℕ) → IfSome number P → IfSome (given_once earlier number) P
 once_within P None number is = is
@@ -171,18 +214,24 @@ once_within P (Some earlier) number is = tt
 budget_more : (given : Options) (number : Option ℕ) → AreWithin given → IfSome number (IsWithin 1 BUDGET_LIMIT)
     → IfSome (option_map (λ n. record given { budget = Some n }) number) AreWithin
 budget_more given None are is = tt
-budget_more given (Some n) are is = record { budget = is; sessions = are.sessions }
+budget_more given (Some n) are is = record { budget = is; sessions = are.sessions; frames = are.frames }
 
 sessions_more : (given : Options) (number : Option ℕ) → AreWithin given → IfSome number (IsWithin 1 SESSION_LIMIT)
     → IfSome (option_map (λ n. record given { sessions = Some n }) number) AreWithin
 sessions_more given None are is = tt
-sessions_more given (Some n) are is = record { budget = are.budget; sessions = is }
+sessions_more given (Some n) are is = record { budget = are.budget; sessions = is; frames = are.frames }
 
-one_more_within : (b s : Bool) (n m : Option ℕ) (given : Options) → AreWithin given → IfSome n (IsWithin 1 BUDGET_LIMIT) → IfSome m (IsWithin 1 SESSION_LIMIT)
-    → IfSome (one_more b s n m given) AreWithin
-one_more_within true s n m given are small few = budget_more given _ are (once_within _ given.budget n small)
-one_more_within false true n m given are small few = sessions_more given _ are (once_within _ given.sessions m few)
-one_more_within false false n m given are small few = tt
+frames_more : (given : Options) (number : Option ℕ) → AreWithin given → IfSome number (IsWithin 1 FRAME_LIMIT)
+    → IfSome (option_map (λ n. record given { frames = Some n }) number) AreWithin
+frames_more given None are is = tt
+frames_more given (Some n) are is = record { budget = are.budget; sessions = are.sessions; frames = is }
+
+one_more_within : (b s f : Bool) (n m k : Option ℕ) (given : Options) → AreWithin given → IfSome n (IsWithin 1 BUDGET_LIMIT) → IfSome m (IsWithin 1 SESSION_LIMIT)
+    → IfSome k (IsWithin 1 FRAME_LIMIT) → IfSome (one_more b s f n m k given) AreWithin
+one_more_within true s f n m k given are small few times = budget_more given _ are (once_within _ given.budget n small)
+one_more_within false true f n m k given are small few times = sessions_more given _ are (once_within _ given.sessions m few)
+one_more_within false false true n m k given are small few times = frames_more given _ are (once_within _ given.frames k times)
+one_more_within false false false n m k given are small few times = tt
 
 and_then_holds : {A B : Type 0} (P : A → Type 0) (Q : B → Type 0) (f : A → Option B) (o : Option A) → IfSome o P → ((x : A) → P x → IfSome (f x) Q) → IfSome (option_and_then f o) Q
 and_then_holds P Q f None is each = tt
@@ -193,7 +242,7 @@ all_within given [] are = are
 all_within given (option ∷ []) are = tt
 all_within given (option ∷ value ∷ words) are =
     and_then_holds AreWithin AreWithin (λ more. and_options more words) (and_option given option value)
-    (one_more_within _ _ _ _ given are (plain_number_in-range 7 1 BUDGET_LIMIT value) (plain_number_in-range 4 1 SESSION_LIMIT value))
+    (one_more_within _ _ _ _ _ _ given are (plain_number_in-range 7 1 BUDGET_LIMIT value) (plain_number_in-range 4 1 SESSION_LIMIT value) (plain_number_in-range 2 1 FRAME_LIMIT value))
     (λ more. all_within more words)
 
 or_default : (P : ℕ → Type 0) (given : Option ℕ) (number : ℕ) → IfSome given P → P number → P (unwrap_or given number)
@@ -209,19 +258,32 @@ one_form true true form other is others = record { given = is }
 one_form true false form other is others = record { given = tt }
 one_form false taken form other is others = others
 
+only_within : (taken : Bool) (form : Form) → IsWithinLimits form → IfSome (only_if taken form) IsWithinLimits
+only_within true form is = is
+only_within false form is = tt
+
+serve_within : (path : List ℕ) (budget sessions : ℕ) (frames : Option ℕ) → budget ≤ BUDGET_LIMIT → (1 ≤ sessions) × (sessions ≤ SESSION_LIMIT) → IfSome frames (IsWithin 1 FRAME_LIMIT)
+    → IfSome (form_serve path budget sessions frames) IsWithinLimits
+serve_within path budget sessions None small few times = only_within (is_device_path path) (Over path (Serve budget sessions)) (small, few.0, few.1)
+serve_within path budget sessions (Some frames) small few times = only_within (is_netlist_path path) (Over path (ServeFrames frames budget sessions)) (times.0, times.1, small, few.0, few.1)
+
+of_command : (is_command : Bool) (form other : Option Form) → IfSome form IsWithinLimits → GivesWithin other → GivesWithin (if is_command then form else other)
+of_command true form other is others = record { given = is }
+of_command false form other is others = others
+
 form_by_within : (command path : List ℕ) (options : Options) → AreWithin options → GivesWithin (form_by command path options)
 form_by_within command path options are =
     let budget = or_default (IsWithin 1 BUDGET_LIMIT) options.budget DEFAULT_BUDGET are.budget (lit≤ tt, lit≤ tt) in
     let sessions = or_default (IsWithin 1 SESSION_LIMIT) options.sessions DEFAULT_SESSIONS are.sessions (lit≤ tt, lit≤ tt) in
-    one_form (same_name command (codes "serve")) (is_device_path path) (Over path (Serve _ _)) _ (budget.1, sessions.0, sessions.1)
-    (one_form (same_name command (codes "compile")) (is_device_path path && is_none options.sessions) (Over path (Compile _)) _ budget.1
+    of_command (same_name command (codes "serve")) (form_serve path _ _ options.frames) _ (serve_within path _ _ options.frames budget.1 sessions are.frames)
+    (one_form (same_name command (codes "compile")) ((is_device_path path && is_none options.sessions) && is_none options.frames) (Over path (Compile _)) _ budget.1
     (one_form (same_name command (codes "plan")) (is_device_path path && are_none options) (Over path Plan) _ tt
     (one_form (same_name command (codes "check")) (is_graph_path path && are_none options) (Over path Check) None tt (record { given = tt }))))
 
 form_over_within : (command path : List ℕ) (words : List (List ℕ)) → IfSome (form_over command path words) IsWithinLimits
 form_over_within command path words =
     and_then_holds AreWithin IsWithinLimits (form_by command path) (and_options no_options words)
-    (all_within no_options words (record { budget = tt; sessions = tt })) (λ options are. (form_by_within command path options are).given)
+    (all_within no_options words (record { budget = tt; sessions = tt; frames = tt })) (λ options are. (form_by_within command path options are).given)
 
 load_within : (places : Option ℕ) → IfSome places (IsWithin 1 PLACE_LIMIT) → IfSome (option_map Load places) IsWithinLimits
 load_within None is = tt

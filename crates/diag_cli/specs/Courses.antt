@@ -13,10 +13,12 @@ use Rattle.branch_states.specs.Branches.{sum_of}
 use Rattle.session_rules.specs.Items.{Item, Plain, Whole, line}
 use Rattle.session_rules.specs.Sessions.{replies}
 use Rattle.diag_cli.specs.declared.serving.TheConstants.{SCRIPT_LIMIT}
-use Rattle.diag_cli.specs.Words.{Form, Load, Over, Command, Serve, Plan, Check, Compile}
+use Rattle.diag_cli.specs.Words.{Form, Load, Over, Command, Serve, ServeFrames, Plan, Check, Compile}
 use Rattle.diag_cli.specs.Output.{Output, says, no_memory}
 use Rattle.diag_cli.specs.Describing.{long_file_line, device_in}
 use Rattle.diag_cli.specs.Planning.{within, sizes_in, planned}
+use Rattle.frame_unroller.specs.Diagnosis.{frame_system}
+use Rattle.diag_cli.specs.Frames.{sequential_in, if_unrolled}
 use Rattle.diag_cli.specs.Checking.{graph_in, checked}
 use Rattle.diag_cli.specs.Loads.{loaded}
 
@@ -94,10 +96,13 @@ abbrev pub if_within : ℕ → Result Device Output → Result Device Output
 if_within budget (Ok device) = device_by device (within budget (encoded device))
 if_within budget (Err output) = Err output
 
--- the script is answered over the device, with at most so many sessions open
+-- the script is answered over the system of what is found, with at most so many sessions open
+abbrev pub system_served : {A : Type 0} → (A → System) → ℕ → Result A Output → Course
+system_served system_by sessions (Ok found) = Serves (answers_of (system_by found) sessions)
+system_served system_by sessions (Err output) = Tells output
+
 abbrev pub served_or_refused : ℕ → Result Device Output → Course
-served_or_refused sessions (Ok device) = Serves (answers_of (device_system device) sessions)
-served_or_refused sessions (Err output) = Tells output
+served_or_refused sessions device = system_served device_system sessions device
 
 -- the output of a course, where the script that it may need is told
 abbrev pub whole_output : Course → Option (List ℕ) → Option Output
@@ -108,6 +113,8 @@ whole_output (Serves answers) (Some script) = Some (wholly_served answers script
 -- by the command, over a file
 abbrev pub course_by : List ℕ → Command → List ℕ → Course
 course_by path (Serve budget sessions) file = served_or_refused sessions (if_within budget (device_in path file))
+course_by path (ServeFrames frames budget sessions) file =
+    system_served (λ seq. frame_system seq frames) sessions (if_unrolled frames budget (sequential_in file))
 course_by path Plan file = Tells (planned (sizes_in (device_in path file)))
 course_by path Check file = Tells (checked (graph_in file))
 course_by path (Compile budget) file = Tells (compiled budget (device_in path file))

@@ -3,6 +3,7 @@ pub mod Output
 pub mod Describing
 pub mod Checking
 pub mod Planning
+pub mod Frames
 pub mod Loads
 pub mod Courses
 pub mod Runs

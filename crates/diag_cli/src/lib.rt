@@ -5,6 +5,7 @@ mod adapters;
 mod checking;
 mod compiling;
 mod describing;
+mod framing;
 mod graphs;
 mod loading;
 mod planning;

@@ -6,6 +6,7 @@ ghost use Rattle.diag_cli.specs.inner.Forms.{command_meant, IsCommandWithin};
 
 use crate::checking::check_file;
 use crate::compiling::compile_file;
+use crate::framing::serve_frames;
 use crate::planning::plan_file;
 use crate::serving::{SCRIPT_LIMIT, serve_file};
 use crate::words::Command;
@@ -42,6 +43,11 @@ pub(crate) fn run_file<I: Source, O: Sink>(
         Command::Serve { budget, sessions } => {
             serve_file(alloc, path, file, budget, sessions, input, out)
         }
+        Command::ServeFrames {
+            frames,
+            budget,
+            sessions,
+        } => serve_frames(alloc, file, frames, budget, sessions, input, out),
         Command::Plan => plan_file(alloc, path, file, out),
         Command::Check => check_file(alloc, file, out),
         Command::Compile { budget } => compile_file(alloc, path, file, budget, out),

@@ -80,7 +80,7 @@ fn put_ready<O: Sink>(out: &mut O, parts: u64, wires: u64) -> Result<(), WriteFa
 }
 
 // Answers the script by a service in which no session is open.
-fn answer<I: Source, O: Sink>(service: &mut Service, input: &mut I, out: &mut O) -> u8
+pub(crate) fn answer<I: Source, O: Sink>(service: &mut Service, input: &mut I, out: &mut O) -> u8
     requires none_open { service.old.table ≡ [] }
     requires sound { IsSound service.old.subject }
     requires taken { I.taken input.old < 2 ^ 62 }

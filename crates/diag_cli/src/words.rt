@@ -1,11 +1,12 @@
 ghost use Rattle.std.specs.Prelude.{◌≡◌, map, string_bytes, IfSome};
 ghost use Rattle.std.specs.Option.{option_map};
 ghost use Rattle.text_rules.specs.Numbers.{plain_number_in};
-ghost use Rattle.diag_cli.specs.Words.{form_of, form_over, form_load, form_by, are_none, given_once, and_option, and_options, ends_in, is_design_path, is_device_path, is_graph_path};
+ghost use Rattle.diag_cli.specs.Words.{form_of, form_over, form_load, form_by, are_none, given_once, and_option, and_options, ends_in, is_design_path, is_netlist_path, is_device_path, is_graph_path, form_serve};
 ghost use Rattle.diag_cli.specs.inner.Forms.{meant, IsWithinLimits};
 
 use adder_load::PLACE_LIMIT;
 use branch_states::BUDGET_LIMIT;
+use frame_unroller::FRAME_LIMIT;
 use session_core::SESSION_LIMIT;
 use text_rules::plain_number;
 
@@ -21,6 +22,12 @@ pub enum Command {
     /// `serve`: answers the script on the input over the device of the file, whose sum is within a budget, with at most so
     /// many sessions open at a time.
     Serve { budget: u32, sessions: u32 },
+    /// `serve` with `--frames`: answers it over a netlist with flip-flops and so many times.
+    ServeFrames {
+        frames: u32,
+        budget: u32,
+        sessions: u32,
+    },
     /// `plan`: tells how large a device is, and the sum that the budget limits.
     Plan,
     /// `check`: tells whether the text of the file is a decomposable graph.
@@ -45,6 +52,8 @@ pub struct Options {
     pub budget: Option<u32>,
     /// `--sessions N`, from 1 to `SESSION_LIMIT`.
     pub sessions: Option<u32>,
+    /// `--frames N`, from 1 to `FRAME_LIMIT`.
+    pub frames: Option<u32>,
 }
 
 impl Options {
@@ -52,7 +61,7 @@ impl Options {
     fn are_none(self) -> bool
         ensures { result ≡ are_none self }
     {
-        self.budget.is_none() && self.sessions.is_none()
+        self.budget.is_none() && self.sessions.is_none() && self.frames.is_none()
     }
 
     // These options and one more.
@@ -71,6 +80,13 @@ impl Options {
                 let sessions = given_once(self.sessions, number_to(4, SESSION_LIMIT, value))?;
                 Some(Options {
                     sessions: Some(sessions),
+                    ..self
+                })
+            }
+            "--frames" => {
+                let frames = given_once(self.frames, number_to(2, FRAME_LIMIT, value))?;
+                Some(Options {
+                    frames: Some(frames),
                     ..self
                 })
             }
@@ -127,11 +143,18 @@ pub fn is_design_path(path: &str) -> bool
     ends_in(b".dev", path)
 }
 
+// Whether a file is a netlist by its ending.
+fn is_netlist_path(path: &str) -> bool
+    ensures { result ≡ is_netlist_path path.now }
+{
+    ends_in(b".bench", path)
+}
+
 /// Whether a file is a netlist or a design by its ending.
 pub fn is_device_path(path: &str) -> bool
     ensures { result ≡ is_device_path path.now }
 {
-    ends_in(b".bench", path) || is_design_path(path)
+    is_netlist_path(path) || is_design_path(path)
 }
 
 // Whether a file is a graph by its ending.
@@ -141,6 +164,27 @@ fn is_graph_path(path: &str) -> bool
     ends_in(b".nnf", path)
 }
 
+// What `serve` is, over a netlist where there are frames.
+fn form_serve<'a>(
+    path: &'a str,
+    budget: u32,
+    sessions: u32,
+    frames: Option<u32>,
+) -> Option<Form<'a>>
+    ensures { option_map meant result ≡ form_serve path.now budget sessions frames }
+{
+    let command = match frames {
+        None if is_device_path(path) => Command::Serve { budget, sessions },
+        Some(frames) if is_netlist_path(path) => Command::ServeFrames {
+            frames,
+            budget,
+            sessions,
+        },
+        _ => return None,
+    };
+    Some(Form::Over { path, command })
+}
+
 // The form of a command over a file, with options.
 fn form_by<'a>(command: &str, path: &'a str, options: Options) -> Option<Form<'a>>
     ensures { option_map meant result ≡ form_by command.now path.now options }
@@ -148,8 +192,12 @@ fn form_by<'a>(command: &str, path: &'a str, options: Options) -> Option<Form<'a
     let budget = options.budget.unwrap_or(DEFAULT_BUDGET);
     let sessions = options.sessions.unwrap_or(DEFAULT_SESSIONS);
     let command = match command {
-        "serve" if is_device_path(path) => Command::Serve { budget, sessions },
-        "compile" if is_device_path(path) && options.sessions.is_none() => {
+        "serve" => return form_serve(path, budget, sessions, options.frames),
+        "compile"
+            if is_device_path(path)
+                && options.sessions.is_none()
+                && options.frames.is_none() =>
+        {
             Command::Compile { budget }
         }
         "plan" if is_device_path(path) && options.are_none() => Command::Plan,

@@ -1,0 +1,12 @@
+use Rattle.std.proofs.Common.{refl}
+use Rattle.frame_unroller.specs.Diagnosis.{frame_system}
+use Rattle.diag_cli.specs.Frames.{sequential_in, if_unrolled}
+use Rattle.diag_cli.specs.Refusals.{told_by}
+use Rattle.diag_cli.proofs.Headline.{refused_frames, follows_fault}
+use Rattle.diag_cli.proofs.framing.serve_frames.Goals as goal
+
+pub returns-in-Err-clause-follows : goal.returns-in-Err-clause-follows
+returns-in-Err-clause-follows g c =
+    let fault = told_by c.in-Err.refusal in
+    follows_fault _ _ _ _ _ (λ s. frame_system s c.args.frames) c.args.sessions (if_unrolled c.args.frames c.args.budget (sequential_in c.args.file.now)) fault
+    (refused_frames fault c.args.file.now c.args.frames c.args.budget c.requires.short c.in-Err.ensures.read) (record { taken = refl; faults = refl }) c.tell.ensures.said

@@ -78,7 +78,7 @@ encoded-is device cnf is = by_count (nat_lt CLAUSE_LIMIT (raw_count device)) ref
       let same : clause_list device ≡ cnf = cc in
       record { vars = sym (ap (λ (l : ClauseList). l.vars) same); few = ltb-false CLAUSE_LIMIT (raw_count device) few }
 
-few_inner : (device : Device) (cnf : ClauseList) → IsDevice device → encoded device ≡ Ok cnf → 3 * inner_vars device.parts ≤ CLAUSE_LIMIT
+pub few_inner : (device : Device) (cnf : ClauseList) → IsDevice device → encoded device ≡ Ok cnf → 3 * inner_vars device.parts ≤ CLAUSE_LIMIT
 few_inner device cnf valid is = omega (arith, parts-inner device 1 (first_inner device) device.parts valid.arities, (encoded-is device cnf is).few)
 
 -- 4,096 parts, 16,384 wires and 87,381 inner variables at most

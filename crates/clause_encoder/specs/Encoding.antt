@@ -191,10 +191,13 @@ reason Memory = None
 abbrev pub encoded : Device → Result ClauseList EncodeError
 encoded device = if nat_lt CLAUSE_LIMIT (raw_count device) then Err (TooManyClauses (raw_count device)) else Ok (clause_list device)
 
--- Under bits for the health of the parts and for the wires, all clauses hold for some bits of the variables above these
--- exactly where the device fits.
+-- Under bits for the health of so many parts and for so many wires, all clauses hold for some bits of the variables above these
+-- exactly where they fit.
+abbrev pub DescribesBy : ClauseList → ℕ → ℕ → (List Bool → List Bool → Bool) → Type 0
+DescribesBy cnf parts wires fits = (state bits : List Bool) → length state ≡ parts → length bits ≡ wires
+    → list_any (λ inner. all_hold (assignment (state ++ bits ++ inner)) cnf.clauses) (lists_of_bits (cnf.vars - (parts + wires)))
+    ≡ fits state bits
+
+-- They do exactly where the device fits.
 abbrev pub Describes : ClauseList → Device → Type 0
-Describes cnf device = (state wires : List Bool) → length state ≡ length device.parts → length wires ≡ length device.wires
-    → list_any (λ inner. all_hold (assignment (state ++ wires ++ inner)) cnf.clauses)
-    (lists_of_bits (cnf.vars - (length device.parts + length device.wires)))
-    ≡ fits device state wires
+Describes cnf device = DescribesBy cnf (length device.parts) (length device.wires) (fits device)

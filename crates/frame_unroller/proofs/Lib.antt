@@ -6,5 +6,6 @@ pub mod Built
 pub mod Sharing
 pub mod Meaning
 pub mod Pushing
+pub mod ClauseCounts
 pub mod Refusing
 mod Examples

@@ -10,7 +10,7 @@ use Rattle.bench_reader.specs.declared.sequential.Sequential.{Sequential}
 use Rattle.clause_encoder.specs.declared.encoding.EncodeError.{EncodeError}
 use Rattle.clause_encoder.specs.declared.encoding.EncodeError.TheVariants.{TooManyClauses as OverLimit, Memory as NoMemory}
 use Rattle.clause_encoder.specs.Clauses.{ClauseList}
-use Rattle.clause_encoder.specs.Encoding.{encoded}
+use Rattle.clause_encoder.specs.Encoding.{most_variables, encoded}
 use Rattle.clause_encoder.specs.Replacing.{replaced}
 use Rattle.frame_unroller.specs.declared.unrolling.Unrolled.{Unrolled}
 use Rattle.frame_unroller.specs.declared.unrolling.UnrollError.{UnrollError}
@@ -107,4 +107,4 @@ pub record IsUnrolled (made : Unrolled) : Type 0 where
   pub few_parts : length made.parts ≤ PART_LIMIT
   pub few_wires : length made.wires ≤ WIRE_LIMIT
   pub room : length made.parts + length made.wires ≤ made.cnf.vars
-  pub few_vars : made.cnf.vars ≤ 107861
+  pub few_vars : made.cnf.vars ≤ most_variables

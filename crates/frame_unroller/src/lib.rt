@@ -2,6 +2,7 @@
 #![tactic(auto)]
 
 mod copying;
+mod counting;
 mod delays;
 mod names;
 mod unrolling;

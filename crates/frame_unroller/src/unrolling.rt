@@ -4,7 +4,7 @@ ghost use Rattle.ranking.specs.Assignments.{Assignment};
 ghost use Rattle.device_model.specs.Devices.{IsDevice, part_names};
 ghost use Rattle.bench_reader.specs.SequentialNetlists.{HasShortNames};
 ghost use Rattle.clause_encoder.specs.Clauses.{is_clause_list, all_hold};
-ghost use Rattle.clause_encoder.specs.Encoding.{encoded, DescribesBy};
+ghost use Rattle.clause_encoder.specs.Encoding.{encoded, raw_count, DescribesBy};
 ghost use Rattle.clause_encoder.specs.Replacing.{variable_for};
 ghost use Rattle.frame_unroller.specs.Diagnosis.{frame_wires, fits_over};
 ghost use Rattle.frame_unroller.specs.Unrolling.{frame_device, owners, shared_variables, shared, unrolled_by, unrolled, reason, IsUnrolled};
@@ -12,9 +12,10 @@ ghost use Rattle.frame_unroller.specs.inner.Copying.{AreCopies};
 ghost use Rattle.frame_unroller.specs.declared.unrolling.UnrollError.TheVariants.{Memory};
 
 use crate::copying::{Copies, copies_over};
+use crate::counting::clause_count;
 use crate::delays::{copy_count, delays_of};
 use bench_reader::Sequential;
-use clause_encoder::{Cnf, EncodeError, VARIABLE_LIMIT, encode, replaced};
+use clause_encoder::{CLAUSE_LIMIT, Cnf, EncodeError, VARIABLE_LIMIT, encode, replaced};
 use device_model::{BuildError, Component, Device, Name, Names, PART_LIMIT, Table, WIRE_LIMIT};
 use std::alloc::{AllocError, Global};
 
@@ -74,17 +75,22 @@ pub fn unroll(alloc: Global, seq: &Sequential, frames: u32) -> Result<Unrolled, 
     if count > WIRE_LIMIT as u64 {
         return Err(UnrollError::TooManyWires { count });
     }
+    let count = clause_count(seq, &delays, frames);
+    if count > u64::from(CLAUSE_LIMIT) {
+        return Err(UnrollError::TooManyClauses { count });
+    }
     let copies = copies_over(alloc, seq, &delays, frames)?;
     unroll_by(alloc, seq, copies)
 }
 
-// The clauses of the copies, of which there are not too many.
+// The clauses of the copies. There are not too many of any of these.
 fn unroll_by(alloc: Global, seq: &Sequential, copies: Copies) -> Result<Unrolled, UnrollError>
     requires copies { AreCopies seq.now copies.frames copies.parts.items copies.places.items copies.wires.items }
     requires some { 1 ≤ copies.frames }
     requires few { copies.frames ≤ FRAME_LIMIT }
     requires few_parts { length copies.parts.items ≤ PART_LIMIT }
     requires few_wires { length copies.wires.items ≤ WIRE_LIMIT }
+    requires few_clauses { raw_count (frame_device seq.now copies.frames) ≤ CLAUSE_LIMIT }
     ensures unrolled { Fulfils (λ made. made) reason
         (unrolled_by seq.now copies.frames (encoded (frame_device seq.now copies.frames))) result }
     ensures describes { IfOk result (λ made. DescribesBy made.cnf (length seq.now.device.parts)
@@ -94,10 +100,9 @@ fn unroll_by(alloc: Global, seq: &Sequential, copies: Copies) -> Result<Unrolled
     let (device, places) = device_of(alloc, seq, copies)?;
     let list = match encode(alloc, &device) {
         Ok(list) => list,
-        Err(EncodeError::TooManyClauses { count }) => {
-            return Err(UnrollError::TooManyClauses { count });
-        }
         Err(EncodeError::Memory) => return Err(UnrollError::Memory),
+        // They were counted before a copy was made.
+        Err(EncodeError::TooManyClauses { .. }) => unreachable!(),
     };
     let cnf = shared(alloc, &list, &places, seq.device.parts().len() as u32)?;
     let (_, wires) = device.take_names(alloc)?;

@@ -16,17 +16,15 @@ use Rattle.dnnf_compiler.proofs.Laws.{graph_over}
 use Rattle.diag_cli.specs.Planning.{within, sum_line}
 use Rattle.diag_cli.specs.Orders.{list_by, ByOrder}
 use Rattle.std.proofs.lemmas.List.{length-map, length-replicate}
-use Rattle.ranking.specs.Cases.{Case}
-use Rattle.ranking.specs.Ranking.{plain_costs, passing}
-use Rattle.ranking.specs.Systems.{System}
+use Rattle.ranking.specs.Ranking.{plain_costs}
 use Rattle.graph_rules.specs.Graphs.{Graph, IsGraph}
 use Rattle.device_model.specs.Devices.{part_names}
 use Rattle.device_model.specs.declared.component.Component.{Component}
 use Rattle.bench_reader.specs.declared.sequential.Sequential.{Sequential}
-use Rattle.frame_unroller.specs.Diagnosis.{frame_wires, fits_over, is_consistent_over, frame_system}
+use Rattle.frame_unroller.specs.Diagnosis.{frame_wires, fits_over, frame_system}
 use Rattle.dnnf_compiler.specs.Compiled.{IsGraphOver, SaysAll}
 use Rattle.session_rules.specs.Items.{Item}
-use Rattle.session_rules.specs.GraphSystems.{graph_system, fitting_system, system_of}
+use Rattle.session_rules.specs.GraphSystems.{system_of}
 use Rattle.session_rules.proofs.GraphReplies.{fitting_replies}
 use Rattle.session_rules.proofs.Keeping.{HasCases-empty}
 use Rattle.session_core.specs.Services.{Shown}
@@ -42,17 +40,6 @@ module _ (seq : Sequential) (frames sessions : ℕ) where
   named : length (part_names seq.device.parts) ≡ length seq.device.parts
   named = length-map seq.device.parts (λ (part : Component). part.name)
 
-  abbrev fitting : System
-  fitting = fitting_system (part_names seq.device.parts) (frame_wires seq frames) (plain_costs (length seq.device.parts)) (fits_over seq frames)
-
-  same_system : fitting ≡ frame_system seq frames
-  same_system = λ i. record {
-    parts = part_names seq.device.parts;
-    wires = frame_wires seq frames;
-    costs = plain_costs (length seq.device.parts);
-    consistent = λ known. passing (named i) (is_consistent_over seq frames known);
-  }
-
   module _ (service : Shown) (of : IsFrameService seq frames sessions service) where
     over_names : IsGraphOver (length (part_names seq.device.parts)) (length (frame_wires seq frames)) (fits_over seq frames) of.graph
     over_names = subst (λ n. IsGraphOver n (length (frame_wires seq frames)) (fits_over seq frames) of.graph) (sym named) of.meaning
@@ -60,8 +47,8 @@ module _ (seq : Sequential) (frames sessions : ℕ) where
     same_answers : answers_of (system_of service.subject) service.limit ≡ answers_of (frame_system seq frames) sessions
     same_answers =
         ap (λ (s : Shown). answers_of (system_of s.subject) s.limit) of.shown
-        ∙ (λ k lines. ready_line fitting ∷ fitting_replies (part_names seq.device.parts) (frame_wires seq frames) (plain_costs (length seq.device.parts)) (fits_over seq frames) of.graph over_names sessions [] (HasCases-empty fitting) lines k)
-        ∙ ap (λ s. answers_of s sessions) same_system
+        ∙ (λ k lines. ready_line (frame_system seq frames)
+        ∷ fitting_replies (part_names seq.device.parts) (frame_wires seq frames) (plain_costs (length seq.device.parts)) (fits_over seq frames) of.graph over_names sessions [] (HasCases-empty (frame_system seq frames)) lines k)
 
     -- so it follows the course of the netlist, where it is unrolled within the budget
     pub frames_served : (budget : ℕ) (put : ClauseList → ClauseList) (input new_input : Reading) (out new_out : Writing) (status : ℕ) → if_unrolled frames budget put (Ok seq) ≡ Ok seq

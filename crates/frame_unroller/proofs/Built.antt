@@ -18,6 +18,7 @@ use Rattle.device_model.specs.Devices.{Device, IsDevice, part_names, takes_ports
 use Rattle.device_model.specs.Building.{NamedPart, joined, reason, repeated, built, device_over}
 use Rattle.device_model.proofs.Ordered.{Among, Rises, sorted_distinct-is}
 use Rattle.device_model.proofs.Sorting.{itself, Rises-from_names_rise, Rises-unmap, Rises-map}
+use Rattle.device_model.proofs.Apart.{repeated-Different, Different-rising}
 use Rattle.device_model.proofs.Making.{component_name, list_all-among, list_all-from_among}
 use Rattle.device_model.proofs.Joining.{wire_at as name_at, named, CanBeBuilt, built-over}
 use Rattle.device_model.proofs.CallerLemmas.{only_memory as only_memory_of}
@@ -27,7 +28,7 @@ use Rattle.frame_unroller.specs.Diagnosis.{wires_by_time, frame_wires}
 use Rattle.frame_unroller.specs.Unrolling.{Copy, copies, wires_at, named_copy, frame_device}
 use Rattle.frame_unroller.specs.inner.Copying.{position_at, given_copy, AreCopies}
 use Rattle.frame_unroller.proofs.Members.{both_pass}
-use Rattle.frame_unroller.proofs.Order.{Rises-made, repeated-Different, Different-rising}
+use Rattle.frame_unroller.proofs.Order.{Rises-made}
 use Rattle.frame_unroller.proofs.Wires.{wires_differ, length-wires, positions-named, positions-within}
 use Rattle.frame_unroller.proofs.Copies.{copy_name, times_in_order, IsCopy, are_copies}
 

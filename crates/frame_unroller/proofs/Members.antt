@@ -6,13 +6,9 @@ use Rattle.std.proofs.lemmas.Bool.{and_parts}
 use Rattle.std.proofs.lemmas.List.{length-append, take-append-drop, get_or_append_left, get_or-append-add}
 use Rattle.std.proofs.lemmas.List.Folds.{list_all-append}
 use Rattle.device_model.proofs.Ordered.{Among}
+use Rattle.device_model.proofs.Apart.{among_parts}
 
 -- ---- members
-
-pub among_parts : {A : Type 0} (x : A) (xs ys : List A) → Among x (xs ++ ys) → Among x xs ⊎ Among x ys
-among_parts x [] ys m = inr m
-among_parts x (z ∷ xs) ys (inl e) = inl (inl e)
-among_parts x (z ∷ xs) ys (inr m) = elim (among_parts x xs ys m) [ inl a ↦ inl (inr a) | inr a ↦ inr a ]
 
 pub among-flat_map : {A B : Type 0} (f : A → List B) (xs : List A) (y : B) → Among y (flat_map f xs) → (x : A) × Among x xs × Among y (f x)
 among-flat_map f [] y m = absurd m

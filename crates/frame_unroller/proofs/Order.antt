@@ -1,36 +1,15 @@
--- Names at times: their order, and that they differ.
-use Rattle.std.proofs.Common.{◌≡◌, ℕ, zero, suc, ◌+◌, ◌*◌, ◌/◌, ◌%◌, ◌<◌, ◌≤◌, ◌⊎◌, ◌==◌, inl, inr, Bool, true, false, cond, nat_lt, List, [], ◌∷◌, ◌++◌, map, length, refl, sym, ap, subst, ◌∙◌, arith}
-use Rattle.std.specs.Prelude.{if◌then◌else◌}
-use Rattle.std.specs.Ordering.{nat_cmp, ordering_then}
-use Rattle.std.specs.declared.cmp.Ordering.TheVariants.{Less, Equal, Greater}
+-- Names at times: their order.
+use Rattle.std.proofs.Common.{◌≡◌, ℕ, ◌+◌, ◌*◌, ◌/◌, ◌%◌, ◌<◌, inl, inr, List, [], ◌∷◌, ◌++◌, map, refl, ◌∙◌, arith}
+use Rattle.std.specs.Ordering.{nat_cmp}
+use Rattle.std.specs.declared.cmp.Ordering.TheVariants.{Less}
 use Rattle.std.specs.Cmp.Lexicographic.{slice_cmp}
-use Rattle.std.proofs.lemmas.Bool.{lt-ltb, le-ltb, eq-eqb, cond-true, cond-false, cases_order}
-use Rattle.text_rules.specs.Names.{Name, is_among}
-use Rattle.device_model.specs.Building.{repeated}
-use Rattle.device_model.proofs.Naming.{Below, Below-irreflexive}
-use Rattle.device_model.proofs.Ordered.{Among, BelowAll, Rises, Below-among}
-use Rattle.device_model.proofs.Sorting.{itself}
-use Rattle.device_model.proofs.Repeats.{among_from_test}
-use Rattle.frame_unroller.specs.Times.{four_digits, wire_at, copy_at}
-use Rattle.frame_unroller.proofs.Members.{among_parts}
+use Rattle.text_rules.specs.Names.{Name}
+use Rattle.device_model.proofs.DigitOrder.{first_same, next_digit}
+use Rattle.device_model.proofs.Naming.{Below}
+use Rattle.device_model.proofs.Ordered.{Among, BelowAll, Rises}
+use Rattle.frame_unroller.specs.Times.{four_digits, copy_at}
 
 -- ---- digits
-
-first_less : (x y : ℕ) (xs ys : List ℕ) → x < y → slice_cmp nat_cmp (x ∷ xs) (y ∷ ys) ≡ Less
-first_less x y xs ys l = ap (λ o. ordering_then o (slice_cmp nat_cmp xs ys)) (cond-true (nat_lt x y) Less (cond (x == y) Equal Greater) (lt-ltb x y l))
-
-first_same : (x y : ℕ) (xs ys : List ℕ) → x ≡ y → slice_cmp nat_cmp (x ∷ xs) (y ∷ ys) ≡ slice_cmp nat_cmp xs ys
-first_same x y xs ys e =
-    ap (λ o. ordering_then o (slice_cmp nat_cmp xs ys))
-    (cond-false (nat_lt x y) Less (cond (x == y) Equal Greater) (le-ltb x y (omega arith)) ∙ cond-true (x == y) Equal Greater (eq-eqb x y e))
-
--- a digit is not above the other's, and where they are the same the rest decides
-next_digit : (x y : ℕ) (xs ys : List ℕ) → (y < x → ⊥) → (x ≡ y → slice_cmp nat_cmp xs ys ≡ Less) → slice_cmp nat_cmp ((48 + x) ∷ xs) ((48 + y) ∷ ys) ≡ Less
-next_digit x y xs ys not_above rest = elim (cases_order x y) [
-  | inl e ↦ first_same (48 + x) (48 + y) xs ys (omega arith) ∙ rest e
-  | inr (inl l) ↦ first_less (48 + x) (48 + y) xs ys (omega arith)
-  | inr (inr g) ↦ absurd (not_above g)
-]
 
 -- four digits that spell a number, the last three of which are below 10
 record Spells (n a b c d : ℕ) : Type 0 where
@@ -106,43 +85,3 @@ module _ {A : Type 0} (name : A → Name) where
     pub Rises-made : (xs : List B) → Rises (λ x. name (make x)) xs → Rises name (map make xs)
     Rises-made [] h = tt
     Rises-made (x ∷ xs) h = (BelowAll-made (name (make x)) xs h.0, Rises-made xs h.1)
-
--- ---- names that differ
-
-abbrev pub Different : List Name → Type 0
-Different [] = Unit {0}
-Different (n ∷ ns) = (Among n ns → ⊥) × Different ns
-
-not_among : (n : Name) (ns : List Name) → (Among n ns → ⊥) → is_among ns n ≡ false
-not_among n ns h = by (is_among ns n) refl
-  where
-    by : (b : Bool) → is_among ns n ≡ b → is_among ns n ≡ false
-    by true e = absurd (h (among_from_test n ns e))
-    by false e = e
-
-pub repeated-Different : (ns : List Name) → Different ns → repeated ns ≡ []
-repeated-Different [] h = refl
-repeated-Different (n ∷ ns) h = ap (λ (b : Bool). if b then n ∷ repeated ns else repeated ns) (not_among n ns h.0) ∙ repeated-Different ns h.1
-
-pub Different-rising : (ns : List Name) → Rises itself ns → Different ns
-Different-rising [] h = tt
-Different-rising (n ∷ ns) h = ((λ m. Below-irreflexive n (Below-among itself n ns n h.0 m)), Different-rising ns h.1)
-
-pub Different-append : (xs ys : List Name) → Different xs → Different ys → ((n : Name) → Among n xs → Among n ys → ⊥) → Different (xs ++ ys)
-Different-append [] ys h g apart = g
-Different-append (x ∷ xs) ys h g apart = (
-  (λ m. elim (among_parts x xs ys m) [ inl a ↦ h.0 a | inr a ↦ apart x (inl refl) a ]),
-  Different-append xs ys h.1 g (λ n a b. apart n (inr a) b),
-)
-
-pub among_made : (make : Name → Name) (ns : List Name) (m : Name) → Among m (map make ns) → (n : Name) × (m ≡ make n) × Among n ns
-among_made make [] m h = absurd h
-among_made make (n ∷ ns) m (inl e) = (n, e, inl refl)
-among_made make (n ∷ ns) m (inr h) = let r = among_made make ns m h in (r.0, r.1, inr r.2)
-
-pub Different-made : (make : Name → Name) → ((m n : Name) → make m ≡ make n → m ≡ n) → (ns : List Name) → Different ns → Different (map make ns)
-Different-made make tells [] h = tt
-Different-made make tells (n ∷ ns) h = (
-  (λ m. let r = among_made make ns (make n) m in h.0 (subst (λ (k : Name). Among k ns) (sym (tells n r.0 r.1)) r.2)),
-  Different-made make tells ns h.1,
-)

@@ -8,12 +8,13 @@ use Rattle.text_rules.specs.Names.{Name}
 use Rattle.device_model.proofs.Naming.{Below, Below-irreflexive}
 use Rattle.device_model.proofs.Ordered.{Among, Rises}
 use Rattle.device_model.proofs.Sorting.{itself}
+use Rattle.device_model.proofs.Apart.{Different, Different-rising, Different-append, Different-made, among_made}
 use Rattle.device_model.proofs.Joining.{wire_at as name_at}
 use Rattle.frame_unroller.specs.Times.{four_digits, wire_at}
 use Rattle.frame_unroller.specs.Unrolling.{wires_at}
 use Rattle.frame_unroller.specs.inner.Copying.{position_at}
 use Rattle.frame_unroller.proofs.Members.{among-flat_map, among-range, length-chunks, get_or-chunks, mul-le}
-use Rattle.frame_unroller.proofs.Order.{times_rise, Different, Different-rising, Different-append, Different-made, among_made}
+use Rattle.frame_unroller.proofs.Order.{times_rise}
 
 -- ---- names
 

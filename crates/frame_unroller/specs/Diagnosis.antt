@@ -1,11 +1,11 @@
 -- The health states of a netlist over several times that agree with a case. The wires are those at each time, by their names.
-use Rattle.std.specs.Prelude.{ℕ, Bool, ◌&&◌, List, map, length}
-use Rattle.std.specs.List.{list_any, flat_map}
+use Rattle.std.specs.Prelude.{ℕ, Bool, List, map, length}
+use Rattle.std.specs.List.{flat_map}
 use Rattle.text_rules.specs.Names.{Name}
-use Rattle.ranking.specs.Bits.{bit_in, lists_of_bits}
-use Rattle.ranking.specs.Cases.{Case, agrees}
-use Rattle.ranking.specs.Ranking.{passing, plain_costs}
+use Rattle.ranking.specs.Bits.{bit_in}
+use Rattle.ranking.specs.Ranking.{plain_costs}
 use Rattle.ranking.specs.Systems.{System}
+use Rattle.device_model.specs.Diagnosis.{fitting_system}
 use Rattle.device_model.specs.Order.{sorted_distinct}
 use Rattle.device_model.specs.Devices.{part_names}
 use Rattle.device_model.specs.Building.{place_in}
@@ -29,17 +29,7 @@ waves_of seq frames bits t = map (λ wire. bit_in bits (place_in (frame_wires se
 abbrev pub fits_over : Sequential → ℕ → List Bool → List Bool → Bool
 fits_over seq frames state bits = frame_fits seq frames state (waves_of seq frames bits)
 
--- The state has what is held, and some bits of the wires at all times have what was seen and fit.
-abbrev pub is_consistent_over : Sequential → ℕ → Case → List Bool → Bool
-is_consistent_over seq frames known state =
-    agrees known.held state
-    && list_any (λ bits. agrees known.seen bits && fits_over seq frames state bits) (lists_of_bits (length (frame_wires seq frames)))
-
 -- Parts keep their names, and each failure costs 1.
 abbrev pub frame_system : Sequential → ℕ → System
-frame_system seq frames = record {
-  parts = part_names seq.device.parts;
-  wires = frame_wires seq frames;
-  costs = plain_costs (length seq.device.parts);
-  consistent = λ known. passing (length seq.device.parts) (is_consistent_over seq frames known);
-}
+frame_system seq frames =
+    fitting_system (part_names seq.device.parts) (frame_wires seq frames) (plain_costs (length seq.device.parts)) (fits_over seq frames)

@@ -6,15 +6,15 @@ use Rattle.std.proofs.lemmas.List.{map-append, length-map}
 use Rattle.text_rules.specs.Names.{Name}
 use Rattle.ranking.specs.Bits.{lists_of_bits}
 use Rattle.ranking.specs.Cases.{Case, agrees_at, agrees}
-use Rattle.ranking.specs.Ranking.{Test, passing}
+use Rattle.ranking.specs.Ranking.{Test}
 use Rattle.graph_rules.specs.Graphs.{Graph, holds}
 use Rattle.device_model.specs.declared.component.Component.{Component}
 use Rattle.device_model.specs.Devices.{Device, part_names, part_costs, fits}
-use Rattle.device_model.specs.Diagnosis.{is_consistent, device_system}
+use Rattle.device_model.specs.Diagnosis.{is_consistent, fitting_system, device_system}
 use Rattle.dnnf_compiler.specs.Compiled.{IsGraphOver, IsGraphOf}
 use Rattle.conditioner.specs.Words.{known_of}
 use Rattle.conditioner.specs.Models.{has_model, fits_words}
-use Rattle.session_rules.specs.GraphSystems.{word_of_known, case_words, graph_system, fitting_system, compiled_system}
+use Rattle.session_rules.specs.GraphSystems.{word_of_known, case_words, graph_system, compiled_system}
 use Rattle.session_rules.specs.CaseSizes.{IsCaseOf}
 use Rattle.session_rules.proofs.Enumerated.{Agree, passing-same, any-same, any-split, any-and}
 
@@ -75,7 +75,7 @@ module _ (parts wires : List Name) (costs : List ℕ) (fits_by : List Bool → L
   is_model bits = fits_words words bits && holds graph bits
 
   abbrev agreeing : Test
-  agreeing state = agrees known.held state && list_any (λ bits. agrees known.seen bits && fits_by state bits) (lists_of_bits (length wires))
+  agreeing = is_consistent fits_by (length wires) known
 
   for_wires : (state bits : List Bool) → length state ≡ length parts → length bits ≡ length wires
       → list_any (λ inner. is_model (state ++ (bits ++ inner))) (lists_of_bits inner_count)
@@ -112,10 +112,12 @@ module _ (parts wires : List Name) (costs : List ℕ) (fits_by : List Bool → L
 named : (device : Device) → length (part_names device.parts) ≡ length device.parts
 named device = length-map device.parts (λ (part : Component). part.name)
 
--- for every case of the device its graph has the same consistent states
+-- its graph is one over its names
+pub over_names : (device : Device) (graph : Graph) → IsGraphOf device graph → IsGraphOver (length (part_names device.parts)) (length device.wires) (fits device) graph
+over_names device graph is = subst (λ n. IsGraphOver n (length device.wires) (fits device) graph) (sym (named device)) is
+
+-- for every case of the device it has the same consistent states
 pub same_consistent : (device : Device) (graph : Graph) → IsGraphOf device graph → (known : Case) → IsCaseOf (device_system device) known
     → (compiled_system device graph).consistent known ≡ (device_system device).consistent known
 same_consistent device graph is known case =
-    same_fitting (part_names device.parts) device.wires (part_costs device) (fits device) graph
-    (subst (λ n. IsGraphOver n (length device.wires) (fits device) graph) (sym (named device)) is) known case
-    ∙ ap (λ n. passing n (is_consistent device known)) (named device)
+    same_fitting (part_names device.parts) device.wires (part_costs device) (fits device) graph (over_names device graph is) known case

@@ -1,10 +1,7 @@
 -- A system whose consistent states are the models of a graph. Its variables are the parts, then the wires, then inner ones.
-use Rattle.std.specs.Prelude.{ℕ, ◌+◌, ◌-◌, Bool, ◌&&◌, List, ◌++◌, map, length, replicate, Option, Some, None}
-use Rattle.std.specs.List.{list_any}
+use Rattle.std.specs.Prelude.{ℕ, ◌+◌, ◌-◌, Bool, List, ◌++◌, map, length, replicate, Option, Some, None}
 use Rattle.text_rules.specs.Names.{Name}
-use Rattle.ranking.specs.Bits.{lists_of_bits}
-use Rattle.ranking.specs.Cases.{Case, agrees}
-use Rattle.ranking.specs.Ranking.{passing}
+use Rattle.ranking.specs.Cases.{Case}
 use Rattle.ranking.specs.Systems.{System}
 use Rattle.graph_rules.specs.Graphs.{Graph}
 use Rattle.device_model.specs.Devices.{Device, part_names, part_costs}
@@ -39,16 +36,6 @@ pub record Subject : Type 0 where
 
 abbrev pub system_of : Subject → System
 system_of subject = graph_system subject.parts subject.wires subject.costs subject.graph
-
--- The system of what fits: a state is consistent that has what is held, where some bits of the wires have what was seen and fit.
-abbrev pub fitting_system : List Name → List Name → List ℕ → (List Bool → List Bool → Bool) → System
-fitting_system parts wires costs fits_by = record {
-  parts = parts;
-  wires = wires;
-  costs = costs;
-  consistent = λ known. passing (length parts) (λ state.
-      agrees known.held state && list_any (λ bits. agrees known.seen bits && fits_by state bits) (lists_of_bits (length wires)));
-}
 
 -- the system of a device's graph
 abbrev pub compiled_system : Device → Graph → System

@@ -5,12 +5,12 @@ ghost use Rattle.ranking.specs.Cases.{Case};
 ghost use Rattle.ranking.specs.Systems.{System};
 ghost use Rattle.graph_rules.specs.Graphs.{Graph};
 ghost use Rattle.device_model.specs.Devices.{Device};
-ghost use Rattle.device_model.specs.Diagnosis.{device_system};
+ghost use Rattle.device_model.specs.Diagnosis.{fitting_system, device_system};
 ghost use Rattle.dnnf_compiler.specs.Compiled.{IsGraphOver, IsGraphOf};
 ghost use Rattle.script_lang.specs.Script.{Line};
 ghost use Rattle.session_rules.specs.Alone.{AreAnsweredAlone, IsItsOwn};
 ghost use Rattle.session_rules.specs.CaseSizes.{IsCaseOf, HasCasesOf};
-ghost use Rattle.session_rules.specs.GraphSystems.{graph_system, fitting_system, compiled_system};
+ghost use Rattle.session_rules.specs.GraphSystems.{graph_system, compiled_system};
 ghost use Rattle.session_rules.specs.Moves.{whole, line_moves, line_step, script_moves};
 ghost use Rattle.session_rules.specs.Sessions.{Table, replies};
 

@@ -11,6 +11,8 @@ mod devices;
 mod fixtures;
 #[cfg(test)]
 mod flattening;
+#[cfg(test)]
+mod frames;
 mod graphs;
 #[cfg(test)]
 mod netlists;

@@ -45,7 +45,7 @@ const SHARED: File = File {
     text: "nnf 3 2 1\nL 1\nL -1\nA 2 0 1\n",
 };
 
-const ROWS: [Row; 43] = [
+const ROWS: [Row; 46] = [
     // The inputs are 0, so 22 and 23 are to be 0.
     Row {
         file: C17_FILE,
@@ -107,6 +107,39 @@ const ROWS: [Row; 43] = [
         script: "open S\nsee S q@0001=0\nsee S q@0003=1\nlist S 5\n",
         out: "ready 2 6\nS open\nS ok\nS ok\nS diag n\nS diag q\nS end\n",
         status: 0,
+    },
+    // The same in another order of the clauses.
+    Row {
+        file: File {
+            name: "toggle.bench",
+            text: "q = DFF(n)\nn = NOT(q)\n",
+        },
+        words: &["serve", "toggle.bench", "--narrow", "--frames", "3"],
+        script: "open S\nsee S q@0001=0\nsee S q@0003=1\nlist S 5\n",
+        out: "ready 2 6\nS open\nS ok\nS ok\nS diag n\nS diag q\nS end\n",
+        status: 0,
+    },
+    // At one time alone a flip-flop is in no clause, and its wires are still named by the time.
+    Row {
+        file: File {
+            name: "q.bench",
+            text: "INPUT(d)\nq = DFF(d)\n",
+        },
+        words: &["serve", "q.bench", "--frames", "1"],
+        script: "open S\nsee S d@0001=0\nsee S q@0001=1\nmin S\nsee S q=1\n",
+        out: "ready 1 2\nS open\nS ok\nS ok\nS min 0\nS error 9 no wire\n",
+        status: 0,
+    },
+    // Over three times the sum of a buffer is above 3.
+    Row {
+        file: File {
+            name: "b.bench",
+            text: "INPUT(a)\nb = BUFF(a)\n",
+        },
+        words: &["serve", "b.bench", "--budget", "3", "--frames", "3"],
+        script: "open S\n",
+        out: "error: sum above 3\n",
+        status: 3,
     },
     // A part that is faulty is so at all times, and costs 1.
     Row {
@@ -580,7 +613,7 @@ const REFUSED: [(&str, &str, &str); 34] = [
 ];
 
 // Words that ask for nothing that the program does.
-const WRONG: [&[&str]; 55] = [
+const WRONG: [&[&str]; 65] = [
     &[],
     &["serve"],
     &["--help"],
@@ -603,6 +636,16 @@ const WRONG: [&[&str]; 55] = [
     &["answer", "c17.bench"],
     &["check", "c17.bench"],
     &["serve", "c17.nnf"],
+    &["serve", "c17.dev", "--frames", "2"],
+    &["serve", "c17.bench", "--frames"],
+    &["serve", "c17.bench", "--frames", "0"],
+    &["serve", "c17.bench", "--frames", "02"],
+    &["serve", "c17.bench", "--frames", "65"],
+    &["serve", "c17.bench", "--frames", "2", "--frames", "2"],
+    &["plan", "c17.bench", "--frames", "2"],
+    &["compile", "c17.bench", "--frames", "2"],
+    &["check", "c17.nnf", "--frames", "2"],
+    &["load", "1", "--frames", "2"],
     &["ask"],
     &["ask", "c17.nnf"],
     &["ask", "c17.bench", "2"],

@@ -1,5 +1,5 @@
 -- The copies as they are given build the device of the copies.
-use Rattle.std.proofs.Common.{◌≡◌, ℕ, ◌+◌, ◌-◌, ◌*◌, ◌<◌, ◌≤◌, inl, inr, true, List, [], ◌∷◌, ◌++◌, map, length, Ok, refl, sym, ap, subst, ◌∙◌, arith}
+use Rattle.std.proofs.Common.{◌≡◌, ℕ, ◌-◌, ◌≤◌, inl, inr, true, List, [], ◌∷◌, ◌++◌, map, length, Ok, refl, sym, ap, ◌∙◌, arith}
 use Rattle.std.specs.Prelude.{nat_lt}
 use Rattle.std.specs.List.{list_all}
 use Rattle.std.proofs.lemmas.List.{length-append, length-map, map-append, take-append-drop}
@@ -17,7 +17,7 @@ use Rattle.device_model.specs.Order.{sorted_distinct}
 use Rattle.device_model.specs.Devices.{Device, IsDevice, part_names, takes_ports, has_arity, has_wires}
 use Rattle.device_model.specs.Building.{NamedPart, joined, reason, repeated, built, device_over}
 use Rattle.device_model.proofs.Ordered.{Among, Rises, sorted_distinct-is}
-use Rattle.device_model.proofs.Sorting.{itself, Rises-from_names_rise, Rises-unmap, Rises-map}
+use Rattle.device_model.proofs.Sorting.{Rises-from_names_rise, Rises-unmap, Rises-map}
 use Rattle.device_model.proofs.Apart.{repeated-Different, Different-rising}
 use Rattle.device_model.proofs.Making.{component_name, list_all-among, list_all-from_among}
 use Rattle.device_model.proofs.Joining.{wire_at as name_at, named, CanBeBuilt, built-over}
@@ -25,11 +25,11 @@ use Rattle.device_model.proofs.CallerLemmas.{only_memory as only_memory_of}
 use Rattle.bench_reader.specs.declared.sequential.Sequential.{Sequential}
 use Rattle.frame_unroller.specs.Frames.{inputs, output}
 use Rattle.frame_unroller.specs.Diagnosis.{wires_by_time, frame_wires}
-use Rattle.frame_unroller.specs.Unrolling.{Copy, copies, wires_at, named_copy, frame_device}
+use Rattle.frame_unroller.specs.Unrolling.{Copy, copies, named_copy, frame_device}
 use Rattle.frame_unroller.specs.inner.Copying.{position_at, given_copy, AreCopies}
 use Rattle.frame_unroller.proofs.Members.{both_pass}
 use Rattle.frame_unroller.proofs.Order.{Rises-made}
-use Rattle.frame_unroller.proofs.Wires.{wires_differ, length-wires, positions-named, positions-within}
+use Rattle.frame_unroller.proofs.Wires.{wires_differ, positions-named, positions-within}
 use Rattle.frame_unroller.proofs.Copies.{copy_name, times_in_order, IsCopy, are_copies}
 
 map-same : {A B : Type 0} (f g : A → B) (xs : List A) → ((x : A) → Among x xs → f x ≡ g x) → map f xs ≡ map g xs

@@ -124,7 +124,9 @@ module _ (seq : Sequential) (frames : ℕ) where
   Counted t place count = (rest : ℕ) → Have over (left_at t place) rest → Have over (map made (copies_for seq t)) (count + rest)
 
   pub counted_none : (t : ℕ) → Counted t 0 0
-  counted_none t rest have = have
+  counted_none t rest have =
+      let same : rest ≡ 0 + rest = omega arith in
+      subst (λ m. Have over (map made (copies_for seq t)) m) same have
 
   pub counted_more : (t place count n : ℕ) (part : Component) → place < length seq.device.parts → part ≡ get_or seq.device.parts place part
       → HasAt t (place, part) n → Counted t place count → Counted t (place + 1) (count + n)
@@ -154,7 +156,7 @@ module _ (seq : Sequential) (frames : ℕ) where
 
   module _ (first later : ℕ) (at_one : Have over (map made (copies_for seq 1)) first) (after : (t : ℕ) → 2 ≤ t → Have over (map made (copies_for seq t)) later) where
     later_times : (a n : ℕ) → 2 ≤ a → Have over (map made (flat_map (copies_for seq) (range_with_len a n))) (n * later)
-    later_times a zero from = have_none over
+    later_times a zero from = λ h z. omega arith
     later_times a (suc n) from =
         let rest = flat_map (copies_for seq) (range_with_len (a + 1) n) in
         let sum : later + n * later ≡ suc n * later = omega arith in

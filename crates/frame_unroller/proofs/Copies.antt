@@ -1,5 +1,5 @@
 -- The copies of parts: what each is, and that they stand in the order of their names.
-use Rattle.std.proofs.Common.{◌≡◌, ℕ, zero, suc, ◌+◌, ◌-◌, ◌<◌, ◌≤◌, ◌⊎◌, inl, inr, Bool, true, false, List, [], ◌∷◌, ◌++◌, length, refl, sym, ap, subst, ◌∙◌, arith}
+use Rattle.std.proofs.Common.{◌≡◌, ℕ, zero, suc, ◌+◌, ◌-◌, ◌<◌, ◌≤◌, inl, inr, Bool, true, false, List, [], ◌∷◌, length, refl, sym, ap, subst, arith}
 use Rattle.std.specs.Prelude.{nat_lt, if◌then◌else◌}
 use Rattle.std.specs.List.{flat_map, enumerate_from, range_with_len}
 use Rattle.std.proofs.lemmas.Bool.{ltb-true}
@@ -72,13 +72,13 @@ module _ (seq : Sequential) where
       Rises-append copy_name (copies_of seq t (a, p)) (flat_map (copies_of seq t) (enumerate_from (a + 1) parts))
       (one_rises t (a, p)) (parts_rise t (a + 1) parts rise.1)
       (λ x y m k.
-          let first = is_copy t (a, p) x m in
-          let r = among-flat_map (copies_of seq t) (enumerate_from (a + 1) parts) y k in
-          let second = is_copy t r.0 y r.2 in
-          let there = among-enumerate (a + 1) parts r.0 r.1 in
-          let below : Below (copy_at t p.name) (copy_at t r.0.1.name) = copies_below t p.name r.0.1.name (Below-among component_name p.name parts r.0.1 rise.0 there.2) in
-          subst (λ (n : Name). Below n (copy_name y)) (sym (λ i. copy_at (first.now i) (component_name (first.part i))))
-          (subst (λ (n : Name). Below (copy_at t p.name) n) (sym (λ i. copy_at (second.now i) (component_name (second.part i)))) below))
+      let first = is_copy t (a, p) x m in
+      let r = among-flat_map (copies_of seq t) (enumerate_from (a + 1) parts) y k in
+      let second = is_copy t r.0 y r.2 in
+      let there = among-enumerate (a + 1) parts r.0 r.1 in
+      let below : Below (copy_at t p.name) (copy_at t r.0.1.name) = copies_below t p.name r.0.1.name (Below-among component_name p.name parts r.0.1 rise.0 there.2) in
+      subst (λ (n : Name). Below n (copy_name y)) (sym (λ i. copy_at (first.now i) (component_name (first.part i))))
+      (subst (λ (n : Name). Below (copy_at t p.name) n) (sym (λ i. copy_at (second.now i) (component_name (second.part i)))) below))
 
   -- what a copy for a time is
   pub record IsCopyFor (t : ℕ) (c : Copy) : Type 0 where
@@ -110,11 +110,11 @@ module _ (seq : Sequential) where
         Rises-append copy_name (copies_for seq a) (flat_map (copies_for seq) (range_with_len (a + 1) n))
         (parts_rise a 0 seq.device.parts rise) (times_in_order (a + 1) n)
         (λ x y m k.
-            let first = is_copy_for a x m in
-            let r = among-flat_map (copies_for seq) (range_with_len (a + 1) n) y k in
-            let second = is_copy_for r.0 y r.2 in
-            let later = (among-range (a + 1) n r.0 r.1).0 in
-            copies_rise x.now y.now x.part.name y.part.name (omega (arith, first.now, second.now, later)))
+        let first = is_copy_for a x m in
+        let r = among-flat_map (copies_for seq) (range_with_len (a + 1) n) y k in
+        let second = is_copy_for r.0 y r.2 in
+        let later = (among-range (a + 1) n r.0 r.1).0 in
+        copies_rise x.now y.now x.part.name y.part.name (omega (arith, first.now, second.now, later)))
 
   -- what any copy is
   pub record IsCopy (frames : ℕ) (c : Copy) : Type 0 where

@@ -34,8 +34,8 @@ over (Err fault) f = None
 abbrev found : List ℕ → ℕ → List (Option Bool) → Option (Option ℕ × List (List Bool))
 found netlist frames seen =
     over (sequential_netlist netlist) (λ seq.
-        let known : Case = record { seen = seen; held = replicate (length seq.device.parts) None } in
-        (least_cost (frame_system seq frames) known, all_diagnoses (frame_system seq frames) known))
+    let known : Case = record { seen = seen; held = replicate (length seq.device.parts) None } in
+    (least_cost (frame_system seq frames) known, all_diagnoses (frame_system seq frames) known))
 
 -- ---- a flip-flop that does not pass its input on
 

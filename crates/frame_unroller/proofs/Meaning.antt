@@ -1,11 +1,11 @@
 -- The clauses of the copies, over the health of the parts, say what fits over the times.
-use Rattle.std.proofs.Common.{◌≡◌, ℕ, zero, suc, ◌+◌, ◌-◌, ◌*◌, ◌<◌, ◌≤◌, inl, inr, Bool, true, false, List, [], ◌∷◌, ◌++◌, map, length, take, drop, get_or, Ok, refl, sym, ap, subst, ◌∙◌, append_assoc, arith}
+use Rattle.std.proofs.Common.{◌≡◌, ℕ, ◌+◌, ◌-◌, ◌<◌, ◌≤◌, inl, inr, Bool, true, false, List, [], ◌∷◌, ◌++◌, map, length, get_or, refl, sym, ap, ◌∙◌, append_assoc, arith}
 use Rattle.std.specs.Prelude.{◌&&◌, ◌||◌, nat_lt, nat_le, if◌then◌else◌}
-use Rattle.std.specs.List.{list_all, list_any, flat_map, enumerate_from, range_with_len}
+use Rattle.std.specs.List.{list_all, list_any, enumerate_from, range_with_len}
 use Rattle.std.proofs.Math.Bool.{and-true}
 use Rattle.std.proofs.lemmas.Bool.{and_parts, ltb-true, lt-ltb, le-ltb, le-leb, lt-leb, cases_lt}
-use Rattle.std.proofs.lemmas.List.{length-append, length-map, map-append, take-append-drop, get_or-map, get_or_append_left, get_or-append_right}
-use Rattle.std.proofs.lemmas.List.FromFn.{get_or-range_with_len, length-range_with_len}
+use Rattle.std.proofs.lemmas.List.{length-map, map-append, take-append-drop, get_or-map, get_or_append_left, get_or-append_right}
+use Rattle.std.proofs.lemmas.List.FromFn.{get_or-range_with_len}
 use Rattle.std.proofs.lemmas.List.Folds.{list_all-map}
 use Rattle.std.proofs.lemmas.Simd.{map-map}
 use Rattle.text_rules.specs.Names.{Name}
@@ -13,21 +13,21 @@ use Rattle.ranking.specs.Bits.{bit_in, lists_of_bits}
 use Rattle.ranking.specs.Assignments.{Assignment, assignment}
 use Rattle.device_model.specs.declared.component.Component.{Component}
 use Rattle.device_model.specs.TruthTable.{TruthTable}
-use Rattle.device_model.specs.Devices.{Device, IsDevice, has_wires, allows, part_allows, parts_fit, fits}
+use Rattle.device_model.specs.Devices.{IsDevice, has_wires, allows, part_allows, parts_fit, fits}
 use Rattle.device_model.specs.Building.{place_in, joined}
 use Rattle.device_model.proofs.Ordered.{Among}
 use Rattle.device_model.proofs.Making.{list_all-among, list_all-from_among}
 use Rattle.device_model.proofs.Tables.{among_get_or}
 use Rattle.bench_reader.specs.declared.sequential.Sequential.{Sequential}
 use Rattle.clause_encoder.specs.Clauses.{ClauseList, all_hold, is_clause}
-use Rattle.clause_encoder.specs.Encoding.{encoded, Describes, DescribesBy}
+use Rattle.clause_encoder.specs.Encoding.{Describes, DescribesBy}
 use Rattle.clause_encoder.specs.Replacing.{variable_for}
 use Rattle.clause_encoder.proofs.OtherVariables.{all_hold-same}
 use Rattle.clause_encoder.proofs.Settled.{any-same}
 use Rattle.frame_unroller.specs.Times.{times, wire_at}
-use Rattle.frame_unroller.specs.Frames.{is_delayed, inputs, output, row_across, fits_at, frame_fits}
+use Rattle.frame_unroller.specs.Frames.{is_delayed, inputs, output, row_across, fits_at}
 use Rattle.frame_unroller.specs.Diagnosis.{frame_wires, waves_of, fits_over}
-use Rattle.frame_unroller.specs.Unrolling.{Copy, input_time, copies_of, copies_for, copies, wires_at, named_copy, frame_device, owners, shared_variables, shared}
+use Rattle.frame_unroller.specs.Unrolling.{Copy, copies_of, copies_for, copies, wires_at, named_copy, frame_device, owners, shared_variables, shared}
 use Rattle.frame_unroller.proofs.Copies.{are_copies}
 use Rattle.frame_unroller.proofs.Members.{among-range, among-enumerate, list_all-flat_map, list_all-same, both_pass}
 
@@ -108,8 +108,8 @@ module _ (seq : Sequential) (frames : ℕ) (valid : IsDevice seq.device) (state 
       ∙ list_all-flat_map allowed (copies_for seq) (times frames)
       ∙ list_all-same (λ t. list_all allowed (copies_for seq t)) (λ t. list_all (λ (p : ℕ × Component). fits_at tables (is_delayed seq p.0) p.1 (bit_in state p.0) waves t) (enumerate_from 0 seq.device.parts)) (times frames)
       (λ t m. list_all-flat_map allowed (copies_of seq t) (enumerate_from 0 seq.device.parts)
-          ∙ list_all-same (λ p. list_all allowed (copies_of seq t p)) (λ (p : ℕ × Component). fits_at tables (is_delayed seq p.0) p.1 (bit_in state p.0) waves t) (enumerate_from 0 seq.device.parts)
-          (λ p n. copies-fit p.0 p.1 (among-enumerate 0 seq.device.parts p n).2 t (among-range 1 frames t m).0))
+      ∙ list_all-same (λ p. list_all allowed (copies_of seq t p)) (λ (p : ℕ × Component). fits_at tables (is_delayed seq p.0) p.1 (bit_in state p.0) waves t) (enumerate_from 0 seq.device.parts)
+      (λ p n. copies-fit p.0 p.1 (among-enumerate 0 seq.device.parts p n).2 t (among-range 1 frames t m).0))
 
 -- ---- the variables
 
@@ -121,27 +121,27 @@ module _ (state rest : List Bool) (places : List ℕ) (vars : ℕ) (owned : list
   pub same_bits : (v : ℕ) → 1 ≤ v → v ≤ vars → assignment (state ++ rest) (variable_for (shared_variables (length state) places vars) v) ≡ assignment (map (bit_in state) places ++ rest) v
   same_bits v some most = elim (cases_lt (v - 1) (length places)) [
     | inl l ↦ (
-      let k : ℕ = v - 1 in
-      let here : variable_for (shared_variables (length state) places vars) v ≡ get_or places k 0 + 1 =
-      get_or_append_left (map (λ place. place + 1) places) (range_with_len (length state + 1) (vars - length places)) 0 k (omega (arith, length-map places (λ place. place + 1)))
-      ∙ get_or-map (λ place. place + 1) places k 0 0 l in
-      let less : (n : ℕ) → n + 1 - 1 ≡ n = λ n. omega arith in
-      ap (λ (n : ℕ). bit_in (state ++ rest) (n - 1)) here ∙ ap (bit_in (state ++ rest)) (less (get_or places k 0))
-      ∙ get_or_append_left state rest false (get_or places k 0) (owner k l)
-      ∙ sym (get_or_append_left (map (bit_in state) places) rest false k (omega (arith, length-map places (bit_in state))) ∙ get_or-map (bit_in state) places k 0 false l)
-    )
+        let k : ℕ = v - 1 in
+        let here : variable_for (shared_variables (length state) places vars) v ≡ get_or places k 0 + 1 =
+        get_or_append_left (map (λ place. place + 1) places) (range_with_len (length state + 1) (vars - length places)) 0 k (omega (arith, length-map places (λ place. place + 1)))
+        ∙ get_or-map (λ place. place + 1) places k 0 0 l in
+        let less : (n : ℕ) → n + 1 - 1 ≡ n = λ n. omega arith in
+        ap (λ (n : ℕ). bit_in (state ++ rest) (n - 1)) here ∙ ap (bit_in (state ++ rest)) (less (get_or places k 0))
+        ∙ get_or_append_left state rest false (get_or places k 0) (owner k l)
+        ∙ sym (get_or_append_left (map (bit_in state) places) rest false k (omega (arith, length-map places (bit_in state))) ∙ get_or-map (bit_in state) places k 0 false l)
+        )
     | inr g ↦ (
-      let k : ℕ = v - 1 in
-      let past : ℕ = k - length places in
-      let here : variable_for (shared_variables (length state) places vars) v ≡ length state + 1 + past =
-      get_or-append_right (map (λ place. place + 1) places) (range_with_len (length state + 1) (vars - length places)) (length places) k 0 (length-map places (λ place. place + 1)) g
-      ∙ get_or-range_with_len (length state + 1) (vars - length places) past 0 (omega arith) in
-      let there : length state + 1 + past - 1 - length state ≡ past = omega arith in
-      ap (λ (n : ℕ). bit_in (state ++ rest) (n - 1)) here
-      ∙ get_or-append_right state rest (length state) (length state + 1 + past - 1) false refl (omega arith)
-      ∙ ap (bit_in rest) there
-      ∙ sym (get_or-append_right (map (bit_in state) places) rest (length places) k false (length-map places (bit_in state)) g)
-    )
+        let k : ℕ = v - 1 in
+        let past : ℕ = k - length places in
+        let here : variable_for (shared_variables (length state) places vars) v ≡ length state + 1 + past =
+        get_or-append_right (map (λ place. place + 1) places) (range_with_len (length state + 1) (vars - length places)) (length places) k 0 (length-map places (λ place. place + 1)) g
+        ∙ get_or-range_with_len (length state + 1) (vars - length places) past 0 (omega arith) in
+        let there : length state + 1 + past - 1 - length state ≡ past = omega arith in
+        ap (λ (n : ℕ). bit_in (state ++ rest) (n - 1)) here
+        ∙ get_or-append_right state rest (length state) (length state + 1 + past - 1) false refl (omega arith)
+        ∙ ap (bit_in rest) there
+        ∙ sym (get_or-append_right (map (bit_in state) places) rest (length places) k false (length-map places (bit_in state)) g)
+        )
   ]
 
 -- ---- what the clauses describe
@@ -205,6 +205,6 @@ module _ (seq : Sequential) (frames : ℕ) (valid : IsDevice seq.device) (list :
           ∙ all_hold-same list.vars (λ v. assignment (state ++ bits ++ inner) (variable_for (shared_variables (length seq.device.parts) (owners seq frames) list.vars) v))
           (assignment (made ++ bits ++ inner)) list.clauses each
           (λ v some most.
-              (λ i. assignment (append_assoc state bits inner i) (variable_for (shared_variables (sym long i) (owners seq frames) list.vars) v))
-              ∙ same_bits state (bits ++ inner) (owners seq frames) list.vars owned (omega (arith, many, room)) v some most
-              ∙ (λ i. assignment (sym (append_assoc made bits inner) i) v))
+          (λ i. assignment (append_assoc state bits inner i) (variable_for (shared_variables (sym long i) (owners seq frames) list.vars) v))
+          ∙ same_bits state (bits ++ inner) (owners seq frames) list.vars owned (omega (arith, many, room)) v some most
+          ∙ (λ i. assignment (sym (append_assoc made bits inner) i) v))

@@ -28,13 +28,13 @@ module _ (parts vars : ℕ) (places : List ℕ) (many : length places ≤ vars) 
     pub variable-within : (1 ≤ get_or (shared_variables parts places vars) k d) × (get_or (shared_variables parts places vars) k d ≤ parts + (vars - length places))
     variable-within = elim (cases_lt k (length places)) [
       | inl l ↦ (
-        let here = get_or_append_left (map (λ place. place + 1) places) (range_with_len (parts + 1) (vars - length places)) d k (omega (arith, length-map places (λ place. place + 1)))
-        ∙ get_or-map (λ place. place + 1) places k 0 d l in
-        (omega (arith, here), omega (arith, here, within k 0 l))
-      )
+          let here = get_or_append_left (map (λ place. place + 1) places) (range_with_len (parts + 1) (vars - length places)) d k (omega (arith, length-map places (λ place. place + 1)))
+          ∙ get_or-map (λ place. place + 1) places k 0 d l in
+          (omega (arith, here), omega (arith, here, within k 0 l))
+          )
       | inr g ↦ (
-        let here = get_or-append_right (map (λ place. place + 1) places) (range_with_len (parts + 1) (vars - length places)) (length places) k d (length-map places (λ place. place + 1)) g
-        ∙ get_or-range_with_len (parts + 1) (vars - length places) (k - length places) d (omega arith) in
-        (omega (arith, here), omega (arith, here))
-      )
+          let here = get_or-append_right (map (λ place. place + 1) places) (range_with_len (parts + 1) (vars - length places)) (length places) k d (length-map places (λ place. place + 1)) g
+          ∙ get_or-range_with_len (parts + 1) (vars - length places) (k - length places) d (omega arith) in
+          (omega (arith, here), omega (arith, here))
+          )
     ]

@@ -152,12 +152,7 @@ fn tables_of(alloc: Global, tables: &[Table]) -> Result<Vec<Table>, AllocError>
 }
 
 // The clauses in which the health of its part stands for that of each copy. The parts are so many.
-fn shared(
-    alloc: Global,
-    list: &Cnf,
-    places: &[u32],
-    parts: u32,
-) -> Result<Cnf, AllocError>
+fn shared(alloc: Global, list: &Cnf, places: &[u32], parts: u32) -> Result<Cnf, AllocError>
     requires many { length places.now ≤ list.now.vars }
     requires places { All (λ place. place < parts) places.now }
     requires few { parts + list.now.vars < VARIABLE_LIMIT }

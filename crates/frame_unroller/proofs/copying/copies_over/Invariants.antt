@@ -1,8 +1,5 @@
-use Rattle.std.proofs.Common.{◌≡◌, ◌-◌, map, length}
-use Rattle.std.specs.List.{flat_map, range_with_len}
-use Rattle.frame_unroller.specs.Times.{wire_at}
-use Rattle.frame_unroller.specs.Unrolling.{Copy, copies}
-use Rattle.frame_unroller.specs.inner.Copying.{given_copy, AreCopies}
+use Rattle.std.proofs.Common.{◌≡◌, ◌-◌}
+use Rattle.frame_unroller.specs.inner.Copying.{AreCopies}
 use Rattle.frame_unroller.proofs.copying.copies_over.Given as goal
 
 -- what was made so far is for the times so far

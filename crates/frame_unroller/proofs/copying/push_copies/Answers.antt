@@ -2,7 +2,7 @@ use Rattle.std.proofs.Common.{◌≡◌, ◌<◌, ◌+◌, ◌-◌, ◌++◌, �
 use Rattle.std.specs.Prelude.{if◌then◌else◌}
 use Rattle.std.specs.List.{flat_map, enumerate_from}
 use Rattle.device_model.specs.declared.component.Component.{Component}
-use Rattle.frame_unroller.specs.Unrolling.{Copy, input_time, copies_of, copies_for}
+use Rattle.frame_unroller.specs.Unrolling.{Copy, input_time, copies_of}
 use Rattle.frame_unroller.specs.inner.Copying.{given_copy}
 use Rattle.frame_unroller.proofs.Pushing.{copy, copied, left_out}
 use Rattle.frame_unroller.proofs.copying.push_copies.Goals as goal

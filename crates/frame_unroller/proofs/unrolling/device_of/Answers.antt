@@ -1,4 +1,4 @@
-use Rattle.std.proofs.Common.{length, map, ap, ◌∙◌, arith}
+use Rattle.std.proofs.Common.{length, ap, ◌∙◌, arith}
 use Rattle.std.proofs.lemmas.List.{length-map}
 use Rattle.frame_unroller.specs.Unrolling.{copies}
 use Rattle.frame_unroller.specs.inner.Copying.{given_copy}

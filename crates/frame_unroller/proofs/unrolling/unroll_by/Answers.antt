@@ -10,7 +10,7 @@ use Rattle.clause_encoder.specs.Encoding.{encoded, Describes}
 use Rattle.clause_encoder.proofs.Sizes.{encoded-is, few_inner, encoded-few_vars}
 use Rattle.clause_encoder.proofs.OtherVariables.{list_from}
 use Rattle.frame_unroller.specs.Diagnosis.{frame_wires}
-use Rattle.frame_unroller.specs.Unrolling.{Copy, copies, named_copy, frame_device, owners, shared_variables, shared, unrolled_by}
+use Rattle.frame_unroller.specs.Unrolling.{Copy, copies, named_copy, owners, shared_variables, shared, unrolled_by}
 use Rattle.frame_unroller.proofs.Meaning.{owner-at, frames-described}
 use Rattle.frame_unroller.proofs.unrolling.unroll_by.Goals as goal
 
@@ -64,7 +64,7 @@ returns-clause-describes c =
     c.in_ok-cnf.cnf
     (c.in_ok-cnf.ensures.shared ∙ (λ i. shared (length (c.parts.ensures.parts i)) (are i) list))
     (λ a. c.in_ok-cnf.ensures.truth a
-        ∙ (λ i. all_hold (λ v. a (variable_for (shared_variables (length (c.parts.ensures.parts i)) (are i) list.vars) v)) list.clauses))
+    ∙ (λ i. all_hold (λ v. a (variable_for (shared_variables (length (c.parts.ensures.parts i)) (are i) list.vars) v)) list.clauses))
 
 pub returns-clause-valid : goal.returns-clause-valid
 returns-clause-valid c =

@@ -172,6 +172,24 @@ def alu_slice(bits):
     return netlist(["s_0", "s_1", "c"] + [f"{end}{i}" for i in range(bits) for end in "ab"], lines)
 
 
+def counter(bits):
+    """A counter that counts while it is enabled: of each bit the flip-flop, and the gates before it."""
+    lines, carry = [], "enable"
+    for bit in range(bits):
+        value = f"bit{bit:02}_q"
+        lines += [f"{value} = DFF(bit{bit:02}_next)", f"bit{bit:02}_next = XOR({value}, {carry})"]
+        if bit + 1 < bits:
+            lines.append(f"bit{bit:02}_carry = AND({value}, {carry})")
+        carry = f"bit{bit:02}_carry"
+    return netlist(["enable"], [f"OUTPUT(bit{bit:02}_q)" for bit in range(bits)] + lines)
+
+
+def shift_register(stages):
+    """Flip-flops in a row, of which the last one and that in the middle are outputs."""
+    lines = [f"stage{stage + 1:02} = DFF({f'stage{stage:02}' if stage else 'in'})" for stage in range(stages)]
+    return netlist(["in"], [f"OUTPUT(stage{stages // 2:02})", f"OUTPUT(stage{stages:02})"] + lines)
+
+
 def side_by_side(count, text):
     """So many of a device, each with names of its own. What stands before a bracket is no name."""
     return b"".join(re.sub(rb"\b(\w+)\b(?!\()", b"m%02d_\\1" % copy, text) for copy in range(count))

@@ -7,4 +7,5 @@ pub mod Driving
 pub mod Twice
 pub mod Parts
 pub mod Whole
+pub mod FlipFlops
 mod Examples

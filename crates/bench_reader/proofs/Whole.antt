@@ -77,7 +77,7 @@ driven_named (Input signal) h = by (is_short_name signal) h
 driven_named (Output signal) h = refl
 driven_named (Gate output kind inputs) h = and_from _ _ (faultless_gate output kind inputs h).named refl
 
-all_driven_named : (statements : List Statement) → list_all is_faultless statements ≡ true → list_all is_short_name (flat_map driven statements) ≡ true
+pub all_driven_named : (statements : List Statement) → list_all is_faultless statements ≡ true → list_all is_short_name (flat_map driven statements) ≡ true
 all_driven_named [] h = refl
 all_driven_named (s ∷ statements) h =
     let two = and_parts (is_faultless s) (list_all is_faultless statements) h in
@@ -257,7 +257,7 @@ module _ (flip_flops : FlipFlops) (text : List ℕ) where
   handed_read Memory h = tt
 
   module _ (statements : List (ℕ × Statement)) (read : statements_or_fault (readings flip_flops text) ≡ Ok statements) where
-    both : (filter_map fault_in (readings flip_flops text) ≡ []) × (filter_map statement_in (readings flip_flops text) ≡ statements)
+    pub both : (filter_map fault_in (readings flip_flops text) ≡ []) × (filter_map statement_in (readings flip_flops text) ≡ statements)
     both = by (filter_map fault_in (readings flip_flops text)) refl read
       where
         by : (fs : List Fault) → filter_map fault_in (readings flip_flops text) ≡ fs → unless_fault fs (filter_map statement_in (readings flip_flops text)) ≡ Ok statements

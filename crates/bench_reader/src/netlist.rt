@@ -17,7 +17,7 @@ use std::alloc::Global;
 use text_rules::{Lines, TEXT_LIMIT};
 
 // The statements of the lines, or the first fault of a line.
-fn statements_in<'a>(
+pub(crate) fn statements_in<'a>(
     alloc: Global,
     flip_flops: FlipFlops,
     text: &'a [u8],
@@ -49,7 +49,7 @@ fn is_too_large(signals: &Signals<'_>, statements: &[NumberedStatement<'_>]) -> 
 }
 
 // The device of statements of which none has a fault alone, or the first fault that they have together.
-fn device_of(alloc: Global, statements: &[NumberedStatement<'_>]) -> Result<Device, BenchError>
+pub(crate) fn device_of(alloc: Global, statements: &[NumberedStatement<'_>]) -> Result<Device, BenchError>
     requires { list_all is_faultless (map unnumbered statements.now) ≡ true }
     ensures { Fulfils (λ device. device) told (device_or_fault (map with_number statements.now)) result }
 {

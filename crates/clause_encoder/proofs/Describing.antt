@@ -27,7 +27,7 @@ abbrev pub InRange : ℕ → List ℕ → Type 0
 InRange vars [] = Unit {0}
 InRange vars (v ∷ vs) = (1 ≤ v) × (v ≤ vars) × InRange vars vs
 
-var_of-literal : (b : Bool) (v : ℕ) → var_of (literal b v) ≡ v
+pub var_of-literal : (b : Bool) (v : ℕ) → var_of (literal b v) ≡ v
 var_of-literal true v = refl
 var_of-literal false zero = refl
 var_of-literal false (suc n) = omega arith

@@ -5,6 +5,7 @@ pub mod Meaning
 pub mod Settled
 pub mod Chains
 pub mod Describing
+pub mod OtherVariables
 pub mod Writing
 pub mod Counting
 pub mod Sizes

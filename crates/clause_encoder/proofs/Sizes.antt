@@ -12,7 +12,7 @@ use Rattle.device_model.specs.Devices.{Device, IsDevice, takes, takes_ports, has
 use Rattle.clause_encoder.specs.declared.limits.TheConstants.{CLAUSE_LIMIT, NARROW_LIMIT}
 use Rattle.clause_encoder.specs.declared.encoding.EncodeError.TheVariants.{TooManyClauses}
 use Rattle.clause_encoder.specs.Clauses.{ClauseList}
-use Rattle.clause_encoder.specs.Encoding.{any_gate_clauses, is_wide, raw_clauses, inner_count, inner_vars, wire_variable, clauses_from, first_inner, raw_count, clause_list, encoded}
+use Rattle.clause_encoder.specs.Encoding.{any_gate_clauses, is_wide, raw_clauses, inner_count, inner_vars, wire_variable, clauses_from, first_inner, raw_count, clause_list, most_variables, encoded}
 use Rattle.clause_encoder.proofs.Meaning.{not_wide}
 use Rattle.clause_encoder.proofs.Counting.{length-any_gate}
 
@@ -78,9 +78,9 @@ encoded-is device cnf is = by_count (nat_lt CLAUSE_LIMIT (raw_count device)) ref
       let same : clause_list device ≡ cnf = cc in
       record { vars = sym (ap (λ (l : ClauseList). l.vars) same); few = ltb-false CLAUSE_LIMIT (raw_count device) few }
 
-few_inner : (device : Device) (cnf : ClauseList) → IsDevice device → encoded device ≡ Ok cnf → 3 * inner_vars device.parts ≤ CLAUSE_LIMIT
+pub few_inner : (device : Device) (cnf : ClauseList) → IsDevice device → encoded device ≡ Ok cnf → 3 * inner_vars device.parts ≤ CLAUSE_LIMIT
 few_inner device cnf valid is = omega (arith, parts-inner device 1 (first_inner device) device.parts valid.arities, (encoded-is device cnf is).few)
 
 -- 4,096 parts, 16,384 wires and 87,381 inner variables at most
-pub encoded-few_vars : (device : Device) (cnf : ClauseList) → IsDevice device → encoded device ≡ Ok cnf → cnf.vars ≤ 107861
+pub encoded-few_vars : (device : Device) (cnf : ClauseList) → IsDevice device → encoded device ≡ Ok cnf → cnf.vars ≤ most_variables
 encoded-few_vars device cnf valid is = omega (arith, (encoded-is device cnf is).vars, few_inner device cnf valid is, valid.few_parts, valid.few_wires)

@@ -1,11 +1,12 @@
 -- The clauses of a device.
-use Rattle.std.specs.Prelude.{◌≡◌, ℕ, ◌+◌, ◌-◌, ◌^◌, Bool, true, false, not, ◌&&◌, ◌||◌, List, [], ◌∷◌, ◌++◌, map, length, take, drop, Option, Some, None, ℤ, pos, neg_ℤ, Result, Ok, Err, ◌==◌, nat_lt, slice_index_or, slice_get, if◌then◌else◌}
+use Rattle.std.specs.Prelude.{◌≡◌, ℕ, ◌+◌, ◌-◌, ◌/◌, ◌^◌, Bool, true, false, not, ◌&&◌, ◌||◌, List, [], ◌∷◌, ◌++◌, map, length, take, drop, Option, Some, None, ℤ, pos, neg_ℤ, Result, Ok, Err, ◌==◌, nat_lt, slice_index_or, slice_get, if◌then◌else◌}
 use Rattle.std.specs.List.{filter, list_any, range_with_len}
 use Rattle.ranking.specs.Bits.{has_odd_ones, same_bit, lists_of_bits}
 use Rattle.ranking.specs.Assignments.{assignment}
 use Rattle.device_model.specs.declared.component.Kind.{Kind}
 use Rattle.device_model.specs.declared.component.Kind.TheVariants.{And, Or, Nand, Nor, Xor, Xnor, Not, Buff, Table}
 use Rattle.device_model.specs.declared.component.Component.{Component}
+use Rattle.device_model.specs.declared.limits.TheConstants.{PART_LIMIT, WIRE_LIMIT}
 use Rattle.device_model.specs.TruthTable.{TruthTable}
 use Rattle.device_model.specs.Devices.{Device, is_set, fits}
 use Rattle.clause_encoder.specs.declared.limits.TheConstants.{CLAUSE_LIMIT, NARROW_LIMIT}
@@ -182,6 +183,10 @@ clause_list device = record {
   clauses = tidy (all_clauses device);
 }
 
+-- the most variables that there may be: each inner one comes with three clauses or more
+abbrev pub most_variables : ℕ
+most_variables = PART_LIMIT + WIRE_LIMIT + CLAUSE_LIMIT / 3
+
 -- an error is a reason, but for want of memory
 abbrev pub reason : EncodeError → Option EncodeError
 reason (TooManyClauses count) = Some (TooManyClauses count)
@@ -191,10 +196,13 @@ reason Memory = None
 abbrev pub encoded : Device → Result ClauseList EncodeError
 encoded device = if nat_lt CLAUSE_LIMIT (raw_count device) then Err (TooManyClauses (raw_count device)) else Ok (clause_list device)
 
--- Under bits for the health of the parts and for the wires, all clauses hold for some bits of the variables above these
--- exactly where the device fits.
+-- Under bits for the health of so many parts and for so many wires, all clauses hold for some bits of the variables above these
+-- exactly where they fit.
+abbrev pub DescribesBy : ClauseList → ℕ → ℕ → (List Bool → List Bool → Bool) → Type 0
+DescribesBy cnf parts wires fits = (state bits : List Bool) → length state ≡ parts → length bits ≡ wires
+    → list_any (λ inner. all_hold (assignment (state ++ bits ++ inner)) cnf.clauses) (lists_of_bits (cnf.vars - (parts + wires)))
+    ≡ fits state bits
+
+-- They do exactly where the device fits.
 abbrev pub Describes : ClauseList → Device → Type 0
-Describes cnf device = (state wires : List Bool) → length state ≡ length device.parts → length wires ≡ length device.wires
-    → list_any (λ inner. all_hold (assignment (state ++ wires ++ inner)) cnf.clauses)
-    (lists_of_bits (cnf.vars - (length device.parts + length device.wires)))
-    ≡ fits device state wires
+Describes cnf device = DescribesBy cnf (length device.parts) (length device.wires) (fits device)

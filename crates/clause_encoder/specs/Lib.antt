@@ -1,3 +1,4 @@
 pub mod Clauses
 pub mod Encoding
+pub mod Replacing
 pub mod inner

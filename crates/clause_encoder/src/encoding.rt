@@ -95,7 +95,8 @@ fn raw_count(device: &Device) -> u64
     count
 }
 
-fn part_count(tables: &[Table], kind: Kind, ports: usize) -> u64
+/// How many clauses a part of so many ports has, before any is left out.
+pub fn part_count(tables: &[Table], kind: Kind, ports: usize) -> u64
     requires { takes_ports tables.now kind ports ≡ true }
     ensures count { (h z : ℕ) (vs : List ℕ) → length vs ≡ ports
         → length (raw_clauses tables.now kind h z vs) ≡ result }

@@ -6,8 +6,10 @@ mod encoding;
 mod flat;
 mod gates;
 mod limits;
+mod replacement;
 mod writer;
 
 pub use cnf::{Clause, Cnf};
-pub use encoding::{EncodeError, encode};
+pub use encoding::{EncodeError, encode, part_count};
 pub use limits::{CLAUSE_LIMIT, NARROW_LIMIT, VARIABLE_LIMIT};
+pub use replacement::replaced;

@@ -2,6 +2,8 @@ pub mod Naming
 pub mod Ordered
 pub mod Sorting
 pub mod Repeats
+pub mod Apart
+pub mod DigitOrder
 pub mod CallerLemmas
 mod Steps
 pub mod Tables

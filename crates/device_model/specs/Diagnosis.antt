@@ -1,23 +1,27 @@
--- The health states of a device that agree with a case.
-use Rattle.std.specs.Prelude.{Bool, ◌&&◌, List, length}
+-- The health states that agree with a case: those that fit under some bits of the wires.
+use Rattle.std.specs.Prelude.{ℕ, Bool, ◌&&◌, List, length}
 use Rattle.std.specs.List.{list_any}
+use Rattle.text_rules.specs.Names.{Name}
 use Rattle.ranking.specs.Bits.{lists_of_bits}
 use Rattle.ranking.specs.Cases.{Case, agrees}
 use Rattle.ranking.specs.Ranking.{passing}
 use Rattle.ranking.specs.Systems.{System}
 use Rattle.device_model.specs.Devices.{Device, fits, part_names, part_costs}
 
--- The state has what is held, and some bits of the wires have what was seen and fit.
-abbrev pub is_consistent : Device → Case → List Bool → Bool
-is_consistent device known state =
-    agrees known.held state
-    && list_any (λ wires. agrees known.seen wires && fits device state wires) (lists_of_bits (length device.wires))
+-- The state has what is held, and some bits of so many wires have what was seen and fit.
+abbrev pub is_consistent : (List Bool → List Bool → Bool) → ℕ → Case → List Bool → Bool
+is_consistent fits_by wires known state =
+    agrees known.held state && list_any (λ bits. agrees known.seen bits && fits_by state bits) (lists_of_bits wires)
+
+-- the system of some names and costs in which such states agree with a case
+abbrev pub fitting_system : (parts wires : List Name) → List ℕ → (List Bool → List Bool → Bool) → System
+fitting_system parts wires costs fits_by = record {
+  parts = parts;
+  wires = wires;
+  costs = costs;
+  consistent = λ known. passing (length parts) (is_consistent fits_by (length wires) known);
+}
 
 -- the system of a device
 abbrev pub device_system : Device → System
-device_system device = record {
-  parts = part_names device.parts;
-  wires = device.wires;
-  costs = part_costs device;
-  consistent = λ known. passing (length device.parts) (is_consistent device known);
-}
+device_system device = fitting_system (part_names device.parts) device.wires (part_costs device) (fits device)

@@ -12,6 +12,8 @@ mod fixtures;
 #[cfg(test)]
 mod flattening;
 #[cfg(test)]
+mod frames;
+#[cfg(test)]
 mod fronts;
 mod graphs;
 #[cfg(test)]

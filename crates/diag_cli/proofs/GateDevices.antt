@@ -1,5 +1,5 @@
 -- A device of gates of which no part is held is never at odds with what was seen: where all gates are faulty, they allow anything.
-use Rattle.std.proofs.Common.{◌≡◌, ℕ, zero, suc, Bool, true, false, List, [], ◌∷◌, ◌++◌, map, length, replicate, Option, Some, None, refl, ap, ◌∙◌, subst, arith}
+use Rattle.std.proofs.Common.{◌≡◌, ℕ, zero, suc, Bool, true, false, List, [], ◌∷◌, ◌++◌, map, length, replicate, Option, Some, None, refl, ap, sym, ◌∙◌, subst, arith}
 use Rattle.std.specs.Prelude.{Ok, ◌&&◌, IsSome, nat_le, option_map, unwrap_or}
 use Rattle.std.specs.List.{filter_map, flat_map, list_all}
 use Rattle.std.specs.Option.{option_to_list}
@@ -18,7 +18,7 @@ use Rattle.device_model.specs.declared.component.Kind.{Kind}
 use Rattle.device_model.specs.declared.component.Kind.TheVariants.{Table}
 use Rattle.device_model.specs.declared.component.Component.{Component}
 use Rattle.device_model.specs.TruthTable.{TruthTable}
-use Rattle.device_model.specs.Devices.{Device, takes, allows, parts_fit, fits, part_costs}
+use Rattle.device_model.specs.Devices.{Device, takes, allows, parts_fit, fits, part_names, part_costs}
 use Rattle.device_model.specs.Diagnosis.{is_consistent, device_system}
 use Rattle.device_model.specs.Building.{NamedPart, joined}
 use Rattle.device_model.proofs.Making.{component_name, list_all-sorted_distinct}
@@ -129,16 +129,17 @@ unfolding all_faulty seen_bits
 gates_agree device seen gates long =
     let state = all_faulty device.parts in
     let wires = seen_bits seen in
-    let is_state : In state (lists_of_bits (length device.parts)) =
-    subst (λ n. In state (lists_of_bits n)) (length-map device.parts (λ (part : Component). false)) (bits_in state) in
+    let is_state : In state (lists_of_bits (length (part_names device.parts))) =
+    subst (λ n. In state (lists_of_bits n))
+    (length-map device.parts (λ (part : Component). false) ∙ sym (length-map device.parts (λ (part : Component). part.name))) (bits_in state) in
     let are_wires : In wires (lists_of_bits (length device.wires)) =
     subst (λ n. In wires (lists_of_bits n)) (length-map seen (λ (o : Option Bool). unwrap_or o false) ∙ long) (bits_in wires) in
     let known = seen_case device seen in
     let fit : (agrees seen wires && fits device state wires) ≡ true = and_from _ _ (seen_agree seen) (faulty_fit device.tables device.parts wires gates) in
-    let passes : is_consistent device known state ≡ true =
+    let passes : is_consistent (fits device) (length device.wires) known state ≡ true =
     and_from _ _ (none_held (length device.parts) state) (any_in (λ bits. agrees seen bits && fits device state bits) wires (lists_of_bits (length device.wires)) are_wires fit) in
     is_there (least_cost (device_system device) known) (cost (part_costs device) state)
-    (least-below (cost (part_costs device)) (is_consistent device known) state (lists_of_bits (length device.parts)) is_state passes)
+    (least-below (cost (part_costs device)) (is_consistent (fits device) (length device.wires) known) state (lists_of_bits (length (part_names device.parts))) is_state passes)
 
 pub netlists_agree : (text : List ℕ) (device : Device) (seen : List (Option Bool)) → netlist text ≡ Ok device → length seen ≡ length device.wires → IsSome (least_cost (device_system device) (seen_case device seen))
 netlists_agree text device seen is long = gates_agree device seen (netlist_of_gates text device is) long

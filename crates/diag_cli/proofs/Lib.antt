@@ -4,6 +4,7 @@ pub mod WordLemmas
 pub mod Running
 pub mod ServedDevices
 pub mod AskedGraphs
+pub mod ServedFrames
 pub mod Failing
 pub mod Unread
 pub mod Scripts

@@ -5,7 +5,7 @@ use Rattle.graph_rules.specs.Graphs.{Graph, IsGraph}
 use Rattle.device_model.specs.Devices.{Device, IsDevice}
 use Rattle.device_model.specs.Diagnosis.{device_system}
 use Rattle.clause_encoder.specs.Clauses.{ClauseList}
-use Rattle.clause_encoder.specs.Encoding.{encoded, Describes}
+use Rattle.clause_encoder.specs.Encoding.{most_variables, encoded, Describes}
 use Rattle.clause_encoder.proofs.Sizes.{encoded-few_vars}
 use Rattle.branch_states.specs.declared.measuring.TheConstants.{BUDGET_LIMIT}
 use Rattle.clause_encoder.specs.declared.encoding.EncodeError.{EncodeError}
@@ -33,7 +33,7 @@ module _ (device : Device) (cnf : ClauseList) (is : encoded device ≡ Ok cnf) w
     few_nodes = omega (arith, listed, few_made, few_nodes, small);
   }
     where
-      listed : cnf.vars ≤ 107861
+      listed : cnf.vars ≤ most_variables
       listed = encoded-few_vars device cnf valid is
 
 -- ---- the same answers

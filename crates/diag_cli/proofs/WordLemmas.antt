@@ -8,11 +8,12 @@ use Rattle.text_rules.specs.Numbers.{value_behind, are_digits, has_leading_zero,
 use Rattle.adder_load.specs.declared.adders.TheConstants.{PLACE_LIMIT}
 use Rattle.device_model.specs.declared.limits.TheConstants.{PART_LIMIT}
 use Rattle.branch_states.specs.declared.measuring.TheConstants.{BUDGET_LIMIT}
+use Rattle.frame_unroller.specs.declared.unrolling.TheConstants.{FRAME_LIMIT}
 use Rattle.session_core.specs.declared.limits.TheConstants.{SESSION_LIMIT}
 use Rattle.diag_cli.specs.declared.words.TheConstants.{DEFAULT_BUDGET, DEFAULT_SESSIONS}
 use Rattle.diag_cli.specs.declared.words.Options.{Options}
 use Rattle.diag_cli.specs.declared.words.Form.{Form as FormRead}
-use Rattle.diag_cli.specs.Words.{Form, Load, Over, Serve, Ask, Plan, Check, Compile, no_options, given_once, with_budget, with_sessions, with_order, asks_order, has_no_number, and_option, and_options, form_by, form_over, sessions_in, ask_by, form_ask, form_load, form_by_words, form_of, is_device_path, is_graph_path, are_none, only_if}
+use Rattle.diag_cli.specs.Words.{Form, Load, Over, Serve, ServeFrames, Ask, Plan, Check, Compile, no_options, given_once, with_budget, with_sessions, with_frames, with_order, asks_order, has_no_number, and_option, and_options, form_serve, form_by, form_over, sessions_in, ask_by, form_ask, form_load, form_by_words, form_of, is_netlist_path, is_device_path, is_graph_path, are_none, only_if}
 use Rattle.diag_cli.specs.inner.Forms.{meant, IsWithinLimits}
 
 -- ---- words of the code and words of the definition
@@ -77,63 +78,104 @@ no_sessions path None = refl
 no_sessions path (Some health) = refl
 
 -- no options yet
-pub over_options : (given : Options) (command path : List ℕ) (words : List (List ℕ)) (found : Option Options) → (given.budget ≡ None) × ((given.sessions ≡ None) × (given.narrow ≡ false))
+pub over_options : (given : Options) (command path : List ℕ) (words : List (List ℕ)) (found : Option Options) → (given.budget ≡ None) × ((given.sessions ≡ None) × ((given.frames ≡ None) × (given.narrow ≡ false)))
     → and_options given words ≡ found → form_over command path words ≡ option_and_then (form_by command path) found
 over_options given command path words found none is =
-    let no_more : no_options ≡ given = λ k. record { budget = sym none.0 k; sessions = sym none.1.0 k; narrow = sym none.1.1 k } in
+    let no_more : no_options ≡ given = λ k. record { budget = sym none.0 k; sessions = sym none.1.0 k; frames = sym none.1.1.0 k; narrow = sym none.1.1.1 k } in
     ap (λ options. option_and_then (form_by command path) (and_options options words)) no_more ∙ ap (option_and_then (form_by command path)) is
 
 -- ---- the order of options does not matter
 
 -- `and_option`, over what an option is and what its value spells
-abbrev one_more : (is_budget is_sessions : Bool) (budget sessions : Option ℕ) → Options → Option Options
-one_more is_budget is_sessions budget sessions given =
+abbrev one_more : (is_budget is_sessions is_frames : Bool) (budget sessions frames : Option ℕ) → Options → Option Options
+one_more is_budget is_sessions is_frames budget sessions frames given =
     if is_budget then with_budget given budget
     else if is_sessions then with_sessions given sessions
+    else if is_frames then with_frames given frames
     else None
 
-abbrev as_options : Bool → Option ℕ → Option ℕ → Options
-as_options w x y = record { budget = x; sessions = y; narrow = w }
+abbrev as_options : Bool → Option ℕ → Option ℕ → Option ℕ → Options
+as_options w x y z = record { budget = x; sessions = y; frames = z; narrow = w }
 
-two_budgets : (w s t : Bool) (m l x y n k : Option ℕ) → option_and_then (one_more true t k l) (one_more true s n m (as_options w x y)) ≡ option_and_then (one_more true s n m) (one_more true t k l (as_options w x y))
-two_budgets w s t m l (Some x) y n k = refl
-two_budgets w s t m l None y None None = refl
-two_budgets w s t m l None y None (Some k) = refl
-two_budgets w s t m l None y (Some n) None = refl
-two_budgets w s t m l None y (Some n) (Some k) = refl
+-- two options, in either order
+abbrev InEitherOrder : (Options → Option Options) → (Options → Option Options) → Options → Type 0
+InEitherOrder f g given = option_and_then g (f given) ≡ option_and_then f (g given)
 
-two_sessions : (w : Bool) (n k x y m l : Option ℕ) → option_and_then (one_more false true k l) (one_more false true n m (as_options w x y)) ≡ option_and_then (one_more false true n m) (one_more false true k l (as_options w x y))
-two_sessions w n k x (Some y) m l = refl
-two_sessions w n k x None None None = refl
-two_sessions w n k x None None (Some l) = refl
-two_sessions w n k x None (Some m) None = refl
-two_sessions w n k x None (Some m) (Some l) = refl
+two_budgets : (w : Bool) (x y z n k : Option ℕ) → InEitherOrder (λ more. with_budget more n) (λ more. with_budget more k) (as_options w x y z)
+two_budgets w (Some x) y z n k = refl
+two_budgets w None y z None None = refl
+two_budgets w None y z None (Some k) = refl
+two_budgets w None y z (Some n) None = refl
+two_budgets w None y z (Some n) (Some k) = refl
 
-one_of_each : (w s : Bool) (m k x y n l : Option ℕ) → option_and_then (one_more false true k l) (one_more true s n m (as_options w x y)) ≡ option_and_then (one_more true s n m) (one_more false true k l (as_options w x y))
-one_of_each w s m k (Some x) (Some y) n l = refl
-one_of_each w s m k (Some x) None n None = refl
-one_of_each w s m k (Some x) None n (Some l) = refl
-one_of_each w s m k None (Some y) None l = refl
-one_of_each w s m k None (Some y) (Some n) l = refl
-one_of_each w s m k None None None None = refl
-one_of_each w s m k None None None (Some l) = refl
-one_of_each w s m k None None (Some n) None = refl
-one_of_each w s m k None None (Some n) (Some l) = refl
+two_sessions : (w : Bool) (x y z n k : Option ℕ) → InEitherOrder (λ more. with_sessions more n) (λ more. with_sessions more k) (as_options w x y z)
+two_sessions w x (Some y) z n k = refl
+two_sessions w x None z None None = refl
+two_sessions w x None z None (Some k) = refl
+two_sessions w x None z (Some n) None = refl
+two_sessions w x None z (Some n) (Some k) = refl
 
-neither : (k l : Option ℕ) (o : Option Options) → option_and_then (one_more false false k l) o ≡ None
-neither k l None = refl
-neither k l (Some given) = refl
+two_frames : (w : Bool) (x y z n k : Option ℕ) → InEitherOrder (λ more. with_frames more n) (λ more. with_frames more k) (as_options w x y z)
+two_frames w x y (Some z) n k = refl
+two_frames w x y None None None = refl
+two_frames w x y None None (Some k) = refl
+two_frames w x y None (Some n) None = refl
+two_frames w x y None (Some n) (Some k) = refl
 
-either_first : (w b s c t : Bool) (n m k l x y : Option ℕ) → option_and_then (one_more c t k l) (one_more b s n m (as_options w x y)) ≡ option_and_then (one_more b s n m) (one_more c t k l (as_options w x y))
-either_first w true s true t n m k l x y = two_budgets w s t m l x y n k
-either_first w true s false true n m k l x y = one_of_each w s m k x y n l
-either_first w true s false false n m k l x y = neither k l (one_more true s n m (as_options w x y))
-either_first w false true true t n m k l x y = sym (one_of_each w t l n x y k m)
-either_first w false true false true n m k l x y = two_sessions w n k x y m l
-either_first w false true false false n m k l x y = neither k l (one_more false true n m (as_options w x y))
-either_first w false false true t n m k l x y = sym (neither n m (one_more true t k l (as_options w x y)))
-either_first w false false false true n m k l x y = sym (neither n m (one_more false true k l (as_options w x y)))
-either_first w false false false false n m k l x y = refl
+budget_sessions : (w : Bool) (x y z n k : Option ℕ) → InEitherOrder (λ more. with_budget more n) (λ more. with_sessions more k) (as_options w x y z)
+budget_sessions w (Some x) (Some y) z n k = refl
+budget_sessions w (Some x) None z n None = refl
+budget_sessions w (Some x) None z n (Some k) = refl
+budget_sessions w None (Some y) z None k = refl
+budget_sessions w None (Some y) z (Some n) k = refl
+budget_sessions w None None z None None = refl
+budget_sessions w None None z None (Some k) = refl
+budget_sessions w None None z (Some n) None = refl
+budget_sessions w None None z (Some n) (Some k) = refl
+
+budget_frames : (w : Bool) (x y z n k : Option ℕ) → InEitherOrder (λ more. with_budget more n) (λ more. with_frames more k) (as_options w x y z)
+budget_frames w (Some x) y (Some z) n k = refl
+budget_frames w (Some x) y None n None = refl
+budget_frames w (Some x) y None n (Some k) = refl
+budget_frames w None y (Some z) None k = refl
+budget_frames w None y (Some z) (Some n) k = refl
+budget_frames w None y None None None = refl
+budget_frames w None y None None (Some k) = refl
+budget_frames w None y None (Some n) None = refl
+budget_frames w None y None (Some n) (Some k) = refl
+
+sessions_frames : (w : Bool) (x y z n k : Option ℕ) → InEitherOrder (λ more. with_sessions more n) (λ more. with_frames more k) (as_options w x y z)
+sessions_frames w x (Some y) (Some z) n k = refl
+sessions_frames w x (Some y) None n None = refl
+sessions_frames w x (Some y) None n (Some k) = refl
+sessions_frames w x None (Some z) None k = refl
+sessions_frames w x None (Some z) (Some n) k = refl
+sessions_frames w x None None None None = refl
+sessions_frames w x None None None (Some k) = refl
+sessions_frames w x None None (Some n) None = refl
+sessions_frames w x None None (Some n) (Some k) = refl
+
+neither : (o : Option Options) → ◌≡◌ {A = Option Options} (option_and_then (λ (more : Options). None) o) None
+neither None = refl
+neither (Some given) = refl
+
+either_first : (w b s f c t u : Bool) (n m l k i j x y z : Option ℕ) → InEitherOrder (one_more b s f n m l) (one_more c t u k i j) (as_options w x y z)
+either_first w true s f true t u n m l k i j x y z = two_budgets w x y z n k
+either_first w true s f false true u n m l k i j x y z = budget_sessions w x y z n i
+either_first w true s f false false true n m l k i j x y z = budget_frames w x y z n j
+either_first w true s f false false false n m l k i j x y z = neither (with_budget (as_options w x y z) n)
+either_first w false true f true t u n m l k i j x y z = sym (budget_sessions w x y z k m)
+either_first w false true f false true u n m l k i j x y z = two_sessions w x y z m i
+either_first w false true f false false true n m l k i j x y z = sessions_frames w x y z m j
+either_first w false true f false false false n m l k i j x y z = neither (with_sessions (as_options w x y z) m)
+either_first w false false true true t u n m l k i j x y z = sym (budget_frames w x y z k l)
+either_first w false false true false true u n m l k i j x y z = sym (sessions_frames w x y z i l)
+either_first w false false true false false true n m l k i j x y z = two_frames w x y z l j
+either_first w false false true false false false n m l k i j x y z = neither (with_frames (as_options w x y z) l)
+either_first w false false false true t u n m l k i j x y z = sym (neither (with_budget (as_options w x y z) k))
+either_first w false false false false true u n m l k i j x y z = sym (neither (with_sessions (as_options w x y z) i))
+either_first w false false false false false true n m l k i j x y z = sym (neither (with_frames (as_options w x y z) j))
+either_first w false false false false false false n m l k i j x y z = refl
 
 then_then : {A B C : Type 0} (f : B → Option C) (g : A → Option B) (o : Option A) → option_and_then (λ x. option_and_then f (g x)) o ≡ option_and_then f (option_and_then g o)
 then_then f g None = refl
@@ -157,7 +199,7 @@ pub options_in_either_order : (given : Options) (a x b y : List ℕ) (words : Li
     → and_options given (a ∷ x ∷ b ∷ y ∷ words) ≡ and_options given (b ∷ y ∷ a ∷ x ∷ words)
 options_in_either_order given a x b y words is other =
     both_valued given a x b y words is other
-    ∙ ap (option_and_then (λ more. and_options more words)) (either_first given.narrow _ _ _ _ _ _ _ _ given.budget given.sessions)
+    ∙ ap (option_and_then (λ more. and_options more words)) (either_first given.narrow _ _ _ _ _ _ _ _ _ _ _ _ given.budget given.sessions given.frames)
     ∙ sym (both_valued given b y a x words other is)
 
 -- words ask for the same in whatever order their options stand
@@ -197,6 +239,7 @@ plain_number_in-range most low high word =
 record AreWithin (options : Options) : Type 0 where
   budget : IfSome options.budget (IsWithin 1 BUDGET_LIMIT)
   sessions : IfSome options.sessions (IsWithin 1 SESSION_LIMIT)
+  frames : IfSome options.frames (IsWithin 1 FRAME_LIMIT)
 
 once_within : (P : ℕ → Type 0) (earlier number : Option ℕ) → IfSome number P → IfSome (given_once earlier number) P
 once_within P None number is = is
@@ -205,24 +248,30 @@ once_within P (Some earlier) number is = tt
 budget_more : (given : Options) (number : Option ℕ) → AreWithin given → IfSome number (IsWithin 1 BUDGET_LIMIT)
     → IfSome (option_map (λ n. record given { budget = Some n }) number) AreWithin
 budget_more given None are is = tt
-budget_more given (Some n) are is = record { budget = is; sessions = are.sessions }
+budget_more given (Some n) are is = record { budget = is; sessions = are.sessions; frames = are.frames }
 
 sessions_more : (given : Options) (number : Option ℕ) → AreWithin given → IfSome number (IsWithin 1 SESSION_LIMIT)
     → IfSome (option_map (λ n. record given { sessions = Some n }) number) AreWithin
 sessions_more given None are is = tt
-sessions_more given (Some n) are is = record { budget = are.budget; sessions = is }
+sessions_more given (Some n) are is = record { budget = are.budget; sessions = is; frames = are.frames }
 
-one_more_within : (b s : Bool) (n m : Option ℕ) (given : Options) → AreWithin given → IfSome n (IsWithin 1 BUDGET_LIMIT) → IfSome m (IsWithin 1 SESSION_LIMIT)
-    → IfSome (one_more b s n m given) AreWithin
-one_more_within true s n m given are small few = budget_more given _ are (once_within _ given.budget n small)
-one_more_within false true n m given are small few = sessions_more given _ are (once_within _ given.sessions m few)
-one_more_within false false n m given are small few = tt
+frames_more : (given : Options) (number : Option ℕ) → AreWithin given → IfSome number (IsWithin 1 FRAME_LIMIT)
+    → IfSome (option_map (λ n. record given { frames = Some n }) number) AreWithin
+frames_more given None are is = tt
+frames_more given (Some n) are is = record { budget = are.budget; sessions = are.sessions; frames = is }
+
+one_more_within : (b s f : Bool) (n m k : Option ℕ) (given : Options) → AreWithin given → IfSome n (IsWithin 1 BUDGET_LIMIT) → IfSome m (IsWithin 1 SESSION_LIMIT)
+    → IfSome k (IsWithin 1 FRAME_LIMIT) → IfSome (one_more b s f n m k given) AreWithin
+one_more_within true s f n m k given are small few times = budget_more given _ are (once_within _ given.budget n small)
+one_more_within false true f n m k given are small few times = sessions_more given _ are (once_within _ given.sessions m few)
+one_more_within false false true n m k given are small few times = frames_more given _ are (once_within _ given.frames k times)
+one_more_within false false false n m k given are small few times = tt
 
 order_within : (given : Options) → AreWithin given → IfSome (with_order given) AreWithin
 order_within given are =
     elim given.narrow as (λ b. IfSome (if b then None else Some (record given { narrow = true })) AreWithin) [
       | true ↦ tt
-      | false ↦ record { budget = are.budget; sessions = are.sessions }
+      | false ↦ record { budget = are.budget; sessions = are.sessions; frames = are.frames }
     ]
 
 and_then_holds : {A B : Type 0} (P : A → Type 0) (Q : B → Type 0) (f : A → Option B) (o : Option A) → IfSome o P → ((x : A) → P x → IfSome (f x) Q) → IfSome (option_and_then f o) Q
@@ -239,7 +288,7 @@ all_within given (option ∷ value ∷ words) are =
       | true ↦ and_then_holds AreWithin AreWithin (λ more. and_options more (value ∷ words)) (with_order given) (order_within given are) (λ more. all_within more (value ∷ words))
       | false ↦ (
           and_then_holds AreWithin AreWithin (λ more. and_options more words) (and_option given option value)
-          (one_more_within _ _ _ _ given are (plain_number_in-range 7 1 BUDGET_LIMIT value) (plain_number_in-range 4 1 SESSION_LIMIT value))
+          (one_more_within _ _ _ _ _ _ given are (plain_number_in-range 7 1 BUDGET_LIMIT value) (plain_number_in-range 4 1 SESSION_LIMIT value) (plain_number_in-range 2 1 FRAME_LIMIT value))
           (λ more. all_within more words))
     ]
 
@@ -256,19 +305,32 @@ one_form true true form other is others = record { given = is }
 one_form true false form other is others = record { given = tt }
 one_form false taken form other is others = others
 
+only_within : (taken : Bool) (form : Form) → IsWithinLimits form → IfSome (only_if taken form) IsWithinLimits
+only_within true form is = is
+only_within false form is = tt
+
+serve_within : (path : List ℕ) (budget sessions : ℕ) (narrow : Bool) (frames : Option ℕ) → budget ≤ BUDGET_LIMIT → (1 ≤ sessions) × (sessions ≤ SESSION_LIMIT) → IfSome frames (IsWithin 1 FRAME_LIMIT)
+    → IfSome (form_serve path budget sessions narrow frames) IsWithinLimits
+serve_within path budget sessions narrow None small few times = only_within (is_device_path path) (Over path (Serve budget sessions narrow)) (small, few.0, few.1)
+serve_within path budget sessions narrow (Some frames) small few times = only_within (is_netlist_path path) (Over path (ServeFrames frames budget sessions narrow)) (times.0, times.1, small, few.0, few.1)
+
+of_command : (is_command : Bool) (form other : Option Form) → IfSome form IsWithinLimits → GivesWithin other → GivesWithin (if is_command then form else other)
+of_command true form other is others = record { given = is }
+of_command false form other is others = others
+
 form_by_within : (command path : List ℕ) (options : Options) → AreWithin options → GivesWithin (form_by command path options)
 form_by_within command path options are =
     let budget = or_default (IsWithin 1 BUDGET_LIMIT) options.budget DEFAULT_BUDGET are.budget (lit≤ tt, lit≤ tt) in
     let sessions = or_default (IsWithin 1 SESSION_LIMIT) options.sessions DEFAULT_SESSIONS are.sessions (lit≤ tt, lit≤ tt) in
-    one_form (same_name command (codes "serve")) (is_device_path path) (Over path (Serve _ _ _)) _ (budget.1, sessions.0, sessions.1)
-    (one_form (same_name command (codes "compile")) (is_device_path path && is_none options.sessions) (Over path (Compile _ _)) _ budget.1
+    of_command (same_name command (codes "serve")) (form_serve path _ _ options.narrow options.frames) _ (serve_within path _ _ options.narrow options.frames budget.1 sessions are.frames)
+    (one_form (same_name command (codes "compile")) ((is_device_path path && is_none options.sessions) && is_none options.frames) (Over path (Compile _ _)) _ budget.1
     (one_form (same_name command (codes "plan")) (is_device_path path && has_no_number options) (Over path (Plan _)) _ tt
     (one_form (same_name command (codes "check")) (is_graph_path path && are_none options) (Over path Check) None tt (record { given = tt }))))
 
 form_over_within : (command path : List ℕ) (words : List (List ℕ)) → IfSome (form_over command path words) IsWithinLimits
 form_over_within command path words =
     and_then_holds AreWithin IsWithinLimits (form_by command path) (and_options no_options words)
-    (all_within no_options words (record { budget = tt; sessions = tt })) (λ options are. (form_by_within command path options are).given)
+    (all_within no_options words (record { budget = tt; sessions = tt; frames = tt })) (λ options are. (form_by_within command path options are).given)
 
 load_within : (places : Option ℕ) → IfSome places (IsWithin 1 PLACE_LIMIT) → IfSome (option_map Load places) IsWithinLimits
 load_within None is = tt

@@ -14,11 +14,13 @@ use Rattle.session_rules.specs.Items.{Item, Plain, Whole, line}
 use Rattle.session_rules.specs.Sessions.{replies}
 use Rattle.session_rules.specs.GraphSystems.{system_of}
 use Rattle.diag_cli.specs.declared.serving.TheConstants.{SCRIPT_LIMIT}
-use Rattle.diag_cli.specs.Words.{Form, Load, Over, Command, Serve, Ask, Plan, Check, Compile}
+use Rattle.diag_cli.specs.Words.{Form, Load, Over, Command, Serve, ServeFrames, Ask, Plan, Check, Compile}
 use Rattle.diag_cli.specs.Output.{Output, says, too_long_line, no_memory}
 use Rattle.diag_cli.specs.Describing.{long_file_line, device_in}
-use Rattle.diag_cli.specs.Orders.{clauses_by}
+use Rattle.diag_cli.specs.Orders.{list_by, clauses_by}
 use Rattle.diag_cli.specs.Planning.{within, sizes_in, planned}
+use Rattle.frame_unroller.specs.Diagnosis.{frame_system}
+use Rattle.diag_cli.specs.Frames.{sequential_in, if_unrolled}
 use Rattle.diag_cli.specs.Checking.{graph_in, checked}
 use Rattle.diag_cli.specs.Asking.{asked}
 use Rattle.diag_cli.specs.Loads.{loaded}
@@ -113,6 +115,8 @@ whole_output (Serves answers) (Some script) = Some (wholly_served answers script
 abbrev pub course_by : (ClauseList → ClauseList) → List ℕ → Command → List ℕ → Course
 course_by order path (Serve budget sessions narrow) file =
     served_or_refused device_system sessions (if_within budget (clauses_by narrow order) (device_in path file))
+course_by order path (ServeFrames frames budget sessions narrow) file =
+    served_or_refused (λ seq. frame_system seq frames) sessions (if_unrolled frames budget (list_by narrow order) (sequential_in file))
 course_by order path (Ask health sessions) file = served_or_refused system_of sessions (asked health (graph_in file))
 course_by order path (Plan narrow) file = Tells (planned (sizes_in (clauses_by narrow order) (device_in path file)))
 course_by order path Check file = Tells (checked (graph_in file))

@@ -33,7 +33,7 @@ abbrev pub long_file_line : List ℕ
 long_file_line = too_long_line (codes "file") TEXT_LIMIT
 
 -- a device, or the line that refuses its file
-abbrev pub or_line : {F : Type 0} → (F → List ℕ) → Result Device F → Result Device Output
+abbrev pub or_line : {A F : Type 0} → (F → List ℕ) → Result A F → Result A Output
 or_line line (Ok device) = Ok device
 or_line line (Err fault) = Err (says (line fault) 1)
 

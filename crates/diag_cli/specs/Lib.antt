@@ -5,6 +5,7 @@ pub mod Checking
 pub mod Orders
 pub mod Asking
 pub mod Planning
+pub mod Frames
 pub mod Loads
 pub mod Courses
 pub mod Following

@@ -6,6 +6,7 @@ use Rattle.text_rules.specs.Numbers.{plain_number_in}
 use Rattle.adder_load.specs.declared.adders.TheConstants.{PLACE_LIMIT}
 use Rattle.device_model.specs.declared.limits.TheConstants.{PART_LIMIT}
 use Rattle.branch_states.specs.declared.measuring.TheConstants.{BUDGET_LIMIT}
+use Rattle.frame_unroller.specs.declared.unrolling.TheConstants.{FRAME_LIMIT}
 use Rattle.diag_edge.specs.Edge.{Holding, told_bytes}
 use Rattle.diag_cli.specs.declared.words.Options.{Options}
 use Rattle.session_core.specs.declared.limits.TheConstants.{SESSION_LIMIT}
@@ -13,9 +14,10 @@ use Rattle.diag_cli.specs.declared.words.TheConstants.{DEFAULT_BUDGET, DEFAULT_S
 
 -- ---- forms
 
--- what is done over a file
+-- what is done over a file; `serve` with a number of frames takes flip-flops
 pub data Command : Type 0 where
   Serve : (budget sessions : ℕ) (narrow : Bool) → Command
+  ServeFrames : (frames budget sessions : ℕ) (narrow : Bool) → Command
   Ask : (health sessions : ℕ) → Command
   Plan : (narrow : Bool) → Command
   Check : Command
@@ -42,6 +44,7 @@ told_file held name = option_map_or (λ path. told_bytes (held path)) name (Some
 -- only `serve` and `ask` ask for a script
 abbrev pub asks_script : Option Form → Bool
 asks_script (Some (Over path (Serve budget sessions narrow))) = true
+asks_script (Some (Over path (ServeFrames frames budget sessions narrow))) = true
 asks_script (Some (Over path (Ask health sessions))) = true
 asks_script form = false
 
@@ -55,9 +58,13 @@ ends_in ending path = nat_lt (length ending) (length path) && same_name (drop (l
 abbrev pub is_design_path : List ℕ → Bool
 is_design_path path = ends_in (codes ".dev") path
 
+-- a netlist by its ending
+abbrev pub is_netlist_path : List ℕ → Bool
+is_netlist_path path = ends_in (codes ".bench") path
+
 -- a netlist or a design
 abbrev pub is_device_path : List ℕ → Bool
-is_device_path path = ends_in (codes ".bench") path || is_design_path path
+is_device_path path = is_netlist_path path || is_design_path path
 
 -- a graph
 abbrev pub is_graph_path : List ℕ → Bool
@@ -66,11 +73,11 @@ is_graph_path path = ends_in (codes ".nnf") path
 -- ---- options
 
 abbrev pub no_options : Options
-no_options = record { budget = None; sessions = None; narrow = false }
+no_options = record { budget = None; sessions = None; frames = None; narrow = false }
 
--- neither `--budget` nor `--sessions` was given
+-- no option with a number was given
 abbrev pub has_no_number : Options → Bool
-has_no_number options = is_none options.budget && is_none options.sessions
+has_no_number options = (is_none options.budget && is_none options.sessions) && is_none options.frames
 
 abbrev pub are_none : Options → Bool
 are_none options = has_no_number options && not options.narrow
@@ -88,6 +95,10 @@ with_budget given number = option_map (λ n. record given { budget = Some n }) (
 abbrev pub with_sessions : Options → Option ℕ → Option Options
 with_sessions given number = option_map (λ n. record given { sessions = Some n }) (given_once given.sessions number)
 
+-- the options that were given, with a number of frames
+abbrev pub with_frames : Options → Option ℕ → Option Options
+with_frames given number = option_map (λ n. record given { frames = Some n }) (given_once given.frames number)
+
 -- the options that were given, with another order
 abbrev pub with_order : Options → Option Options
 with_order given = if given.narrow then None else Some (record given { narrow = true })
@@ -97,6 +108,7 @@ abbrev pub and_option : Options → List ℕ → List ℕ → Option Options
 and_option given option value =
     if same_name option (codes "--budget") then with_budget given (plain_number_in 7 1 BUDGET_LIMIT value)
     else if same_name option (codes "--sessions") then with_sessions given (plain_number_in 4 1 SESSION_LIMIT value)
+    else if same_name option (codes "--frames") then with_frames given (plain_number_in 2 1 FRAME_LIMIT value)
     else None
 
 abbrev pub asks_order : List ℕ → Bool
@@ -116,13 +128,18 @@ and_options given (option ∷ value ∷ words) =
 abbrev pub only_if : Bool → Form → Option Form
 only_if are_taken form = if are_taken then Some form else None
 
+-- `serve`, over a netlist where there are frames
+abbrev pub form_serve : List ℕ → ℕ → ℕ → Bool → Option ℕ → Option Form
+form_serve path budget sessions narrow None = only_if (is_device_path path) (Over path (Serve budget sessions narrow))
+form_serve path budget sessions narrow (Some frames) = only_if (is_netlist_path path) (Over path (ServeFrames frames budget sessions narrow))
+
 -- a command over a file, with options
 abbrev pub form_by : List ℕ → List ℕ → Options → Option Form
 form_by command path options =
     let budget = unwrap_or options.budget DEFAULT_BUDGET in
     let sessions = unwrap_or options.sessions DEFAULT_SESSIONS in
-    if same_name command (codes "serve") then only_if (is_device_path path) (Over path (Serve budget sessions options.narrow))
-    else if same_name command (codes "compile") then only_if (is_device_path path && is_none options.sessions) (Over path (Compile budget options.narrow))
+    if same_name command (codes "serve") then form_serve path budget sessions options.narrow options.frames
+    else if same_name command (codes "compile") then only_if ((is_device_path path && is_none options.sessions) && is_none options.frames) (Over path (Compile budget options.narrow))
     else if same_name command (codes "plan") then only_if (is_device_path path && has_no_number options) (Over path (Plan options.narrow))
     else if same_name command (codes "check") then only_if (is_graph_path path && are_none options) (Over path Check)
     else None

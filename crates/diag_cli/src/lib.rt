@@ -6,6 +6,7 @@ mod asking;
 mod checking;
 mod compiling;
 mod describing;
+mod framing;
 mod graphs;
 mod laws;
 mod loading;

@@ -8,6 +8,7 @@ ghost use Rattle.diag_cli.specs.inner.Forms.{command_meant, IsCommandWithin};
 use crate::asking::ask_file;
 use crate::checking::check_file;
 use crate::compiling::compile_file;
+use crate::framing::serve_frames;
 use crate::planning::plan_file;
 use crate::serving::{SCRIPT_LIMIT, serve_file};
 use crate::words::Command;
@@ -47,6 +48,12 @@ pub(crate) fn run_file<I: Source, O: Sink>(
             sessions,
             narrow,
         } => serve_file(alloc, path, file, budget, narrow, sessions, input, out),
+        Command::ServeFrames {
+            frames,
+            budget,
+            sessions,
+            narrow,
+        } => serve_frames(alloc, file, frames, budget, narrow, sessions, input, out),
         Command::Ask { health, sessions } => ask_file(alloc, file, health, sessions, input, out),
         Command::Plan { narrow } => plan_file(alloc, path, file, narrow, out),
         Command::Check => check_file(alloc, file, out),

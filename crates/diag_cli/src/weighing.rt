@@ -6,14 +6,14 @@ ghost use Rattle.branch_states.specs.Branches.{sum_of};
 ghost use Rattle.diag_cli.specs.Orders.{clauses_by, ByClauses};
 ghost use Rattle.diag_cli.specs.Planning.{within};
 ghost use Rattle.diag_cli.specs.Refusals.{told_by};
-ghost use Rattle.diag_cli.specs.inner.Ordering.{IsListOf};
+ghost use Rattle.diag_cli.specs.inner.Ordering.{IsInOrder, IsListOf};
 
 use crate::refusal::{Refusal, above};
 use branch_states::{BUDGET_LIMIT, MeasureError, measure};
 use clause_encoder::{CLAUSE_LIMIT, Cnf, EncodeError, encode};
 use clause_order::narrow;
 use device_model::Device;
-use std::alloc::Global;
+use std::alloc::{AllocError, Global};
 
 // The clauses of a device, unless there are too many, whatever the budget.
 fn clauses_of(alloc: Global, device: &Device) -> Result<Cnf, Refusal>
@@ -31,7 +31,14 @@ fn clauses_of(alloc: Global, device: &Device) -> Result<Cnf, Refusal>
     }
 }
 
-/// The same in a better order, where that is asked for.
+/// Clauses in a better order, where that is asked for.
+pub(crate) fn in_order(alloc: Global, cnf: Cnf, is_narrow: bool) -> Result<Cnf, AllocError>
+    ensures { IfOk result (IsInOrder is_narrow cnf) }
+{
+    if is_narrow { narrow(alloc, cnf) } else { Ok(cnf) }
+}
+
+/// The clauses of a device, in a better order where that is asked for.
 pub(crate) fn ordered_clauses(
     alloc: Global,
     device: &Device,
@@ -42,11 +49,7 @@ pub(crate) fn ordered_clauses(
         → IsExpectedFault (told_by refusal) (within budget (clauses_by is_narrow order device.now))) }
 {
     let cnf = clauses_of(alloc, device)?;
-    if is_narrow {
-        Ok(narrow(alloc, cnf)?)
-    } else {
-        Ok(cnf)
-    }
+    Ok(in_order(alloc, cnf, is_narrow)?)
 }
 
 /// The clauses of a device and their sum, where it is within a budget.

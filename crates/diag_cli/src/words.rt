@@ -1,12 +1,13 @@
 ghost use Rattle.std.specs.Prelude.{◌≡◌, map, string_bytes, IfSome};
 ghost use Rattle.std.specs.Option.{option_map};
 ghost use Rattle.text_rules.specs.Numbers.{plain_number_in};
-ghost use Rattle.diag_cli.specs.Words.{form_of, form_by_words, form_over, form_load, form_ask, sessions_in, form_by, has_no_number, are_none, given_once, with_order, and_option, and_options, ends_in, is_design_path, is_device_path, is_graph_path};
+ghost use Rattle.diag_cli.specs.Words.{form_of, form_by_words, form_over, form_load, form_ask, sessions_in, form_by, form_serve, has_no_number, are_none, given_once, with_order, and_option, and_options, ends_in, is_design_path, is_netlist_path, is_device_path, is_graph_path};
 ghost use Rattle.diag_cli.specs.inner.Forms.{meant, IsWithinLimits};
 
 use adder_load::PLACE_LIMIT;
 use branch_states::BUDGET_LIMIT;
 use device_model::PART_LIMIT;
+use frame_unroller::FRAME_LIMIT;
 use session_core::SESSION_LIMIT;
 use text_rules::plain_number;
 
@@ -22,6 +23,13 @@ pub enum Command {
     /// `serve`: answers the script on the input over the device of the file, whose sum is within a budget, with at most so
     /// many sessions open at a time. Its clauses may be put into a better order.
     Serve {
+        budget: u32,
+        sessions: u32,
+        narrow: bool,
+    },
+    /// `serve` with `--frames`: answers it over a netlist with flip-flops and so many times.
+    ServeFrames {
+        frames: u32,
         budget: u32,
         sessions: u32,
         narrow: bool,
@@ -61,6 +69,8 @@ pub struct Options {
     pub budget: Option<u32>,
     /// `--sessions N`, from 1 to `SESSION_LIMIT`.
     pub sessions: Option<u32>,
+    /// `--frames N`, from 1 to `FRAME_LIMIT`.
+    pub frames: Option<u32>,
     /// `--narrow`: clauses are put into a better order.
     pub narrow: bool,
 }
@@ -70,7 +80,7 @@ impl Options {
     fn has_no_number(self) -> bool
         ensures { result ≡ has_no_number self }
     {
-        self.budget.is_none() && self.sessions.is_none()
+        self.budget.is_none() && self.sessions.is_none() && self.frames.is_none()
     }
 
     // Whether no option is given.
@@ -109,6 +119,13 @@ impl Options {
                 let sessions = given_once(self.sessions, number_to(4, SESSION_LIMIT, value))?;
                 Some(Options {
                     sessions: Some(sessions),
+                    ..self
+                })
+            }
+            "--frames" => {
+                let frames = given_once(self.frames, number_to(2, FRAME_LIMIT, value))?;
+                Some(Options {
+                    frames: Some(frames),
                     ..self
                 })
             }
@@ -176,11 +193,18 @@ pub fn is_design_path(path: &str) -> bool
     ends_in(b".dev", path)
 }
 
+// Whether a file is a netlist by its ending.
+fn is_netlist_path(path: &str) -> bool
+    ensures { result ≡ is_netlist_path path.now }
+{
+    ends_in(b".bench", path)
+}
+
 /// Whether a file is a netlist or a design by its ending.
 pub fn is_device_path(path: &str) -> bool
     ensures { result ≡ is_device_path path.now }
 {
-    ends_in(b".bench", path) || is_design_path(path)
+    is_netlist_path(path) || is_design_path(path)
 }
 
 // Whether a file is a graph by its ending.
@@ -188,6 +212,33 @@ fn is_graph_path(path: &str) -> bool
     ensures { result ≡ is_graph_path path.now }
 {
     ends_in(b".nnf", path)
+}
+
+// What `serve` is, over a netlist where there are frames.
+fn form_serve<'a>(
+    path: &'a str,
+    budget: u32,
+    sessions: u32,
+    narrow: bool,
+    frames: Option<u32>,
+) -> Option<Form<'a>>
+    ensures { option_map meant result ≡ form_serve path.now budget sessions narrow frames }
+{
+    let command = match frames {
+        None if is_device_path(path) => Command::Serve {
+            budget,
+            sessions,
+            narrow,
+        },
+        Some(frames) if is_netlist_path(path) => Command::ServeFrames {
+            frames,
+            budget,
+            sessions,
+            narrow,
+        },
+        _ => return None,
+    };
+    Some(Form::Over { path, command })
 }
 
 // The form of a command over a file, with options.
@@ -198,12 +249,12 @@ fn form_by<'a>(command: &str, path: &'a str, options: Options) -> Option<Form<'a
     let sessions = options.sessions.unwrap_or(DEFAULT_SESSIONS);
     let narrow = options.narrow;
     let command = match command {
-        "serve" if is_device_path(path) => Command::Serve {
-            budget,
-            sessions,
-            narrow,
-        },
-        "compile" if is_device_path(path) && options.sessions.is_none() => {
+        "serve" => return form_serve(path, budget, sessions, narrow, options.frames),
+        "compile"
+            if is_device_path(path)
+                && options.sessions.is_none()
+                && options.frames.is_none() =>
+        {
             Command::Compile { budget, narrow }
         }
         "plan" if is_device_path(path) && options.has_no_number() => Command::Plan { narrow },

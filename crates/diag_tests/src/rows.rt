@@ -45,7 +45,7 @@ const SHARED: File = File {
     text: "nnf 3 2 1\nL 1\nL -1\nA 2 0 1\n",
 };
 
-const ROWS: [Row; 38] = [
+const ROWS: [Row; 46] = [
     // The inputs are 0, so 22 and 23 are to be 0.
     Row {
         file: C17_FILE,
@@ -85,6 +85,93 @@ const ROWS: [Row; 38] = [
         script: "open S\nmin S",
         out: "ready 2 3\nS open\nS min 0\n",
         status: 0,
+    },
+    // A flip-flop put out 1 where its input had been 0.
+    Row {
+        file: File {
+            name: "q.bench",
+            text: "INPUT(d)\nq = DFF(d)\n",
+        },
+        words: &["serve", "q.bench", "--frames", "2"],
+        script: "open S\nsee S d@0001=0\nsee S q@0001=1\nsee S q@0002=1\nmin S\n",
+        out: "ready 1 4\nS open\nS ok\nS ok\nS ok\nS min 1 q\n",
+        status: 0,
+    },
+    // A loop that is to change its value each time did not.
+    Row {
+        file: File {
+            name: "toggle.bench",
+            text: "q = DFF(n)\nn = NOT(q)\n",
+        },
+        words: &["serve", "toggle.bench", "--sessions", "2", "--frames", "3", "--budget", "1000"],
+        script: "open S\nsee S q@0001=0\nsee S q@0003=1\nlist S 5\n",
+        out: "ready 2 6\nS open\nS ok\nS ok\nS diag n\nS diag q\nS end\n",
+        status: 0,
+    },
+    // The same in another order of the clauses.
+    Row {
+        file: File {
+            name: "toggle.bench",
+            text: "q = DFF(n)\nn = NOT(q)\n",
+        },
+        words: &["serve", "toggle.bench", "--narrow", "--frames", "3"],
+        script: "open S\nsee S q@0001=0\nsee S q@0003=1\nlist S 5\n",
+        out: "ready 2 6\nS open\nS ok\nS ok\nS diag n\nS diag q\nS end\n",
+        status: 0,
+    },
+    // At one time alone a flip-flop is in no clause, and its wires are still named by the time.
+    Row {
+        file: File {
+            name: "q.bench",
+            text: "INPUT(d)\nq = DFF(d)\n",
+        },
+        words: &["serve", "q.bench", "--frames", "1"],
+        script: "open S\nsee S d@0001=0\nsee S q@0001=1\nmin S\nsee S q=1\n",
+        out: "ready 1 2\nS open\nS ok\nS ok\nS min 0\nS error 9 no wire\n",
+        status: 0,
+    },
+    // Over three times the sum of a buffer is above 3.
+    Row {
+        file: File {
+            name: "b.bench",
+            text: "INPUT(a)\nb = BUFF(a)\n",
+        },
+        words: &["serve", "b.bench", "--budget", "3", "--frames", "3"],
+        script: "open S\n",
+        out: "error: sum above 3\n",
+        status: 3,
+    },
+    // A part that is faulty is so at all times, and costs 1.
+    Row {
+        file: File {
+            name: "b.bench",
+            text: "INPUT(a)\nb = BUFF(a)\n",
+        },
+        words: &["serve", "b.bench", "--frames", "2"],
+        script: "open S\nsee S a@0001=0\nsee S a@0002=0\nsee S b@0001=1\nsee S b@0002=1\nmin S\n",
+        out: "ready 1 4\nS open\nS ok\nS ok\nS ok\nS ok\nS min 1 b\n",
+        status: 0,
+    },
+    // Each of the 65 parts has 64 copies.
+    Row {
+        file: File {
+            name: "many.bench",
+            text: "INPUT(a)\nb01 = BUFF(a)\nb02 = BUFF(a)\nb03 = BUFF(a)\nb04 = BUFF(a)\nb05 = BUFF(a)\nb06 = BUFF(a)\nb07 = BUFF(a)\nb08 = BUFF(a)\nb09 = BUFF(a)\nb10 = BUFF(a)\nb11 = BUFF(a)\nb12 = BUFF(a)\nb13 = BUFF(a)\nb14 = BUFF(a)\nb15 = BUFF(a)\nb16 = BUFF(a)\nb17 = BUFF(a)\nb18 = BUFF(a)\nb19 = BUFF(a)\nb20 = BUFF(a)\nb21 = BUFF(a)\nb22 = BUFF(a)\nb23 = BUFF(a)\nb24 = BUFF(a)\nb25 = BUFF(a)\nb26 = BUFF(a)\nb27 = BUFF(a)\nb28 = BUFF(a)\nb29 = BUFF(a)\nb30 = BUFF(a)\nb31 = BUFF(a)\nb32 = BUFF(a)\nb33 = BUFF(a)\nb34 = BUFF(a)\nb35 = BUFF(a)\nb36 = BUFF(a)\nb37 = BUFF(a)\nb38 = BUFF(a)\nb39 = BUFF(a)\nb40 = BUFF(a)\nb41 = BUFF(a)\nb42 = BUFF(a)\nb43 = BUFF(a)\nb44 = BUFF(a)\nb45 = BUFF(a)\nb46 = BUFF(a)\nb47 = BUFF(a)\nb48 = BUFF(a)\nb49 = BUFF(a)\nb50 = BUFF(a)\nb51 = BUFF(a)\nb52 = BUFF(a)\nb53 = BUFF(a)\nb54 = BUFF(a)\nb55 = BUFF(a)\nb56 = BUFF(a)\nb57 = BUFF(a)\nb58 = BUFF(a)\nb59 = BUFF(a)\nb60 = BUFF(a)\nb61 = BUFF(a)\nb62 = BUFF(a)\nb63 = BUFF(a)\nb64 = BUFF(a)\nb65 = BUFF(a)\n",
+        },
+        words: &["serve", "many.bench", "--frames", "64"],
+        script: "open S\n",
+        out: "error: parts 4160 above 4096\n",
+        status: 1,
+    },
+    Row {
+        file: File {
+            name: "two.bench",
+            text: "INPUT(a)\nq = DFF(a, a)\n",
+        },
+        words: &["serve", "two.bench", "--frames", "2"],
+        script: "open S\n",
+        out: "error: line 2: fault 4 inputs\n",
+        status: 1,
     },
     Row {
         file: INPUT,
@@ -526,7 +613,7 @@ const REFUSED: [(&str, &str, &str); 34] = [
 ];
 
 // Words that ask for nothing that the program does.
-const WRONG: [&[&str]; 55] = [
+const WRONG: [&[&str]; 65] = [
     &[],
     &["serve"],
     &["--help"],
@@ -549,6 +636,16 @@ const WRONG: [&[&str]; 55] = [
     &["answer", "c17.bench"],
     &["check", "c17.bench"],
     &["serve", "c17.nnf"],
+    &["serve", "c17.dev", "--frames", "2"],
+    &["serve", "c17.bench", "--frames"],
+    &["serve", "c17.bench", "--frames", "0"],
+    &["serve", "c17.bench", "--frames", "02"],
+    &["serve", "c17.bench", "--frames", "65"],
+    &["serve", "c17.bench", "--frames", "2", "--frames", "2"],
+    &["plan", "c17.bench", "--frames", "2"],
+    &["compile", "c17.bench", "--frames", "2"],
+    &["check", "c17.nnf", "--frames", "2"],
+    &["load", "1", "--frames", "2"],
     &["ask"],
     &["ask", "c17.nnf"],
     &["ask", "c17.bench", "2"],

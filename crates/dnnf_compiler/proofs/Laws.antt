@@ -1,26 +1,30 @@
--- A graph that was compiled from the clauses of a device means the device.
-use Rattle.std.proofs.Common.{◌≡◌, ◌+◌, ◌-◌, ◌≤◌, ◌++◌, length, ◌∙◌, arith, Ok}
+-- A graph that was compiled from clauses means what they describe.
+use Rattle.std.proofs.Common.{◌≡◌, ℕ, Bool, List, ◌+◌, ◌-◌, ◌≤◌, ◌++◌, length, ◌∙◌, arith, Ok}
 use Rattle.std.specs.List.{list_any}
 use Rattle.ranking.specs.Bits.{lists_of_bits}
 use Rattle.ranking.specs.Assignments.{assignment}
 use Rattle.graph_rules.specs.Graphs.{Graph, holds}
-use Rattle.device_model.specs.Devices.{Device}
+use Rattle.device_model.specs.Devices.{Device, fits}
 use Rattle.clause_encoder.specs.Clauses.{ClauseList, all_hold}
-use Rattle.clause_encoder.specs.Encoding.{encoded, Describes}
+use Rattle.clause_encoder.specs.Encoding.{encoded, DescribesBy, Describes}
 use Rattle.clause_encoder.proofs.Settled.{any-same}
 use Rattle.clause_encoder.proofs.Sizes.{encoded-is}
-use Rattle.dnnf_compiler.specs.Compiled.{SaysAll, IsGraphOf}
+use Rattle.dnnf_compiler.specs.Compiled.{SaysAll, IsGraphOver, IsGraphOf}
 
--- With what the encoder says of a device's clauses and the compiler of their graph, the graph is that of the device.
+-- With what is said of clauses and of their graph, the graph is true where they describe that bits fit.
+pub graph_over : (parts wires : ℕ) (fits_by : List Bool → List Bool → Bool) (cnf : ClauseList) (graph : Graph) → parts + wires ≤ cnf.vars → DescribesBy cnf parts wires fits_by
+    → graph.vars ≡ cnf.vars → SaysAll cnf.clauses graph → IsGraphOver parts wires fits_by graph
+graph_over parts wires fits_by cnf graph enough describes vars says = record {
+  room = omega (arith, vars, enough);
+  meaning = λ state bits states all.
+      any-same (λ inner. holds graph (state ++ bits ++ inner)) (λ inner. all_hold (assignment (state ++ bits ++ inner)) cnf.clauses)
+      (lists_of_bits (graph.vars - (length state + length bits))) (λ inner. says (assignment (state ++ bits ++ inner)))
+      ∙ (λ j. list_any (λ inner. all_hold (assignment (state ++ bits ++ inner)) cnf.clauses) (lists_of_bits (vars j - (states j + all j))))
+      ∙ describes state bits states all;
+}
+
+-- With what the encoder says of a device's clauses, it is the graph of the device.
 pub graph_of_device : (device : Device) (cnf : ClauseList) (graph : Graph) → encoded device ≡ Ok cnf → Describes cnf device
     → graph.vars ≡ cnf.vars → SaysAll cnf.clauses graph → IsGraphOf device graph
-graph_of_device device cnf graph is describes vars says = record {
-  room = room;
-  meaning = λ state wires states all.
-      any-same (λ inner. holds graph (state ++ wires ++ inner)) (λ inner. all_hold (assignment (state ++ wires ++ inner)) cnf.clauses)
-      (lists_of_bits (graph.vars - (length state + length wires))) (λ inner. says (assignment (state ++ wires ++ inner)))
-      ∙ (λ j. list_any (λ inner. all_hold (assignment (state ++ wires ++ inner)) cnf.clauses) (lists_of_bits (vars j - (states j + all j))))
-      ∙ describes state wires states all;
-} where
-  room : length device.parts + length device.wires ≤ graph.vars
-  room = omega (arith, vars, (encoded-is device cnf is).vars)
+graph_of_device device cnf graph is describes vars says =
+    graph_over (length device.parts) (length device.wires) (fits device) cnf graph (omega (arith, (encoded-is device cnf is).vars)) describes vars says

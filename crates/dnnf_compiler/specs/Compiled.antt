@@ -1,5 +1,5 @@
 -- What a graph says that was compiled: of clauses, and of the device that they are of.
-use Rattle.std.specs.Prelude.{◌≡◌, ◌+◌, ◌*◌, ◌-◌, ◌≤◌, Bool, List, ◌++◌, length}
+use Rattle.std.specs.Prelude.{◌≡◌, ℕ, ◌+◌, ◌*◌, ◌-◌, ◌≤◌, Bool, List, ◌++◌, length}
 use Rattle.std.specs.List.{list_any}
 use Rattle.ranking.specs.Bits.{lists_of_bits}
 use Rattle.ranking.specs.Assignments.{Assignment}
@@ -32,8 +32,11 @@ abbrev pub holds_for : Graph → List Bool → List Bool → Bool
 holds_for graph state wires =
     list_any (λ inner. holds graph (state ++ wires ++ inner)) (lists_of_bits (graph.vars - (length state + length wires)))
 
--- The variables are the parts, then the wires, then inner ones, and the graph is true exactly where the device fits.
-pub record IsGraphOf (device : Device) (graph : Graph) : Type 0 where
-  pub room : length device.parts + length device.wires ≤ graph.vars
-  pub meaning : (state wires : List Bool) → length state ≡ length device.parts → length wires ≡ length device.wires
-      → holds_for graph state wires ≡ fits device state wires
+-- The variables are so many parts, then so many wires, then inner ones, and the graph is true exactly where bits of these fit.
+pub record IsGraphOver (parts wires : ℕ) (fits_by : List Bool → List Bool → Bool) (graph : Graph) : Type 0 where
+  pub room : parts + wires ≤ graph.vars
+  pub meaning : (state bits : List Bool) → length state ≡ parts → length bits ≡ wires → holds_for graph state bits ≡ fits_by state bits
+
+-- It is true exactly where the device fits.
+abbrev pub IsGraphOf : Device → Graph → Type 0
+IsGraphOf device graph = IsGraphOver (length device.parts) (length device.wires) (fits device) graph

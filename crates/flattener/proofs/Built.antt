@@ -23,7 +23,7 @@ use Rattle.flattener.specs.Flat.{top_ports, flat_device, flattened, told}
 use Rattle.flattener.specs.inner.Counting.{counts_of_design, refusal}
 use Rattle.flattener.specs.inner.Expanding.{IsFlat, shown, wire_at}
 use Rattle.flattener.proofs.Values.{front_fits}
-use Rattle.flattener.proofs.Naming.{repeated-Different}
+use Rattle.device_model.proofs.Apart.{repeated-Different}
 use Rattle.flattener.proofs.Relative.{Parts, Wires, no_names, names_in, names_used}
 use Rattle.flattener.proofs.Differing.{instances-differ, all-wires}
 use Rattle.flattener.proofs.Arities.{tables_of, is_fed, instances-fed}

@@ -15,7 +15,8 @@ use Rattle.component_lang.specs.declared.design.Shape.{Shape}
 use Rattle.component_lang.specs.declared.design.Block.{Block}
 use Rattle.component_lang.specs.Designs.{is_plain_name, is_used, are_blocks}
 use Rattle.flattener.specs.Flat.{below}
-use Rattle.flattener.proofs.Naming.{Plain, Plain-from_test, head_of, head_of-dotless, head_of-below, dot-below, Different, Different-from_test, Different-append, Different-right, Different-below, Different-headed, among_below, among_parts}
+use Rattle.flattener.proofs.Naming.{Plain, Plain-from_test, head_of, head_of-dotless, head_of-below, dot-below, Different-from_test, Different-below, Different-headed}
+use Rattle.device_model.proofs.Apart.{among_parts, among_made, Different, Different-append, Different-right}
 use Rattle.flattener.proofs.Relative.{Which, Parts, Wires, Instances, Inner, no_names, kind_names, names_used, names_in, GoodUsed-from_test, GoodBlock, GoodBlock-from_test}
 use Rattle.flattener.proofs.Values.{values-hold}
 
@@ -36,7 +37,7 @@ module _ (inners : List Inner) (h : (j : ℕ) → Differ (get_or inners j no_nam
       alone k a = ap head_of (among_one k name a) ∙ head_of-dotless name p.dotless
 
       inside : (ns : List Name) → Among n (map (below name) ns) → head_of n ≡ name
-      inside ns a = let r = among_below name n ns a in ap head_of r.1 ∙ head_of-below name r.0 p
+      inside ns a = let r = among_made (below name) ns n a in ap head_of r.1 ∙ head_of-below name r.0 p
 
       by : (w : Which) (k : UsedKind) → Among n (kind_names inners name k w) → head_of n ≡ name
       by Parts (Gate g) a = alone n a
@@ -64,7 +65,7 @@ module _ (inners : List Inner) (h : (j : ℕ) → Differ (get_or inners j no_nam
   dotted name (Gate g) p n a = absurd a
   dotted name (OfShape t) p n a = absurd a
   dotted name (OfBlock b) p n a =
-      let r = among_below name n (get_or inners b no_names Wires) a in ap (list_any (λ b. b == 46)) r.1 ∙ dot-below name r.0 p.some
+      let r = among_made (below name) (get_or inners b no_names Wires) n a in ap (list_any (λ b. b == 46)) r.1 ∙ dot-below name r.0 p.some
 
   all-dotted : (us : List Used) → ((u : Used) → Among u us → Plain u.name) → (n : Name) → Among n (flat_map (λ u. names_used inners u Wires) us) → list_any (λ b. b == 46) n ≡ true
   all-dotted [] p n a = absurd a

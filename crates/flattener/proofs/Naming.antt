@@ -6,9 +6,9 @@ use Rattle.std.proofs.lemmas.Bool.{leb-true, and_parts, or_parts, or_right, not-
 use Rattle.std.proofs.lemmas.List.{append_assoc, append_cancel_left}
 use Rattle.std.proofs.lemmas.List.Folds.{list_any-append}
 use Rattle.text_rules.specs.Names.{Name, is_among, is_short_name, is_name_byte}
-use Rattle.device_model.specs.Building.{repeated}
 use Rattle.device_model.proofs.Ordered.{Among}
-use Rattle.device_model.proofs.Repeats.{is_among-among, among_from_test}
+use Rattle.device_model.proofs.Repeats.{is_among-among}
+use Rattle.device_model.proofs.Apart.{among_parts, Different, Different-append, Different-made}
 use Rattle.component_lang.specs.Designs.{is_plain_name, are_distinct}
 use Rattle.component_lang.proofs.NameLists.{are_distinct-cons}
 use Rattle.flattener.specs.Flat.{below}
@@ -91,56 +91,14 @@ head_of-below path name p = ap head_of (below-some path name p.some) ∙ head_of
 
 -- ---- names that differ
 
-abbrev pub Different : List Name → Type 0
-Different [] = Unit {0}
-Different (n ∷ ns) = (Among n ns → ⊥) × Different ns
-
 pub Different-from_test : (ns : List Name) → are_distinct ns ≡ true → Different ns
 Different-from_test [] h = tt
 Different-from_test (n ∷ ns) h =
     let two = and_parts (not (is_among ns n)) (are_distinct ns) (sym (are_distinct-cons n ns) ∙ h) in
     ((λ m. true≢false (sym (is_among-among n ns m) ∙ not-true _ two.0)), Different-from_test ns two.1)
 
-not_among : (n : Name) (ns : List Name) → (Among n ns → ⊥) → is_among ns n ≡ false
-not_among n ns h = by (is_among ns n) refl
-  where
-    by : (b : Bool) → is_among ns n ≡ b → is_among ns n ≡ false
-    by true e = absurd (h (among_from_test n ns e))
-    by false e = e
-
-pub repeated-Different : (ns : List Name) → Different ns → repeated ns ≡ []
-repeated-Different [] h = refl
-repeated-Different (n ∷ ns) h = ap (λ (b : Bool). if b then n ∷ repeated ns else repeated ns) (not_among n ns h.0) ∙ repeated-Different ns h.1
-
-pub among_parts : {A : Type 0} (x : A) (xs ys : List A) → Among x (xs ++ ys) → Among x xs ⊎ Among x ys
-among_parts x [] ys m = inr m
-among_parts x (z ∷ xs) ys (inl e) = inl (inl e)
-among_parts x (z ∷ xs) ys (inr m) = elim (among_parts x xs ys m) [ inl a ↦ inl (inr a) | inr a ↦ inr a ]
-
-pub Different-append : (xs ys : List Name) → Different xs → Different ys → ((n : Name) → Among n xs → Among n ys → ⊥) → Different (xs ++ ys)
-Different-append [] ys h g apart = g
-Different-append (x ∷ xs) ys h g apart = (
-  (λ m. elim (among_parts x xs ys m) [ inl a ↦ h.0 a | inr a ↦ apart x (inl refl) a ]),
-  Different-append xs ys h.1 g (λ n a b. apart n (inr a) b),
-)
-
-pub Different-right : (xs ys : List Name) → Different (xs ++ ys) → Different ys
-Different-right [] ys h = h
-Different-right (x ∷ xs) ys h = Different-right xs ys h.1
-
-pub among_below : (path n : Name) (ns : List Name) → Among n (map (below path) ns) → (m : Name) × (n ≡ below path m) × Among m ns
-among_below path n [] m = absurd m
-among_below path n (k ∷ ks) (inl e) = (k, e, inl refl)
-among_below path n (k ∷ ks) (inr m) = let r = among_below path n ks m in (r.0, r.1, inr r.2)
-
 pub Different-below : (path : Name) (ns : List Name) → Different ns → Different (map (below path) ns)
-Different-below path [] h = tt
-Different-below path (n ∷ ns) h = (
-  (λ m. let r = among_below path (below path n) ns m in
-      let e = below-same path n r.0 r.1 in
-      h.0 (subst (λ (k : Name). Among k ns) (sym e) r.2)),
-  Different-below path ns h.1,
-)
+Different-below path ns h = Different-made (below path) (below-same path) ns h
 
 -- names whose heads tell which of several lists they stand in
 module _ {A : Type 0} (name : A → Name) (g : A → List Name) where

@@ -1,20 +1,29 @@
--- Over the graph of a device every script has the replies that it has over the device, and the moves.
-use Rattle.std.proofs.Common.{◌≡◌, ℕ, List}
+-- Over a graph that is true where bits fit every script has the replies that it has over what fits, and the moves; so it is with devices.
+use Rattle.std.proofs.Common.{◌≡◌, ℕ, Bool, List, length}
+use Rattle.text_rules.specs.Names.{Name}
 use Rattle.graph_rules.specs.Graphs.{Graph}
-use Rattle.device_model.specs.Devices.{Device}
-use Rattle.device_model.specs.Diagnosis.{device_system}
-use Rattle.dnnf_compiler.specs.Compiled.{IsGraphOf}
+use Rattle.device_model.specs.Devices.{Device, part_names, part_costs, fits}
+use Rattle.device_model.specs.Diagnosis.{fitting_system, device_system}
+use Rattle.dnnf_compiler.specs.Compiled.{IsGraphOver, IsGraphOf}
 use Rattle.session_rules.specs.Sessions.{Table, replies}
 use Rattle.session_rules.specs.Moves.{line_moves, script_moves}
 use Rattle.session_rules.specs.CaseSizes.{HasCasesOf}
-use Rattle.session_rules.specs.GraphSystems.{compiled_system}
-use Rattle.session_rules.proofs.Meaning.{same_consistent}
+use Rattle.session_rules.specs.GraphSystems.{graph_system, compiled_system}
+use Rattle.session_rules.proofs.Meaning.{same_fitting, over_names}
 use Rattle.session_rules.proofs.Same.{replies-same, script_moves-same}
 
 -- Both systems have the same names, so that the cases of the one are those of the other.
+module _ (parts wires : List Name) (costs : List ℕ) (fits_by : List Bool → List Bool → Bool) (graph : Graph) (is : IsGraphOver (length parts) (length wires) fits_by graph)
+    (limit : ℕ) (table : Table) (cases : HasCasesOf (fitting_system parts wires costs fits_by) table) (lines : List (List ℕ)) where
+  pub fitting_replies : replies (graph_system parts wires costs graph) limit table lines ≡ replies (fitting_system parts wires costs fits_by) limit table lines
+  fitting_replies = replies-same (graph_system parts wires costs graph) (fitting_system parts wires costs fits_by).consistent (same_fitting parts wires costs fits_by graph is) limit table lines cases
+
+  pub fitting_moves : script_moves (line_moves (graph_system parts wires costs graph) limit) table lines ≡ script_moves (line_moves (fitting_system parts wires costs fits_by) limit) table lines
+  fitting_moves = script_moves-same (graph_system parts wires costs graph) (fitting_system parts wires costs fits_by).consistent (same_fitting parts wires costs fits_by graph is) limit table lines cases
+
 module _ (device : Device) (graph : Graph) (is : IsGraphOf device graph) (limit : ℕ) (table : Table) (cases : HasCasesOf (device_system device) table) (lines : List (List ℕ)) where
   pub graph_replies : replies (compiled_system device graph) limit table lines ≡ replies (device_system device) limit table lines
-  graph_replies = replies-same (compiled_system device graph) (device_system device).consistent (same_consistent device graph is) limit table lines cases
+  graph_replies = fitting_replies (part_names device.parts) device.wires (part_costs device) (fits device) graph (over_names device graph is) limit table cases lines
 
   pub graph_moves : script_moves (line_moves (compiled_system device graph) limit) table lines ≡ script_moves (line_moves (device_system device) limit) table lines
-  graph_moves = script_moves-same (compiled_system device graph) (device_system device).consistent (same_consistent device graph is) limit table lines cases
+  graph_moves = fitting_moves (part_names device.parts) device.wires (part_costs device) (fits device) graph (over_names device graph is) limit table cases lines

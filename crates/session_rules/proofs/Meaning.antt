@@ -1,19 +1,20 @@
--- A graph that is true exactly where a device fits has the device's consistent states.
-use Rattle.std.proofs.Common.{◌≡◌, ℕ, zero, suc, ◌+◌, ◌-◌, Bool, true, false, ◌&&◌, List, [], ◌∷◌, ◌++◌, map, length, replicate, refl, ap, ap₂, sym, ◌∙◌, Option, Some, None, arith, append_assoc}
+-- A graph that is true exactly where bits fit has the consistent states of what fits.
+use Rattle.std.proofs.Common.{◌≡◌, ℕ, zero, suc, ◌+◌, ◌-◌, Bool, true, false, ◌&&◌, List, [], ◌∷◌, ◌++◌, map, length, replicate, refl, ap, ap₂, sym, subst, ◌∙◌, Option, Some, None, arith, append_assoc}
 use Rattle.std.specs.List.{list_any}
 use Rattle.std.proofs.Math.Bool.{and-true, and_assoc}
 use Rattle.std.proofs.lemmas.List.{map-append, length-map}
+use Rattle.text_rules.specs.Names.{Name}
 use Rattle.ranking.specs.Bits.{lists_of_bits}
 use Rattle.ranking.specs.Cases.{Case, agrees_at, agrees}
-use Rattle.ranking.specs.Ranking.{Test, passing}
+use Rattle.ranking.specs.Ranking.{Test}
 use Rattle.graph_rules.specs.Graphs.{Graph, holds}
 use Rattle.device_model.specs.declared.component.Component.{Component}
-use Rattle.device_model.specs.Devices.{Device, part_names, fits}
-use Rattle.device_model.specs.Diagnosis.{is_consistent, device_system}
-use Rattle.dnnf_compiler.specs.Compiled.{IsGraphOf}
+use Rattle.device_model.specs.Devices.{Device, part_names, part_costs, fits}
+use Rattle.device_model.specs.Diagnosis.{is_consistent, fitting_system, device_system}
+use Rattle.dnnf_compiler.specs.Compiled.{IsGraphOver, IsGraphOf}
 use Rattle.conditioner.specs.Words.{known_of}
 use Rattle.conditioner.specs.Models.{has_model, fits_words}
-use Rattle.session_rules.specs.GraphSystems.{word_of_known, case_words, compiled_system}
+use Rattle.session_rules.specs.GraphSystems.{word_of_known, case_words, graph_system, compiled_system}
 use Rattle.session_rules.specs.CaseSizes.{IsCaseOf}
 use Rattle.session_rules.proofs.Enumerated.{Agree, passing-same, any-same, any-split, any-and}
 
@@ -61,48 +62,62 @@ fits-case_words vars known state wires inner held seen =
     ∙ ap (λ b. agrees known.held state && b)
     (agrees-append known.seen zeros wires inner seen ∙ ap (λ b. agrees known.seen wires && b) (agrees-zeros n inner) ∙ and-true (agrees known.seen wires))
 
-module _ (device : Device) (graph : Graph) (is : IsGraphOf device graph) (known : Case) (case : IsCaseOf (device_system device) known) where
-  named : length (part_names device.parts) ≡ length device.parts
-  named = length-map device.parts (λ (part : Component). part.name)
-
+module _ (parts wires : List Name) (costs : List ℕ) (fits_by : List Bool → List Bool → Bool) (graph : Graph) (is : IsGraphOver (length parts) (length wires) fits_by graph)
+    (known : Case) (case : IsCaseOf (fitting_system parts wires costs fits_by) known) where
   abbrev words : List ℕ
   words = case_words graph.vars known
 
   abbrev inner_count : ℕ
-  inner_count = graph.vars - (length device.parts + length device.wires)
+  inner_count = graph.vars - (length parts + length wires)
 
   -- the bits fit the words and make the graph true
   abbrev is_model : Test
   is_model bits = fits_words words bits && holds graph bits
 
-  for_wires : (state wires : List Bool) → length state ≡ length device.parts → length wires ≡ length device.wires
-      → list_any (λ inner. is_model (state ++ (wires ++ inner))) (lists_of_bits inner_count)
-      ≡ (agrees known.held state && (agrees known.seen wires && fits device state wires))
-  for_wires state wires states all =
-      let held : length known.held ≡ length state = case.1 ∙ named ∙ sym states in
-      let seen : length known.seen ≡ length wires = case.0 ∙ sym all in
-      let agreed : Bool = agrees known.held state && agrees known.seen wires in
-      (λ j. list_any (λ inner. fits-case_words graph.vars known state wires inner held seen j && holds graph (state ++ (wires ++ inner))) (lists_of_bits inner_count))
-      ∙ any-and agreed (λ inner. holds graph (state ++ (wires ++ inner))) (lists_of_bits inner_count)
-      ∙ (λ j. agreed && list_any (λ inner. holds graph (sym (append_assoc state wires inner) j)) (lists_of_bits (graph.vars - (sym states j + sym all j))))
-      ∙ ap (λ b. agreed && b) (is.meaning state wires states all)
-      ∙ and_assoc (agrees known.held state) (agrees known.seen wires) (fits device state wires)
+  abbrev agreeing : Test
+  agreeing = is_consistent fits_by (length wires) known
 
-  for_state : Agree (length device.parts) (is_consistent device known) (has_model graph (fits_words words) (length device.parts))
+  for_wires : (state bits : List Bool) → length state ≡ length parts → length bits ≡ length wires
+      → list_any (λ inner. is_model (state ++ (bits ++ inner))) (lists_of_bits inner_count)
+      ≡ (agrees known.held state && (agrees known.seen bits && fits_by state bits))
+  for_wires state bits states all =
+      let held : length known.held ≡ length state = case.1 ∙ sym states in
+      let seen : length known.seen ≡ length bits = case.0 ∙ sym all in
+      let agreed : Bool = agrees known.held state && agrees known.seen bits in
+      (λ j. list_any (λ inner. fits-case_words graph.vars known state bits inner held seen j && holds graph (state ++ (bits ++ inner))) (lists_of_bits inner_count))
+      ∙ any-and agreed (λ inner. holds graph (state ++ (bits ++ inner))) (lists_of_bits inner_count)
+      ∙ (λ j. agreed && list_any (λ inner. holds graph (sym (append_assoc state bits inner) j)) (lists_of_bits (graph.vars - (sym states j + sym all j))))
+      ∙ ap (λ b. agreed && b) (is.meaning state bits states all)
+      ∙ and_assoc (agrees known.held state) (agrees known.seen bits) (fits_by state bits)
+
+  for_state : Agree (length parts) agreeing (has_model graph (fits_words words) (length parts))
   for_state state states =
       let room = is.room in
-      let parted : graph.vars - length device.parts ≡ length device.wires + inner_count = omega (arith, room) in
-      let of_wires : Test = λ wires. agrees known.held state && (agrees known.seen wires && fits device state wires) in
+      let parted : graph.vars - length parts ≡ length wires + inner_count = omega (arith, room) in
+      let of_wires : Test = λ bits. agrees known.held state && (agrees known.seen bits && fits_by state bits) in
       sym (
       ap (λ n. list_any (λ others. is_model (state ++ others)) (lists_of_bits n)) parted
-      ∙ any-split (length device.wires) inner_count (λ others. is_model (state ++ others))
-      ∙ any-same (length device.wires) (λ wires. list_any (λ inner. is_model (state ++ (wires ++ inner))) (lists_of_bits inner_count)) of_wires
-      (λ wires all. for_wires state wires states all)
-      ∙ any-and (agrees known.held state) (λ wires. agrees known.seen wires && fits device state wires) (lists_of_bits (length device.wires))
+      ∙ any-split (length wires) inner_count (λ others. is_model (state ++ others))
+      ∙ any-same (length wires) (λ bits. list_any (λ inner. is_model (state ++ (bits ++ inner))) (lists_of_bits inner_count)) of_wires
+      (λ bits all. for_wires state bits states all)
+      ∙ any-and (agrees known.held state) (λ bits. agrees known.seen bits && fits_by state bits) (lists_of_bits (length wires))
       )
 
-  -- for every case of the device its graph has the same consistent states
-  pub same_consistent : (compiled_system device graph).consistent known ≡ (device_system device).consistent known
-  same_consistent =
-      ap (λ n. passing n (has_model graph (fits_words words) n)) named
-      ∙ sym (passing-same (length device.parts) (is_consistent device known) (has_model graph (fits_words words) (length device.parts)) for_state)
+  -- for every case a graph that is true where bits fit has the consistent states of what fits
+  pub same_fitting : (graph_system parts wires costs graph).consistent known ≡ (fitting_system parts wires costs fits_by).consistent known
+  same_fitting = sym (passing-same (length parts) agreeing (has_model graph (fits_words words) (length parts)) for_state)
+
+-- ---- devices
+
+named : (device : Device) → length (part_names device.parts) ≡ length device.parts
+named device = length-map device.parts (λ (part : Component). part.name)
+
+-- its graph is one over its names
+pub over_names : (device : Device) (graph : Graph) → IsGraphOf device graph → IsGraphOver (length (part_names device.parts)) (length device.wires) (fits device) graph
+over_names device graph is = subst (λ n. IsGraphOver n (length device.wires) (fits device) graph) (sym (named device)) is
+
+-- for every case of the device it has the same consistent states
+pub same_consistent : (device : Device) (graph : Graph) → IsGraphOf device graph → (known : Case) → IsCaseOf (device_system device) known
+    → (compiled_system device graph).consistent known ≡ (device_system device).consistent known
+same_consistent device graph is known case =
+    same_fitting (part_names device.parts) device.wires (part_costs device) (fits device) graph (over_names device graph is) known case

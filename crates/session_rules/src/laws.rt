@@ -1,15 +1,16 @@
 //! Laws about the definitions of this crate. Each is the contract of a function that does nothing.
-ghost use Rattle.std.specs.Prelude.{◌≡◌, ℕ, List};
+ghost use Rattle.std.specs.Prelude.{◌≡◌, ℕ, Bool, List, length};
+ghost use Rattle.text_rules.specs.Names.{Name};
 ghost use Rattle.ranking.specs.Cases.{Case};
 ghost use Rattle.ranking.specs.Systems.{System};
 ghost use Rattle.graph_rules.specs.Graphs.{Graph};
 ghost use Rattle.device_model.specs.Devices.{Device};
-ghost use Rattle.device_model.specs.Diagnosis.{device_system};
-ghost use Rattle.dnnf_compiler.specs.Compiled.{IsGraphOf};
+ghost use Rattle.device_model.specs.Diagnosis.{fitting_system, device_system};
+ghost use Rattle.dnnf_compiler.specs.Compiled.{IsGraphOver, IsGraphOf};
 ghost use Rattle.script_lang.specs.Script.{Line};
 ghost use Rattle.session_rules.specs.Alone.{AreAnsweredAlone, IsItsOwn};
 ghost use Rattle.session_rules.specs.CaseSizes.{IsCaseOf, HasCasesOf};
-ghost use Rattle.session_rules.specs.GraphSystems.{compiled_system};
+ghost use Rattle.session_rules.specs.GraphSystems.{graph_system, compiled_system};
 ghost use Rattle.session_rules.specs.Moves.{whole, line_moves, line_step, script_moves};
 ghost use Rattle.session_rules.specs.Sessions.{Table, replies};
 
@@ -32,17 +33,32 @@ pub fn moves_are_steps()
         → whole table (line_moves system limit table line) ≡ line_step system limit table line }
 {}
 
-/// Over a graph that is true exactly where a device fits, a case that has a place for each wire and each part of the device has
-/// the consistent states that it has over the device.
+/// Over a graph that is true exactly where bits of wires fit a health state, a case that has a place for each wire and each part has
+/// the consistent states of what fits. So it has, over the graph of a device, those that it has over the device.
 pub fn same_states()
-    ensures { (device : Device) (graph : Graph) → IsGraphOf device graph → (known : Case)
+    ensures fitting { (parts wires : List Name) (costs : List ℕ) (fits_by : List Bool → List Bool → Bool) (graph : Graph)
+        → IsGraphOver (length parts) (length wires) fits_by graph → (known : Case)
+        → IsCaseOf (fitting_system parts wires costs fits_by) known
+        → (graph_system parts wires costs graph).consistent known
+        ≡ (fitting_system parts wires costs fits_by).consistent known }
+    ensures device { (device : Device) (graph : Graph) → IsGraphOf device graph → (known : Case)
         → IsCaseOf (device_system device) known
         → (compiled_system device graph).consistent known ≡ (device_system device).consistent known }
 {}
 
-/// Over a graph that is true exactly where a device fits every script has the replies that it has over the device, move by
-/// move, from any table whose cases have a place for each wire and each part of the device. The empty table is one.
+/// Over such a graph every script has the replies that it has over what fits, move by move, from any table whose cases have a
+/// place for each wire and each part. The empty table is one. So it has, over the graph of a device, those over the device.
 pub fn graph_replies()
+    ensures fitting { (parts wires : List Name) (costs : List ℕ) (fits_by : List Bool → List Bool → Bool) (graph : Graph)
+        → IsGraphOver (length parts) (length wires) fits_by graph → (limit : ℕ) (table : Table)
+        → HasCasesOf (fitting_system parts wires costs fits_by) table → (lines : List (List ℕ))
+        → replies (graph_system parts wires costs graph) limit table lines
+        ≡ replies (fitting_system parts wires costs fits_by) limit table lines }
+    ensures fitting_moves { (parts wires : List Name) (costs : List ℕ) (fits_by : List Bool → List Bool → Bool) (graph : Graph)
+        → IsGraphOver (length parts) (length wires) fits_by graph → (limit : ℕ) (table : Table)
+        → HasCasesOf (fitting_system parts wires costs fits_by) table → (lines : List (List ℕ))
+        → script_moves (line_moves (graph_system parts wires costs graph) limit) table lines
+        ≡ script_moves (line_moves (fitting_system parts wires costs fits_by) limit) table lines }
     ensures replies { (device : Device) (graph : Graph) → IsGraphOf device graph → (limit : ℕ) (table : Table)
         → HasCasesOf (device_system device) table → (lines : List (List ℕ))
         → replies (compiled_system device graph) limit table lines ≡ replies (device_system device) limit table lines }

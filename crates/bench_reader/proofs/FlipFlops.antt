@@ -1,0 +1,201 @@
+-- The flip-flops among statements, and the parts that they are.
+use Rattle.std.proofs.Common.{◌≡◌, ℕ, ◌+◌, ◌<◌, ◌≤◌, Bool, true, false, cond, List, [], ◌∷◌, ◌++◌, map, length, drop, get_or, Bor, Ok, Err, refl, sym, ap, subst, ◌∙◌, append_assoc, arith}
+use Rattle.std.specs.Prelude.{Result, ◌||◌, ◌&&◌, nat_le, if◌then◌else◌}
+use Rattle.std.specs.List.{All, list_any, list_all, filter, filter_map, flat_map, enumerate_from}
+use Rattle.std.proofs.lemmas.Bool.{and_parts, leb-true}
+use Rattle.std.proofs.lemmas.List.{drop_more}
+use Rattle.std.proofs.lemmas.List.Folds.{list_any-append, list_all-map}
+use Rattle.indexmap.specs.IndexSet.{insert_key}
+use Rattle.text_rules.specs.Expected.{IsExpectedFault}
+use Rattle.text_rules.specs.Names.{Name, same_name, is_among, is_short_name, is_name_byte}
+use Rattle.text_rules.proofs.NameLemmas.{same_if_equal, equal_if_same}
+use Rattle.device_model.specs.declared.component.Component.{Component}
+use Rattle.device_model.specs.Order.{sorted_distinct}
+use Rattle.device_model.specs.Devices.{Device, part_names}
+use Rattle.device_model.specs.Building.{joined}
+use Rattle.device_model.proofs.Making.{component_name, list_all-among, list_all-sorted_distinct}
+use Rattle.device_model.proofs.Tables.{among_get_or}
+use Rattle.device_model.proofs.Sorting.{itself}
+use Rattle.bench_reader.specs.declared.kinds.FlipFlops.{FlipFlops}
+use Rattle.bench_reader.specs.declared.kinds.FlipFlops.TheVariants.{Taken}
+use Rattle.bench_reader.specs.declared.kinds.NamedKind.{NamedKind}
+use Rattle.bench_reader.specs.declared.kinds.NamedKind.TheVariants.{Sequential as KeepsItsValue}
+use Rattle.bench_reader.specs.declared.statement.Inputs.{Inputs}
+use Rattle.bench_reader.specs.declared.statement.Statement.{Statement as StatementRead}
+use Rattle.bench_reader.specs.declared.statement.Statement.TheVariants.{Gate as GateRead}
+use Rattle.bench_reader.specs.declared.statement.NumberedStatement.{NumberedStatement}
+use Rattle.bench_reader.specs.declared.fault.BenchError.{BenchError}
+use Rattle.bench_reader.specs.declared.fault.BenchError.TheVariants.{Bad, Memory}
+use Rattle.bench_reader.specs.Faults.{Fault, told, unless_fault}
+use Rattle.bench_reader.specs.Statements.{Statement, Input, Output, Gate}
+use Rattle.bench_reader.specs.Signals.{driven, driven_by_gate}
+use Rattle.bench_reader.specs.Netlists.{part_of, device_of, fault_in, statement_in, faults_together, readings, netlist_with}
+use Rattle.bench_reader.specs.SequentialNetlists.{flip_flop, flip_flops, places_where, with_delayed, sequential_netlist, HasShortNames}
+use Rattle.bench_reader.specs.inner.Lines.{meaning, with_number}
+use Rattle.bench_reader.specs.inner.Steps.{statements_or_fault, device_or_fault, is_faultless}
+use Rattle.bench_reader.proofs.Lines.{said, read_are_faultless}
+use Rattle.bench_reader.proofs.Parts.{names-parts, names-joined}
+use Rattle.bench_reader.proofs.Whole.{all_driven_named, is_read, both}
+use Rattle.text_rules.specs.TextLines.{all_lines}
+
+-- ---- a set of names
+
+same_key : Bor Name → Bor Name → Bool
+same_key a b = same_name a.now b.now
+
+pub kept-insert : (ks : List (Bor Name)) (k : Bor Name) (name : Name)
+    → list_any (λ (j : Bor Name). same_name name j.now) (insert_key (λ (a b : Bor Name). same_name a.now b.now) ks k)
+    ≡ (list_any (λ (j : Bor Name). same_name name j.now) ks || same_name name k.now)
+kept-insert ks k name = by (list_any (λ (j : Bor Name). same_name k.now j.now) ks) refl (same_name name k.now) refl
+  where
+    test : Bor Name → Bool
+    test j = same_name name j.now
+
+    there : (b c : Bool) → b ≡ true → (c ≡ true → b ≡ true)
+    there b c e _ = e
+
+    or_true : (b : Bool) → b ≡ (b || false)
+    or_true true = refl
+    or_true false = refl
+
+    by : (b : Bool) → list_any (λ (j : Bor Name). same_name k.now j.now) ks ≡ b → (c : Bool) → same_name name k.now ≡ c
+        → list_any test (if b then ks else ks ++ k ∷ []) ≡ (list_any test ks || c)
+    by true e true f =
+        let same = equal_if_same name k.now f in
+        let found : list_any test ks ≡ true = ap (λ (n : Name). list_any (λ (j : Bor Name). same_name n j.now) ks) same ∙ e in
+        rw found refl
+    by true e false f = or_true (list_any test ks)
+    by false e c f = list_any-append test ks (k ∷ []) ∙ ap (λ b. list_any test ks || (b || false)) f ∙ ap (λ b. list_any test ks || b) (sym (or_true c))
+
+pub named_flip_flop : (statement : StatementRead) (output : Bor Name) (kind : NamedKind) (inputs : Inputs) (name : Name)
+    → statement ≡ GateRead output kind inputs → kind ≡ KeepsItsValue → is_among (flip_flop (meaning statement)) name ≡ same_name name output.now
+named_flip_flop statement output kind inputs name is keeps =
+    ap (λ (s : StatementRead). is_among (flip_flop (meaning s)) name) (is ∙ ap (λ (k : NamedKind). GateRead output k inputs) keeps) ∙ or_false (same_name name output.now)
+  where
+    or_false : (b : Bool) → (b || false) ≡ b
+    or_false true = refl
+    or_false false = refl
+
+or_assoc : (a b c : Bool) → ((a || b) || c) ≡ (a || (b || c))
+or_assoc true b c = refl
+or_assoc false b c = refl
+
+-- one statement more
+pub kept-more : (statements : List NumberedStatement) (i : ℕ) (s : NumberedStatement) (name : Name) (old new whole : Bool) → i < length statements → s ≡ get_or statements i s
+    → new ≡ (old || is_among (flip_flop (meaning s.statement)) name)
+    → (old || is_among (flip_flops (map with_number (drop i statements))) name) ≡ whole
+    → (new || is_among (flip_flops (map with_number (drop (i + 1) statements))) name) ≡ whole
+kept-more statements i s name old new whole lt is added inv =
+    let rest = is_among (flip_flops (map with_number (drop (i + 1) statements))) name in
+    let here = is_among (flip_flop (meaning s.statement)) name in
+    let next : drop i statements ≡ s ∷ drop (i + 1) statements = drop_more statements i s lt ∙ ap (λ (t : NumberedStatement). t ∷ drop (i + 1) statements) (sym is) in
+    ap (λ b. b || rest) added ∙ or_assoc old here rest
+    ∙ ap (λ b. old || b) (sym (ap (λ (ss : List NumberedStatement). is_among (flip_flops (map with_number ss)) name) next
+    ∙ list_any-append (same_name name) (flip_flop (meaning s.statement)) (flip_flops (map with_number (drop (i + 1) statements)))))
+    ∙ inv
+
+-- ---- the places of parts
+
+-- the places from one on, of the names that pass
+abbrev pub places_from : (Name → Bool) → ℕ → List Name → List ℕ
+places_from test at names = map (λ (n : ℕ × Name). n.0) (filter (λ (n : ℕ × Name). test n.1) (enumerate_from at names))
+
+module _ (test : Name → Bool) (parts : List Component) (i : ℕ) (part : Component) (lt : i < length parts) (is : part ≡ get_or parts i part) where
+  next_part : part_names (drop i parts) ≡ part.name ∷ part_names (drop (i + 1) parts)
+  next_part = ap part_names (drop_more parts i part lt ∙ ap (λ (p : Component). p ∷ drop (i + 1) parts) (sym is))
+
+  places-next : (b : Bool) → test part.name ≡ b → places_from test i (part_names (drop i parts)) ≡ (if b then i ∷ places_from test (i + 1) (part_names (drop (i + 1) parts)) else places_from test (i + 1) (part_names (drop (i + 1) parts)))
+  places-next b e = ap (places_from test i) next_part ∙ by b e
+    where
+      rest : List (ℕ × Name)
+      rest = filter (λ (n : ℕ × Name). test n.1) (enumerate_from (i + 1) (part_names (drop (i + 1) parts)))
+
+      by : (b : Bool) → test part.name ≡ b → map (λ (n : ℕ × Name). n.0) (cond (test part.name) ((i, part.name) ∷ rest) rest) ≡ (if b then i ∷ map (λ (n : ℕ × Name). n.0) rest else map (λ (n : ℕ × Name). n.0) rest)
+      by true e = ap (λ c. map (λ (n : ℕ × Name). n.0) (cond c ((i, part.name) ∷ rest) rest)) e
+      by false e = ap (λ c. map (λ (n : ℕ × Name). n.0) (cond c ((i, part.name) ∷ rest) rest)) e
+
+  pub places-taken : (done whole : List ℕ) → test part.name ≡ true → whole ≡ done ++ places_from test i (part_names (drop i parts))
+      → whole ≡ (done ++ i ∷ []) ++ places_from test (i + 1) (part_names (drop (i + 1) parts))
+  places-taken done whole e inv =
+      inv ∙ ap (λ ps. done ++ ps) (places-next true e) ∙ sym (append_assoc done (i ∷ []) (places_from test (i + 1) (part_names (drop (i + 1) parts))))
+
+  pub places-left : (done whole : List ℕ) → test part.name ≡ false → whole ≡ done ++ places_from test i (part_names (drop i parts))
+      → whole ≡ done ++ places_from test (i + 1) (part_names (drop (i + 1) parts))
+  places-left done whole e inv = inv ∙ ap (λ ps. done ++ ps) (places-next false e)
+
+places-same : (p q : Name → Bool) → ((n : Name) → p n ≡ q n) → (at : ℕ) (names : List Name) → places_from p at names ≡ places_from q at names
+places-same p q same at [] = refl
+places-same p q same at (n ∷ names) =
+    (λ j. map (λ (m : ℕ × Name). m.0) (cond (same n j) ((at, n) ∷ filter (λ (m : ℕ × Name). p m.1) (enumerate_from (at + 1) names)) (filter (λ (m : ℕ × Name). p m.1) (enumerate_from (at + 1) names))))
+    ∙ by (q n) (places-same p q same (at + 1) names)
+  where
+    by : (b : Bool) → places_from p (at + 1) names ≡ places_from q (at + 1) names
+        → map (λ (m : ℕ × Name). m.0) (cond b ((at, n) ∷ filter (λ (m : ℕ × Name). p m.1) (enumerate_from (at + 1) names)) (filter (λ (m : ℕ × Name). p m.1) (enumerate_from (at + 1) names)))
+        ≡ map (λ (m : ℕ × Name). m.0) (cond b ((at, n) ∷ filter (λ (m : ℕ × Name). q m.1) (enumerate_from (at + 1) names)) (filter (λ (m : ℕ × Name). q m.1) (enumerate_from (at + 1) names)))
+    by true h = ap (λ (ks : List ℕ). at ∷ ks) h
+    by false h = h
+
+-- the same places by two tests that are the same
+pub places-by : (p q : Name → Bool) → ((n : Name) → p n ≡ q n) → (names : List Name) → places_where p names ≡ places_where q names
+places-by p q same names = places-same p q same 0 names
+
+-- ---- names of a file
+
+gates_named : (statements : List Statement) → list_all is_short_name (flat_map driven statements) ≡ true → list_all is_short_name (flat_map driven_by_gate statements) ≡ true
+gates_named [] h = refl
+gates_named (Input signal ∷ statements) h = gates_named statements (and_parts (is_short_name signal) (list_all is_short_name (flat_map driven statements)) h).1
+gates_named (Output signal ∷ statements) h = gates_named statements h
+gates_named (Gate output kind inputs ∷ statements) h =
+    let two = and_parts (is_short_name output) (list_all is_short_name (flat_map driven statements)) h in
+    ap (λ b. b && list_all is_short_name (flat_map driven_by_gate statements)) two.0 ∙ gates_named statements two.1
+
+is_few : (name : Name) → is_short_name name ≡ true → length name ≤ 64
+is_few name h =
+    let sizes = and_parts (nat_le 1 (length name) && nat_le (length name) 64) (list_all is_name_byte name) h in
+    leb-true (length name) 64 (and_parts (nat_le 1 (length name)) (nat_le (length name) 64) sizes.0).1
+
+short_device : (statements : List Statement) → list_all is_faultless statements ≡ true → HasShortNames (device_of statements)
+short_device statements h =
+    let named = all_driven_named statements h in
+    let wires = sorted_distinct itself (flat_map driven statements) in
+    let parts = map (joined wires) (flat_map part_of statements) in
+    let names : list_all is_short_name (part_names parts) ≡ true = ap (list_all is_short_name) (names-joined wires (flat_map part_of statements) ∙ names-parts statements h) ∙ gates_named statements named in
+    let each : list_all (λ (p : Component). is_short_name p.name) parts ≡ true = sym (list_all-map is_short_name component_name parts) ∙ names in
+    record {
+      parts = λ k d l. is_few (get_or (sorted_distinct component_name parts) k d).name
+          (list_all-among (λ (p : Component). is_short_name p.name) (sorted_distinct component_name parts) (list_all-sorted_distinct component_name (λ (p : Component). is_short_name p.name) parts each) (get_or (sorted_distinct component_name parts) k d) (among_get_or (sorted_distinct component_name parts) k d l));
+      wires = λ k d l. is_few (get_or wires k d)
+          (list_all-among is_short_name wires (list_all-sorted_distinct itself is_short_name (flat_map driven statements) named) (get_or wires k d) (among_get_or wires k d l));
+    }
+
+-- the names of what a netlist gives are those of a file
+pub netlist-short : (flip_flops : FlipFlops) (text : List ℕ) (device : Device) → netlist_with flip_flops text ≡ Ok device → HasShortNames device
+netlist-short flip_flops text device h = by (filter_map fault_in (readings flip_flops text) ++ faults_together statements) h
+  where
+    statements : List (ℕ × Statement)
+    statements = filter_map statement_in (readings flip_flops text)
+
+    made : HasShortNames (device_of (map said statements))
+    made = short_device (map said statements) (read_are_faultless flip_flops 1 (all_lines text))
+
+    by : (fs : List Fault) → unless_fault fs (device_of (map said statements)) ≡ Ok device → HasShortNames device
+    by [] e = let same : device_of (map said statements) ≡ device = cc in subst HasShortNames same made
+    by (f ∷ fs) e = cc
+
+-- ---- what is read
+
+module _ (text : List ℕ) where
+  pub handed : (error : BenchError) → IsExpectedFault (told error) (netlist_with Taken text) → IsExpectedFault (told error) (sequential_netlist text)
+  handed (Bad line what) h = ap (with_delayed (flip_flops (filter_map statement_in (readings Taken text)))) h
+  handed Memory h = tt
+
+  module _ (statements : List (ℕ × Statement)) (read : statements_or_fault (readings Taken text) ≡ Ok statements) where
+    pub device_read : (device : Device) → device_or_fault statements ≡ Ok device → netlist_with Taken text ≡ Ok device
+    device_read device made = is_read Taken text statements read ∙ made
+
+    pub is_sequential : (device : Device) (delayed : List ℕ) → device_or_fault statements ≡ Ok device → delayed ≡ places_where (is_among (flip_flops statements)) (part_names device.parts)
+        → sequential_netlist text ≡ Ok (record { device = device; delayed = delayed })
+    is_sequential device delayed made are =
+        ap (with_delayed (flip_flops (filter_map statement_in (readings Taken text)))) (device_read device made)
+        ∙ ap (λ (ss : List (ℕ × Statement)). with_delayed (flip_flops ss) (Ok device)) (both Taken text statements read).1
+        ∙ ap (λ (ds : List ℕ). Ok (record { device = device; delayed = ds })) (sym are)

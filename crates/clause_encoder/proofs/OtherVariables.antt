@@ -1,0 +1,122 @@
+-- Clauses in which other variables stand for those that were there are true where these are.
+use Rattle.std.proofs.Common.{◌≡◌, ℕ, zero, suc, ◌+◌, ◌-◌, ◌<◌, ◌≤◌, Bool, true, false, not, ◌&&◌, ◌||◌, List, [], ◌∷◌, ◌++◌, map, length, take, get_or, ℤ, pos, negsuc, neg_ℤ, refl, ap, sym, ◌∙◌, arith, add-one}
+use Rattle.std.specs.Prelude.{nat_lt, nat_le}
+use Rattle.std.specs.List.{All, list_any, list_all}
+use Rattle.std.proofs.lemmas.Bool.{and_parts, ltb-true, leb-true}
+use Rattle.std.proofs.lemmas.List.{length-map, take_more, map-append, length-take-le}
+use Rattle.ranking.specs.Bits.{same_bit}
+use Rattle.ranking.specs.Assignments.{Assignment}
+use Rattle.ranking.proofs.Lists.{list_all-at}
+use Rattle.clause_encoder.specs.declared.limits.TheConstants.{CLAUSE_LIMIT, VARIABLE_LIMIT}
+use Rattle.clause_encoder.specs.Clauses.{Clause, ClauseList, var_of, is_positive, literal, is_true_clause, all_hold, vars_rise, is_clause, is_clause_list}
+use Rattle.clause_encoder.specs.Encoding.{tidy}
+use Rattle.clause_encoder.specs.Replacing.{variable_for, literal_for, replaced}
+use Rattle.clause_encoder.proofs.Literals.{lit, lit-literal, AllIn, AllRaw, all_hold-tidy, are_clauses-tidy, tidy-append, length-tidy}
+use Rattle.clause_encoder.proofs.Describing.{var_of-literal}
+
+-- ---- the literals of a clause
+
+AllIn-from : (vars below : ℕ) (c : Clause) → vars_rise below c ≡ true → list_all (λ k. nat_le (var_of k) vars) c ≡ true → AllIn vars c
+AllIn-from vars below [] h k = tt
+AllIn-from vars below (l ∷ c) h k =
+    let rise = and_parts (nat_lt below (var_of l)) (vars_rise (var_of l) c) h in
+    let most = and_parts (nat_le (var_of l) vars) (list_all (λ k. nat_le (var_of k) vars) c) k in
+    (omega (arith, ltb-true below (var_of l) rise.0), leb-true (var_of l) vars most.0, AllIn-from vars (var_of l) c rise.1 most.1)
+
+-- a clause has a literal, and each is of a variable from 1 to the greatest
+pub raw_from : (vars : ℕ) (c : Clause) → is_clause vars c ≡ true → (1 ≤ length c) × AllIn vars c
+raw_from vars [] h = absurd (let f : false ≡ true = h in cc)
+raw_from vars (l ∷ c) h =
+    let both = and_parts (vars_rise 0 (l ∷ c)) (list_all (λ k. nat_le (var_of k) vars) (l ∷ c)) h in
+    (omega arith, AllIn-from vars 0 (l ∷ c) both.0 both.1)
+
+AllIn-at : (vars : ℕ) (c : Clause) (k : ℕ) (d : ℤ) → AllIn vars c → k < length c → (1 ≤ var_of (get_or c k d)) × (var_of (get_or c k d) ≤ vars)
+AllIn-at vars [] k d h lt = absurd (omega arith)
+AllIn-at vars (l ∷ c) zero d h lt = (h.0, h.1)
+AllIn-at vars (l ∷ c) (suc k) d h lt = AllIn-at vars c k d h.2 (omega arith)
+
+pub clause-some : (vars : ℕ) (c : Clause) → is_clause vars c ≡ true → All (λ l. 1 ≤ var_of l) c
+clause-some vars c h k d lt = (AllIn-at vars c k d (raw_from vars c h).1 lt).0
+
+pub clause-within : (vars : ℕ) (c : Clause) → is_clause vars c ≡ true → All (λ l. var_of l ≤ vars) c
+clause-within vars c h k d lt = (AllIn-at vars c k d (raw_from vars c h).1 lt).1
+
+-- ---- replaced
+
+module _ (old : ℕ) (variables : List ℕ) (vars : ℕ) (all : length variables ≡ old) (some : All (λ v. 1 ≤ v) variables) (within : All (λ v. v ≤ vars) variables) where
+  stands_in : (v : ℕ) → 1 ≤ v → v ≤ old → (1 ≤ variable_for variables v) × (variable_for variables v ≤ vars)
+  stands_in v h most = (some (v - 1) 0 (omega arith), within (v - 1) 0 (omega arith))
+
+  AllIn-replaced : (c : Clause) → AllIn old c → AllIn vars (map (literal_for variables) c)
+  AllIn-replaced [] h = tt
+  AllIn-replaced (l ∷ c) h =
+      let in_place = stands_in (var_of l) h.0 h.1 in
+      let same = var_of-literal (is_positive l) (variable_for variables (var_of l)) in
+      (omega (arith, same, in_place.0), omega (arith, same, in_place.1), AllIn-replaced c h.2)
+
+  AllRaw-replaced : (cs : List Clause) → list_all (is_clause old) cs ≡ true → AllRaw vars (map (map (literal_for variables)) cs)
+  AllRaw-replaced [] h = tt
+  AllRaw-replaced (c ∷ cs) h =
+      let two = and_parts (is_clause old c) (list_all (is_clause old) cs) h in
+      let raw = raw_from old c two.0 in
+      (omega (arith, length-map c (literal_for variables), raw.0), AllIn-replaced c raw.1, AllRaw-replaced cs two.1)
+
+  true-replaced : (a : Assignment) (c : Clause) → AllIn old c → is_true_clause a (map (literal_for variables) c) ≡ is_true_clause (λ v. a (variable_for variables v)) c
+  true-replaced a [] h = refl
+  true-replaced a (l ∷ c) h =
+      λ i. lit-literal a (is_positive l) (variable_for variables (var_of l)) (stands_in (var_of l) h.0 h.1).0 i || true-replaced a c h.2 i
+
+  all-replaced : (a : Assignment) (cs : List Clause) → list_all (is_clause old) cs ≡ true
+      → all_hold a (map (map (literal_for variables)) cs) ≡ all_hold (λ v. a (variable_for variables v)) cs
+  all-replaced a [] h = refl
+  all-replaced a (c ∷ cs) h =
+      let two = and_parts (is_clause old c) (list_all (is_clause old) cs) h in
+      λ i. true-replaced a c (raw_from old c two.0).1 i && all-replaced a cs two.1 i
+
+  pub replaced-truth : (a : Assignment) (cs : List Clause) → list_all (is_clause old) cs ≡ true
+      → all_hold a (tidy (map (map (literal_for variables)) cs)) ≡ all_hold (λ v. a (variable_for variables v)) cs
+  replaced-truth a cs h = all_hold-tidy a vars (map (map (literal_for variables)) cs) (AllRaw-replaced cs h) ∙ all-replaced a cs h
+
+  pub replaced-clauses : (cs : List Clause) → list_all (is_clause old) cs ≡ true → list_all (is_clause vars) (tidy (map (map (literal_for variables)) cs)) ≡ true
+  replaced-clauses cs h = are_clauses-tidy vars (map (map (literal_for variables)) cs) (AllRaw-replaced cs h)
+
+pub replaced-few : (variables : List ℕ) (cs : List Clause) → length (tidy (map (map (literal_for variables)) cs)) ≤ length cs
+replaced-few variables cs = omega (arith, length-tidy (map (map (literal_for variables)) cs), length-map cs (map (literal_for variables)))
+
+-- one clause more
+pub replaced-more : (variables : List ℕ) (cs : List Clause) (at : ℕ) → at < length cs
+    → tidy (map (map (literal_for variables)) (take at cs)) ++ tidy (map (literal_for variables) (get_or cs at []) ∷ [])
+    ≡ tidy (map (map (literal_for variables)) (take (at + 1) cs))
+replaced-more variables cs at lt =
+    let each = map (literal_for variables) in
+    sym (tidy-append (map each (take at cs)) (each (get_or cs at []) ∷ []))
+    ∙ ap tidy (sym (map-append each (take at cs) (get_or cs at [] ∷ [])) ∙ ap (map each) (sym (take_more cs at [] lt)))
+
+-- variables that have the same bits
+pub all_hold-same : (vars : ℕ) (a b : Assignment) (cs : List Clause) → list_all (is_clause vars) cs ≡ true
+    → ((v : ℕ) → 1 ≤ v → v ≤ vars → a v ≡ b v) → all_hold a cs ≡ all_hold b cs
+all_hold-same vars a b [] h same = refl
+all_hold-same vars a b (c ∷ cs) h same =
+    let two = and_parts (is_clause vars c) (list_all (is_clause vars) cs) h in
+    λ i. each c (raw_from vars c two.0).1 i && all_hold-same vars a b cs two.1 same i
+  where
+    each : (c : Clause) → AllIn vars c → is_true_clause a c ≡ is_true_clause b c
+    each [] h = refl
+    each (l ∷ c) h = λ i. same_bit (is_positive l) (same (var_of l) h.0 h.1 i) || each c h.2 i
+
+-- ---- a clause list
+
+pub record IsList (cnf : ClauseList) : Type 0 where
+  pub few : length cnf.clauses ≤ CLAUSE_LIMIT
+  pub each : list_all (is_clause cnf.vars) cnf.clauses ≡ true
+
+pub list_from : (cnf : ClauseList) → is_clause_list cnf ≡ true → IsList cnf
+list_from cnf h =
+    let two = and_parts (nat_lt cnf.vars VARIABLE_LIMIT && nat_le (length cnf.clauses) CLAUSE_LIMIT) (list_all (is_clause cnf.vars) cnf.clauses) h in
+    record {
+      few = leb-true (length cnf.clauses) CLAUSE_LIMIT (and_parts (nat_lt cnf.vars VARIABLE_LIMIT) (nat_le (length cnf.clauses) CLAUSE_LIMIT) two.0).1;
+      each = two.1;
+    }
+
+pub clause-at : (cnf : ClauseList) (at : ℕ) (clause : Clause) → is_clause_list cnf ≡ true → at < length cnf.clauses → clause ≡ get_or cnf.clauses at [] → is_clause cnf.vars clause ≡ true
+clause-at cnf at clause h lt is = ap (is_clause cnf.vars) is ∙ list_all-at (is_clause cnf.vars) cnf.clauses at [] (list_from cnf h).each lt

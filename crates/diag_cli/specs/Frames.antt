@@ -1,0 +1,41 @@
+-- What a run comes to over a netlist with flip-flops and several times.
+use Rattle.std.specs.Prelude.{ℕ, List, length, Result, Ok, Err, codes, nat_le, if◌then◌else◌}
+use Rattle.text_rules.specs.declared.text_lines.TheConstants.{TEXT_LIMIT}
+use Rattle.device_model.specs.declared.limits.TheConstants.{PART_LIMIT, WIRE_LIMIT}
+use Rattle.bench_reader.specs.declared.sequential.Sequential.{Sequential}
+use Rattle.bench_reader.specs.SequentialNetlists.{sequential_netlist}
+use Rattle.clause_encoder.specs.declared.limits.TheConstants.{CLAUSE_LIMIT}
+use Rattle.clause_encoder.specs.Clauses.{ClauseList}
+use Rattle.frame_unroller.specs.declared.unrolling.Unrolled.{Unrolled}
+use Rattle.frame_unroller.specs.declared.unrolling.UnrollError.{UnrollError}
+use Rattle.frame_unroller.specs.declared.unrolling.UnrollError.TheVariants.{TooManyParts, TooManyWires, TooManyClauses, Memory}
+use Rattle.frame_unroller.specs.Unrolling.{unrolled}
+use Rattle.diag_edge.specs.ErrorLines.{above_line}
+use Rattle.diag_cli.specs.Output.{Output, says, no_memory}
+use Rattle.diag_cli.specs.Describing.{netlist_line, long_file_line, or_line}
+use Rattle.diag_cli.specs.Planning.{within}
+
+-- the netlist of a file, which may be too long
+abbrev pub sequential_in : List ℕ → Result Sequential Output
+sequential_in file = if nat_le (length file) TEXT_LIMIT then or_line netlist_line (sequential_netlist file) else Err (says long_file_line 1)
+
+-- too many parts, wires or clauses at all times
+abbrev pub not_unrolled : UnrollError → Output
+not_unrolled (TooManyParts count) = says (above_line (codes "parts") count PART_LIMIT) 1
+not_unrolled (TooManyWires count) = says (above_line (codes "wires") count WIRE_LIMIT) 1
+not_unrolled (TooManyClauses count) = says (above_line (codes "clauses") count CLAUSE_LIMIT) 1
+not_unrolled Memory = no_memory
+
+-- the clauses over all times, put into an order, where their sum is within a budget
+abbrev pub unrolled_within : ℕ → (ClauseList → ClauseList) → Result Unrolled UnrollError → Result ClauseList Output
+unrolled_within budget put (Ok made) = within budget (Ok (put made.cnf))
+unrolled_within budget put (Err error) = Err (not_unrolled error)
+
+-- the netlist, where it is unrolled within a budget
+abbrev pub netlist_by : Sequential → Result ClauseList Output → Result Sequential Output
+netlist_by seq (Ok cnf) = Ok seq
+netlist_by seq (Err output) = Err output
+
+abbrev pub if_unrolled : ℕ → ℕ → (ClauseList → ClauseList) → Result Sequential Output → Result Sequential Output
+if_unrolled frames budget put (Ok seq) = netlist_by seq (unrolled_within budget put (unrolled seq frames))
+if_unrolled frames budget put (Err output) = Err output

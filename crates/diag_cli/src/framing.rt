@@ -1,0 +1,187 @@
+//! Serves a netlist with flip-flops over several times.
+ghost use Rattle.std.specs.Prelude.{◌≡◌, ◌≢◌, ◌+◌, ◌-◌, ◌^◌, ◌<◌, ◌≤◌, length, All, Ok, IfOk};
+ghost use Rattle.std.specs.List.{sum};
+ghost use Rattle.text_rules.specs.Expected.{Fulfils};
+ghost use Rattle.ranking.specs.Ranking.{plain_costs};
+ghost use Rattle.diag_edge.specs.Edge.{RoseExactly};
+ghost use Rattle.bench_reader.specs.SequentialNetlists.{sequential_netlist, HasShortNames};
+ghost use Rattle.frame_unroller.specs.Diagnosis.{frame_system};
+ghost use Rattle.diag_cli.specs.Orders.{list_by, ByOrder};
+ghost use Rattle.diag_cli.specs.Courses.{served_or_refused};
+ghost use Rattle.diag_cli.specs.Describing.{netlist_line, or_line};
+ghost use Rattle.diag_cli.specs.Frames.{sequential_in, if_unrolled};
+ghost use Rattle.diag_cli.specs.Refusals.{Finds, told_by};
+ghost use Rattle.diag_cli.specs.Following.{Follows};
+ghost use Rattle.diag_cli.specs.inner.Serving.{IsFrameService, frames_told};
+
+use crate::refusal::{Refusal, above, tell};
+use crate::serving::{SCRIPT_LIMIT, answer};
+use crate::weighing::in_order;
+use bench_reader::{BenchError, Sequential, read_sequential};
+use branch_states::{BUDGET_LIMIT, MeasureError};
+use clause_encoder::CLAUSE_LIMIT;
+use device_model::{PART_LIMIT, WIRE_LIMIT};
+use diag_edge::{Sink, Source};
+use dnnf_compiler::compile_within;
+use frame_unroller::{FRAME_LIMIT, UnrollError, Unrolled, unroll};
+use session_core::{SESSION_LIMIT, Service};
+use std::alloc::{AllocError, Global};
+use text_rules::TEXT_LIMIT;
+
+// The netlist of a text, which may have flip-flops.
+fn sequential(alloc: Global, text: &[u8]) -> Result<Sequential, Refusal>
+    requires { length text.now ≤ TEXT_LIMIT }
+    ensures read { Finds (or_line netlist_line (sequential_netlist text.now)) result }
+    ensures short { IfOk result (λ seq. HasShortNames seq.device) }
+{
+    match read_sequential(alloc, text) {
+        Ok(seq) => Ok(seq),
+        Err(BenchError::Bad { line, what }) => Err(Refusal::Fault {
+            line,
+            number: what.number(),
+            name: what.name(),
+        }),
+        Err(BenchError::Memory) => Err(Refusal::Memory),
+    }
+}
+
+// What tells that a netlist is not unrolled.
+fn not_unrolled(error: UnrollError) -> Refusal
+    ensures { told_by result ≡ frames_told error }
+{
+    match error {
+        UnrollError::TooManyParts { count } => above("parts", count, PART_LIMIT),
+        UnrollError::TooManyWires { count } => above("wires", count, WIRE_LIMIT),
+        UnrollError::TooManyClauses { count } => above("clauses", count, CLAUSE_LIMIT as usize),
+        UnrollError::Memory => Refusal::Memory,
+    }
+}
+
+// The costs of so many parts, each 1.
+fn plain_costs(alloc: Global, parts: usize) -> Result<Vec<u32>, AllocError>
+    requires { parts ≤ PART_LIMIT }
+    ensures costs { IfOk result (λ costs. costs.items ≡ plain_costs parts) }
+    ensures dear { IfOk result (λ costs. All (λ c. 0 < c) costs.items) }
+    ensures total { IfOk result (λ costs. sum costs.items ≤ parts) }
+{
+    vec![in alloc; 1u32; parts]
+}
+
+// The service of a netlist over so many times, where the sum of its clauses is within a budget.
+fn service_within(
+    alloc: Global,
+    seq: &Sequential,
+    frames: u32,
+    budget: u32,
+    is_narrow: bool,
+    sessions: u32,
+) -> Result<Service, Refusal>
+    requires some_frames { 1 ≤ frames }
+    requires few_frames { frames ≤ FRAME_LIMIT }
+    requires short { HasShortNames seq.now.device }
+    requires budget { budget ≤ BUDGET_LIMIT }
+    requires some { 1 ≤ sessions }
+    requires few { sessions ≤ SESSION_LIMIT }
+    ensures service { IfOk result (IsFrameService seq.now frames sessions) }
+    ensures within { ByOrder (λ order.
+        Fulfils (λ _. seq.now) told_by (if_unrolled frames budget (list_by is_narrow order) (Ok seq.now)) result) }
+{
+    let made = match unroll(alloc, seq, frames) {
+        Ok(made) => made,
+        Err(error) => return Err(not_unrolled(error)),
+    };
+    let Unrolled { parts, wires, cnf } = made;
+    let cnf = in_order(alloc, cnf, is_narrow)?;
+    let graph = match compile_within(alloc, &cnf, budget) {
+        Ok(compiled) => compiled.graph,
+        Err(MeasureError::Above) => return Err(Refusal::Sum { budget }),
+        Err(MeasureError::Memory) => return Err(Refusal::Memory),
+    };
+    let costs = plain_costs(alloc, seq.device.parts().len())?;
+    match Service::over(alloc, parts.into_vec(), wires.into_vec(), costs, graph, sessions) {
+        Ok(service) => Ok(service),
+        Err(_) => Err(Refusal::Memory),
+    }
+}
+
+// Answers the script over a netlist, if it is unrolled within the budget.
+fn serve_sequential<I: Source, O: Sink>(
+    alloc: Global,
+    seq: Sequential,
+    frames: u32,
+    budget: u32,
+    is_narrow: bool,
+    sessions: u32,
+    input: &mut I,
+    out: &mut O,
+) -> u8
+    requires some_frames { 1 ≤ frames }
+    requires few_frames { frames ≤ FRAME_LIMIT }
+    requires short { HasShortNames seq.device }
+    requires budget { budget ≤ BUDGET_LIMIT }
+    requires some { 1 ≤ sessions }
+    requires few { sessions ≤ SESSION_LIMIT }
+    requires taken { I.taken input.old < 2 ^ 62 }
+    requires reads { I.faults input.old < 2 ^ 64 - 1 }
+    requires writes { O.faults out.old < 2 ^ 64 - 1 }
+    ensures write_fault { RoseExactly (O.faults out.old) (O.faults out.new) (result ≡ 5) }
+    ensures read_fault { result ≢ 5 → RoseExactly (I.faults input.old) (I.faults input.new) (result ≡ 4) }
+    ensures not_usage { result ≢ 2 }
+    ensures few { result ≤ 7 }
+    ensures follows { ByOrder (λ order.
+        Follows (served_or_refused (λ s. frame_system s frames) sessions (if_unrolled frames budget (list_by is_narrow order) (Ok seq)))
+        (record { left = I.left input.old; taken = I.taken input.old; faults = I.faults input.old })
+        (record { left = I.left input.new; taken = I.taken input.new; faults = I.faults input.new })
+        (record { got = O.got out.old; faults = O.faults out.old })
+        (record { got = O.got out.new; faults = O.faults out.new }) result) }
+    ensures cut { result ≡ 7 → I.taken input.new ≡ I.taken input.old + SCRIPT_LIMIT }
+    ensures short { result ≢ 5 → result ≢ 7 → I.taken input.new < I.taken input.old + SCRIPT_LIMIT }
+{
+    match service_within(alloc, &seq, frames, budget, is_narrow, sessions) {
+        Ok(mut service) => {
+            let status = answer(&mut service, input, out);
+            service.finish();
+            status
+        }
+        Err(refusal) => tell(out, refusal),
+    }
+}
+
+/// Answers the script over the netlist of a file and so many times, or tells why it cannot be, and answers the status.
+pub(crate) fn serve_frames<I: Source, O: Sink>(
+    alloc: Global,
+    file: &[u8],
+    frames: u32,
+    budget: u32,
+    is_narrow: bool,
+    sessions: u32,
+    input: &mut I,
+    out: &mut O,
+) -> u8
+    requires some_frames { 1 ≤ frames }
+    requires few_frames { frames ≤ FRAME_LIMIT }
+    requires budget { budget ≤ BUDGET_LIMIT }
+    requires some { 1 ≤ sessions }
+    requires few { sessions ≤ SESSION_LIMIT }
+    requires short { length file.now ≤ TEXT_LIMIT }
+    requires taken { I.taken input.old < 2 ^ 62 }
+    requires reads { I.faults input.old < 2 ^ 64 - 1 }
+    requires writes { O.faults out.old < 2 ^ 64 - 1 }
+    ensures write_fault { RoseExactly (O.faults out.old) (O.faults out.new) (result ≡ 5) }
+    ensures read_fault { result ≢ 5 → RoseExactly (I.faults input.old) (I.faults input.new) (result ≡ 4) }
+    ensures not_usage { result ≢ 2 }
+    ensures few { result ≤ 7 }
+    ensures follows { ByOrder (λ order.
+        Follows (served_or_refused (λ s. frame_system s frames) sessions (if_unrolled frames budget (list_by is_narrow order) (sequential_in file.now)))
+        (record { left = I.left input.old; taken = I.taken input.old; faults = I.faults input.old })
+        (record { left = I.left input.new; taken = I.taken input.new; faults = I.faults input.new })
+        (record { got = O.got out.old; faults = O.faults out.old })
+        (record { got = O.got out.new; faults = O.faults out.new }) result) }
+    ensures cut { result ≡ 7 → I.taken input.new ≡ I.taken input.old + SCRIPT_LIMIT }
+    ensures short { result ≢ 5 → result ≢ 7 → I.taken input.new < I.taken input.old + SCRIPT_LIMIT }
+{
+    match sequential(alloc, file) {
+        Ok(seq) => serve_sequential(alloc, seq, frames, budget, is_narrow, sessions, input, out),
+        Err(refusal) => tell(out, refusal),
+    }
+}

@@ -1,0 +1,138 @@
+-- The copies of parts: what each is, and that they stand in the order of their names.
+use Rattle.std.proofs.Common.{◌≡◌, ℕ, zero, suc, ◌+◌, ◌-◌, ◌<◌, ◌≤◌, inl, inr, Bool, true, false, List, [], ◌∷◌, length, refl, sym, ap, subst, arith}
+use Rattle.std.specs.Prelude.{nat_lt, if◌then◌else◌}
+use Rattle.std.specs.List.{flat_map, enumerate_from, range_with_len}
+use Rattle.std.proofs.lemmas.Bool.{ltb-true}
+use Rattle.text_rules.specs.Names.{Name}
+use Rattle.device_model.specs.declared.component.Component.{Component}
+use Rattle.device_model.proofs.Naming.{Below}
+use Rattle.device_model.proofs.Ordered.{Among, Rises, Below-among}
+use Rattle.device_model.proofs.Making.{component_name}
+use Rattle.bench_reader.specs.declared.sequential.Sequential.{Sequential}
+use Rattle.frame_unroller.specs.Times.{copy_at}
+use Rattle.frame_unroller.specs.Frames.{is_delayed}
+use Rattle.frame_unroller.specs.Unrolling.{Copy, input_time, copies_of, copies_for, copies}
+use Rattle.frame_unroller.proofs.Members.{among-flat_map, among-range, among-enumerate}
+use Rattle.frame_unroller.proofs.Order.{copies_rise, copies_below, Rises-append}
+
+abbrev pub copy_name : Copy → Name
+copy_name c = copy_at c.now c.part.name
+
+module _ (seq : Sequential) where
+  -- ---- one part at one time
+
+  pub record IsCopyOf (t : ℕ) (p : ℕ × Component) (c : Copy) : Type 0 where
+    pub now : c.now ≡ t
+    pub part : c.part ≡ p.1
+    pub place : c.place ≡ p.0
+    pub some : 1 ≤ c.before
+    pub order : c.before ≤ t
+
+  not_later : (place t : ℕ) → input_time seq place t ≤ t
+  not_later place t = by (is_delayed seq place)
+    where
+      by : (b : Bool) → (if b then t - 1 else t) ≤ t
+      by true = omega arith
+      by false = omega arith
+
+  pub is_copy : (t : ℕ) (p : ℕ × Component) (c : Copy) → Among c (copies_of seq t p) → IsCopyOf t p c
+  is_copy t p c m = by (nat_lt 0 before) refl m
+    where
+      before : ℕ
+      before = input_time seq p.0 t
+
+      made : Copy
+      made = record { place = p.0; part = p.1; before = before; now = t }
+
+      by : (b : Bool) → nat_lt 0 before ≡ b → Among c (if b then made ∷ [] else []) → IsCopyOf t p c
+      by false e n = absurd n
+      by true e (inr n) = absurd n
+      by true e (inl is) =
+          let same : c.before ≡ before = ap (λ (d : Copy). d.before) is in
+          record {
+            now = ap (λ (d : Copy). d.now) is;
+            part = ap (λ (d : Copy). d.part) is;
+            place = ap (λ (d : Copy). d.place) is;
+            some = omega (arith, same, ltb-true 0 before e);
+            order = omega (arith, same, not_later p.0 t);
+          }
+
+  one_rises : (t : ℕ) (p : ℕ × Component) → Rises copy_name (copies_of seq t p)
+  one_rises t p = by (nat_lt 0 (input_time seq p.0 t))
+    where
+      by : (b : Bool) → Rises copy_name (if b then record { place = p.0; part = p.1; before = input_time seq p.0 t; now = t } ∷ [] else [])
+      by true = (tt, tt)
+      by false = tt
+
+  -- ---- all parts at one time
+
+  parts_rise : (t a : ℕ) (parts : List Component) → Rises component_name parts → Rises copy_name (flat_map (copies_of seq t) (enumerate_from a parts))
+  parts_rise t a [] rise = tt
+  parts_rise t a (p ∷ parts) rise =
+      Rises-append copy_name (copies_of seq t (a, p)) (flat_map (copies_of seq t) (enumerate_from (a + 1) parts))
+      (one_rises t (a, p)) (parts_rise t (a + 1) parts rise.1)
+      (λ x y m k.
+      let first = is_copy t (a, p) x m in
+      let r = among-flat_map (copies_of seq t) (enumerate_from (a + 1) parts) y k in
+      let second = is_copy t r.0 y r.2 in
+      let there = among-enumerate (a + 1) parts r.0 r.1 in
+      let below : Below (copy_at t p.name) (copy_at t r.0.1.name) = copies_below t p.name r.0.1.name (Below-among component_name p.name parts r.0.1 rise.0 there.2) in
+      subst (λ (n : Name). Below n (copy_name y)) (sym (λ i. copy_at (first.now i) (component_name (first.part i))))
+      (subst (λ (n : Name). Below (copy_at t p.name) n) (sym (λ i. copy_at (second.now i) (component_name (second.part i)))) below))
+
+  -- what a copy for a time is
+  pub record IsCopyFor (t : ℕ) (c : Copy) : Type 0 where
+    pub now : c.now ≡ t
+    pub within : c.place < length seq.device.parts
+    pub there : Among c.part seq.device.parts
+    pub some : 1 ≤ c.before
+    pub order : c.before ≤ t
+
+  pub is_copy_for : (t : ℕ) (c : Copy) → Among c (copies_for seq t) → IsCopyFor t c
+  is_copy_for t c m =
+      let r = among-flat_map (copies_of seq t) (enumerate_from 0 seq.device.parts) c m in
+      let is = is_copy t r.0 c r.2 in
+      let at = among-enumerate 0 seq.device.parts r.0 r.1 in
+      record {
+        now = is.now;
+        within = omega (arith, is.place, at.1);
+        there = subst (λ (p : Component). Among p seq.device.parts) (sym is.part) at.2;
+        some = is.some;
+        order = is.order;
+      }
+
+  -- ---- all times
+
+  module _ (rise : Rises component_name seq.device.parts) where
+    pub times_in_order : (a n : ℕ) → Rises copy_name (flat_map (copies_for seq) (range_with_len a n))
+    times_in_order a zero = tt
+    times_in_order a (suc n) =
+        Rises-append copy_name (copies_for seq a) (flat_map (copies_for seq) (range_with_len (a + 1) n))
+        (parts_rise a 0 seq.device.parts rise) (times_in_order (a + 1) n)
+        (λ x y m k.
+        let first = is_copy_for a x m in
+        let r = among-flat_map (copies_for seq) (range_with_len (a + 1) n) y k in
+        let second = is_copy_for r.0 y r.2 in
+        let later = (among-range (a + 1) n r.0 r.1).0 in
+        copies_rise x.now y.now x.part.name y.part.name (omega (arith, first.now, second.now, later)))
+
+  -- what any copy is
+  pub record IsCopy (frames : ℕ) (c : Copy) : Type 0 where
+    pub within : c.place < length seq.device.parts
+    pub there : Among c.part seq.device.parts
+    pub some : 1 ≤ c.before
+    pub order : c.before ≤ c.now
+    pub few : c.now ≤ frames
+
+  pub are_copies : (frames : ℕ) (c : Copy) → Among c (copies seq frames) → IsCopy frames c
+  are_copies frames c m =
+      let r = among-flat_map (copies_for seq) (range_with_len 1 frames) c m in
+      let is = is_copy_for r.0 c r.2 in
+      let at = (among-range 1 frames r.0 r.1).1 in
+      record {
+        within = is.within;
+        there = is.there;
+        some = is.some;
+        order = omega (arith, is.order, is.now);
+        few = omega (arith, is.now, at);
+      }

@@ -1,0 +1,72 @@
+-- What stands in lists that are made of others.
+use Rattle.std.proofs.Common.{◌≡◌, ℕ, zero, suc, ◌+◌, ◌*◌, ◌<◌, ◌≤◌, inl, inr, Bool, true, List, [], ◌∷◌, ◌++◌, length, take, drop, get_or, refl, sym, ap, ◌∙◌, arith}
+use Rattle.std.specs.Prelude.{◌&&◌}
+use Rattle.std.specs.List.{list_all, flat_map, enumerate_from, range_with_len}
+use Rattle.std.proofs.lemmas.Bool.{and_parts}
+use Rattle.std.proofs.lemmas.List.{length-append, take-append-drop, get_or_append_left, get_or-append-add}
+use Rattle.std.proofs.lemmas.List.Folds.{list_all-append}
+use Rattle.device_model.proofs.Ordered.{Among}
+use Rattle.device_model.proofs.Apart.{among_parts}
+
+-- ---- members
+
+pub among-flat_map : {A B : Type 0} (f : A → List B) (xs : List A) (y : B) → Among y (flat_map f xs) → (x : A) × Among x xs × Among y (f x)
+among-flat_map f [] y m = absurd m
+among-flat_map f (x ∷ xs) y m = elim (among_parts y (f x) (flat_map f xs) m) [
+  | inl a ↦ (x, inl refl, a)
+  | inr a ↦ let r = among-flat_map f xs y a in (r.0, inr r.1, r.2)
+]
+
+pub among-range : (a n t : ℕ) → Among t (range_with_len a n) → (a ≤ t) × (t < a + n)
+among-range a zero t m = absurd m
+among-range a (suc n) t (inl e) = (omega (arith, e), omega (arith, e))
+among-range a (suc n) t (inr m) = let r = among-range (a + 1) n t m in (omega (arith, r.0), omega (arith, r.1))
+
+pub among-enumerate : {A : Type 0} (a : ℕ) (xs : List A) (e : ℕ × A) → Among e (enumerate_from a xs) → (a ≤ e.0) × (e.0 < a + length xs) × Among e.1 xs
+among-enumerate a [] e m = absurd m
+among-enumerate a (x ∷ xs) e (inl is) =
+    let at : e.0 ≡ a = ap (λ (p : ℕ × _). p.0) is in
+    (omega (arith, at), omega (arith, at), inl (ap (λ (p : ℕ × _). p.1) is))
+among-enumerate a (x ∷ xs) e (inr m) = let r = among-enumerate (a + 1) xs e m in (omega (arith, r.0), omega (arith, r.1), inr r.2)
+
+-- ---- tests
+
+pub list_all-flat_map : {A B : Type 0} (p : B → Bool) (f : A → List B) (xs : List A) → list_all p (flat_map f xs) ≡ list_all (λ x. list_all p (f x)) xs
+list_all-flat_map p f [] = refl
+list_all-flat_map p f (x ∷ xs) = list_all-append p (f x) (flat_map f xs) ∙ ap (λ b. list_all p (f x) && b) (list_all-flat_map p f xs)
+
+pub list_all-same : {A : Type 0} (p q : A → Bool) (xs : List A) → ((x : A) → Among x xs → p x ≡ q x) → list_all p xs ≡ list_all q xs
+list_all-same p q [] h = refl
+list_all-same p q (x ∷ xs) h = λ i. h x (inl refl) i && list_all-same p q xs (λ y m. h y (inr m)) i
+
+-- what all items pass, those before a place and those behind it do
+pub both_pass : {A : Type 0} (p : A → Bool) (n : ℕ) (xs : List A) → list_all p xs ≡ true → (list_all p (take n xs) ≡ true) × (list_all p (drop n xs) ≡ true)
+both_pass p n xs h =
+    and_parts (list_all p (take n xs)) (list_all p (drop n xs))
+    (sym (list_all-append p (take n xs) (drop n xs)) ∙ ap (list_all p) (take-append-drop n xs) ∙ h)
+
+-- ---- lists of one length behind one another
+
+module _ {A : Type 0} (f : ℕ → List A) (w : ℕ) (each : (t : ℕ) → length (f t) ≡ w) where
+  pub length-chunks : (a n : ℕ) → length (flat_map f (range_with_len a n)) ≡ n * w
+  length-chunks a zero = omega arith
+  length-chunks a (suc n) = omega (arith, length-append (f a) (flat_map f (range_with_len (a + 1) n)), each a, length-chunks (a + 1) n)
+
+  pub get_or-chunks : (a n k i : ℕ) (d : A) → k < n → i < w → get_or (flat_map f (range_with_len a n)) (k * w + i) d ≡ get_or (f (a + k)) i d
+  get_or-chunks a zero k i d lt l = absurd (omega arith)
+  get_or-chunks a (suc n) zero i d lt l =
+      let rest = flat_map f (range_with_len (a + 1) n) in
+      let here : 0 * w + i ≡ i = omega arith in
+      let first : a ≡ a + 0 = omega arith in
+      ap (λ j. get_or (f a ++ rest) j d) here ∙ get_or_append_left (f a) rest d i (omega (arith, each a)) ∙ ap (λ t. get_or (f t) i d) first
+  get_or-chunks a (suc n) (suc k) i d lt l =
+      let rest = flat_map f (range_with_len (a + 1) n) in
+      let past : suc k * w + i ≡ length (f a) + (k * w + i) = omega (arith, each a) in
+      let next : (a + 1) + k ≡ a + suc k = omega arith in
+      ap (λ j. get_or (f a ++ rest) j d) past ∙ get_or-append-add (f a) rest (k * w + i) d
+      ∙ get_or-chunks (a + 1) n k i d (omega arith) l ∙ ap (λ t. get_or (f t) i d) next
+
+pub mul-le : (a b w : ℕ) → a ≤ b → a * w ≤ b * w
+mul-le zero b w h = omega arith
+mul-le (suc a) zero w h = absurd (omega arith)
+mul-le (suc a) (suc b) w h = omega (arith, mul-le a b w (omega arith))

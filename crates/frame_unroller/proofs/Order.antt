@@ -1,0 +1,87 @@
+-- Names at times: their order.
+use Rattle.std.proofs.Common.{◌≡◌, ℕ, ◌+◌, ◌*◌, ◌/◌, ◌%◌, ◌<◌, inl, inr, List, [], ◌∷◌, ◌++◌, map, refl, ◌∙◌, arith}
+use Rattle.std.specs.Ordering.{nat_cmp}
+use Rattle.std.specs.declared.cmp.Ordering.TheVariants.{Less}
+use Rattle.std.specs.Cmp.Lexicographic.{slice_cmp}
+use Rattle.text_rules.specs.Names.{Name}
+use Rattle.device_model.proofs.DigitOrder.{first_same, next_digit}
+use Rattle.device_model.proofs.Naming.{Below}
+use Rattle.device_model.proofs.Ordered.{Among, BelowAll, Rises}
+use Rattle.frame_unroller.specs.Times.{four_digits, copy_at}
+
+-- ---- digits
+
+-- four digits that spell a number, the last three of which are below 10
+record Spells (n a b c d : ℕ) : Type 0 where
+  sum : n ≡ 1000 * a + 100 * b + 10 * c + d
+  second : b < 10
+  third : c < 10
+  fourth : d < 10
+
+spells : (n : ℕ) → Spells n (n / 1000) (n / 100 % 10) (n / 10 % 10) (n % 10)
+spells n =
+    let two : n / 10 / 10 ≡ n / 100 = omega arith in
+    let three : n / 100 / 10 ≡ n / 1000 = omega arith in
+    record { sum = omega arith; second = omega arith; third = omega arith; fourth = omega arith }
+
+digits_rise : (m n a b c d e f g h : ℕ) (xs ys : List ℕ) → Spells m a b c d → Spells n e f g h → m < n
+    → slice_cmp nat_cmp ((48 + a) ∷ (48 + b) ∷ (48 + c) ∷ (48 + d) ∷ xs) ((48 + e) ∷ (48 + f) ∷ (48 + g) ∷ (48 + h) ∷ ys) ≡ Less
+digits_rise m n a b c d e f g h xs ys p q l =
+    let xs-4 : List ℕ = (48 + d) ∷ xs in
+    let ys-4 : List ℕ = (48 + h) ∷ ys in
+    let xs-3 : List ℕ = (48 + c) ∷ xs-4 in
+    let ys-3 : List ℕ = (48 + g) ∷ ys-4 in
+    next_digit a e ((48 + b) ∷ xs-3) ((48 + f) ∷ ys-3) (λ k. omega arith)
+    (λ s. next_digit b f xs-3 ys-3 (λ k. omega arith)
+    (λ t. next_digit c g xs-4 ys-4 (λ k. omega arith)
+    (λ u. next_digit d h xs ys (λ k. omega arith) (λ v. absurd (omega arith)))))
+
+pub times_rise : (m n : ℕ) (x y : Name) → m < n → Below (four_digits m ++ x) (four_digits n ++ y)
+times_rise m n x y l =
+    digits_rise m n (m / 1000) (m / 100 % 10) (m / 10 % 10) (m % 10) (n / 1000) (n / 100 % 10) (n / 10 % 10) (n % 10) x y (spells m) (spells n) l
+
+-- ---- copies
+
+pub copies_rise : (m n : ℕ) (x y : Name) → m < n → Below (copy_at m x) (copy_at n y)
+copies_rise m n x y l = times_rise m n (64 ∷ x) (64 ∷ y) l
+
+pub copies_below : (t : ℕ) (x y : Name) → Below x y → Below (copy_at t x) (copy_at t y)
+copies_below t x y h =
+    let a = 48 + t / 1000 in
+    let b = 48 + t / 100 % 10 in
+    let c = 48 + t / 10 % 10 in
+    let d = 48 + t % 10 in
+    first_same a a (b ∷ c ∷ d ∷ 64 ∷ x) (b ∷ c ∷ d ∷ 64 ∷ y) refl
+    ∙ first_same b b (c ∷ d ∷ 64 ∷ x) (c ∷ d ∷ 64 ∷ y) refl
+    ∙ first_same c c (d ∷ 64 ∷ x) (d ∷ 64 ∷ y) refl
+    ∙ first_same d d (64 ∷ x) (64 ∷ y) refl
+    ∙ first_same 64 64 x y refl
+    ∙ h
+
+-- ---- lists behind one another
+
+module _ {A : Type 0} (name : A → Name) where
+  BelowAll-append : (n : Name) (xs ys : List A) → BelowAll name n xs → BelowAll name n ys → BelowAll name n (xs ++ ys)
+  BelowAll-append n [] ys h g = g
+  BelowAll-append n (x ∷ xs) ys h g = (h.0, BelowAll-append n xs ys h.1 g)
+
+  BelowAll-from : (n : Name) (ys : List A) → ((y : A) → Among y ys → Below n (name y)) → BelowAll name n ys
+  BelowAll-from n [] h = tt
+  BelowAll-from n (y ∷ ys) h = (h y (inl refl), BelowAll-from n ys (λ z m. h z (inr m)))
+
+  pub Rises-append : (xs ys : List A) → Rises name xs → Rises name ys → ((x y : A) → Among x xs → Among y ys → Below (name x) (name y)) → Rises name (xs ++ ys)
+  Rises-append [] ys h g apart = g
+  Rises-append (x ∷ xs) ys h g apart = (
+    BelowAll-append (name x) xs ys h.0 (BelowAll-from (name x) ys (λ y m. apart x y (inl refl) m)),
+    Rises-append xs ys h.1 g (λ z y m k. apart z y (inr m) k),
+  )
+
+  -- items that are made of others have their names
+  module _ {B : Type 0} (make : B → A) where
+    BelowAll-made : (n : Name) (xs : List B) → BelowAll (λ x. name (make x)) n xs → BelowAll name n (map make xs)
+    BelowAll-made n [] h = tt
+    BelowAll-made n (x ∷ xs) h = (h.0, BelowAll-made n xs h.1)
+
+    pub Rises-made : (xs : List B) → Rises (λ x. name (make x)) xs → Rises name (map make xs)
+    Rises-made [] h = tt
+    Rises-made (x ∷ xs) h = (BelowAll-made (name (make x)) xs h.0, Rises-made xs h.1)

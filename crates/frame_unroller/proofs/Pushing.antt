@@ -1,0 +1,146 @@
+-- The copies for a time, part by part.
+use Rattle.std.proofs.Common.{◌≡◌, ℕ, zero, suc, ◌+◌, ◌-◌, ◌*◌, ◌<◌, ◌≤◌, Bool, true, false, not, cond, List, [], ◌∷◌, ◌++◌, map, length, drop, get_or, refl, sym, ap, ◌∙◌, append_assoc, arith}
+use Rattle.std.specs.Prelude.{nat_lt, if◌then◌else◌}
+use Rattle.std.specs.List.{flat_map, filter, enumerate_from, range_with_len, count_by}
+use Rattle.std.proofs.lemmas.Bool.{lt-ltb, le-ltb}
+use Rattle.std.proofs.lemmas.List.{drop_more, map-append, length-append}
+use Rattle.std.proofs.lemmas.List.Sums.{length-filter}
+use Rattle.device_model.specs.declared.component.Component.{Component}
+use Rattle.bench_reader.specs.declared.sequential.Sequential.{Sequential}
+use Rattle.frame_unroller.specs.Frames.{is_delayed}
+use Rattle.std.proofs.lemmas.List.{flat_map_more}
+use Rattle.text_rules.specs.Names.{Name}
+use Rattle.frame_unroller.specs.Times.{wire_at}
+use Rattle.frame_unroller.specs.Unrolling.{Copy, input_time, copies_of, copies_for, copies}
+use Rattle.frame_unroller.specs.inner.Copying.{given_copy, AreCopies}
+use Rattle.frame_unroller.proofs.Sharing.{range_more}
+
+module _ (seq : Sequential) (t : ℕ) where
+  abbrev pub copy : ℕ → Component → ℕ → Copy
+  copy place part before = record { place = place; part = part; before = before; now = t }
+
+  one : (place : ℕ) (part : Component) (before : ℕ) → before ≡ input_time seq place t → 0 < before → copies_of seq t (place, part) ≡ copy place part before ∷ []
+  one place part before is some =
+      ap (λ (b : ℕ). if nat_lt 0 b then copy place part b ∷ [] else []) (sym is) ∙ ap (λ (b : Bool). if b then copy place part before ∷ [] else []) (lt-ltb 0 before some)
+
+  none : (place : ℕ) (part : Component) (before : ℕ) → before ≡ input_time seq place t → before ≤ 0 → copies_of seq t (place, part) ≡ []
+  none place part before is low =
+      ap (λ (b : ℕ). if nat_lt 0 b then copy place part b ∷ [] else []) (sym is) ∙ ap (λ (b : Bool). if b then copy place part before ∷ [] else []) (le-ltb 0 before low)
+
+  -- ---- a part more
+
+  module _ {B : Type 0} (shown : Copy → B) (parts : List Component) (place : ℕ) (part : Component) (lt : place < length parts) (is : part ≡ get_or parts place part)
+      (whole done : List B) (inv : whole ≡ done ++ map shown (flat_map (copies_of seq t) (enumerate_from place (drop place parts)))) where
+    abbrev rest : List B
+    rest = map shown (flat_map (copies_of seq t) (enumerate_from (place + 1) (drop (place + 1) parts)))
+
+    next : whole ≡ done ++ (map shown (copies_of seq t (place, part)) ++ rest)
+    next =
+        inv
+        ∙ ap (λ (ps : List Component). done ++ map shown (flat_map (copies_of seq t) (enumerate_from place ps))) (drop_more parts place part lt ∙ ap (λ (p : Component). p ∷ drop (place + 1) parts) (sym is))
+        ∙ ap (λ xs. done ++ xs) (map-append shown (copies_of seq t (place, part)) (flat_map (copies_of seq t) (enumerate_from (place + 1) (drop (place + 1) parts))))
+
+    pub copied : (before : ℕ) → before ≡ input_time seq place t → 0 < before → whole ≡ (done ++ shown (copy place part before) ∷ []) ++ rest
+    copied before same some =
+        next ∙ ap (λ (cs : List Copy). done ++ (map shown cs ++ rest)) (one place part before same some) ∙ sym (append_assoc done (shown (copy place part before) ∷ []) rest)
+
+    pub left_out : (before : ℕ) → before ≡ input_time seq place t → before ≤ 0 → whole ≡ done ++ rest
+    left_out before same low = next ∙ ap (λ (cs : List Copy). done ++ (map shown cs ++ rest)) (none place part before same low)
+
+-- ---- how many copies there are
+
+module _ (seq : Sequential) where
+  length-one : (t : ℕ) (p : ℕ × Component) → 2 ≤ t → length (copies_of seq t p) ≡ 1
+  length-one t p later = by (is_delayed seq p.0)
+    where
+      by : (b : Bool) → length (if nat_lt 0 (if b then t - 1 else t) then copy seq t p.0 p.1 (if b then t - 1 else t) ∷ [] else []) ≡ 1
+      by true = ap (λ (c : Bool). length (if c then copy seq t p.0 p.1 (t - 1) ∷ [] else [])) (lt-ltb 0 (t - 1) (omega arith))
+      by false = ap (λ (c : Bool). length (if c then copy seq t p.0 p.1 t ∷ [] else [])) (lt-ltb 0 t (omega arith))
+
+  length-later : (t a : ℕ) (parts : List Component) → 2 ≤ t → length (flat_map (copies_of seq t) (enumerate_from a parts)) ≡ length parts
+  length-later t a [] later = refl
+  length-later t a (p ∷ parts) later =
+      omega (arith, length-append (copies_of seq t (a, p)) (flat_map (copies_of seq t) (enumerate_from (a + 1) parts)), length-one t (a, p) later, length-later t (a + 1) parts later)
+
+  length-times : (a n : ℕ) → 2 ≤ a → length (flat_map (copies_for seq) (range_with_len a n)) ≡ n * length seq.device.parts
+  length-times a zero later = omega arith
+  length-times a (suc n) later =
+      omega (
+        arith,
+        length-append (copies_for seq a) (flat_map (copies_for seq) (range_with_len (a + 1) n)),
+        length-later a 0 seq.device.parts later,
+        length-times (a + 1) n (omega arith),
+      )
+
+  -- at the first time there is a copy of each part that is not delayed
+  length-first : (delays : List Bool) (a : ℕ) (parts : List Component) → length delays ≡ length parts
+      → ((k : ℕ) → k < length parts → get_or delays k false ≡ is_delayed seq (a + k))
+      → length (flat_map (copies_of seq 1) (enumerate_from a parts)) ≡ length (filter not delays)
+  length-first [] a [] many said = refl
+  length-first [] a (p ∷ parts) many said = absurd (omega arith)
+  length-first (b ∷ delays) a [] many said = absurd (omega arith)
+  length-first (b ∷ delays) a (p ∷ parts) many said =
+      omega (
+        arith,
+        length-append (copies_of seq 1 (a, p)) (flat_map (copies_of seq 1) (enumerate_from (a + 1) parts)),
+        here b (said 0 (omega arith) ∙ ap (is_delayed seq) (at a)),
+        length-first delays (a + 1) parts (omega arith) (λ k lt. said (suc k) (omega arith) ∙ ap (is_delayed seq) (later a k)),
+      )
+    where
+      at : (a : ℕ) → a + 0 ≡ a
+      at a = omega arith
+
+      later : (a k : ℕ) → a + suc k ≡ (a + 1) + k
+      later a k = omega arith
+
+      no_more : (n : ℕ) → 0 + n ≡ n
+      no_more n = omega arith
+
+      one_more : (n : ℕ) → 1 + n ≡ suc n
+      one_more n = omega arith
+
+      here : (b : Bool) → b ≡ is_delayed seq a → length (copies_of seq 1 (a, p)) + length (filter not delays) ≡ length (cond (not b) (b ∷ filter not delays) (filter not delays))
+      here true e = ap (λ (c : Bool). length (if nat_lt 0 (if c then 1 - 1 else 1) then copy seq 1 a p (if c then 1 - 1 else 1) ∷ [] else []) + length (filter not delays)) (sym e) ∙ no_more (length (filter not delays))
+      here false e = ap (λ (c : Bool). length (if nat_lt 0 (if c then 1 - 1 else 1) then copy seq 1 a p (if c then 1 - 1 else 1) ∷ [] else []) + length (filter not delays)) (sym e) ∙ one_more (length (filter not delays))
+
+  pub length-copies : (delays : List Bool) (frames : ℕ) → 1 ≤ frames → length delays ≡ length seq.device.parts
+      → ((k : ℕ) → k < length seq.device.parts → get_or delays k false ≡ is_delayed seq k)
+      → count_by not delays + (frames - 1) * length seq.device.parts ≡ length (copies seq frames)
+  length-copies delays zero some many said = absurd (omega arith)
+  length-copies delays (suc n) some many said =
+      let less : suc n - 1 ≡ n = omega arith in
+      let at : (k : ℕ) → k ≡ 0 + k = λ k. omega arith in
+      let first = length-first delays 0 seq.device.parts many (λ k lt. said k lt ∙ ap (is_delayed seq) (at k)) in
+      let counted = length-filter not delays in
+      ap (λ m. count_by not delays + m * length seq.device.parts) less
+      ∙ omega (arith, length-append (copies_for seq 1) (flat_map (copies_for seq) (range_with_len 2 n)), first, counted, length-times 2 n (omega arith))
+
+-- ---- a time more
+
+time_more : {A : Type 0} (f : ℕ → List A) (n : ℕ) → flat_map f (range_with_len 1 n) ++ f (n + 1) ≡ flat_map f (range_with_len 1 (n + 1))
+time_more f n =
+    let next : n + 1 ≡ 1 + n = omega arith in
+    ap (λ t. flat_map f (range_with_len 1 n) ++ f t) next ∙ flat_map_more f [] (range_with_len 1 n) (1 + n) ∙ ap (flat_map f) (range_more 1 n)
+
+module _ (seq : Sequential) (time : ℕ) (some : 1 ≤ time) where
+  more : {A : Type 0} (f : ℕ → List A) (done new : List A) → done ≡ flat_map f (range_with_len 1 (time - 1)) → new ≡ done ++ f time → new ≡ flat_map f (range_with_len 1 (time + 1 - 1))
+  more f done new so_far added =
+      let now : time ≡ (time - 1) + 1 = omega arith in
+      let after : (time - 1) + 1 ≡ time + 1 - 1 = omega arith in
+      added ∙ (λ i. so_far i ++ f (now i)) ∙ time_more f (time - 1) ∙ ap (λ n. flat_map f (range_with_len 1 n)) after
+
+  shown_more : {B : Type 0} (shown : Copy → B) (done new : List B) → done ≡ map shown (copies seq (time - 1)) → new ≡ done ++ map shown (copies_for seq time) → new ≡ map shown (copies seq (time + 1 - 1))
+  shown_more shown done new so_far added =
+      added ∙ ap (λ xs. xs ++ map shown (copies_for seq time)) so_far ∙ sym (map-append shown (copies seq (time - 1)) (copies_for seq time))
+      ∙ ap (map shown) (more (copies_for seq) (copies seq (time - 1)) (copies seq (time - 1) ++ copies_for seq time) refl refl)
+
+  pub copies_more : (parts new_parts : List Component) (places new_places : List ℕ) (wires new_wires : List Name) → AreCopies seq (time - 1) parts places wires
+      → new_parts ≡ parts ++ map (given_copy (length seq.device.wires)) (copies_for seq time)
+      → new_places ≡ places ++ map (λ (c : Copy). c.place) (copies_for seq time)
+      → new_wires ≡ wires ++ map (wire_at time) seq.device.wires
+      → AreCopies seq (time + 1 - 1) new_parts new_places new_wires
+  copies_more parts new_parts places new_places wires new_wires are p q w = record {
+    parts_are = shown_more (given_copy (length seq.device.wires)) parts new_parts are.parts_are p;
+    places_are = shown_more (λ (c : Copy). c.place) places new_places are.places_are q;
+    wires_are = more (λ t. map (wire_at t) seq.device.wires) wires new_wires are.wires_are w;
+  }

@@ -1,0 +1,86 @@
+-- The wires at all times: their names differ, and where each stands.
+use Rattle.std.proofs.Common.{◌≡◌, ℕ, zero, suc, ◌+◌, ◌-◌, ◌*◌, ◌<◌, ◌≤◌, true, List, [], ◌∷◌, map, length, drop, get_or, refl, sym, ap, subst, ◌∙◌, arith}
+use Rattle.std.specs.Prelude.{nat_lt}
+use Rattle.std.specs.List.{list_all, flat_map, range_with_len}
+use Rattle.std.proofs.lemmas.Bool.{and_parts, and_from, ltb-true, lt-ltb}
+use Rattle.std.proofs.lemmas.List.{length-append, length-map, get_or-map, drop_at, append_cancel_right}
+use Rattle.text_rules.specs.Names.{Name}
+use Rattle.device_model.proofs.Naming.{Below, Below-irreflexive}
+use Rattle.device_model.proofs.Ordered.{Rises}
+use Rattle.device_model.proofs.Sorting.{itself}
+use Rattle.device_model.proofs.Apart.{Different, Different-rising, Different-append, Different-made, among_made}
+use Rattle.device_model.proofs.Joining.{wire_at as name_at}
+use Rattle.frame_unroller.specs.Times.{four_digits, wire_at}
+use Rattle.frame_unroller.specs.Unrolling.{wires_at}
+use Rattle.frame_unroller.specs.inner.Copying.{position_at}
+use Rattle.frame_unroller.proofs.Members.{among-flat_map, among-range, length-chunks, get_or-chunks, mul-le}
+use Rattle.frame_unroller.proofs.Order.{times_rise}
+
+-- ---- names
+
+-- the last five bytes tell the time
+abbrev last_five : Name → Name
+last_five n = drop (length n - 5) n
+
+tells_time : (t : ℕ) (w : Name) → last_five (wire_at t w) ≡ 64 ∷ four_digits t
+tells_time t w =
+    let long : length (wire_at t w) - 5 ≡ length w = omega (arith, length-append w (64 ∷ four_digits t)) in
+    ap (λ n. drop n (wire_at t w)) long ∙ drop_at w (64 ∷ four_digits t) (length w) refl
+
+tells_wire : (t : ℕ) (v w : Name) → wire_at t v ≡ wire_at t w → v ≡ w
+tells_wire t v w e = append_cancel_right v w (64 ∷ four_digits t) e
+
+-- digits of a lower time are others
+times_differ : (t u : ℕ) → t < u → 64 ∷ four_digits t ≡ 64 ∷ four_digits u → ⊥
+times_differ t u lt e =
+    let same : four_digits t ≡ four_digits u = ap (λ n. drop 1 n) e in
+    let below : Below (four_digits t) (four_digits u) = times_rise t u [] [] lt in
+    Below-irreflexive (four_digits u) (subst (λ (n : Name). Below n (four_digits u)) same below)
+
+module _ (wires : List Name) where
+  pub wires_differ : (a n : ℕ) → Rises itself wires → Different (flat_map (λ t. map (wire_at t) wires) (range_with_len a n))
+  wires_differ a zero rise = tt
+  wires_differ a (suc n) rise =
+      Different-append (map (wire_at a) wires) (flat_map (λ t. map (wire_at t) wires) (range_with_len (a + 1) n))
+      (Different-made (wire_at a) (tells_wire a) wires (Different-rising wires rise)) (wires_differ (a + 1) n rise)
+      (λ m first later.
+      let r = among_made (wire_at a) wires m first in
+      let s = among-flat_map (λ t. map (wire_at t) wires) (range_with_len (a + 1) n) m later in
+      let u = among_made (wire_at s.0) wires m s.2 in
+      times_differ a s.0 (omega (arith, (among-range (a + 1) n s.0 s.1).0))
+      (sym (ap last_five r.1 ∙ tells_time a r.0) ∙ ap last_five u.1 ∙ tells_time s.0 u.0))
+
+  -- ---- places
+
+  each_long : (t : ℕ) → length (map (wire_at t) wires) ≡ length wires
+  each_long t = length-map wires (wire_at t)
+
+  pub length-wires : (n : ℕ) → length (flat_map (λ t. map (wire_at t) wires) (range_with_len 1 n)) ≡ n * length wires
+  length-wires n = length-chunks (λ t. map (wire_at t) wires) (length wires) each_long 1 n
+
+  module _ (frames t : ℕ) (some : 1 ≤ t) (few : t ≤ frames) where
+    abbrev given : List Name
+    given = flat_map (λ t. map (wire_at t) wires) (range_with_len 1 frames)
+
+    given_at : (w : ℕ) → w < length wires → get_or given (position_at (length wires) t w) [] ≡ wire_at t (get_or wires w [])
+    given_at w lt =
+        let time : 1 + (t - 1) ≡ t = omega arith in
+        get_or-chunks (λ t. map (wire_at t) wires) (length wires) each_long 1 frames (t - 1) w [] (omega arith) lt
+        ∙ ap (λ u. get_or (map (wire_at u) wires) w []) time
+        ∙ get_or-map (wire_at t) wires w [] [] lt
+
+    pub positions-named : (ports : List ℕ) → list_all (λ port. nat_lt port (length wires)) ports ≡ true
+        → map (name_at given) (map (position_at (length wires) t) ports) ≡ wires_at wires t ports
+    positions-named [] h = refl
+    positions-named (p ∷ ports) h =
+        let two = and_parts (nat_lt p (length wires)) (list_all (λ port. nat_lt port (length wires)) ports) h in
+        λ i. given_at p (ltb-true p (length wires) two.0) i ∷ positions-named ports two.1 i
+
+    pub positions-within : (ports : List ℕ) → list_all (λ port. nat_lt port (length wires)) ports ≡ true
+        → list_all (λ port. nat_lt port (length given)) (map (position_at (length wires) t) ports) ≡ true
+    positions-within [] h = refl
+    positions-within (p ∷ ports) h =
+        let two = and_parts (nat_lt p (length wires)) (list_all (λ port. nat_lt port (length wires)) ports) h in
+        let most = mul-le ((t - 1) + 1) frames (length wires) (omega arith) in
+        let lt = ltb-true p (length wires) two.0 in
+        and_from _ _ (lt-ltb (position_at (length wires) t p) (length given) (omega (arith, most, lt, length-wires frames))) (positions-within ports two.1)

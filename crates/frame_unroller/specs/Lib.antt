@@ -1,0 +1,5 @@
+pub mod Times
+pub mod Frames
+pub mod Diagnosis
+pub mod Unrolling
+pub mod inner

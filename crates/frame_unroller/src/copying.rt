@@ -1,0 +1,141 @@
+ghost use Rattle.std.specs.Prelude.{◌≡◌, ◌<◌, ◌≤◌, ◌+◌, ◌-◌, ◌*◌, ◌++◌, ℕ, length, map, slice_index_or, All, IfOk, OnOk, false};
+ghost use Rattle.text_rules.specs.declared.names.TheConstants.{SHORT_NAME_LIMIT};
+ghost use Rattle.bench_reader.specs.SequentialNetlists.{HasShortNames};
+ghost use Rattle.frame_unroller.specs.Times.{wire_at as named_at};
+ghost use Rattle.frame_unroller.specs.Frames.{is_delayed};
+ghost use Rattle.frame_unroller.specs.Unrolling.{Copy, copies_for};
+ghost use Rattle.frame_unroller.specs.inner.Copying.{given_copy, AreCopies};
+
+use crate::names::{copy_at, wire_at};
+use bench_reader::Sequential;
+use device_model::{Component, Name, Wires};
+use std::alloc::{AllocError, Global};
+
+/// The copies of all parts for so many frames, the places of these parts, and the wires at all times. A port is a position among
+/// these wires.
+#[derive(Debug, Drop)]
+pub(crate) struct Copies {
+    pub(crate) frames: u32,
+    pub(crate) parts: Vec<Component>,
+    pub(crate) places: Vec<u32>,
+    pub(crate) wires: Vec<Name>,
+}
+
+/// All copies for so many frames.
+pub(crate) fn copies_over(
+    alloc: Global,
+    seq: &Sequential,
+    delays: &[bool],
+    frames: u32,
+) -> Result<Copies, AllocError>
+    requires some { 1 ≤ frames }
+    requires few { frames ≤ 64 }
+    requires short { HasShortNames seq.now.device }
+    requires many { length delays.now ≡ length seq.now.device.parts }
+    requires delays { (place : ℕ) → place < length seq.now.device.parts
+        → slice_index_or delays.now place false ≡ is_delayed seq.now place }
+    ensures { IfOk result (λ made. (made.frames ≡ frames)
+        × AreCopies seq.now frames made.parts.items made.places.items made.wires.items) }
+{
+    let mut made = Copies {
+        frames,
+        parts: Vec::new(alloc),
+        places: Vec::new(alloc),
+        wires: Vec::new(alloc),
+    };
+    for time in 1..frames + 1 {
+        push_copies(alloc, seq, delays, time, &mut made.parts, &mut made.places)?;
+        push_wires(alloc, seq.device.wires(), time, &mut made.wires)?;
+    }
+    Ok(made)
+}
+
+// Adds the copies for a time, and the places of their parts.
+fn push_copies(
+    alloc: Global,
+    seq: &Sequential,
+    delays: &[bool],
+    time: u32,
+    copies: &mut Vec<Component>,
+    places: &mut Vec<u32>,
+) -> Result<(), AllocError>
+    requires some { 1 ≤ time }
+    requires few { time ≤ 64 }
+    requires short { HasShortNames seq.now.device }
+    requires many { length delays.now ≡ length seq.now.device.parts }
+    requires delays { (place : ℕ) → place < length seq.now.device.parts
+        → slice_index_or delays.now place false ≡ is_delayed seq.now place }
+    ensures copies { OnOk result (copies.new.items
+        ≡ copies.old.items ++ map (given_copy (length seq.now.device.wires)) (copies_for seq.now time)) }
+    ensures places { OnOk result (places.new.items
+        ≡ places.old.items ++ map (λ (c : Copy). c.place) (copies_for seq.now time)) }
+{
+    let wires = seq.device.wires().len() as u32;
+    for (place, part) in seq.device.parts().iter().enumerate() {
+        let before = if delays[place] { time - 1 } else { time };
+        if before > 0 {
+            copies.push(copy_of(alloc, part, wires, before, time)?)?;
+            places.push(place as u32)?;
+        }
+    }
+    Ok(())
+}
+
+// The copy of a part whose inputs are of one time and its output of another.
+fn copy_of(
+    alloc: Global,
+    part: &Component,
+    wires: u32,
+    before: u32,
+    now: u32,
+) -> Result<Component, AllocError>
+    requires short { length part.now.name ≤ SHORT_NAME_LIMIT }
+    requires wires { wires ≤ 16384 }
+    requires ports { All (λ port. port < wires) part.now.ports }
+    requires some { 1 ≤ before }
+    requires order { before ≤ now }
+    requires few { now ≤ 64 }
+    ensures { (place : ℕ) → IfOk result (λ copy. copy
+        ≡ given_copy wires (record { place = place; part = part.now; before = before; now = now })) }
+{
+    let name = copy_at(alloc, now, part.name.as_slice())?;
+    let given = part.ports.as_slice();
+    let inputs = given.len().saturating_sub(1);
+    let mut ports = Vec::with_capacity(alloc, given.len())?;
+    push_ports(&mut ports, &given[..inputs], (before - 1) * wires)?;
+    push_ports(&mut ports, &given[inputs..], (now - 1) * wires)?;
+    Ok(Component {
+        name,
+        kind: part.kind,
+        ports: Wires::of(ports),
+    })
+}
+
+// Adds wires, which stand from a position on.
+fn push_ports(ports: &mut Vec<u32>, wires: &[u32], from: u32) -> Result<(), AllocError>
+    requires from { from ≤ 1048576 }
+    requires wires { All (λ wire. wire < 16384) wires.now }
+    ensures { OnOk result (ports.new.items ≡ ports.old.items ++ map (λ wire. from + wire) wires.now) }
+{
+    for wire in wires {
+        ports.push(from + *wire)?;
+    }
+    Ok(())
+}
+
+// Adds wires at a time.
+fn push_wires(
+    alloc: Global,
+    wires: &[Name],
+    time: u32,
+    named: &mut Vec<Name>,
+) -> Result<(), AllocError>
+    requires time { time < 10000 }
+    requires short { All (λ name. length name ≤ SHORT_NAME_LIMIT) wires.now }
+    ensures { OnOk result (named.new.items ≡ named.old.items ++ map (named_at time) wires.now) }
+{
+    for wire in wires {
+        named.push(wire_at(alloc, time, wire.as_slice())?)?;
+    }
+    Ok(())
+}

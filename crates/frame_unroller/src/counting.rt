@@ -1,0 +1,30 @@
+ghost use Rattle.std.specs.Prelude.{◌≡◌, ◌<◌, ◌≤◌, ℕ, length, slice_index_or, false};
+ghost use Rattle.clause_encoder.specs.Encoding.{raw_count};
+ghost use Rattle.frame_unroller.specs.Frames.{is_delayed};
+ghost use Rattle.frame_unroller.specs.Unrolling.{frame_device};
+
+use bench_reader::Sequential;
+use clause_encoder::part_count;
+
+/// How many clauses the copies for so many frames have, before any is left out: as many as the parts at each time, but none of
+/// those that are delayed at the first.
+pub(crate) fn clause_count(seq: &Sequential, delays: &[bool], frames: u32) -> u64
+    requires some { 1 ≤ frames }
+    requires few { frames ≤ 64 }
+    requires many { length delays.now ≡ length seq.now.device.parts }
+    requires delays { (place : ℕ) → place < length seq.now.device.parts
+        → slice_index_or delays.now place false ≡ is_delayed seq.now place }
+    ensures { result ≡ raw_count (frame_device seq.now frames) }
+{
+    let mut first = 0;
+    let mut later = 0;
+    for (place, part) in seq.device.parts().iter().enumerate() {
+        let ports = part.ports.as_slice().len();
+        let clauses = part_count(seq.device.tables(), part.kind, ports);
+        later += clauses;
+        if !delays[place] {
+            first += clauses;
+        }
+    }
+    first + u64::from(frames - 1) * later
+}

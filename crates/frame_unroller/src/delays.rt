@@ -1,0 +1,41 @@
+ghost use Rattle.std.specs.Prelude.{◌≡◌, ◌<◌, ◌≤◌, ◌+◌, ◌*◌, ℕ, length, slice_index_or, IfOk, false};
+ghost use Rattle.frame_unroller.specs.Frames.{is_delayed};
+ghost use Rattle.frame_unroller.specs.Unrolling.{copies};
+
+use bench_reader::Sequential;
+use std::alloc::{AllocError, Global};
+
+/// For each part whether it is delayed.
+pub(crate) fn delays_of(alloc: Global, seq: &Sequential) -> Result<Vec<bool>, AllocError>
+    ensures many { IfOk result (λ delays. length delays.items ≡ length seq.now.device.parts) }
+    ensures delays { IfOk result (λ delays. (place : ℕ) → place < length seq.now.device.parts
+        → slice_index_or delays.items place false ≡ is_delayed seq.now place) }
+{
+    let mut delays = vec![in alloc; false; seq.device.parts().len()]?;
+    for place in seq.delayed.as_slice() {
+        if (*place as usize) < delays.len() {
+            delays[*place as usize] = true;
+        }
+    }
+    Ok(delays)
+}
+
+/// How many copies there are in so many frames: one for each part and each time, but none for a delayed one at the first.
+pub(crate) fn copy_count(seq: &Sequential, delays: &[bool], frames: u32) -> u64
+    requires some { 1 ≤ frames }
+    requires few { frames ≤ 64 }
+    requires many { length delays.now ≡ length seq.now.device.parts }
+    requires delays { (place : ℕ) → place < length seq.now.device.parts
+        → slice_index_or delays.now place false ≡ is_delayed seq.now place }
+    ensures { result ≡ length (copies seq.now frames) }
+{
+    // Its contract says that a device has few parts.
+    let parts = seq.device.parts().len() as u64;
+    let mut first = 0;
+    for delayed in delays {
+        if !*delayed {
+            first += 1;
+        }
+    }
+    first + u64::from(frames - 1) * parts
+}

@@ -17,8 +17,14 @@ returns-in_err-cnf-clause-within c =
 
 pub returns-in_err-costs-clause-within : goal.returns-in_err-costs-clause-within
 returns-in_err-costs-clause-within c =
-    let p = err_from_is_err_and c.from_residual.result c.from_residual.ensures.1 in
+    let p = err_from_is_err_and c.from_residual-in_err-costs.result c.from_residual-in_err-costs.ensures.1 in
     rw (p.1, p.2) (by_any (λ order. tt))
+
+pub returns-in-Err-Memory-clause-within : goal.returns-in-Err-Memory-clause-within
+returns-in-Err-Memory-clause-within c = by_any (λ order. tt)
+
+pub returns-clause-within : goal.returns-clause-within
+returns-clause-within c = by_any (λ order. tt)
 
 pub returns-in-Err-Above-clause-within : goal.returns-in-Err-Above-clause-within
 returns-in-Err-Above-clause-within c =

@@ -49,7 +49,10 @@ fn is_too_large(signals: &Signals<'_>, statements: &[NumberedStatement<'_>]) -> 
 }
 
 // The device of statements of which none has a fault alone, or the first fault that they have together.
-pub(crate) fn device_of(alloc: Global, statements: &[NumberedStatement<'_>]) -> Result<Device, BenchError>
+pub(crate) fn device_of(
+    alloc: Global,
+    statements: &[NumberedStatement<'_>],
+) -> Result<Device, BenchError>
     requires { list_all is_faultless (map unnumbered statements.now) ≡ true }
     ensures { Fulfils (λ device. device) told (device_or_fault (map with_number statements.now)) result }
 {

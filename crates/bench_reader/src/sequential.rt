@@ -26,10 +26,7 @@ pub struct Sequential {
 }
 
 // Keeps the output of a flip-flop.
-fn keep<'a>(
-    outputs: &mut IndexSet<&'a [u8]>,
-    statement: &Statement<'a>,
-) -> Result<(), AllocError>
+fn keep<'a>(outputs: &mut IndexSet<&'a [u8]>, statement: &Statement<'a>) -> Result<(), AllocError>
     ensures { OnOk result ((name : Bytes) → is_kept outputs.new name
         ≡ (is_kept outputs.old name || is_among (flip_flop (meaning statement.now)) name)) }
 {

@@ -14,12 +14,7 @@ use std::alloc::{AllocError, Global};
 ///
 /// They are true under an assignment exactly where the clauses that were given are, each variable having the bit of the one that
 /// stands for it.
-pub fn replaced(
-    alloc: Global,
-    cnf: &Cnf,
-    variables: &[u32],
-    vars: u32,
-) -> Result<Cnf, AllocError>
+pub fn replaced(alloc: Global, cnf: &Cnf, variables: &[u32], vars: u32) -> Result<Cnf, AllocError>
     requires all { length variables.now ≡ cnf.now.vars }
     requires some { All (λ v. 1 ≤ v) variables.now }
     requires within { All (λ v. v ≤ vars) variables.now }
@@ -38,11 +33,7 @@ pub fn replaced(
 }
 
 // Writes a clause in which other variables stand for its own.
-fn push_replaced(
-    writer: &mut Writer,
-    clause: &[i32],
-    variables: &[u32],
-) -> Result<(), AllocError>
+fn push_replaced(writer: &mut Writer, clause: &[i32], variables: &[u32]) -> Result<(), AllocError>
     requires some { All (λ l. 1 ≤ var_of l) clause.now }
     requires within { All (λ l. var_of l ≤ length variables.now) clause.now }
     requires few { All (λ v. v < VARIABLE_LIMIT) variables.now }

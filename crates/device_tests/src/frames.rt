@@ -41,7 +41,12 @@ fn unrolls_a_loop(rt: HostRuntime) -> Result<(), Fail> {
     let seq = read_sequential(rt.alloc(), text.as_bytes())?;
     let made = unroll(rt.alloc(), &seq, 2)?;
     assert!(rt; are_named(made.parts.as_slice(), &["n", "q"]));
-    assert!(rt; are_named(made.wires.as_slice(), &["n@0001", "n@0002", "q@0001", "q@0002"]));
+    assert!(rt;
+        are_named(
+            made.wires.as_slice(),
+            &["n@0001", "n@0002", "q@0001", "q@0002"]
+        )
+    );
     assert_eq!(rt; made.cnf.vars(), 6);
     assert_eq!(rt; made.cnf.len() as usize, expected.len());
     for at in 0..made.cnf.len() {

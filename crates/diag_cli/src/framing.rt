@@ -98,7 +98,14 @@ fn service_within(
         Err(MeasureError::Memory) => return Err(Refusal::Memory),
     };
     let costs = plain_costs(alloc, seq.device.parts().len())?;
-    match Service::over(alloc, parts.into_vec(), wires.into_vec(), costs, graph, sessions) {
+    match Service::over(
+        alloc,
+        parts.into_vec(),
+        wires.into_vec(),
+        costs,
+        graph,
+        sessions,
+    ) {
         Ok(service) => Ok(service),
         Err(_) => Err(Refusal::Memory),
     }

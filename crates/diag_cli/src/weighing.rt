@@ -35,7 +35,11 @@ fn clauses_of(alloc: Global, device: &Device) -> Result<Cnf, Refusal>
 pub(crate) fn in_order(alloc: Global, cnf: Cnf, is_narrow: bool) -> Result<Cnf, AllocError>
     ensures { IfOk result (IsInOrder is_narrow cnf) }
 {
-    if is_narrow { narrow(alloc, cnf) } else { Ok(cnf) }
+    if is_narrow {
+        narrow(alloc, cnf)
+    } else {
+        Ok(cnf)
+    }
 }
 
 /// The clauses of a device, in a better order where that is asked for.

@@ -251,10 +251,7 @@ fn form_by<'a>(command: &str, path: &'a str, options: Options) -> Option<Form<'a
     let command = match command {
         "serve" => return form_serve(path, budget, sessions, narrow, options.frames),
         "compile"
-            if is_device_path(path)
-                && options.sessions.is_none()
-                && options.frames.is_none() =>
-        {
+            if is_device_path(path) && options.sessions.is_none() && options.frames.is_none() => {
             Command::Compile { budget, narrow }
         }
         "plan" if is_device_path(path) && options.has_no_number() => Command::Plan { narrow },

@@ -13,8 +13,8 @@ returns-in-Ok-clause-follows g c =
     by_same c.in-Ok.ensures.within (λ order within.
     frames_served c.args.seq c.args.frames c.args.sessions c.in-Ok.service c.in-Ok.ensures.service c.args.budget (list_by c.args.is_narrow order) _ _ _ _ _ within c.answer-status.ensures.served)
 
-pub returns-in-Err-clause-follows : goal.returns-in-Err-clause-follows
-returns-in-Err-clause-follows g c =
+pub returns-clause-follows : goal.returns-clause-follows
+returns-clause-follows g c =
     by_same c.in-Err.ensures.within (λ order is.
     follows_refusal _ _ _ _ _ (λ s. frame_system s c.args.frames) c.args.sessions (if_unrolled c.args.frames c.args.budget (list_by c.args.is_narrow order) (Ok c.args.seq)) (told_by c.in-Err.refusal) is
     (record { left = refl; taken = refl; faults = refl }) c.tell.ensures.said)

@@ -1,0 +1,295 @@
+"""Random words, files and scripts, each from a source of random numbers: most are valid, and some are broken in one place."""
+
+import re
+from dataclasses import dataclass
+
+from rules import designs, netlists
+from rules.clauses import clauses_of, sum_of, tidied
+from rules.devices import MANY_INPUTS
+from rules.texts import Refused
+
+NAMES = [b"a", b"b", b"c", b"a1", b"a-1", b"a.1", b"10", b"2", b"22", b"INPUT", b"and", b"AND", b"x[0]", b"~", b"!y", b"Z", b"z" * 64]
+PLAIN_NAMES = [name for name in NAMES if b"." not in name and name != b"AND"]
+COMMANDS = ["open", "close", "see", "unsee", "hold", "unhold", "min", "next", "list", "after", "probe", "probes", "blame", "dnnf"]
+OFTEN = [2, 1, 8, 2, 4, 2, 6, 8, 4, 2, 4, 2, 3, 2]
+# What may stand where a byte is broken.
+BYTES = b"(),=# \t\r\n\x0b\0.-+_~\x7f\x80\xff019aALOn"
+VARIABLES = 17
+
+
+def chance(r, percent):
+    return r.randrange(100) < percent
+
+
+def spaced(r, tokens):
+    """Tokens with blanks between them, or none where marks need none."""
+    gap = r.choice([b"", b" ", b" ", b"\t ", b"\r"])
+    return gap.join(tokens)
+
+
+def cased(r, word):
+    return r.choice([str.upper, str.upper, str.lower, str.title])(word).encode()
+
+
+def ended(r, lines):
+    """Lines as a text, with a blank line or a comment here and there; the last one may have no line feed."""
+    for extra in (b"", b"# note", b" \t\r"):
+        if chance(r, 15):
+            lines.insert(r.randrange(len(lines) + 1), extra)
+    return b"\n".join(lines) + (b"" if chance(r, 10) else b"\n")
+
+
+def gate_of(r, signals):
+    """A kind and its inputs, now and then more than four."""
+    kind = r.choice([*MANY_INPUTS, "NOT", "BUFF", "BUF"])
+    count = 1 if kind in ("NOT", "BUFF", "BUF") else r.choice([1, 2, 2, 2, 2, 3, 3, 4, 5, 6])
+    return kind, [r.choice(signals) for _ in range(count)]
+
+
+def netlist(r):
+    names = r.sample(NAMES, r.randint(1, 8))
+    gates = r.randint(0, min(6, len(names)))
+    outputs, inputs = names[:gates], names[gates:]
+    lines = [spaced(r, [cased(r, "input"), b"(", name, b")"]) for name in inputs]
+    lines += [spaced(r, [cased(r, "output"), b"(", name, b")"]) for name in names if chance(r, 30)]
+    same = r.choices(names, k=r.choice([3, 4]))
+    is_wide = chance(r, 8)
+    for place, output in enumerate(outputs):
+        # mostly without a cycle
+        signals = names if chance(r, 20) or not inputs + outputs[:place] else inputs + outputs[:place]
+        # now and then so many clauses that a state has more than one word
+        kind, of = (r.choice(["XOR", "XNOR"]), same) if is_wide else gate_of(r, signals)
+        commas = [token for name in of for token in (name, b",")][:-1]
+        lines.append(spaced(r, [output, b"=", cased(r, kind), b"(", *commas, b")"]))
+    if chance(r, 30):
+        r.shuffle(lines)
+    return ended(r, lines)
+
+
+def type_lines(r, name):
+    ports = r.choice([1, 2, 2, 2, 2, 3, 3, 3, 4, 5, 6])
+    lines = [b" ".join([b"type", name, *r.sample(PLAIN_NAMES, ports)])]
+    for word, often in ((b"ok", 50), (b"bad", r.choice([0, 30, 70]))):
+        for row in range(1 << ports):
+            if chance(r, often):
+                lines.append(word + b" " + bytes(48 + (row >> port & 1) for port in range(ports)))
+    if chance(r, 50):
+        lines.append(b"cost %d" % r.choice([1, 2, 3, 7, 1000]))
+    return lines + [b"end"], ports
+
+
+def block_lines(r, name, kinds):
+    """A block over kinds that are closed, each with how many arguments it takes."""
+    wires = r.sample(PLAIN_NAMES, r.randint(1, 5))
+    ports = r.randint(0, min(4, len(wires)))
+    lines = [b" ".join([b"block", name, *wires[:ports]])]
+    if wires[ports:]:
+        lines.append(b" ".join([b"wire", *wires[ports:]]))
+    for part in r.sample(PLAIN_NAMES, r.randint(0, 3)):
+        if kinds and chance(r, 60):
+            kind, takes = r.choice(kinds)
+        else:
+            gate, of = gate_of(r, wires)
+            kind, takes = gate.replace("BUFF", "BUF").replace("BUF", "BUFF").encode(), len(of) + 1
+        lines.append(b" ".join([b"part", part, kind, *(r.choice(wires) for _ in range(takes))]))
+    return lines + [b"end"], ports
+
+
+def design(r):
+    lines, kinds = [], []
+    names = r.sample([name for name in PLAIN_NAMES if name != b"AND"], 6)
+    for name in names[:r.randint(0, 2)]:
+        more, ports = type_lines(r, name)
+        lines += more
+        kinds.append((name, ports))
+    for name in names[2:r.randint(3, 6)]:
+        more, ports = block_lines(r, name, kinds)
+        lines += more
+        kinds.append((name, ports))
+        top = name
+    return ended(r, lines + [b"top " + top])
+
+
+def number(r, value):
+    return (b"0" * r.choice([0, 0, 0, 0, 1, 5]) + b"%d" % value)[-10:]
+
+
+def graph(r, most):
+    """A graph of few variables, mostly decomposable, of which the greatest is at most so much."""
+    vars = r.randint(0, most)
+    mentionable = [r.randint(1, vars) for _ in range(9)] if vars else []
+    lines, below, kids = [], [], 0
+    for place in range(r.randint(1, 14)):
+        kind = r.choice("LLLAAO" if vars else "AO") if place > 2 else "L" if vars else "A"
+        if kind == "L":
+            variable = r.choice(mentionable)
+            lines.append([b"L", r.choice([b"", b"-"]) + number(r, variable)])
+            below.append({variable})
+            continue
+        chosen, mentioned = [], set()
+        for kid in r.sample(range(place), min(place, r.choice([0, 1, 2, 2, 3]))):
+            if kind == "O" or not mentioned & below[kid] or chance(r, 3):
+                chosen.append(kid)
+                mentioned = mentioned | below[kid]
+        lines.append([b"A"] if kind == "A" else [b"O", number(r, r.randint(0, 9))])
+        lines[-1] += [number(r, len(chosen)), *(number(r, kid) for kid in chosen)]
+        below.append(mentioned)
+        kids += len(chosen)
+    head = [b"nnf", number(r, len(lines)), number(r, kids), number(r, vars)]
+    text = [r.choice([b" ", b" ", b"\t", b" \r "]).join(line) for line in [head, *lines]]
+    return ended(r, text).replace(b"# note", b" "), vars
+
+
+def broken(r, text):
+    """A text with one place changed: a word, a line or a byte."""
+    found = list(re.finditer(rb"[^ \t\r\n(),=]+", text))
+    if found and chance(r, 40):
+        place, other = r.choice(found), r.choice(found)[0]
+        return text[:place.start()] + r.choice([other, other, other + b"0", b"1"]) + text[place.end():]
+    if not text or chance(r, 40):
+        lines = text.split(b"\n")
+        place = r.randrange(len(lines))
+        change = r.choice(["out", "twice", "moved", "word", "word twice"])
+        words = lines[place].split(b" ")
+        word = r.randrange(len(words))
+        if change == "out":
+            del lines[place]
+        elif change == "twice":
+            lines.insert(place, lines[place])
+        elif change == "moved":
+            lines.insert(r.randrange(len(lines)), lines.pop(place))
+        else:
+            words[word:word + 1] = [] if change == "word" else [words[word]] * 2
+            lines[place] = b" ".join(words)
+        return b"\n".join(lines)
+    place = r.randrange(len(text))
+    byte = bytes([r.choice(BYTES)])
+    return text[:place] + r.choice([b"", byte, byte + text[place:place + 1]]) + text[place + 1:]
+
+
+def script_line(r, sessions, parts, wires):
+    command = r.choices(COMMANDS, OFTEN)[0]
+    words = [command.encode(), r.choice(sessions)]
+    part, wire = (r.choice(names) if names and not chance(r, 2) else b"nobody" for names in (parts, wires))
+    if command == "see":
+        words.append(wire + b"=" + r.choice([b"0", b"1"]))
+    elif command == "hold":
+        words.append(part + b"=" + r.choice([b"ok", b"bad"]))
+    elif command in ("unsee", "probe"):
+        words.append(wire)
+    elif command == "unhold":
+        words.append(part)
+    elif command == "list":
+        words.append(b"%d" % r.choice([1, 2, 3, 9, 1000000]))
+    elif command == "after":
+        words += r.choices(parts, k=r.randint(0, 3)) if parts else []
+    return r.choice([b" ", b" ", b" ", b"\t", b" \r"]).join(words)
+
+
+def script(r, parts, wires):
+    """Lines of some sessions in turn, of which some are opened first, and a few lines are broken."""
+    sessions = r.sample([b"S", b"T", b"S.1", b"session-2", b"q" * 64], r.randint(1, 4))
+    lines = [b"open " + name for name in sessions if chance(r, 80)]
+    lines += [script_line(r, sessions, parts, wires) for _ in range(r.randint(0, 40))]
+    lines = [broken(r, line) if chance(r, 4) else line for line in lines]
+    if chance(r, 1):
+        lines.insert(r.randrange(len(lines) + 1), r.choice([b"#", b"x"]) * r.choice([1048576, 1048577]))
+    return ended(r, lines) if lines else b""
+
+
+def options(r, form, sum):
+    """Options in any order, a few of them wrong."""
+    found = []
+    if form in ("serve", "compile") and chance(r, 30):
+        found.append(["--budget", str(max(1, r.choice([sum - 1, sum, sum + 1, sum // 2, 8388608, 1])))])
+    if form in ("serve", "ask") and chance(r, 40):
+        found.append(["--sessions", str(r.choice([1, 1, 2, 3, 1024]))])
+    if form in ("serve", "plan", "compile") and chance(r, 25):
+        found.append(["--narrow"])
+    r.shuffle(found)
+    words = [word for option in found for word in option]
+    if chance(r, 2):
+        words.insert(r.randrange(len(words) + 1), r.choice(["--budget", "0", "01", "--sessions", "--narrow", "8388609", "1025", "-1", ""]))
+    return words
+
+
+def is_small(device):
+    return clauses_of(device)[1] <= VARIABLES
+
+
+@dataclass
+class Case:
+    words: list
+    files: dict
+    script: bytes
+    piece: int = 1  # how many bytes of the script come at once at most
+    failing: str = ""  # "read": the first read of the script fails; "write": every write fails
+
+
+def known_of(read, text):
+    """What a text gives, where it gives something."""
+    try:
+        return read(text)
+    except Refused:
+        return None
+
+
+def made_device(r):
+    """A text of a device that is small where it is read, the device, and the ending of its language."""
+    while True:
+        make, read, ending = r.choice([(netlist, netlists.read, ".bench"), (design, designs.read, ".dev")])
+        text = make(r)
+        text = broken(r, text) if chance(r, 20) else text
+        device = known_of(read, text)
+        if device is None or is_small(device):
+            return text, device, ending
+
+
+def asking(r):
+    """A case over a graph."""
+    text, vars = graph(r, 8)
+    health = r.randint(0, vars) if vars else 0
+    text = broken(r, text) if chance(r, 20) else text
+    names = [b"%05d" % variable for variable in range(1, vars + 1)]
+    words = ["ask", "f.nnf", str(r.choice([vars + 1, 4097, 4096]) if chance(r, 5) else health), *options(r, "ask", 1)]
+    return Case(words, {"f.nnf": text}, script(r, names[:health], names[health:]))
+
+
+def checking(r):
+    text, _ = graph(r, r.choice([8, 200]))
+    return Case(["check", "f.nnf"], {"f.nnf": broken(r, text) if chance(r, 60) else text}, b"")
+
+
+def describing(r, form):
+    """A case over a device."""
+    text, device, ending = made_device(r)
+    parts, wires = (device.part_names(), device.wires) if device else ([b"a"], [b"b"])
+    sum = sum_of(tidied(clauses_of(device)[0]), 100000) or 1 if device else 1
+    file = "f" + ending
+    lines = script(r, parts, wires) if form == "serve" else b""
+    return Case([form, file, *options(r, form, sum)], {file: text}, lines)
+
+
+def misspelling(r):
+    """Words in no order, over a file that is there."""
+    words = ["serve", "plan", "compile", "check", "ask", "load", "f.bench", "f.dev", "f.nnf", ".bench", "g.bench", "1", "0", "801",
+             "--narrow", "--budget", "--sessions", "2"]
+    files = {"f.bench": b"INPUT(a)\ny = NOT(a)\n", "f.dev": b"block M\nend\ntop M\n", "f.nnf": b"nnf 1 0 1\nL 1\n"}
+    form, file = r.choice(words[:6]), r.choice(words[6:11])
+    given = [form, file, *r.choices(words[11:], k=r.randint(0, 4))] if chance(r, 70) else r.choices(words, k=r.randint(0, 4))
+    return Case(given, files, b"open S\nmin S\n")
+
+
+def case_of(r):
+    form = r.choices(["serve", "plan", "compile", "check", "ask", "words"], [40, 12, 12, 12, 20, 4])[0]
+    if form == "ask":
+        case = asking(r)
+    elif form == "check":
+        case = checking(r)
+    elif form == "words":
+        case = misspelling(r)
+    else:
+        case = describing(r, form)
+    case.piece = max(r.choice([1, 2, 7, 64, 4096]), len(case.script) // 1000)
+    case.failing = r.choices(["", "read", "write"], [97, 2, 1])[0]
+    return case

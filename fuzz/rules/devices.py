@@ -1,0 +1,82 @@
+"""Devices: parts, wires, and which rows of bits the parts allow."""
+
+import itertools
+from dataclasses import dataclass
+
+from . import truths
+
+MANY_INPUTS = ("AND", "OR", "NAND", "NOR", "XOR", "XNOR")
+GATES = (*MANY_INPUTS, "NOT", "BUFF")
+PARTS_LIMIT = 4096
+WIRES_LIMIT = 16384
+
+
+@dataclass
+class Type:
+    """A type of parts. A row is a tuple of bits, one for each port."""
+    name: bytes
+    ports: int
+    ok: set
+    bad: set
+    cost: int = 1
+
+
+@dataclass
+class Part:
+    name: bytes
+    kind: object  # a word of GATES, or a Type
+    wires: list  # of a gate its inputs and then its output
+
+
+def takes(gate, inputs):
+    return 1 <= inputs <= 64 if gate in MANY_INPUTS else inputs == 1
+
+
+def gate_value(gate, inputs):
+    if gate in ("AND", "NAND"):
+        value = all(inputs)
+    elif gate in ("OR", "NOR"):
+        value = any(inputs)
+    elif gate in ("XOR", "XNOR"):
+        value = sum(inputs) % 2 == 1
+    else:
+        value = inputs[0]
+    return value != (gate in ("NAND", "NOR", "XNOR", "NOT"))
+
+
+def allows(kind, is_ok, row):
+    if isinstance(kind, Type):
+        return row in (kind.ok if is_ok else kind.bad)
+    return not is_ok or bool(row[-1]) == gate_value(kind, row[:-1])
+
+
+class Device:
+    """Parts and wires in the order of their names, compared byte by byte."""
+
+    def __init__(self, parts, wires):
+        self.parts = sorted(parts, key=lambda part: part.name)
+        self.wires = sorted(wires)
+
+    def part_names(self):
+        return [part.name for part in self.parts]
+
+    def costs(self):
+        return [part.kind.cost if isinstance(part.kind, Type) else 1 for part in self.parts]
+
+    def wire_variable(self, wire):
+        """Variables are counted from 1: first the parts, each true where it is ok, then the wires."""
+        return len(self.parts) + self.wires.index(wire) + 1
+
+    def fits(self):
+        """The truth of: every part allows the row at its wires, as its health is."""
+        vars = len(self.parts) + len(self.wires)
+        fitting = truths.all_rows(vars)
+        for health, part in enumerate(self.parts, 1):
+            ports = [self.wire_variable(wire) for wire in part.wires]
+            allowed = 0
+            for is_ok, *row in itertools.product((0, 1), repeat=1 + len(ports)):
+                if allows(part.kind, is_ok, tuple(row)):
+                    literals = [health if is_ok else -health] + [port if bit else -port for port, bit in zip(ports, row)]
+                    allowed |= truths.conjunction(literals, vars)
+            fitting &= allowed
+        return fitting

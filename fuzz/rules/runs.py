@@ -1,0 +1,187 @@
+"""A whole run: what the words ask, what is written to a file and a script, and the status."""
+
+from dataclasses import dataclass
+
+from . import clauses, designs, graphs, netlists
+from .pieces import Graph, Sum
+from .sessions import System, replies
+from .texts import FILE_LIMIT, Refused, plain_number_in
+
+BUDGET_LIMIT, BUDGET = 8388608, 2097152
+SESSIONS_LIMIT, SESSIONS = 1024, 16
+HEALTH_LIMIT = 4096
+PLACES_LIMIT = 800
+# Trying all values of more variables, or counting more states, takes too long.
+VARIABLES_TRIED = 20
+SUM_TRIED = 100000
+USAGE = Refused("error: usage", 2)
+DEVICES = {".bench": netlists.read, ".dev": designs.read}
+OPTIONS = {"serve": ("--budget", "--sessions", "--narrow"), "plan": ("--narrow",), "compile": ("--budget", "--narrow"), "check": (),
+           "ask": ("--sessions",)}
+
+
+class TooLarge(Exception):
+    """A device or a graph that is too large to try all values."""
+
+
+@dataclass
+class Asked:
+    form: str
+    file: str = ""
+    number: int = 0  # HEALTH of `ask`, or the places of `load`
+    budget: int = BUDGET
+    sessions: int = SESSIONS
+    narrow: bool = False
+
+
+def number(word, least, most):
+    value = plain_number_in(word.encode("latin-1"), least, most)
+    if value is None:
+        raise USAGE
+    return value
+
+
+def options_of(form, words):
+    found = {}
+    words = list(words)
+    while words:
+        word = words.pop(0)
+        if word not in OPTIONS[form] or word[2:] in found:
+            raise USAGE
+        if word == "--narrow":
+            found["narrow"] = True
+            continue
+        found[word[2:]] = number(words.pop(0) if words else "", 1, BUDGET_LIMIT if word == "--budget" else SESSIONS_LIMIT)
+    return found
+
+
+def asked_by(words):
+    if len(words) < 2:
+        raise USAGE
+    form, file, *rest = words
+    if form == "load" and not rest:
+        return Asked(form, number=number(file, 1, PLACES_LIMIT))
+    endings = (".nnf",) if form in ("check", "ask") else DEVICES
+    if form not in OPTIONS or not any(file.endswith(ending) and file != ending for ending in endings):
+        raise USAGE
+    health = number(rest.pop(0) if rest else "", 0, HEALTH_LIMIT) if form == "ask" else 0
+    return Asked(form, file, health, **options_of(form, rest))
+
+
+class Encoded:
+    """A device with its clauses, its sum by the names, and all that it allows."""
+
+    def __init__(self, device):
+        self.device = device
+        raw, self.vars = clauses.clauses_of(device)
+        if len(raw) > clauses.CLAUSES_LIMIT:
+            raise Refused(f"error: clauses {len(raw)} above {clauses.CLAUSES_LIMIT}")
+        self.clauses = clauses.tidied(raw)
+        self.sum = clauses.sum_of(self.clauses, SUM_TRIED)
+        if self.sum is None:
+            raise TooLarge()
+
+    def outer(self):
+        """How many variables are parts and wires."""
+        return len(self.device.parts) + len(self.device.wires)
+
+    def sizes(self):
+        return f"parts {len(self.device.parts)}\nwires {len(self.device.wires)}\nclauses {len(self.clauses)}\n".encode()
+
+    def fits(self):
+        if self.vars > VARIABLES_TRIED:
+            raise TooLarge()
+        return self.device.fits()
+
+    def system(self):
+        names = self.device.part_names(), self.device.wires, self.device.costs()
+        return System(*names, self.fits(), self.outer())
+
+
+def above(budget):
+    return [f"error: sum above {budget}\n".encode()], 3
+
+
+def weighed(encoded, budget, narrow, answer):
+    """The answer within the budget, or that the sum is above it. By another order it may be within where it is not by the names."""
+    if encoded.sum <= budget:
+        return [answer]
+    return [above(budget), answer] if narrow else [above(budget)]
+
+
+def ready(system):
+    return f"ready {len(system.parts)} {len(system.wires)}\n".encode()
+
+
+def described(asked, text, script):
+    """`serve`, `plan` and `compile`."""
+    read = next(read for ending, read in DEVICES.items() if asked.file.endswith(ending))
+    encoded = Encoded(read(text))
+    if asked.form == "plan":
+        told = Sum(encoded.sum) if asked.narrow else f"sum {encoded.sum}\n".encode()
+        return weighed(encoded, BUDGET_LIMIT, asked.narrow, ([encoded.sizes(), told], 0))
+    if asked.form == "compile":
+        most = 3 * encoded.sum + 2 * encoded.vars + 2
+        answer = [Graph(encoded.vars, encoded.outer(), encoded.fits(), most)], 0
+    else:
+        system = encoded.system()
+        answer = [ready(system), *replies(system, asked.sessions, script)], 0
+    return weighed(encoded, asked.budget, asked.narrow, answer)
+
+
+def questioned(asked, text, script):
+    """`check` and `ask`."""
+    nodes, vars = graphs.read(text)
+    if asked.form == "check":
+        return [([f"decomposable {len(nodes)} {graphs.edges(nodes)} {vars}\n".encode()], 0)]
+    health, wires = asked.number, vars - asked.number
+    if wires < 0:
+        raise Refused(f"error: health {health} above {vars}")
+    if wires > 16384:
+        raise Refused(f"error: wires {wires} above 16384")
+    if vars > VARIABLES_TRIED:
+        raise TooLarge()
+    names = [b"%05d" % variable for variable in range(1, vars + 1)]
+
+    def text_of(held, seen):
+        return graphs.written(graphs.projected(nodes, health, held, seen), health)
+    system = System(names[:health], names[health:], [1] * health, graphs.truth(nodes, vars), vars, text_of)
+    return [([ready(system), *replies(system, asked.sessions, script)], 0)]
+
+
+def adder(places):
+    """The netlist of `load`, and what was seen, as lines of a script."""
+    lines, seen = ["INPUT(0000c)"], ["0000c=0"]
+    for place in range(places):
+        p, q = f"{place:04}", f"{place + 1:04}"
+        lines += [f"INPUT({p}a)", f"INPUT({p}b)", f"{p}x = XOR({p}a, {p}b)", f"{p}s = XOR({p}x, {p}c)", f"{p}g = AND({p}a, {p}b)",
+                  f"{p}p = AND({p}x, {p}c)", f"{q}c = OR({p}g, {p}p)"]
+        seen += [f"{p}a=0", f"{p}b=0", f"{p}s={int(place % 16 == 0)}"]
+    return "\n".join(lines).encode(), [f"see S {it}".encode() for it in [*seen, f"{places:04}c=0"]]
+
+
+def loaded(asked):
+    text, seen = adder(asked.number)
+    encoded = Encoded(netlists.read(text))
+    lines = [b"open S", *seen, b"min S", b"list S 20"]
+    told = replies(encoded.system(), 1, b"\n".join(lines))[len(seen) + 1:]
+    listed = [line.split()[2:] for line in told[1:] if line.startswith(b"S diag")]
+    return [([encoded.sizes(), b"minimum " + told[0].split()[2] + b"\n", b" ".join([b"first", *listed[0]]) + b"\n",
+              b"listed %d\n" % len(listed), b" ".join([b"last", *listed[-1]]) + b"\n"], 0)]
+
+
+def wanted(words, files, script):
+    """What may be written, as pieces, each with its status: one, but where a contract leaves two open."""
+    try:
+        asked = asked_by(words)
+        if asked.form == "load":
+            return loaded(asked)
+        text = files.get(asked.file)
+        if text is None:
+            raise Refused("error: read", 4)
+        if len(text) > FILE_LIMIT:
+            raise Refused(f"error: file above {FILE_LIMIT} bytes")
+        answer = described if asked.form in ("serve", "plan", "compile") else questioned
+        return answer(asked, text, script)
+    except Refused as refused:
+        return [([refused.line], refused.status)]

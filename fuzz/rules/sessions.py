@@ -1,0 +1,217 @@
+"""Scripts: what each line asks, and what each session replies."""
+
+from dataclasses import dataclass, field
+
+from . import truths
+from .pieces import Graph, Text
+from .texts import is_name, plain_number_in, words_of
+
+LINE_LIMIT = 1048576
+LIST_LIMIT = 1000000
+SESSION_NAME, NAME = 64, 255
+# How many words each command has; of `after` at least so many.
+COMMANDS = {b"open": 2, b"close": 2, b"see": 3, b"unsee": 3, b"hold": 3, b"unhold": 3, b"min": 2, b"next": 2, b"list": 3, b"after": 2,
+            b"probe": 3, b"probes": 2, b"blame": 2, b"dnnf": 2}
+VALUES = {b"see": {b"0": False, b"1": True}, b"hold": {b"ok": True, b"bad": False}}
+REASONS = {1: "unknown command", 2: "bad words", 3: "bad name", 4: "bad value", 5: "line too long", 6: "no session",
+           7: "open already", 8: "full", 9: "no wire", 10: "no part"}
+
+
+class System:
+    """What sessions are asked over. Variables are the parts, true where ok, then the wires, then others; `table` has the rows that
+    are allowed. `text_of(held, seen)` gives the one text of `dnnf` where it is known, and else None."""
+
+    def __init__(self, parts, wires, costs, table, vars, text_of=lambda held, seen: None):
+        self.parts, self.wires, self.costs = parts, wires, costs
+        self.table, self.vars, self.text_of = table, vars, text_of
+        self.known = {}
+
+    def allowed(self, held, seen):
+        """The truth table of the health states that agree."""
+        literals = [variable if bit else -variable for known in (held, seen) for variable, bit in known.items()]
+        return truths.over_first(self.table & truths.conjunction(literals, self.vars), self.vars, len(self.parts))
+
+    def states(self, held, seen):
+        """These states in order: 1 where a part is ok, so that a faulty part comes first."""
+        key = frozenset(held.items()), frozenset(seen.items())
+        if key not in self.known:
+            self.known[key] = truths.rows_of(self.allowed(held, seen), len(self.parts))
+        return self.known[key]
+
+    def cost(self, state):
+        return sum(cost for cost, is_ok in zip(self.costs, state) if not is_ok)
+
+    def least(self, held, seen):
+        return min(map(self.cost, self.states(held, seen)), default=None)
+
+    def diagnoses(self, held, seen):
+        least = self.least(held, seen)
+        return [state for state in self.states(held, seen) if self.cost(state) == least]
+
+    def faulty(self, state):
+        return [name for name, is_ok in zip(self.parts, state) if not is_ok]
+
+
+class Declined(Exception):
+    """A line that asks nothing that can be done, by the number of the reason."""
+
+
+def demand(holds, number):
+    if not holds:
+        raise Declined(number)
+
+
+@dataclass
+class Session:
+    system: System
+    seen: dict = field(default_factory=dict)  # by the variable of the wire
+    held: dict = field(default_factory=dict)  # by the variable of the part: whether it is ok
+    point: tuple = None
+
+    def part(self, name):
+        demand(name in self.system.parts, 10)
+        return self.system.parts.index(name) + 1
+
+    def wire(self, name):
+        demand(name in self.system.wires, 9)
+        return len(self.system.parts) + self.system.wires.index(name) + 1
+
+    def see(self, name, bit):
+        self.seen[self.wire(name)] = bit
+        self.point = None
+        return [b"ok"]
+
+    def unsee(self, name):
+        self.seen.pop(self.wire(name), None)
+        self.point = None
+        return [b"ok"]
+
+    def hold(self, name, is_ok):
+        self.held[self.part(name)] = is_ok
+        self.point = None
+        return [b"ok"]
+
+    def unhold(self, name):
+        self.held.pop(self.part(name), None)
+        self.point = None
+        return [b"ok"]
+
+    def after(self, *names):
+        faulty = {self.part(name) for name in names}
+        self.point = tuple(int(part not in faulty) for part in range(1, len(self.system.parts) + 1))
+        return [b"ok"]
+
+    def diagnoses(self):
+        return self.system.diagnoses(self.held, self.seen)
+
+    def min(self):
+        if not self.diagnoses():
+            return [b"inconsistent"]
+        least = self.system.least(self.held, self.seen)
+        return [b" ".join([b"min", b"%d" % least, *self.system.faulty(self.diagnoses()[0])])]
+
+    def next(self):
+        if not self.diagnoses():
+            return [b"inconsistent"]
+        rest = [state for state in self.diagnoses() if self.point is None or state > self.point]
+        if not rest:
+            return [b"end"]
+        self.point = rest[0]
+        return [b" ".join([b"diag", *self.system.faulty(rest[0])])]
+
+    def list(self, count):
+        replies = []
+        while len(replies) < count and replies[-1:] not in ([b"end"], [b"inconsistent"]):
+            replies += self.next()
+        return replies
+
+    def least_with(self, wire, bit):
+        if self.seen.get(wire, bit) != bit:
+            return b"-"
+        least = self.system.least(self.held, {**self.seen, wire: bit})
+        return b"-" if least is None else b"%d" % least
+
+    def probe(self, name):
+        wire = self.wire(name)
+        if not self.diagnoses():
+            return [b"inconsistent"]
+        return [b" ".join([b"probe", name, self.least_with(wire, False), self.least_with(wire, True)])]
+
+    def probes(self):
+        if not self.diagnoses():
+            return [b"inconsistent"]
+        return [line for name in self.system.wires if self.wire(name) not in self.seen for line in self.probe(name)] + [b"end"]
+
+    def blame(self):
+        if not self.diagnoses():
+            return [b"inconsistent"]
+        replies = []
+        for name, modes in zip(self.system.parts, zip(*self.diagnoses())):
+            verdict = b"never" if all(modes) else b"sometimes" if any(modes) else b"always"
+            replies.append(b" ".join([b"blame", name, verdict]))
+        return replies + [b"end"]
+
+    def dnnf(self):
+        text, parts = self.system.text_of(self.held, self.seen), len(self.system.parts)
+        return [b"dnnf", Graph(parts, parts, self.system.allowed(self.held, self.seen)) if text is None else Text(text)]
+
+
+def asked(line):
+    """The command, the session and the arguments of a line that asks something, or why it is declined; none of any other line."""
+    demand(len(line) <= LINE_LIMIT, 5)
+    words = words_of(line)
+    if not words or words[0].startswith(b"#"):
+        return None
+    command, *rest = words
+    demand(command in COMMANDS, 1)
+    demand(len(words) == COMMANDS[command] or command == b"after" and len(words) >= 2, 2)
+    if command in VALUES:
+        demand(b"=" in rest[1], 2)
+        rest[1:] = rest[1].split(b"=", 1)
+    names = rest[1:2] if command in VALUES else [] if command == b"list" else rest[1:]
+    demand(is_name(rest[0], SESSION_NAME) and all(is_name(name, NAME) for name in names), 3)
+    if command in VALUES:
+        demand(rest[2] in VALUES[command], 4)
+        rest[2] = VALUES[command][rest[2]]
+    if command == b"list":
+        rest[1] = plain_number_in(rest[1], 1, LIST_LIMIT)
+        demand(rest[1] is not None, 4)
+    return command, rest[0], rest[1:]
+
+
+def carried_out(system, most, table, command, name, arguments):
+    """The replies of a line over the table of the open sessions, without the session's name, which no text of a graph has."""
+    if command == b"open":
+        demand(name not in table, 7)
+        demand(len(table) < most, 8)
+        table[name] = Session(system)
+        return [b"open"]
+    demand(name in table, 6)
+    if command == b"close":
+        del table[name]
+        return [b"closed"]
+    return getattr(table[name], command.decode())(*arguments)
+
+
+def error(number):
+    return f"error {number} {REASONS[number]}".encode()
+
+
+def replies(system, most, script):
+    """What is written to a script: bytes, and graphs where their text is left open."""
+    table, pieces = {}, []
+    for line in script.split(b"\n"):
+        try:
+            it = asked(line)
+        except Declined as why:
+            pieces.append(error(*why.args) + b"\n")
+            continue
+        if it is None:
+            continue
+        command, name, arguments = it
+        try:
+            lines = carried_out(system, most, table, command, name, arguments)
+        except Declined as why:
+            lines = [error(*why.args)]
+        pieces += [name + b" " + reply + b"\n" if isinstance(reply, bytes) else reply for reply in lines]
+    return pieces

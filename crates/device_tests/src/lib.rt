@@ -11,6 +11,8 @@ mod devices;
 mod fixtures;
 #[cfg(test)]
 mod flattening;
+#[cfg(test)]
+mod fronts;
 mod graphs;
 #[cfg(test)]
 mod netlists;

@@ -6,6 +6,8 @@ mod adapters;
 #[cfg(test)]
 mod failing;
 #[cfg(test)]
+mod greatest;
+#[cfg(test)]
 mod rows;
 #[cfg(test)]
 mod running;
@@ -15,3 +17,5 @@ mod sessions;
 mod sure;
 #[cfg(test)]
 mod texts;
+#[cfg(test)]
+mod turns;

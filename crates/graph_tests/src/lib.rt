@@ -8,6 +8,8 @@ mod costs;
 #[cfg(test)]
 mod distilling;
 #[cfg(test)]
+mod fronts;
+#[cfg(test)]
 mod listing;
 #[cfg(test)]
 mod projecting;

@@ -11,7 +11,7 @@ from rules.texts import Refused
 NAMES = [b"a", b"b", b"c", b"a1", b"a-1", b"a.1", b"10", b"2", b"22", b"INPUT", b"and", b"AND", b"x[0]", b"~", b"!y", b"Z", b"z" * 64]
 PLAIN_NAMES = [name for name in NAMES if b"." not in name and name != b"AND"]
 COMMANDS = ["open", "close", "see", "unsee", "hold", "unhold", "min", "next", "list", "after", "probe", "probes", "blame", "dnnf"]
-OFTEN = [2, 1, 8, 2, 4, 2, 6, 8, 4, 2, 4, 2, 3, 2]
+OFTEN = [2, 1, 16, 2, 3, 2, 8, 10, 6, 2, 4, 2, 8, 2]
 # What may stand where a byte is broken.
 BYTES = b"(),=# \t\r\n\x0b\0.-+_~\x7f\x80\xff019aALOn"
 VARIABLES = 17
@@ -189,7 +189,7 @@ def script_line(r, sessions, parts, wires):
 def script(r, parts, wires):
     """Lines of some sessions in turn, of which some are opened first, and a few lines are broken."""
     sessions = r.sample([b"S", b"T", b"S.1", b"session-2", b"q" * 64], r.randint(1, 4))
-    lines = [b"open " + name for name in sessions if chance(r, 80)]
+    lines = [b"open " + name for name in sessions if chance(r, 95)]
     lines += [script_line(r, sessions, parts, wires) for _ in range(r.randint(0, 40))]
     lines = [broken(r, line) if chance(r, 4) else line for line in lines]
     if chance(r, 1):

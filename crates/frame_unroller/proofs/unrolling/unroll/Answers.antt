@@ -1,8 +1,9 @@
 use Rattle.std.proofs.Common.{◌≡◌, ◌*◌, length, ap, subst, arith}
 use Rattle.std.specs.Prelude.{IfOk}
-use Rattle.clause_encoder.specs.Encoding.{DescribesBy}
+use Rattle.clause_encoder.specs.Encoding.{clause_list, DescribesBy}
 use Rattle.frame_unroller.specs.declared.unrolling.Unrolled.{Unrolled}
 use Rattle.frame_unroller.specs.Diagnosis.{frame_wires, fits_over}
+use Rattle.frame_unroller.specs.Unrolling.{frame_device}
 use Rattle.frame_unroller.proofs.Wires.{length-wires}
 use Rattle.frame_unroller.proofs.unrolling.unroll.Goals as goal
 
@@ -17,3 +18,8 @@ returns-clause-describes c =
     let seq = c.args.seq.now in
     subst (λ frames. IfOk c.unroll_by.result (λ (made : Unrolled). DescribesBy made.cnf (length seq.device.parts) (length (frame_wires seq frames)) (fits_over seq frames)))
     c.in_ok-copies.ensures.0 c.unroll_by.ensures.describes
+
+pub returns-clause-whole : goal.returns-clause-whole
+returns-clause-whole c =
+    subst (λ frames. IfOk c.unroll_by.result (λ (made : Unrolled). length made.cnf.clauses ≡ length (clause_list (frame_device c.args.seq.now frames)).clauses))
+    c.in_ok-copies.ensures.0 c.unroll_by.ensures.whole

@@ -1,5 +1,6 @@
 ghost use Rattle.std.specs.Prelude.{◌≡◌, ◌<◌, ◌≤◌, ℕ, length, slice_index_or, false};
 ghost use Rattle.clause_encoder.specs.Encoding.{raw_count};
+ghost use Rattle.frame_unroller.specs.declared.unrolling.TheConstants.{FRAME_LIMIT};
 ghost use Rattle.frame_unroller.specs.Frames.{is_delayed};
 ghost use Rattle.frame_unroller.specs.Unrolling.{frame_device};
 
@@ -10,7 +11,7 @@ use clause_encoder::part_count;
 /// those that are delayed at the first.
 pub(crate) fn clause_count(seq: &Sequential, delays: &[bool], frames: u32) -> u64
     requires some { 1 ≤ frames }
-    requires few { frames ≤ 64 }
+    requires few { frames ≤ FRAME_LIMIT }
     requires many { length delays.now ≡ length seq.now.device.parts }
     requires delays { (place : ℕ) → place < length seq.now.device.parts
         → slice_index_or delays.now place false ≡ is_delayed seq.now place }

@@ -1,4 +1,5 @@
 ghost use Rattle.std.specs.Prelude.{◌≡◌, ◌<◌, ◌≤◌, ◌+◌, ◌*◌, ℕ, length, slice_index_or, IfOk, false};
+ghost use Rattle.frame_unroller.specs.declared.unrolling.TheConstants.{FRAME_LIMIT};
 ghost use Rattle.frame_unroller.specs.Frames.{is_delayed};
 ghost use Rattle.frame_unroller.specs.Unrolling.{copies};
 
@@ -23,7 +24,7 @@ pub(crate) fn delays_of(alloc: Global, seq: &Sequential) -> Result<Vec<bool>, Al
 /// How many copies there are in so many frames: one for each part and each time, but none for a delayed one at the first.
 pub(crate) fn copy_count(seq: &Sequential, delays: &[bool], frames: u32) -> u64
     requires some { 1 ≤ frames }
-    requires few { frames ≤ 64 }
+    requires few { frames ≤ FRAME_LIMIT }
     requires many { length delays.now ≡ length seq.now.device.parts }
     requires delays { (place : ℕ) → place < length seq.now.device.parts
         → slice_index_or delays.now place false ≡ is_delayed seq.now place }

@@ -160,7 +160,7 @@ fn shared(alloc: Global, list: &Cnf, places: &[u32], parts: u32) -> Result<Cnf, 
     requires many { length places.now ≤ list.now.vars }
     requires places { All (λ place. place < parts) places.now }
     requires few { parts + list.now.vars < VARIABLE_LIMIT }
-    ensures valid { IfOk result (λ _. is_clause_list list.now ≡ true) }
+    ensures given { IfOk result (λ _. is_clause_list list.now ≡ true) }
     ensures shared { IfOk result (λ cnf. cnf ≡ shared parts places.now list.now) }
     ensures truth { IfOk result (λ cnf. (a : Assignment) → all_hold a cnf.clauses
         ≡ all_hold (λ v. a (variable_for (shared_variables parts places.now list.now.vars) v)) list.now.clauses) }

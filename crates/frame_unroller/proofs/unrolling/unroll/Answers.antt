@@ -7,6 +7,11 @@ use Rattle.frame_unroller.specs.Unrolling.{frame_device}
 use Rattle.frame_unroller.proofs.Wires.{length-wires}
 use Rattle.frame_unroller.proofs.unrolling.unroll.Goals as goal
 
+pub copies_over-requires-clause-few_wires : goal.copies_over-requires-clause-few_wires
+copies_over-requires-clause-few_wires c =
+    let same : c.from.result * length c.wires.result.now ≡ c.args.frames * length c.args.seq.now.device.wires = (λ i. c.from.ensures i * length (c.wires.ensures.wires i)) in
+    omega (arith, c.if-count-2.false, same)
+
 pub unroll_by-requires-clause-few_wires : goal.unroll_by-requires-clause-few_wires
 unroll_by-requires-clause-few_wires c =
     let names = c.args.seq.now.device.wires in

@@ -54,7 +54,7 @@ returns-clause-describes c =
     let are : c.deref.result.now ≡ owners seq frames = c.deref.ensures.value ∙ c.in_ok-device.ensures.places in
     let many = ap length c.parts.ensures.parts in
     let room = (encoded-is c.in_ok-device.device list c.in-Ok.ensures.encoded).vars in
-    frames-described seq frames c.parts.ensures.valid list (list_from list c.in_ok-cnf.ensures.valid).each
+    frames-described seq frames c.parts.ensures.valid list (list_from list c.in_ok-cnf.ensures.given).each
     (subst (Describes list) device c.in-Ok.ensures.describes)
     (omega (
       arith,
@@ -87,7 +87,7 @@ returns-clause-whole c =
     ∙ all_kept (length c.parts.result.now) list.vars places
     (omega (arith, owned, (encoded-is device list c.in-Ok.ensures.encoded).vars))
     (λ k d lt. omega (arith, owner-at seq frames k d (omega (arith, lt, ap length are)), ap (λ ps. get_or ps k d) are, ap length c.parts.ensures.parts))
-    list.clauses (list_from list c.in_ok-cnf.ensures.valid).each one
+    list.clauses (list_from list c.in_ok-cnf.ensures.given).each one
     ∙ ap (λ (l : ClauseList). length l.clauses) is
     ∙ ap (λ (d : Device). length (clause_list d).clauses) c.in_ok-device.ensures.device
 

@@ -1,4 +1,4 @@
-ghost use Rattle.std.specs.Prelude.{◌≡◌, ◌<◌, ◌≤◌, ◌+◌, ◌-◌, ◌*◌, ◌++◌, ℕ, length, map, slice_index_or, All, IfOk, OnOk, false};
+ghost use Rattle.std.specs.Prelude.{◌≡◌, ◌<◌, ◌≤◌, ◌+◌, ◌*◌, ◌++◌, ℕ, length, map, All, IfOk, OnOk};
 ghost use Rattle.text_rules.specs.declared.names.TheConstants.{SHORT_NAME_LIMIT};
 ghost use Rattle.device_model.specs.declared.limits.TheConstants.{PART_LIMIT, WIRE_LIMIT};
 ghost use Rattle.bench_reader.specs.SequentialNetlists.{HasShortNames};
@@ -6,9 +6,9 @@ ghost use Rattle.clause_encoder.specs.declared.limits.TheConstants.{CLAUSE_LIMIT
 ghost use Rattle.clause_encoder.specs.Encoding.{raw_count};
 ghost use Rattle.frame_unroller.specs.declared.unrolling.TheConstants.{FRAME_LIMIT};
 ghost use Rattle.frame_unroller.specs.Times.{wire_at as named_at};
-ghost use Rattle.frame_unroller.specs.Frames.{is_delayed};
 ghost use Rattle.frame_unroller.specs.Unrolling.{Copy, copies_for, copies, frame_device};
 ghost use Rattle.frame_unroller.specs.inner.Copying.{given_copy, AreCopies};
+ghost use Rattle.frame_unroller.specs.inner.Delays.{AreDelays};
 
 use crate::names::{copy_at, wire_at};
 use bench_reader::Sequential;
@@ -38,9 +38,7 @@ pub(crate) fn copies_over(
     requires few_wires { frames * length seq.now.device.wires ≤ WIRE_LIMIT }
     requires few_clauses { raw_count (frame_device seq.now frames) ≤ CLAUSE_LIMIT }
     requires short { HasShortNames seq.now.device }
-    requires many { length delays.now ≡ length seq.now.device.parts }
-    requires delays { (place : ℕ) → place < length seq.now.device.parts
-        → slice_index_or delays.now place false ≡ is_delayed seq.now place }
+    requires delays { AreDelays seq.now delays.now }
     ensures { IfOk result (λ made. (made.frames ≡ frames)
         × AreCopies seq.now frames made.parts.items made.places.items made.wires.items) }
 {
@@ -69,9 +67,7 @@ fn push_copies(
     requires some { 1 ≤ time }
     requires few { time ≤ FRAME_LIMIT }
     requires short { HasShortNames seq.now.device }
-    requires many { length delays.now ≡ length seq.now.device.parts }
-    requires delays { (place : ℕ) → place < length seq.now.device.parts
-        → slice_index_or delays.now place false ≡ is_delayed seq.now place }
+    requires delays { AreDelays seq.now delays.now }
     ensures copies { OnOk result (copies.new.items
         ≡ copies.old.items ++ map (given_copy (length seq.now.device.wires)) (copies_for seq.now time)) }
     ensures places { OnOk result (places.new.items

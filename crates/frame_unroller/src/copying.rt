@@ -1,10 +1,14 @@
-ghost use Rattle.std.specs.Prelude.{◌≡◌, ◌<◌, ◌≤◌, ◌+◌, ◌-◌, ◌*◌, ◌++◌, ℕ, length, map, slice_index_or, All, IfOk, OnOk, false};
+ghost use Rattle.std.specs.Prelude.{◌≡◌, ◌<◌, ◌≤◌, ◌+◌, ◌*◌, ◌++◌, ℕ, length, map, All, IfOk, OnOk};
 ghost use Rattle.text_rules.specs.declared.names.TheConstants.{SHORT_NAME_LIMIT};
+ghost use Rattle.device_model.specs.declared.limits.TheConstants.{PART_LIMIT, WIRE_LIMIT};
 ghost use Rattle.bench_reader.specs.SequentialNetlists.{HasShortNames};
+ghost use Rattle.clause_encoder.specs.declared.limits.TheConstants.{CLAUSE_LIMIT};
+ghost use Rattle.clause_encoder.specs.Encoding.{raw_count};
+ghost use Rattle.frame_unroller.specs.declared.unrolling.TheConstants.{FRAME_LIMIT};
 ghost use Rattle.frame_unroller.specs.Times.{wire_at as named_at};
-ghost use Rattle.frame_unroller.specs.Frames.{is_delayed};
-ghost use Rattle.frame_unroller.specs.Unrolling.{Copy, copies_for};
+ghost use Rattle.frame_unroller.specs.Unrolling.{Copy, copies_for, copies, frame_device};
 ghost use Rattle.frame_unroller.specs.inner.Copying.{given_copy, AreCopies};
+ghost use Rattle.frame_unroller.specs.inner.Delays.{AreDelays};
 
 use crate::names::{copy_at, wire_at};
 use bench_reader::Sequential;
@@ -21,7 +25,7 @@ pub(crate) struct Copies {
     pub(crate) wires: Vec<Name>,
 }
 
-/// All copies for so many frames.
+/// All copies for so many frames, which were counted: there are not too many copies, wires or clauses.
 pub(crate) fn copies_over(
     alloc: Global,
     seq: &Sequential,
@@ -29,11 +33,12 @@ pub(crate) fn copies_over(
     frames: u32,
 ) -> Result<Copies, AllocError>
     requires some { 1 ≤ frames }
-    requires few { frames ≤ 64 }
+    requires few { frames ≤ FRAME_LIMIT }
+    requires few_parts { length (copies seq.now frames) ≤ PART_LIMIT }
+    requires few_wires { frames * length seq.now.device.wires ≤ WIRE_LIMIT }
+    requires few_clauses { raw_count (frame_device seq.now frames) ≤ CLAUSE_LIMIT }
     requires short { HasShortNames seq.now.device }
-    requires many { length delays.now ≡ length seq.now.device.parts }
-    requires delays { (place : ℕ) → place < length seq.now.device.parts
-        → slice_index_or delays.now place false ≡ is_delayed seq.now place }
+    requires delays { AreDelays seq.now delays.now }
     ensures { IfOk result (λ made. (made.frames ≡ frames)
         × AreCopies seq.now frames made.parts.items made.places.items made.wires.items) }
 {
@@ -60,11 +65,9 @@ fn push_copies(
     places: &mut Vec<u32>,
 ) -> Result<(), AllocError>
     requires some { 1 ≤ time }
-    requires few { time ≤ 64 }
+    requires few { time ≤ FRAME_LIMIT }
     requires short { HasShortNames seq.now.device }
-    requires many { length delays.now ≡ length seq.now.device.parts }
-    requires delays { (place : ℕ) → place < length seq.now.device.parts
-        → slice_index_or delays.now place false ≡ is_delayed seq.now place }
+    requires delays { AreDelays seq.now delays.now }
     ensures copies { OnOk result (copies.new.items
         ≡ copies.old.items ++ map (given_copy (length seq.now.device.wires)) (copies_for seq.now time)) }
     ensures places { OnOk result (places.new.items
@@ -90,11 +93,11 @@ fn copy_of(
     now: u32,
 ) -> Result<Component, AllocError>
     requires short { length part.now.name ≤ SHORT_NAME_LIMIT }
-    requires wires { wires ≤ 16384 }
+    requires wires { wires ≤ WIRE_LIMIT }
     requires ports { All (λ port. port < wires) part.now.ports }
     requires some { 1 ≤ before }
     requires order { before ≤ now }
-    requires few { now ≤ 64 }
+    requires few { now ≤ FRAME_LIMIT }
     ensures { (place : ℕ) → IfOk result (λ copy. copy
         ≡ given_copy wires (record { place = place; part = part.now; before = before; now = now })) }
 {
@@ -113,8 +116,8 @@ fn copy_of(
 
 // Adds wires, which stand from a position on.
 fn push_ports(ports: &mut Vec<u32>, wires: &[u32], from: u32) -> Result<(), AllocError>
-    requires from { from ≤ 1048576 }
-    requires wires { All (λ wire. wire < 16384) wires.now }
+    requires from { from ≤ FRAME_LIMIT * WIRE_LIMIT }
+    requires wires { All (λ wire. wire < WIRE_LIMIT) wires.now }
     ensures { OnOk result (ports.new.items ≡ ports.old.items ++ map (λ wire. from + wire) wires.now) }
 {
     for wire in wires {
@@ -130,7 +133,7 @@ fn push_wires(
     time: u32,
     named: &mut Vec<Name>,
 ) -> Result<(), AllocError>
-    requires time { time < 10000 }
+    requires time { time ≤ FRAME_LIMIT }
     requires short { All (λ name. length name ≤ SHORT_NAME_LIMIT) wires.now }
     ensures { OnOk result (named.new.items ≡ named.old.items ++ map (named_at time) wires.now) }
 {

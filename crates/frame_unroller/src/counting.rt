@@ -1,7 +1,8 @@
-ghost use Rattle.std.specs.Prelude.{◌≡◌, ◌<◌, ◌≤◌, ℕ, length, slice_index_or, false};
+ghost use Rattle.std.specs.Prelude.{◌≡◌, ◌≤◌};
 ghost use Rattle.clause_encoder.specs.Encoding.{raw_count};
-ghost use Rattle.frame_unroller.specs.Frames.{is_delayed};
+ghost use Rattle.frame_unroller.specs.declared.unrolling.TheConstants.{FRAME_LIMIT};
 ghost use Rattle.frame_unroller.specs.Unrolling.{frame_device};
+ghost use Rattle.frame_unroller.specs.inner.Delays.{AreDelays};
 
 use bench_reader::Sequential;
 use clause_encoder::part_count;
@@ -10,10 +11,8 @@ use clause_encoder::part_count;
 /// those that are delayed at the first.
 pub(crate) fn clause_count(seq: &Sequential, delays: &[bool], frames: u32) -> u64
     requires some { 1 ≤ frames }
-    requires few { frames ≤ 64 }
-    requires many { length delays.now ≡ length seq.now.device.parts }
-    requires delays { (place : ℕ) → place < length seq.now.device.parts
-        → slice_index_or delays.now place false ≡ is_delayed seq.now place }
+    requires few { frames ≤ FRAME_LIMIT }
+    requires delays { AreDelays seq.now delays.now }
     ensures { result ≡ raw_count (frame_device seq.now frames) }
 {
     let mut first = 0;

@@ -1,15 +1,14 @@
-ghost use Rattle.std.specs.Prelude.{◌≡◌, ◌<◌, ◌≤◌, ◌+◌, ◌*◌, ℕ, length, slice_index_or, IfOk, false};
-ghost use Rattle.frame_unroller.specs.Frames.{is_delayed};
+ghost use Rattle.std.specs.Prelude.{◌≡◌, ◌≤◌, length, IfOk};
+ghost use Rattle.frame_unroller.specs.declared.unrolling.TheConstants.{FRAME_LIMIT};
 ghost use Rattle.frame_unroller.specs.Unrolling.{copies};
+ghost use Rattle.frame_unroller.specs.inner.Delays.{AreDelays};
 
 use bench_reader::Sequential;
 use std::alloc::{AllocError, Global};
 
 /// For each part whether it is delayed.
 pub(crate) fn delays_of(alloc: Global, seq: &Sequential) -> Result<Vec<bool>, AllocError>
-    ensures many { IfOk result (λ delays. length delays.items ≡ length seq.now.device.parts) }
-    ensures delays { IfOk result (λ delays. (place : ℕ) → place < length seq.now.device.parts
-        → slice_index_or delays.items place false ≡ is_delayed seq.now place) }
+    ensures { IfOk result (λ delays. AreDelays seq.now delays.items) }
 {
     let mut delays = vec![in alloc; false; seq.device.parts().len()]?;
     for place in seq.delayed.as_slice() {
@@ -23,10 +22,8 @@ pub(crate) fn delays_of(alloc: Global, seq: &Sequential) -> Result<Vec<bool>, Al
 /// How many copies there are in so many frames: one for each part and each time, but none for a delayed one at the first.
 pub(crate) fn copy_count(seq: &Sequential, delays: &[bool], frames: u32) -> u64
     requires some { 1 ≤ frames }
-    requires few { frames ≤ 64 }
-    requires many { length delays.now ≡ length seq.now.device.parts }
-    requires delays { (place : ℕ) → place < length seq.now.device.parts
-        → slice_index_or delays.now place false ≡ is_delayed seq.now place }
+    requires few { frames ≤ FRAME_LIMIT }
+    requires delays { AreDelays seq.now delays.now }
     ensures { result ≡ length (copies seq.now frames) }
 {
     // Its contract says that a device has few parts.

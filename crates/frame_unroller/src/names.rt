@@ -1,5 +1,6 @@
 ghost use Rattle.std.specs.Prelude.{◌≡◌, ◌<◌, ◌≤◌, length, IfOk};
 ghost use Rattle.text_rules.specs.declared.names.TheConstants.{SHORT_NAME_LIMIT};
+ghost use Rattle.frame_unroller.specs.declared.unrolling.TheConstants.{FRAME_LIMIT};
 ghost use Rattle.frame_unroller.specs.Times.{four_digits, wire_at, copy_at};
 
 use device_model::Name;
@@ -20,7 +21,7 @@ fn four_digits(time: u32) -> [u8; 4]
 
 /// The name of a wire at a time.
 pub(crate) fn wire_at(alloc: Global, time: u32, wire: &[u8]) -> Result<Name, AllocError>
-    requires time { time < 10000 }
+    requires time { time ≤ FRAME_LIMIT }
     requires short { length wire.now ≤ SHORT_NAME_LIMIT }
     ensures { IfOk result (λ name. name ≡ wire_at time wire.now) }
 {
@@ -33,7 +34,7 @@ pub(crate) fn wire_at(alloc: Global, time: u32, wire: &[u8]) -> Result<Name, All
 
 /// The name of the copy of a part at a time.
 pub(crate) fn copy_at(alloc: Global, time: u32, part: &[u8]) -> Result<Name, AllocError>
-    requires time { time < 10000 }
+    requires time { time ≤ FRAME_LIMIT }
     requires short { length part.now ≤ SHORT_NAME_LIMIT }
     ensures { IfOk result (λ name. name ≡ copy_at time part.now) }
 {

@@ -4,7 +4,7 @@ ghost use Rattle.ranking.specs.Assignments.{Assignment};
 ghost use Rattle.device_model.specs.Devices.{IsDevice, part_names};
 ghost use Rattle.bench_reader.specs.SequentialNetlists.{HasShortNames};
 ghost use Rattle.clause_encoder.specs.Clauses.{is_clause_list, all_hold};
-ghost use Rattle.clause_encoder.specs.Encoding.{encoded, raw_count, DescribesBy};
+ghost use Rattle.clause_encoder.specs.Encoding.{clause_list, encoded, raw_count, DescribesBy};
 ghost use Rattle.clause_encoder.specs.Replacing.{variable_for};
 ghost use Rattle.frame_unroller.specs.Diagnosis.{frame_wires, fits_over};
 ghost use Rattle.frame_unroller.specs.Unrolling.{frame_device, owners, shared_variables, shared, unrolled_by, unrolled, reason, IsUnrolled};
@@ -56,7 +56,7 @@ impl From<AllocError> for UnrollError {
 /// in four digits.
 ///
 /// All clauses are true, for some bits of the inner variables, exactly where the parts' health and the bits of the wires at all
-/// times fit, frame by frame.
+/// times fit, frame by frame. None of the copies' clauses is left out for the health that they share.
 pub fn unroll(alloc: Global, seq: &Sequential, frames: u32) -> Result<Unrolled, UnrollError>
     requires some { 1 ≤ frames }
     requires few { frames ≤ FRAME_LIMIT }
@@ -64,6 +64,8 @@ pub fn unroll(alloc: Global, seq: &Sequential, frames: u32) -> Result<Unrolled, 
     ensures unrolled { Fulfils (λ made. made) reason (unrolled seq.now frames) result }
     ensures describes { IfOk result (λ made. DescribesBy made.cnf (length seq.now.device.parts)
         (length (frame_wires seq.now frames)) (fits_over seq.now frames)) }
+    ensures whole { IfOk result (λ made. length made.cnf.clauses
+        ≡ length (clause_list (frame_device seq.now frames)).clauses) }
     ensures valid { IfOk result IsUnrolled }
 {
     let delays = delays_of(alloc, seq)?;
@@ -95,6 +97,8 @@ fn unroll_by(alloc: Global, seq: &Sequential, copies: Copies) -> Result<Unrolled
         (unrolled_by seq.now copies.frames (encoded (frame_device seq.now copies.frames))) result }
     ensures describes { IfOk result (λ made. DescribesBy made.cnf (length seq.now.device.parts)
         (length (frame_wires seq.now copies.frames)) (fits_over seq.now copies.frames)) }
+    ensures whole { IfOk result (λ made. length made.cnf.clauses
+        ≡ length (clause_list (frame_device seq.now copies.frames)).clauses) }
     ensures valid { IfOk result IsUnrolled }
 {
     let (device, places) = device_of(alloc, seq, copies)?;
@@ -156,7 +160,7 @@ fn shared(alloc: Global, list: &Cnf, places: &[u32], parts: u32) -> Result<Cnf, 
     requires many { length places.now ≤ list.now.vars }
     requires places { All (λ place. place < parts) places.now }
     requires few { parts + list.now.vars < VARIABLE_LIMIT }
-    ensures valid { IfOk result (λ _. is_clause_list list.now ≡ true) }
+    ensures given { IfOk result (λ _. is_clause_list list.now ≡ true) }
     ensures shared { IfOk result (λ cnf. cnf ≡ shared parts places.now list.now) }
     ensures truth { IfOk result (λ cnf. (a : Assignment) → all_hold a cnf.clauses
         ≡ all_hold (λ v. a (variable_for (shared_variables parts places.now list.now.vars) v)) list.now.clauses) }

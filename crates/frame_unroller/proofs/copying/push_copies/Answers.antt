@@ -20,7 +20,7 @@ loop-place-preserved c =
     let owner : Copy → ℕ = λ copy. copy.place in
     let lt : place < length parts = omega (arith, c.loop-place-test.true, ap length c.parts-part-items.ensures.parts) in
     let is = c.part-item.is ∙ ap (λ ps. get_or ps place part) c.parts-part-items.ensures.parts in
-    let said = c.requires.delays place lt in
+    let said = c.requires.delays.say place lt in
     let same : before ≡ input_time seq place t = elim c.if-delays-place.branch [
       | then-delays-place w ↦ w.before-is ∙ ap (λ b. if b then t - 1 else t) (sym w.if-delays-place.true ∙ said)
       | else-delays-place w ↦ w.before-is ∙ ap (λ b. if b then t - 1 else t) (sym w.if-delays-place.false ∙ said)

@@ -14,7 +14,7 @@ loop-place-preserved c =
     let n = c.part_count-clauses.result in
     let lt : place < length parts = omega (arith, c.loop-place-test.true, ap length c.parts-part-items.ensures.parts) in
     let is : part ≡ get_or parts place part = c.part-item.is ∙ ap (λ ps. get_or ps place part) c.parts-part-items.ensures.parts in
-    let said = c.requires.delays place lt in
+    let said = c.requires.delays.say place lt in
     let has : Has seq frames part n = λ h z vs long.
     ap (λ ts. length (raw_clauses ts part.kind h z vs)) (sym c.tables.ensures.tables) ∙ c.part_count-clauses.ensures.count h z vs (long ∙ sym (ap length c.as_slice-ports.ensures)) in
     let so_far = c.loop-place.invariant.at_first in

@@ -9,4 +9,4 @@ returns c =
     let delays = c.args.delays.now in
     let whole = take_all c.loop-delayed.delayed-index delays (omega (arith, c.loop-delayed-test.false)) in
     (λ i. (c.loop-delayed.invariant.counted ∙ ap (count_by not) whole) i + c.from.ensures i * length (c.parts.ensures.parts i))
-    ∙ length-copies c.args.seq.now delays c.args.frames c.requires.some c.requires.many c.requires.delays
+    ∙ length-copies c.args.seq.now delays c.args.frames c.requires.some c.requires.delays.many c.requires.delays.say

@@ -6,11 +6,12 @@ use Rattle.device_model.specs.Devices.{Device, part_names}
 use Rattle.device_model.specs.Building.{joined}
 use Rattle.clause_encoder.specs.Clauses.{ClauseList, all_hold}
 use Rattle.clause_encoder.specs.Replacing.{variable_for}
-use Rattle.clause_encoder.specs.Encoding.{encoded, Describes}
+use Rattle.clause_encoder.specs.Encoding.{clause_list, encoded, Describes}
 use Rattle.clause_encoder.proofs.Sizes.{encoded-is, few_inner, encoded-few_vars}
 use Rattle.clause_encoder.proofs.OtherVariables.{list_from}
 use Rattle.frame_unroller.specs.Diagnosis.{frame_wires}
 use Rattle.frame_unroller.specs.Unrolling.{Copy, copies, named_copy, owners, shared_variables, shared, unrolled_by}
+use Rattle.frame_unroller.proofs.Kept.{OneEach, one_health-tidy, all_kept, encoded-list}
 use Rattle.frame_unroller.proofs.Meaning.{owner-at, frames-described}
 use Rattle.frame_unroller.proofs.unrolling.unroll_by.Goals as goal
 
@@ -53,7 +54,7 @@ returns-clause-describes c =
     let are : c.deref.result.now ≡ owners seq frames = c.deref.ensures.value ∙ c.in_ok-device.ensures.places in
     let many = ap length c.parts.ensures.parts in
     let room = (encoded-is c.in_ok-device.device list c.in-Ok.ensures.encoded).vars in
-    frames-described seq frames c.parts.ensures.valid list (list_from list c.in_ok-cnf.ensures.valid).each
+    frames-described seq frames c.parts.ensures.valid list (list_from list c.in_ok-cnf.ensures.given).each
     (subst (Describes list) device c.in-Ok.ensures.describes)
     (omega (
       arith,
@@ -65,6 +66,30 @@ returns-clause-describes c =
     (c.in_ok-cnf.ensures.shared ∙ (λ i. shared (length (c.parts.ensures.parts i)) (are i) list))
     (λ a. c.in_ok-cnf.ensures.truth a
     ∙ (λ i. all_hold (λ v. a (variable_for (shared_variables (length (c.parts.ensures.parts i)) (are i) list.vars) v)) list.clauses))
+
+pub returns-clause-whole : goal.returns-clause-whole
+returns-clause-whole c =
+    let seq = c.args.seq.now in
+    let frames = c.args.copies.frames in
+    let list = c.in-Ok.list in
+    let device = c.in_ok-device.device in
+    let places = c.deref.result.now in
+    let are : places ≡ owners seq frames = c.deref.ensures.value ∙ c.in_ok-device.ensures.places in
+    let is : list ≡ clause_list device = encoded-list device list c.in-Ok.ensures.encoded in
+    let owned : length places ≡ length device.parts =
+    ap length are ∙ length-map (copies seq frames) (λ (copy : Copy). copy.place)
+    ∙ sym (length-map (copies seq frames) (λ copy. joined (frame_wires seq frames) (named_copy seq.device.wires copy)))
+    ∙ sym (ap (λ (d : Device). length d.parts) c.in_ok-device.ensures.device) in
+    let one : OneEach (length places) list.clauses =
+    subst (λ n. OneEach n list.clauses) (sym owned)
+    (subst (λ (l : ClauseList). OneEach (length device.parts) l.clauses) (sym is) (one_health-tidy device c.in_ok-device.ensures.valid)) in
+    ap (λ (l : ClauseList). length l.clauses) c.in_ok-cnf.ensures.shared
+    ∙ all_kept (length c.parts.result.now) list.vars places
+    (omega (arith, owned, (encoded-is device list c.in-Ok.ensures.encoded).vars))
+    (λ k d lt. omega (arith, owner-at seq frames k d (omega (arith, lt, ap length are)), ap (λ ps. get_or ps k d) are, ap length c.parts.ensures.parts))
+    list.clauses (list_from list c.in_ok-cnf.ensures.given).each one
+    ∙ ap (λ (l : ClauseList). length l.clauses) is
+    ∙ ap (λ (d : Device). length (clause_list d).clauses) c.in_ok-device.ensures.device
 
 pub returns-clause-valid : goal.returns-clause-valid
 returns-clause-valid c =

@@ -1,0 +1,312 @@
+-- No clause of the copies is left out where the health of a part stands for that of its copies: a clause names the health of one copy
+-- at most, and all other variables stay apart.
+use Rattle.std.proofs.Common.{◌≡◌, ℕ, zero, suc, ◌+◌, ◌-◌, ◌<◌, ◌≤◌, ◌⊎◌, inl, inr, Bool, true, false, not, cond, ◌&&◌, ◌||◌, List, [], ◌∷◌, ◌++◌, map, length, take, drop, get_or, ℤ, pos, neg_ℤ, Option, Some, None, Ok, Err, refl, sym, ap, ◌∙◌, subst, arith}
+use Rattle.std.specs.Prelude.{◌==◌, slice_get, nat_lt, if◌then◌else◌}
+use Rattle.std.specs.List.{All, list_any, list_all, filter, range_with_len}
+use Rattle.std.proofs.lemmas.Bool.{ne_eqb, ltb-true, cases_lt, and_parts}
+use Rattle.std.proofs.lemmas.List.{length-map, get_or-map, get_or_append_left, get_or-append_right}
+use Rattle.std.proofs.lemmas.List.FromFn.{get_or-range_with_len}
+use Rattle.ranking.specs.Bits.{has_odd_ones, same_bit}
+use Rattle.device_model.specs.declared.component.Kind.{Kind}
+use Rattle.device_model.specs.declared.component.Kind.TheVariants.{And, Or, Nand, Nor, Xor, Xnor, Not, Buff, Table}
+use Rattle.device_model.specs.declared.component.Component.{Component}
+use Rattle.device_model.specs.TruthTable.{TruthTable}
+use Rattle.device_model.specs.Devices.{Device, IsDevice, takes_ports, takes, has_arity}
+use Rattle.clause_encoder.specs.declared.limits.TheConstants.{CLAUSE_LIMIT}
+use Rattle.clause_encoder.specs.declared.encoding.EncodeError.TheVariants.{TooManyClauses}
+use Rattle.clause_encoder.specs.Clauses.{Clause, ClauseList, var_of, is_positive, literal, vars_rise, is_clause}
+use Rattle.clause_encoder.specs.Encoding.{same_literal, with_literal, sorted, is_tautology, tidy, parity_clauses, and_clauses, row_bits, rows_of, blocking_literals, row_clause, blocked_rows, table_clauses, gate_clauses, and_step, xor_step, step_clauses, chain_clauses, wide_clauses, is_wide, any_gate_clauses, inner_count, raw_clauses, wire_variable, first_inner, clauses_from, all_clauses, raw_count, clause_list, encoded}
+use Rattle.clause_encoder.specs.Replacing.{variable_for, literal_for}
+use Rattle.clause_encoder.proofs.Literals.{AllIn, neg-literal}
+use Rattle.clause_encoder.proofs.Describing.{var_of-literal}
+use Rattle.clause_encoder.proofs.Meaning.{and_clauses-literals, takes-some}
+use Rattle.clause_encoder.proofs.OtherVariables.{raw_from}
+use Rattle.frame_unroller.specs.Unrolling.{shared_variables}
+
+-- ---- what holds of the variables of a part's ports, of its health and of its inner ones holds of all in its clauses
+
+module _ (P : ℕ → Type 0) where
+  abbrev pub Of : Clause → Type 0
+  Of [] = Unit {0}
+  Of (l ∷ c) = P (var_of l) × Of c
+
+  abbrev pub OfEach : List Clause → Type 0
+  OfEach [] = Unit {0}
+  OfEach (c ∷ cs) = Of c × OfEach cs
+
+  abbrev pub Variables : List ℕ → Type 0
+  Variables [] = Unit {0}
+  Variables (v ∷ vs) = P v × Variables vs
+
+  Variables-take : (n : ℕ) (vs : List ℕ) → Variables vs → Variables (take n vs)
+  Variables-take zero vs h = tt
+  Variables-take (suc n) [] h = tt
+  Variables-take (suc n) (v ∷ vs) h = (h.0, Variables-take n vs h.1)
+
+  Variables-drop : (n : ℕ) (vs : List ℕ) → Variables vs → Variables (drop n vs)
+  Variables-drop zero vs h = h
+  Variables-drop (suc n) [] h = tt
+  Variables-drop (suc n) (v ∷ vs) h = Variables-drop n vs h.1
+
+  Variables-at : (vs : List ℕ) (i : ℕ) → Variables vs → i < length vs → P (get_or vs i 0)
+  Variables-at [] i h lt = absurd (omega arith)
+  Variables-at (v ∷ vs) zero h lt = h.0
+  Variables-at (v ∷ vs) (suc i) h lt = Variables-at vs i h.1 (omega arith)
+
+  Of-cons : (b : Bool) (v : ℕ) (c : Clause) → P v → Of c → Of (literal b v ∷ c)
+  Of-cons b v c h rest = (subst P (sym (var_of-literal b v)) h, rest)
+
+  Of-append : (c d : Clause) → Of c → Of d → Of (c ++ d)
+  Of-append [] d h k = k
+  Of-append (l ∷ c) d h k = (h.0, Of-append c d h.1 k)
+
+  OfEach-append : (cs ds : List Clause) → OfEach cs → OfEach ds → OfEach (cs ++ ds)
+  OfEach-append [] ds h k = k
+  OfEach-append (c ∷ cs) ds h k = (h.0, OfEach-append cs ds h.1 k)
+
+  OfEach-map : {A : Type 0} (f : A → Clause) (xs : List A) → ((x : A) → Of (f x)) → OfEach (map f xs)
+  OfEach-map f [] h = tt
+  OfEach-map f (x ∷ xs) h = (h x, OfEach-map f xs h)
+
+  Of-literals : (b : Bool) (vs : List ℕ) → Variables vs → Of (map (literal b) vs)
+  Of-literals b [] h = tt
+  Of-literals b (v ∷ vs) h = Of-cons b v (map (literal b) vs) h.0 (Of-literals b vs h.1)
+
+  Of-blocking : (vs : List ℕ) (bits : List Bool) → Variables vs → Of (blocking_literals vs bits)
+  Of-blocking [] bits h = tt
+  Of-blocking (v ∷ vs) [] h = tt
+  Of-blocking (v ∷ vs) (b ∷ bits) h = Of-cons (not b) v (blocking_literals vs bits) h.0 (Of-blocking vs bits h.1)
+
+  Of-two : (b c : Bool) (v w : ℕ) → P v → P w → Of (literal b v ∷ literal c w ∷ [])
+  Of-two b c v w hv hw = Of-cons b v (literal c w ∷ []) hv (Of-cons c w [] hw tt)
+
+  Of-three : (b c d : Bool) (u v w : ℕ) → P u → P v → P w → Of (literal b u ∷ literal c v ∷ literal d w ∷ [])
+  Of-three b c d u v w hu hv hw = Of-cons b u (literal c v ∷ literal d w ∷ []) hu (Of-two c d v w hv hw)
+
+  -- the steps of a chain
+  module _ (z before x : ℕ) (hz : P z) (hb : P before) (hx : P x) where
+    Of-and_step : (s : Bool) → OfEach (and_step s z before x)
+    Of-and_step s = (Of-two (not s) s z before hz hb, (Of-two (not s) s z x hz hx, (Of-three s (not s) (not s) z before x hz hb hx, tt)))
+
+    Of-xor_step : OfEach (xor_step z before x)
+    Of-xor_step = (
+      Of-three false true true z before x hz hb hx,
+      (
+        Of-three false false false z before x hz hb hx,
+        (Of-three true true false z before x hz hb hx, (Of-three true false true z before x hz hb hx, tt)),
+      ),
+    )
+
+    Of-step : (kind : Kind) → OfEach (step_clauses kind z before x)
+    Of-step And = Of-and_step true
+    Of-step Nand = Of-and_step true
+    Of-step Or = Of-and_step false
+    Of-step Nor = Of-and_step false
+    Of-step Xor = Of-xor_step
+    Of-step Xnor = Of-xor_step
+    Of-step Not = tt
+    Of-step Buff = tt
+    Of-step (Table t) = tt
+
+  module _ (h : ℕ) (hh : P h) where
+    Of-and : (y : ℕ) (t s : Bool) (xs : List ℕ) → P y → Variables xs → OfEach (and_clauses (pos h) (literal t y) (map (literal s) xs))
+    Of-and y t s xs hy hs = subst OfEach (sym (and_clauses-literals h y t s xs))
+        (OfEach-append (map (λ x. literal false h ∷ literal (not t) y ∷ literal s x ∷ []) xs) ((literal false h ∷ literal t y ∷ map (literal (not s)) xs) ∷ [])
+        (fronts xs hs)
+        (Of-cons false h (literal t y ∷ map (literal (not s)) xs) hh (Of-cons t y (map (literal (not s)) xs) hy (Of-literals (not s) xs hs)), tt)) where
+          fronts : (xs : List ℕ) → Variables xs → OfEach (map (λ x. literal false h ∷ literal (not t) y ∷ literal s x ∷ []) xs)
+          fronts [] hs = tt
+          fronts (x ∷ xs) hs = (Of-three false (not t) s h y x hh hy hs.0, fronts xs hs.1)
+
+    Of-parity : (odd : Bool) (xs : List ℕ) (y : ℕ) → P y → Variables xs → OfEach (parity_clauses odd h xs y)
+    Of-parity odd xs y hy hs = OfEach-map (λ r. row_clause h xs y (row_bits r xs) (same_bit odd (has_odd_ones (row_bits r xs)))) (rows_of xs)
+        (λ r.
+        let value = same_bit odd (has_odd_ones (row_bits r xs)) in
+        Of-cons false h (blocking_literals xs (row_bits r xs) ++ literal value y ∷ []) hh
+        (Of-append (blocking_literals xs (row_bits r xs)) (literal value y ∷ []) (Of-blocking xs (row_bits r xs) hs) (Of-cons value y [] hy tt)))
+
+    Of-side : (ok : Bool) (allowed : ℕ) (ports : List ℕ) → Variables ports → OfEach (blocked_rows ok allowed h ports)
+    Of-side ok allowed ports hs = OfEach-map (λ r. literal (not ok) h ∷ blocking_literals ports (row_bits r ports)) _
+        (λ r. Of-cons (not ok) h (blocking_literals ports (row_bits r ports)) hh (Of-blocking ports (row_bits r ports) hs))
+
+    Of-gate : (kind : Kind) (xs : List ℕ) (y : ℕ) → P y → Variables xs → OfEach (gate_clauses kind h xs y)
+    Of-gate And xs y hy hs = Of-and y true true xs hy hs
+    Of-gate Buff xs y hy hs = Of-and y true true xs hy hs
+    Of-gate Nand xs y hy hs = Of-and y false true xs hy hs
+    Of-gate Not xs y hy hs = Of-and y false true xs hy hs
+    Of-gate Or xs y hy hs = Of-and y false false xs hy hs
+    Of-gate Nor xs y hy hs = Of-and y true false xs hy hs
+    Of-gate Xor xs y hy hs = Of-parity true xs y hy hs
+    Of-gate Xnor xs y hy hs = Of-parity false xs y hy hs
+    Of-gate (Table t) xs y hy hs = tt
+
+    Of-chain : (kind : Kind) (last y : ℕ) → P last → P y → (xs : List ℕ) (z before : ℕ) → ((v : ℕ) → z ≤ v → P v)
+        → P before → Variables xs → OfEach (chain_clauses kind h last y z before xs)
+    Of-chain kind last y hl hy [] z before hz hb hs = Of-gate kind (before ∷ last ∷ []) y hy (hb, (hl, tt))
+    Of-chain kind last y hl hy (x ∷ xs) z before hz hb hs =
+        OfEach-append (step_clauses kind z before x) (chain_clauses kind h last y (z + 1) z xs)
+        (Of-step z before x (hz z (omega arith)) hb hs.0 kind)
+        (Of-chain kind last y hl hy xs (z + 1) z (λ v le. hz v (omega arith)) (hz z (omega arith)) hs.1)
+
+    module _ (z : ℕ) (hz : (v : ℕ) → z ≤ v → P v) where
+      Of-wide : (kind : Kind) (xs : List ℕ) (y : ℕ) → 5 ≤ length xs → P y → Variables xs → OfEach (wide_clauses kind h z xs y)
+      Of-wide kind xs y wide hy hs =
+          Of-chain kind (get_or xs (length xs - 1) 0) y (Variables-at xs (length xs - 1) hs (omega arith)) hy (take (length xs - 1 - 1) (drop 1 xs)) z (get_or xs 0 0) hz
+          (Variables-at xs 0 hs (omega arith)) (Variables-take (length xs - 1 - 1) (drop 1 xs) (Variables-drop 1 xs hs))
+
+      Of-any_gate : (kind : Kind) (xs : List ℕ) (y : ℕ) → P y → Variables xs → OfEach (any_gate_clauses kind h z xs y)
+      Of-any_gate kind xs y hy hs = by (is_wide (length xs)) refl
+        where
+          by : (w : Bool) → is_wide (length xs) ≡ w → OfEach (if w then wide_clauses kind h z xs y else gate_clauses kind h xs y)
+          by true wide = Of-wide kind xs y (omega (arith, ltb-true 4 (length xs) wide)) hy hs
+          by false narrow = Of-gate kind xs y hy hs
+
+      Of-ports : (kind : Kind) (ports : List ℕ) → Variables ports → takes kind (length ports - 1) ≡ true
+          → OfEach (any_gate_clauses kind h z (take (length ports - 1) ports) (get_or ports (length ports - 1) 0))
+      Of-ports kind ports hs e =
+          Of-any_gate kind (take (length ports - 1) ports) (get_or ports (length ports - 1) 0)
+          (Variables-at ports (length ports - 1) hs (omega (arith, takes-some kind (length ports - 1) e))) (Variables-take (length ports - 1) ports hs)
+
+      pub Of-raw : (tables : List TruthTable) (kind : Kind) (ports : List ℕ) → Variables ports → takes_ports tables kind (length ports) ≡ true → OfEach (raw_clauses tables kind h z ports)
+      Of-raw tables (Table t) ports hs e = by_rows (slice_get tables t) where
+        by_rows : (rows : Option TruthTable) → OfEach (table_clauses rows h ports)
+        by_rows None = tt
+        by_rows (Some rows) = OfEach-append (blocked_rows true rows.ok h ports) (blocked_rows false rows.bad h ports) (Of-side true rows.ok ports hs) (Of-side false rows.bad ports hs)
+      Of-raw tables And ports hs e = Of-ports And ports hs e
+      Of-raw tables Or ports hs e = Of-ports Or ports hs e
+      Of-raw tables Nand ports hs e = Of-ports Nand ports hs e
+      Of-raw tables Nor ports hs e = Of-ports Nor ports hs e
+      Of-raw tables Xor ports hs e = Of-ports Xor ports hs e
+      Of-raw tables Xnor ports hs e = Of-ports Xnor ports hs e
+      Of-raw tables Not ports hs e = Of-ports Not ports hs e
+      Of-raw tables Buff ports hs e = Of-ports Buff ports hs e
+
+  Of-with_literal : (l : ℤ) (c : Clause) → P (var_of l) → Of c → Of (with_literal l c)
+  Of-with_literal l [] h k = (h, tt)
+  Of-with_literal l (b ∷ c) h k = by (same_literal l b) (nat_lt (var_of b) (var_of l)) (Of-with_literal l c h k.1)
+    where
+      by : (s t : Bool) → Of (with_literal l c) → Of (if s then b ∷ c else if t then b ∷ with_literal l c else l ∷ b ∷ c)
+      by true t rest = k
+      by false true rest = (k.0, rest)
+      by false false rest = (h, k)
+
+  pub Of-sorted : (c : Clause) → Of c → Of (sorted c)
+  Of-sorted [] h = tt
+  Of-sorted (l ∷ c) h = Of-with_literal l (sorted c) h.0 (Of-sorted c h.1)
+
+-- ---- a clause names the health of one part at most
+
+-- the health of a part, or no health, where there are so many parts
+abbrev pub Names : ℕ → ℕ → ℕ → Type 0
+Names parts h v = (v ≡ h) ⊎ (parts < v)
+
+abbrev pub OneEach : ℕ → List Clause → Type 0
+OneEach parts [] = Unit {0}
+OneEach parts (c ∷ cs) = ((h : ℕ) × Of (Names parts h) c) × OneEach parts cs
+
+OneEach-append : (parts : ℕ) (cs ds : List Clause) → OneEach parts cs → OneEach parts ds → OneEach parts (cs ++ ds)
+OneEach-append parts [] ds h k = k
+OneEach-append parts (c ∷ cs) ds h k = (h.0, OneEach-append parts cs ds h.1 k)
+
+OneEach-of : (parts h : ℕ) (cs : List Clause) → OfEach (Names parts h) cs → OneEach parts cs
+OneEach-of parts h [] k = tt
+OneEach-of parts h (c ∷ cs) k = ((h, k.0), OneEach-of parts h cs k.1)
+
+OneEach-tidy : (parts : ℕ) (cs : List Clause) → OneEach parts cs → OneEach parts (tidy cs)
+OneEach-tidy parts [] h = tt
+OneEach-tidy parts (c ∷ cs) h = by (is_tautology c) (OneEach-tidy parts cs h.1)
+  where
+    by : (s : Bool) → OneEach parts (tidy cs) → OneEach parts (map sorted (cond (not s) (c ∷ filter (λ d. not (is_tautology d)) cs) (filter (λ d. not (is_tautology d)) cs)))
+    by true rest = rest
+    by false rest = ((h.0.0, Of-sorted (Names parts h.0.0) c h.0.1), rest)
+
+module _ (device : Device) where
+  wires_only : (h : ℕ) (ports : List ℕ) → Variables (Names (length device.parts) h) (map (wire_variable device) ports)
+  wires_only h [] = tt
+  wires_only h (port ∷ ports) = (inr (omega arith), wires_only h ports)
+
+  one_health : (h z : ℕ) (parts : List Component) → length device.parts < z → list_all (has_arity device.tables) parts ≡ true
+      → OneEach (length device.parts) (clauses_from device h z parts)
+  one_health h z [] hz arities = tt
+  one_health h z (part ∷ parts) hz arities =
+      let fit = and_parts (has_arity device.tables part) (list_all (has_arity device.tables) parts) arities in
+      let ports = map (wire_variable device) part.ports in
+      let inner = inner_count part.kind (length part.ports) in
+      OneEach-append (length device.parts) (raw_clauses device.tables part.kind h z ports) (clauses_from device (h + 1) (z + inner) parts)
+      (OneEach-of (length device.parts) h (raw_clauses device.tables part.kind h z ports)
+      (Of-raw (Names (length device.parts) h) h (inl refl) z (λ v le. inr (omega arith)) device.tables part.kind ports (wires_only h part.ports)
+      (ap (takes_ports device.tables part.kind) (length-map part.ports (wire_variable device)) ∙ fit.0)))
+      (one_health (h + 1) (z + inner) parts (omega arith) fit.1)
+
+  pub one_health-tidy : IsDevice device → OneEach (length device.parts) (tidy (all_clauses device))
+  one_health-tidy valid = OneEach-tidy (length device.parts) (all_clauses device) (one_health 1 (first_inner device) device.parts (omega arith) valid.arities)
+
+-- ---- so no two variables of a clause become one
+
+module _ (parts vars : ℕ) (places : List ℕ) (many : length places ≤ vars) (within : All (λ place. place < parts) places) where
+  abbrev new : List ℕ
+  new = shared_variables parts places vars
+
+  front : (v : ℕ) → 1 ≤ v → v ≤ length places → variable_for new v ≤ parts
+  front v some le =
+      let here = get_or_append_left (map (λ place. place + 1) places) (range_with_len (parts + 1) (vars - length places)) 0 (v - 1) (omega (arith, length-map places (λ place. place + 1)))
+      ∙ get_or-map (λ place. place + 1) places (v - 1) 0 0 (omega arith) in
+      omega (arith, here, within (v - 1) 0 (omega arith))
+
+  back : (v : ℕ) → length places < v → v ≤ vars → variable_for new v ≡ parts + 1 + (v - 1 - length places)
+  back v above le =
+      get_or-append_right (map (λ place. place + 1) places) (range_with_len (parts + 1) (vars - length places)) (length places) (v - 1) 0 (length-map places (λ place. place + 1)) (omega arith)
+      ∙ get_or-range_with_len (parts + 1) (vars - length places) (v - 1 - length places) 0 (omega arith)
+
+  differ : (h v w : ℕ) → 1 ≤ v → v < w → w ≤ vars → Names (length places) h v → Names (length places) h w → variable_for new v ≡ variable_for new w → ⊥
+  differ h v w some lt le (inl e) (inl f) same = omega (arith, e, f)
+  differ h v w some lt le (inr e) (inl f) same = omega (arith, e, f, same, back v e (omega arith), back w (omega (arith, e)) le)
+  differ h v w some lt le (inr e) (inr f) same = omega (arith, same, back v e (omega arith), back w f le)
+  differ h v w some lt le (inl e) (inr f) same = elim (cases_lt (v - 1) (length places)) [
+    | inl l ↦ omega (arith, same, front v some (omega arith), back w f le)
+    | inr g ↦ omega (arith, same, back v (omega arith) (omega arith), back w f le)
+  ]
+
+  abbrev made : ℤ → ℤ
+  made = literal_for new
+
+  negated : (l : ℤ) → var_of (neg_ℤ (made l)) ≡ variable_for new (var_of l)
+  negated l = ap var_of (neg-literal (is_positive l) (variable_for new (var_of l))) ∙ var_of-literal (not (is_positive l)) (variable_for new (var_of l))
+
+  no_opposite : (h below : ℕ) (l : ℤ) (c : Clause) → 1 ≤ var_of l → var_of l ≤ below → Names (length places) h (var_of l) → vars_rise below c ≡ true → AllIn vars c → Of (Names (length places) h) c
+      → list_any (same_literal (neg_ℤ (made l))) (map made c) ≡ false
+  no_opposite h below l [] some le one rise in_range each = refl
+  no_opposite h below l (k ∷ c) some le one rise in_range each =
+      let two = and_parts (nat_lt below (var_of k)) (vars_rise (var_of k) c) rise in
+      let above : below < var_of k = ltb-true below (var_of k) two.0 in
+      let apart : (var_of (neg_ℤ (made l)) == var_of (made k)) ≡ false =
+      ne_eqb (var_of (neg_ℤ (made l))) (var_of (made k))
+      (λ same. differ h (var_of l) (var_of k) some (omega arith) in_range.1 one each.0 (sym (negated l) ∙ same ∙ var_of-literal (is_positive k) (variable_for new (var_of k)))) in
+      λ i. (apart i && same_bit (is_positive (neg_ℤ (made l))) (is_positive (made k)))
+      || no_opposite h (var_of k) l c some (omega arith) one two.1 in_range.2 each.1 i
+
+  no_tautology : (h below : ℕ) (c : Clause) → vars_rise below c ≡ true → AllIn vars c → Of (Names (length places) h) c → is_tautology (map made c) ≡ false
+  no_tautology h below [] rise in_range each = refl
+  no_tautology h below (l ∷ c) rise in_range each =
+      let two = and_parts (nat_lt below (var_of l)) (vars_rise (var_of l) c) rise in
+      λ i. no_opposite h (var_of l) l c in_range.0 (omega arith) each.0 two.1 in_range.2 each.1 i || no_tautology h (var_of l) c two.1 in_range.2 each.1 i
+
+  rising : (c : Clause) → is_clause vars c ≡ true → vars_rise 0 c ≡ true
+  rising [] e = refl
+  rising (l ∷ c) e = (and_parts (vars_rise 0 (l ∷ c)) _ e).0
+
+  pub all_kept : (cs : List Clause) → list_all (is_clause vars) cs ≡ true → OneEach (length places) cs → length (tidy (map (map made) cs)) ≡ length cs
+  all_kept [] e each = refl
+  all_kept (c ∷ cs) e each =
+      let two = and_parts (is_clause vars c) (list_all (is_clause vars) cs) e in
+      let kept = no_tautology each.0.0 0 c (rising c two.0) (raw_from vars c two.0).1 each.0.1 in
+      (λ i. length (map sorted (cond (not (kept i)) (map made c ∷ filter (λ d. not (is_tautology d)) (map (map made) cs)) (filter (λ d. not (is_tautology d)) (map (map made) cs)))))
+      ∙ ap suc (all_kept cs two.1 each.1)
+
+-- what is encoded
+pub encoded-list : (device : Device) (cnf : ClauseList) → encoded device ≡ Ok cnf → cnf ≡ clause_list device
+encoded-list device cnf is = by (nat_lt CLAUSE_LIMIT (raw_count device)) is
+  where
+    by : (too_many : Bool) → (if too_many then Err (TooManyClauses (raw_count device)) else Ok (clause_list device)) ≡ Ok cnf → cnf ≡ clause_list device
+    by true e = let f : Err (TooManyClauses (raw_count device)) ≡ Ok cnf = e in absurd (cc)
+    by false e = let same : clause_list device ≡ cnf = cc in sym same

@@ -2,6 +2,7 @@ use crate::has_parts;
 use bench_reader::read_sequential;
 use device_model::{Kind, Name};
 use frame_unroller::{FRAME_LIMIT, UnrollError, unroll};
+use std::alloc::Global;
 use std::test::Fail;
 use text_rules::TEXT_LIMIT;
 
@@ -81,19 +82,21 @@ fn refuses_too_many_clauses(rt: HostRuntime) -> Result<(), Fail> {
 }
 
 // Why a netlist of so many inputs, and of so many buffers of the first of them, is not unrolled over 64 times.
-fn refusal_of(rt: HostRuntime, inputs: u32, buffers: u32) -> Result<UnrollError, Fail> {
-    let mut text = String::new(rt.alloc());
+fn refusal_of(alloc: Global, inputs: u32, buffers: u32) -> Result<UnrollError, Fail> {
+    let mut text = String::new(alloc);
     for input in 0..inputs {
-        let line = format!(in rt.alloc(); "INPUT(a{input:03})\n")?;
+        let line = format!(in alloc; "INPUT(a{input:03})\n")?;
         text.push_str(&line)?;
     }
     for buffer in 0..buffers {
-        let line = format!(in rt.alloc(); "b{buffer:03} = BUFF(a000)\n")?;
+        let line = format!(in alloc; "b{buffer:03} = BUFF(a000)\n")?;
         text.push_str(&line)?;
     }
-    assert!(rt; text.len() <= TEXT_LIMIT);
-    let seq = read_sequential(rt.alloc(), text.as_bytes())?;
-    match unroll(rt.alloc(), &seq, FRAME_LIMIT) {
+    if TEXT_LIMIT < text.len() {
+        return Err("the text is too long".into());
+    }
+    let seq = read_sequential(alloc, text.as_bytes())?;
+    match unroll(alloc, &seq, FRAME_LIMIT) {
         Ok(_) => Err("it was unrolled".into()),
         Err(error) => Ok(error),
     }
@@ -103,7 +106,7 @@ fn refusal_of(rt: HostRuntime, inputs: u32, buffers: u32) -> Result<UnrollError,
 #[test]
 fn refuses_too_many_wires(rt: HostRuntime) -> Result<(), Fail> {
     assert_eq!(rt;
-        refusal_of(rt, 256, 1)?,
+        refusal_of(rt.alloc(), 256, 1)?,
         UnrollError::TooManyWires { count: 16_448 }
     );
     Ok(())
@@ -113,7 +116,7 @@ fn refuses_too_many_wires(rt: HostRuntime) -> Result<(), Fail> {
 #[test]
 fn tells_parts_before_wires(rt: HostRuntime) -> Result<(), Fail> {
     assert_eq!(rt;
-        refusal_of(rt, 192, 65)?,
+        refusal_of(rt.alloc(), 192, 65)?,
         UnrollError::TooManyParts { count: 4_160 }
     );
     Ok(())

@@ -58,7 +58,7 @@ fn unrolls_a_loop(rt: HostRuntime) -> Result<(), Fail> {
 
 // Of 17 gates over 64 inputs each has 252 clauses at each of 64 times.
 #[test]
-fn counts_clauses_first(rt: HostRuntime) -> Result<(), Fail> {
+fn refuses_too_many_clauses(rt: HostRuntime) -> Result<(), Fail> {
     let mut text = String::new(rt.alloc());
     text.push_str("INPUT(a)\n")?;
     for gate in 0..17u32 {
@@ -78,4 +78,37 @@ fn counts_clauses_first(rt: HostRuntime) -> Result<(), Fail> {
             Ok(())
         }
     }
+}
+
+// Why a netlist of so many inputs, and of so many buffers of the first of them, is not unrolled over 64 times.
+fn refusal_of(rt: HostRuntime, inputs: u32, buffers: u32) -> Result<UnrollError, Fail> {
+    let mut text = String::new(rt.alloc());
+    for input in 0..inputs {
+        let line = format!(in rt.alloc(); "INPUT(a{input:03})\n")?;
+        text.push_str(&line)?;
+    }
+    for buffer in 0..buffers {
+        let line = format!(in rt.alloc(); "b{buffer:03} = BUFF(a000)\n")?;
+        text.push_str(&line)?;
+    }
+    assert!(rt; text.len() <= TEXT_LIMIT);
+    let seq = read_sequential(rt.alloc(), text.as_bytes())?;
+    match unroll(rt.alloc(), &seq, FRAME_LIMIT) {
+        Ok(_) => Err("it was unrolled".into()),
+        Err(error) => Ok(error),
+    }
+}
+
+// 257 wires at each of 64 times.
+#[test]
+fn refuses_too_many_wires(rt: HostRuntime) -> Result<(), Fail> {
+    assert_eq!(rt; refusal_of(rt, 256, 1)?, UnrollError::TooManyWires { count: 16_448 });
+    Ok(())
+}
+
+// 257 wires again, but 65 copies at each of 64 times: of two reasons the first is told.
+#[test]
+fn tells_parts_before_wires(rt: HostRuntime) -> Result<(), Fail> {
+    assert_eq!(rt; refusal_of(rt, 192, 65)?, UnrollError::TooManyParts { count: 4_160 });
+    Ok(())
 }

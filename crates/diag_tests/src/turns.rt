@@ -1,4 +1,4 @@
-//! Two sessions that take turns, while each read and each write fails in turn, and where no call can fail.
+//! Three sessions that take turns, while each read and each write fails in turn, and where no call can fail.
 use crate::running::{CHAIN, Meeting, NOTHING_FAILS, run};
 use device_tests::owned;
 use diag_cli::diag;
@@ -7,12 +7,13 @@ use std::test::Fail;
 
 const WORDS: [&str; 2] = ["serve", "chain.bench"];
 
-// The chain puts out a 1 for a 0 in A, and nothing is wrong in B. Each line has one reply.
+// The chain puts out a 1 for a 0 in A, nothing is wrong in B, and in C part b is held to be faulty. Each line has one reply.
 const SCRIPT: &[u8] =
-    b"open A\nopen B\nsee A a=0\nsee B a=0\nsee A c=1\nsee B c=0\nmin A\nmin B\nnext A\nnext B\nnext A\nnext B\n";
+    b"open A\nopen B\nopen C\nsee A a=0\nsee B a=0\nhold C b=bad\nsee A c=1\nsee B c=0\nmin A\nmin B\nmin C\n\
+      next A\nnext C\nnext B\nnext A\nnext C\nnext B\n";
 
-const OUT: &str =
-    "ready 2 3\nA open\nB open\nA ok\nB ok\nA ok\nB ok\nA min 1 b\nB min 0\nA diag b\nB diag\nA diag c\nB end\n";
+const OUT: &str = "ready 2 3\nA open\nB open\nC open\nA ok\nB ok\nC ok\nA ok\nB ok\nA min 1 b\nB min 0\nC min 1 b\n\
+    A diag b\nC diag b\nB diag\nA diag c\nC end\nB end\n";
 
 fn lines_in(bytes: &[u8]) -> usize {
     bytes.iter().filter(|byte| **byte == b'\n').count()
@@ -46,7 +47,7 @@ fn each_read_fails_in_turn(rt: HostRuntime) -> Result<(), Fail> {
     for piece in [1, 7, 4096] {
         let mut taken = 0usize;
         let mut is_over = false;
-        for failing_read in 1..=120 {
+        for failing_read in 1..=160 {
             let meeting = Meeting {
                 piece,
                 failing_read,

@@ -12,7 +12,8 @@ const SCRIPT: &[u8] =
     b"open A\nopen B\nopen C\nsee A a=0\nsee B a=0\nhold C b=bad\nsee A c=1\nsee B c=0\nmin A\nmin B\nmin C\n\
       next A\nnext C\nnext B\nnext A\nnext C\nnext B\n";
 
-const OUT: &str = "ready 2 3\nA open\nB open\nC open\nA ok\nB ok\nC ok\nA ok\nB ok\nA min 1 b\nB min 0\nC min 1 b\n\
+const OUT: &str =
+    "ready 2 3\nA open\nB open\nC open\nA ok\nB ok\nC ok\nA ok\nB ok\nA min 1 b\nB min 0\nC min 1 b\n\
     A diag b\nC diag b\nB diag\nA diag c\nC end\nB end\n";
 
 fn lines_in(bytes: &[u8]) -> usize {

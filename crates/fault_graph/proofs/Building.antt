@@ -143,15 +143,15 @@ module _ (graph : Graph) (words costs : List ℕ) (ok : IsGraph graph) (long : l
   cost-value k c h e = cost_in-is (get_or values k 0) c (value-at k h ∙ e)
 
   -- a node that is passed over
-  pub built-past : (places : List ℕ) (nodes : List Node) (at : ℕ) → at < length graph.nodes → IsBuilt graph words costs values marks places nodes at → (get_or places at 0 ≡ 1 → get_or values at 0 ≡ 0)
+  pub built-past : (places : List ℕ) (nodes : List Node) (at : ℕ) → at < length graph.nodes → IsBuilt graph words costs values marks places nodes at → get_or places at 0 ≢ 1
       → IsBuilt graph words costs values marks places nodes (at + 1)
-  built-past places nodes at lt is free = record {
+  built-past places nodes at lt is none = record {
     are = is.are;
     few = omega (arith, is.few);
     few_edges = let e = slice_get-get_or graph.nodes at true_node lt in omega (arith, is.few_edges, ap edges (take-more graph.nodes at _ e), edges-push (take at graph.nodes) (node_at graph.nodes at));
     ahead = λ k h. is.ahead k (omega arith);
     built = λ k c h e f dear. ⊎_elim
-        (λ (q : k ≡ at). absurd (omega (arith, dear, cost-value k c (omega arith) f, ap (λ n. get_or values n 0) q, free (is.ahead at (omega arith) ∙ ap (λ n. get_or marks n 0) (sym q) ∙ e))))
+        (λ (q : k ≡ at). absurd (none (is.ahead at (omega arith) ∙ ap (λ n. get_or marks n 0) (sym q) ∙ e)))
         (λ (q : k ≢ at). is.built k c (omega arith) e f dear)
         (same_or_not k at);
     from = is.from;
@@ -163,8 +163,7 @@ module _ (graph : Graph) (words costs : List ℕ) (ok : IsGraph graph) (long : l
     past p (inr w) = inr (record {
       parent = w.parent;
       from = ⊎_elim
-          (λ (s : w.parent ≡ at). let none : get_or values w.parent 0 ≡ 0 = ap (λ n. get_or values n 0) s ∙ free (is.ahead at (omega arith) ∙ ap (λ n. get_or marks n 0) (sym s) ∙ w.marked) in
-          let p = keeps-out values (get_or values w.parent 0) w.kid w.stays in absurd (omega (arith, none, p.0, p.1)))
+          (λ (s : w.parent ≡ at). absurd (none (is.ahead at (omega arith) ∙ ap (λ n. get_or marks n 0) (sym s) ∙ w.marked)))
           (λ (ne : w.parent ≢ at). omega (arith, ne, w.from))
           (same_or_not w.parent at);
       within = w.within;
@@ -176,7 +175,7 @@ module _ (graph : Graph) (words costs : List ℕ) (ok : IsGraph graph) (long : l
       there = w.there;
     })
 
-  module _ (places : List ℕ) (nodes : List Node) (at : ℕ) (lt : at < length graph.nodes) (is : IsBuilt graph words costs values marks places nodes at) (mark : get_or places at 0 ≡ 1) (costly : get_or values at 0 ≢ 0)
+  module _ (places : List ℕ) (nodes : List Node) (at : ℕ) (lt : at < length graph.nodes) (is : IsBuilt graph words costs values marks places nodes at) (mark : get_or places at 0 ≡ 1)
       (what : NodeKind) (kids : List ℕ) (e : slice_get graph.nodes at ≡ Some (record { what = what; kids = kids })) where
     abbrev c : ℕ
     c = get_or values at 0
@@ -193,26 +192,29 @@ module _ (graph : Graph) (words costs : List ℕ) (ok : IsGraph graph) (long : l
     node-mark : get_or marks at 0 ≡ 1
     node-mark = sym (is.ahead at (omega arith)) ∙ mark
 
+    costly : get_or values at 0 ≢ 0
+    costly z = omega (arith, z, m.dear at lt node-mark)
+
     cost-is : node_least graph words costs at ≡ Some c
     cost-is = marked-cost at lt node-mark
 
     earlier : (j : ℕ) → In j kids → j < at
     earlier j i = all-below at kids j (below graph words costs ok at _ e) i
 
-    kid-mark : (j : ℕ) → In j kids → get_or values j 0 ≤ c → get_or marks j 0 ≡ 1
-    kid-mark j i h = m.down at j (omega arith) lt node-mark (subst (λ (n : Node). is_kid n.kids j ≡ true) (sym (get_or_from_slice_get graph.nodes at _ true_node e)) (kid-in kids j i)) h
+    kid-mark : (j : ℕ) → In j kids → 0 < get_or values j 0 → get_or values j 0 ≤ c → get_or marks j 0 ≡ 1
+    kid-mark j i dear h = m.down at j (omega arith) lt node-mark (subst (λ (n : Node). is_kid n.kids j ≡ true) (sym (get_or_from_slice_get graph.nodes at _ true_node e)) (kid-in kids j i)) dear h
 
     kid-place : (j : ℕ) → In j kids → keep j ≡ true → IsPlace graph words costs nodes j (get_or values j 0) (place j)
     kid-place j i k =
         let p = keeps-out values c j k in
-        let h = kid-mark j i p.1 in
+        let h = kid-mark j i p.0 p.1 in
         is.built j (get_or values j 0) (earlier j i) h (marked-cost j (omega (arith, earlier j i)) h) p.0
 
     kids-stand : KidsStand graph words costs ok keep place (λ p a. is_true nodes p a) kids c
     kids-stand = record {
       stay = λ j i k.
           let p = keeps-out values c j k in
-          record { cost = get_or values j 0; is = marked-cost j (omega (arith, earlier j i)) (kid-mark j i p.1); cheap = p.1; stands = (kid-place j i k).stands };
+          record { cost = get_or values j 0; is = marked-cost j (omega (arith, earlier j i)) (kid-mark j i p.0 p.1); cheap = p.1; stands = (kid-place j i k).stands };
       rest = λ j d i k f.
           let same = cost-value j d (omega (arith, earlier j i)) f in
           subst (λ x. (x ≡ 0) ⊎ (c < x)) same (keeps-not values c j k);
@@ -282,7 +284,7 @@ module _ (graph : Graph) (words costs : List ℕ) (ok : IsGraph graph) (long : l
     or-kid o q i =
         let x = row-source keep place kids q i in
         let p = keeps-out values c x.0 x.2 in
-        let is_cost = marked-cost x.0 (omega (arith, earlier x.0 x.1)) (kid-mark x.0 x.1 p.1) in
+        let is_cost = marked-cost x.0 (omega (arith, earlier x.0 x.1)) (kid-mark x.0 x.1 p.0 p.1) in
         let least : cheapest (map (node_least graph words costs) kids) ≡ Some c = sym (costs-at graph words costs ok at _ (e ∙ ap (λ (w : NodeKind). Some (record { what = w; kids = kids })) o)) ∙ cost-is in
         let high : c ≤ get_or values x.0 0 = subst (λ d. AtMost d (get_or values x.0 0)) least (cheapest-kid (node_least graph words costs) kids x.0 (get_or values x.0 0) x.1 is_cost) in
         let same : get_or values x.0 0 ≡ c = omega (arith, high, p.1) in
@@ -419,15 +421,15 @@ module _ (graph : Graph) (words costs : List ℕ) (ok : IsGraph graph) (long : l
 
   -- ---- the root
 
-  pub root-added : All (λ c. 0 < c) costs → (places : List ℕ) (nodes new : List Node) (at : ℕ) → at ≡ root → get_or values root 0 ≢ 0 → IsBuilt graph words costs values marks places nodes at
+  pub root-added : All (λ c. 0 < c) costs → (places : List ℕ) (nodes new : List Node) (at : ℕ) → at ≡ root → IsBuilt graph words costs values marks places nodes at
       → new ≡ nodes ++ root_node graph values places ∷ [] → IsWhole graph words costs ok long within new
-  root-added dears places nodes new at end costly is same = subst (IsWhole graph words costs ok long within) (sym same)
-      (whole graph words costs ok long within dears nodes node (get_or values root 0) (are-pushed places nodes root there built mark costly (node_at graph.nodes root).what (node_at graph.nodes root).kids e) built.few
-      (omega (arith, edges-push nodes node, edges-so-far places nodes root there built mark costly (node_at graph.nodes root).what (node_at graph.nodes root).kids e, sum_by-take-le (λ (x : Node). length x.kids) graph.nodes (root + 1)))
-      (marked-cost root there m.root) (pushed places nodes root there built mark costly (node_at graph.nodes root).what (node_at graph.nodes root).kids e).stands
+  root-added dears places nodes new at end is same = subst (IsWhole graph words costs ok long within) (sym same)
+      (whole graph words costs ok long within dears nodes node (get_or values root 0) (are-pushed places nodes root there built mark (node_at graph.nodes root).what (node_at graph.nodes root).kids e) built.few
+      (omega (arith, edges-push nodes node, edges-so-far places nodes root there built mark (node_at graph.nodes root).what (node_at graph.nodes root).kids e, sum_by-take-le (λ (x : Node). length x.kids) graph.nodes (root + 1)))
+      (marked-cost root there m.root) (pushed places nodes root there built mark (node_at graph.nodes root).what (node_at graph.nodes root).kids e).stands
       (λ sound. small-from graph (record { nodes = nodes ++ node ∷ []; vars = graph.vars }) words costs ok sound
-      (from-pushed places nodes root there built mark costly (node_at graph.nodes root).what (node_at graph.nodes root).kids e)
-      (λ p h. all-needed places nodes root there built mark costly (node_at graph.nodes root).what (node_at graph.nodes root).kids e (omega arith) p (omega (arith, h, length-append nodes (node ∷ []))))
+      (from-pushed places nodes root there built mark (node_at graph.nodes root).what (node_at graph.nodes root).kids e)
+      (λ p h. all-needed places nodes root there built mark (node_at graph.nodes root).what (node_at graph.nodes root).kids e (omega arith) p (omega (arith, h, length-append nodes (node ∷ []))))
       (λ p h. joins-before nodes node built.joins p (omega (arith, h, length-append nodes (node ∷ [])))))) where
         there : root < length graph.nodes
         there = omega (arith, ok.some)

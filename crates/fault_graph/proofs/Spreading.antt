@@ -1,62 +1,69 @@
 -- Marks that go down from the root.
 use Rattle.std.proofs.Common.{◌≡◌, ◌≢◌, ℕ, ◌+◌, ◌-◌, ◌<◌, ◌≤◌, Bool, true, false, cond, ◌&&◌, List, length, get_or, refl, ap, sym, ◌∙◌, subst, arith, inl, inr, ⊎_elim}
-use Rattle.std.specs.Prelude.{◌⊎◌, nat_le}
-use Rattle.std.proofs.lemmas.Bool.{and_from, leb-true, le-leb}
+use Rattle.std.specs.Prelude.{◌⊎◌, nat_lt}
+use Rattle.std.proofs.lemmas.Bool.{and_from, leb-true, le-leb, ltb-true, lt-ltb}
 use Rattle.graph_rules.specs.Graphs.{Node, node_at}
 use Rattle.minimiser.proofs.Costs.{and_left, and_right}
 use Rattle.minimiser.proofs.Models.{same_or_not}
 use Rattle.minimiser.specs.inner.Marked.{is_kid}
+use Rattle.fault_graph.specs.inner.Rows.{keeps}
 use Rattle.fault_graph.specs.inner.Marks.{mark_of, HasMarkedParent, AreMarks}
 
--- a mark that spreads stays, or is that of a kid that costs no more
-mark-new : (kids values : List ℕ) (cost j mark : ℕ) → mark_of kids values cost j mark ≡ 1 → (mark ≡ 1) ⊎ ((is_kid kids j ≡ true) × (get_or values j 0 ≤ cost))
-mark-new kids values cost j mark e = by_test (is_kid kids j && nat_le (get_or values j 0) cost) refl e where
-  by_test : (b : Bool) → (is_kid kids j && nat_le (get_or values j 0) cost) ≡ b → cond b 1 mark ≡ 1 → (mark ≡ 1) ⊎ ((is_kid kids j ≡ true) × (get_or values j 0 ≤ cost))
-  by_test true t q = inr (and_left _ _ t, leb-true _ _ (and_right (is_kid kids j) _ t))
+-- a mark that spreads stays, or is that of a kid that costs something, and no more
+mark-new : (kids values : List ℕ) (cost j mark : ℕ) → mark_of kids values cost j mark ≡ 1
+    → (mark ≡ 1) ⊎ ((is_kid kids j ≡ true) × (0 < get_or values j 0) × (get_or values j 0 ≤ cost))
+mark-new kids values cost j mark e = by_test (is_kid kids j && keeps values cost j) refl e where
+  by_test : (b : Bool) → (is_kid kids j && keeps values cost j) ≡ b → cond b 1 mark ≡ 1
+      → (mark ≡ 1) ⊎ ((is_kid kids j ≡ true) × (0 < get_or values j 0) × (get_or values j 0 ≤ cost))
+  by_test true t q =
+      let kept : keeps values cost j ≡ true = and_right (is_kid kids j) _ t in
+      inr (and_left _ _ t, ltb-true 0 (get_or values j 0) (and_left _ _ kept), leb-true _ _ (and_right (nat_lt 0 (get_or values j 0)) _ kept))
   by_test false t q = inl q
 
 mark-kept : (kids values : List ℕ) (cost j mark : ℕ) → mark ≡ 1 → mark_of kids values cost j mark ≡ 1
-mark-kept kids values cost j mark e = by_test (is_kid kids j && nat_le (get_or values j 0) cost) where
+mark-kept kids values cost j mark e = by_test (is_kid kids j && keeps values cost j) where
   by_test : (b : Bool) → cond b 1 mark ≡ 1
   by_test true = refl
   by_test false = e
 
-mark-kid : (kids values : List ℕ) (cost j mark : ℕ) → is_kid kids j ≡ true → get_or values j 0 ≤ cost → mark_of kids values cost j mark ≡ 1
-mark-kid kids values cost j mark i h = λ k. cond (and_from _ _ i (le-leb _ _ h) k) 1 mark
+mark-kid : (kids values : List ℕ) (cost j mark : ℕ) → is_kid kids j ≡ true → 0 < get_or values j 0 → get_or values j 0 ≤ cost → mark_of kids values cost j mark ≡ 1
+mark-kid kids values cost j mark i dear h = λ k. cond (and_from _ _ i (and_from _ _ (lt-ltb 0 (get_or values j 0) dear) (le-leb _ _ h)) k) 1 mark
 
 module _ (nodes : List Node) (values xs : List ℕ) (at : ℕ) (s : AreMarks nodes values xs (at + 1)) where
   -- a node without a mark is passed over
   pub marks-past : get_or xs at 0 ≢ 1 → AreMarks nodes values xs at
   marks-past none = record {
     root = s.root;
+    dear = s.dear;
     low = s.low;
-    down = λ k j h g m i c. ⊎_elim
+    down = λ k j h g m i d c. ⊎_elim
         (λ (e : k ≡ at). absurd (none (sym (ap (λ n. get_or xs n 0) e) ∙ m)))
-        (λ (e : k ≢ at). s.down k j (omega arith) g m i c)
+        (λ (e : k ≢ at). s.down k j (omega arith) g m i d c)
         (same_or_not k at);
     up = s.up;
   }
 
-  -- a marked node is met, and marks its kids that cost no more
+  -- a marked node is met, and marks its kids that cost something and no more
   pub marks-met : (ys : List ℕ) → at < length nodes → ((k j : ℕ) → k < length nodes → is_kid (node_at nodes k).kids j ≡ true → j < k) → get_or xs at 0 ≡ 1
       → ((j : ℕ) → j < length nodes → get_or ys j 0 ≡ mark_of (node_at nodes at).kids values (get_or values at 0) j (get_or xs j 0)) → AreMarks nodes values ys at
   marks-met ys lt before m spreads = record {
     root = kept (length nodes - 1) (omega arith) s.root;
-    low = λ k h e. ⊎_elim (λ p. s.low k h p) (λ p. omega (arith, p.1, s.low at lt m)) (new k h e);
-    down = λ k j h g e i c.
+    dear = λ k h e. ⊎_elim (λ p. s.dear k h p) (λ p. p.1) (new k h e);
+    low = λ k h e. ⊎_elim (λ p. s.low k h p) (λ p. omega (arith, p.2, s.low at lt m)) (new k h e);
+    down = λ k j h g e i d c.
         let l : j < length nodes = omega (arith, before k j g i) in ⊎_elim
-        (λ (q : k ≡ at). spreads j l ∙ mark-kid (node_at nodes at).kids values (get_or values at 0) j (get_or xs j 0) (subst (λ n. is_kid (node_at nodes n).kids j ≡ true) q i) (subst (λ n. get_or values j 0 ≤ get_or values n 0) q c))
-        (λ (q : k ≢ at). kept j l (s.down k j (omega arith) g (old k h g e) i c))
+        (λ (q : k ≡ at). spreads j l ∙ mark-kid (node_at nodes at).kids values (get_or values at 0) j (get_or xs j 0) (subst (λ n. is_kid (node_at nodes n).kids j ≡ true) q i) d (subst (λ n. get_or values j 0 ≤ get_or values n 0) q c))
+        (λ (q : k ≢ at). kept j l (s.down k j (omega arith) g (old k h g e) i d c))
         (same_or_not k at);
     up = λ k h e. ⊎_elim
         (λ p. ⊎_elim (λ r. inl r) (λ (x : HasMarkedParent nodes values xs k). inr (record { parent = x.parent; within = x.within; marked = kept x.parent x.within x.marked; kid = x.kid; cheap = x.cheap })) (s.up k h p))
-        (λ p. inr (record { parent = at; within = lt; marked = kept at lt m; kid = p.0; cheap = p.1 }))
+        (λ p. inr (record { parent = at; within = lt; marked = kept at lt m; kid = p.0; cheap = p.2 }))
         (new k h e);
   } where
     kept : (k : ℕ) → k < length nodes → get_or xs k 0 ≡ 1 → get_or ys k 0 ≡ 1
     kept k h e = spreads k h ∙ mark-kept (node_at nodes at).kids values (get_or values at 0) k (get_or xs k 0) e
 
-    new : (k : ℕ) → k < length nodes → get_or ys k 0 ≡ 1 → (get_or xs k 0 ≡ 1) ⊎ ((is_kid (node_at nodes at).kids k ≡ true) × (get_or values k 0 ≤ get_or values at 0))
+    new : (k : ℕ) → k < length nodes → get_or ys k 0 ≡ 1 → (get_or xs k 0 ≡ 1) ⊎ ((is_kid (node_at nodes at).kids k ≡ true) × (0 < get_or values k 0) × (get_or values k 0 ≤ get_or values at 0))
     new k h e = mark-new (node_at nodes at).kids values (get_or values at 0) k (get_or xs k 0) (sym (spreads k h) ∙ e)
 
     old : (k : ℕ) → at ≤ k → k < length nodes → get_or ys k 0 ≡ 1 → get_or xs k 0 ≡ 1

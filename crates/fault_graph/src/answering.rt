@@ -1,4 +1,4 @@
-ghost use Rattle.std.specs.Prelude.{◌≡◌, ℕ, ◌+◌, ◌*◌, ◌<◌, ◌≤◌, [], length, All, Some, slice_get, slice_index_or};
+ghost use Rattle.std.specs.Prelude.{◌≡◌, ℕ, ◌+◌, ◌*◌, ◌<◌, ◌≤◌, [], length, All, IfSome, Some, slice_get, slice_index_or};
 ghost use Rattle.ranking.specs.Ranking.{rest};
 ghost use Rattle.conditioner.specs.Models.{models, least_under, diagnoses_under, total_cost};
 ghost use Rattle.diagnosis_lister.specs.Listing.{bits_of, step_of, fault_count};
@@ -15,8 +15,8 @@ use std::sync::ledger::Ledger;
 impl Distiller {
     /// The least cost, with the first diagnosis in the state, as [`diagnosis_lister::first`] gives them.
     ///
-    /// It takes one pass over the graph, and none where the words are those of the last time. The others are over what was
-    /// distilled.
+    /// It takes one pass over the graph, and none where what is kept is of these words, which then stays. The others are over what
+    /// is kept.
     pub fn first<L: Ledger>(
         &mut self,
         graph: &Graph,
@@ -41,6 +41,8 @@ impl Distiller {
             ≡ slice_index_or (diagnoses_under graph.now words.old costs.now) 0 (bits_of state.old) }
         ensures state { All (λ s. s < 2) state.new }
         ensures words { words.new ≡ words.old }
+        ensures last { IfSome self.new.last (λ last. last.words ≡ words.old) }
+        ensures stays { IsOf words.old self.old → self.new ≡ self.old }
         ensures serves { Serves graph.now costs.now self.new }
 
         // One pass over the graph, and the others over what was distilled; these alone where the words are as before.
@@ -57,8 +59,8 @@ impl Distiller {
 
     /// Whether there is a diagnosis after the state, which it then becomes, as [`diagnosis_lister::next`] tells it.
     ///
-    /// It takes one pass over the graph, and none where the words are those of the last time. The others are over what was
-    /// distilled.
+    /// It takes one pass over the graph, and none where what is kept is of these words, which then stays. The others are over what
+    /// is kept.
     pub fn next<L: Ledger>(
         &mut self,
         graph: &Graph,
@@ -85,6 +87,8 @@ impl Distiller {
             0 (bits_of state.old) }
         ensures state { All (λ s. s < 2) state.new }
         ensures words { words.new ≡ words.old }
+        ensures last { IfSome self.new.last (λ last. last.words ≡ words.old) }
+        ensures stays { IsOf words.old self.old → self.new ≡ self.old }
         ensures serves { Serves graph.now costs.now self.new }
 
         // One pass over the graph, and the others over what was distilled; these alone where the words are as before.
@@ -103,8 +107,8 @@ impl Distiller {
 
     /// Of each part whether it is faulty in all diagnoses, in some or in none, as [`blame_all`] tells it.
     ///
-    /// It takes one pass over the graph, and none where the words are those of the last time. The others are over what was
-    /// distilled.
+    /// It takes one pass over the graph, and none where what is kept is of these words, which then stays. The others are over what
+    /// is kept.
     pub fn blame_all<L: Ledger>(
         &mut self,
         graph: &Graph,
@@ -130,6 +134,8 @@ impl Distiller {
             → slice_get verdicts.new part ≡ Some (blame_of graph.now words.old costs.now part) }
         ensures words { words.new ≡ words.old }
         ensures state { All (λ s. s < 2) state.new }
+        ensures last { IfSome self.new.last (λ last. last.words ≡ words.old) }
+        ensures stays { IsOf words.old self.old → self.new ≡ self.old }
         ensures serves { Serves graph.now costs.now self.new }
 
         // One pass over the graph, and the others over what was distilled; these alone where the words are as before.

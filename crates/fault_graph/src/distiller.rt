@@ -64,7 +64,7 @@ impl Distiller {
     /// Whether some state agrees with the words; and then the graph is distilled under them. The only error is that some state
     /// does, and memory to distil is wanting.
     ///
-    /// It takes one pass over the graph, and none where the words are those of the last time.
+    /// It takes one pass over the graph, and none where what is kept is of these words, which then stays.
     pub fn prepare<L: Ledger>(
         &mut self,
         graph: &Graph,
@@ -87,7 +87,7 @@ impl Distiller {
         ensures last { IfSome self.new.last (λ last. last.words ≡ words.now) }
         ensures serves { Serves graph.now costs.now self.new }
         ensures steps { steps.new ≤ steps.old + 1 }
-        ensures again { IsOf words.now self.old → steps.new ≡ steps.old }
+        ensures again { IsOf words.now self.old → (result ≡ Ok true) × (self.new ≡ self.old) × (steps.new ≡ steps.old) }
     {
         if self.is_of(words) {
             return Ok(true);
@@ -116,9 +116,10 @@ impl Distiller {
         requires serves { Serves graph.now costs.now self.old }
 
         ensures some { result ≡ is_some (least_under graph.now words.now costs.now) }
+        ensures last { IfSome self.new.last (λ last. last.words ≡ words.now) }
         ensures serves { Serves graph.now costs.now self.new }
         ensures steps { steps.new ≤ steps.old + 1 }
-        ensures again { IsOf words.now self.old → steps.new ≡ steps.old }
+        ensures again { IsOf words.now self.old → (self.new ≡ self.old) × (steps.new ≡ steps.old) }
     {
         self.prepare(graph, words, costs, values, steps)
             .unwrap_or(true)

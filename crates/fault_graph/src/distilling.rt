@@ -12,7 +12,7 @@ use node_store::{Graph, Nodes};
 use std::alloc::AllocError;
 use std::sync::ledger::Ledger;
 
-/// Marks a node that stands on a derivation of least cost.
+/// Marks a node that costs something and stands on a derivation of least cost.
 pub(crate) const MARKED: u32 = 1;
 
 // The least cost; the nodes are then those of the smaller graph. Where nothing is wrong, that is one true node.
@@ -53,7 +53,7 @@ pub(crate) fn distil<L: Ledger>(
     }
     mark(graph, values, places);
     for at in 0..root {
-        if places[at as usize] == MARKED && values[at as usize] != 0 {
+        if places[at as usize] == MARKED {
             let place = add(nodes, row, graph, values, places, at)?;
             places[at as usize] = place;
         }

@@ -1,14 +1,15 @@
-ghost use Rattle.std.specs.Prelude.{◌≡◌, ℕ, ◌<◌, ◌≤◌, length, All, slice_index};
+ghost use Rattle.std.specs.Prelude.{◌≡◌, ℕ, ◌-◌, ◌<◌, ◌≤◌, length, All, slice_index};
 ghost use Rattle.fault_graph.specs.inner.Marks.{AreMarks, mark_of};
 
 use crate::distilling::MARKED;
 use node_store::Graph;
 
-// Marks the root, and from each marked node on its kids that cost no more. All kids of an And are such, and those of an Or that
-// make it true at its cost.
+// Marks the root, which costs something, and from each marked node on its kids that cost something and no more: all such kids of
+// an And, and those of an Or that make it true at its cost.
 pub(crate) fn mark(graph: &Graph, values: &[u32], places: &mut [u32])
     requires values { length values.now ≡ length graph.now.nodes }
     requires room { length places.old ≡ length graph.now.nodes }
+    requires costly { 0 < slice_index values.now (length graph.now.nodes - 1) }
     ensures { AreMarks graph.now.nodes values.now places.new 0 }
 {
     let count = graph.len();
@@ -28,7 +29,8 @@ fn mark_kids(places: &mut [u32], kids: &[u32], values: &[u32], cost: u32)
         → slice_index places.new j ≡ mark_of kids.now values.now cost j (slice_index places.old j) }
 {
     for k in kids {
-        if values[*k as usize] <= cost {
+        let value = values[*k as usize];
+        if 0 < value && value <= cost {
             places[*k as usize] = MARKED;
         }
     }

@@ -1,3 +1,4 @@
 -- What only private contracts cite.
 pub mod Marked
 pub mod Held
+pub mod Summed

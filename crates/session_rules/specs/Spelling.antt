@@ -1,9 +1,9 @@
 -- Which bytes spell a list of items.
-use Rattle.std.specs.Prelude.{◌≡◌, ◌≤◌, ℕ, true, List, [], ◌∷◌, ◌++◌, length, Option, Result, MatchResult, Ok, Err}
+use Rattle.std.specs.Prelude.{◌≡◌, ◌≤◌, ℕ, List, [], ◌∷◌, ◌++◌, length, Option, Result, MatchResult, Ok, Err}
 use Rattle.std.specs.Io.KnownBytes.{Appends}
-use Rattle.text_rules.specs.Tokens.{is_neat}
-use Rattle.graph_rules.specs.Graphs.{Decomposable}
+use Rattle.graph_rules.specs.Graphs.{Graph, Decomposable}
 use Rattle.graph_rules.specs.GraphTexts.{Parsed, parsed}
+use Rattle.graph_rules.specs.WrittenGraphs.{graph_text}
 use Rattle.device_model.specs.Devices.{Device}
 use Rattle.dnnf_compiler.specs.Compiled.{IsGraphOf}
 use Rattle.projector.specs.Projecting.{IsGraphOfStates}
@@ -15,10 +15,14 @@ IsWholeOf device vars most (Err refusal) = ⊥
 IsWholeOf device vars most (Ok graph) =
     (graph.vars ≡ vars) × Decomposable graph.nodes × (length graph.nodes ≤ most) × IsGraphOf device graph
 
+-- the text is the one in which a graph is written
+abbrev pub IsWritten : List ℕ → Type 0
+IsWritten text = (graph : Graph) × (text ≡ graph_text graph)
+
 abbrev pub Spelled : Item → List ℕ → Type 0
 Spelled (Plain bytes) text = text ≡ bytes
-Spelled (Projected parts states) text = (is_neat text ≡ true) × IsGraphOfStates parts states (parsed text)
-Spelled (Whole device vars most) text = (is_neat text ≡ true) × IsWholeOf device vars most (parsed text)
+Spelled (Projected parts states) text = IsWritten text × IsGraphOfStates parts states (parsed text)
+Spelled (Whole device vars most) text = IsWritten text × IsWholeOf device vars most (parsed text)
 
 -- the text is those of the items, one after the other
 abbrev pub Spells : List Item → List ℕ → Type 0

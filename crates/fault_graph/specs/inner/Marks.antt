@@ -1,12 +1,13 @@
 -- Which nodes stand on derivations of least cost.
-use Rattle.std.specs.Prelude.{◌≡◌, ℕ, ◌-◌, ◌<◌, ◌≤◌, ◌⊎◌, true, ◌&&◌, List, length, slice_index, nat_le, if◌then◌else◌}
+use Rattle.std.specs.Prelude.{◌≡◌, ℕ, ◌-◌, ◌<◌, ◌≤◌, ◌⊎◌, true, ◌&&◌, List, length, slice_index, if◌then◌else◌}
 use Rattle.graph_rules.specs.Graphs.{Node, node_at}
 use Rattle.minimiser.specs.inner.Marked.{is_kid}
+use Rattle.fault_graph.specs.inner.Rows.{keeps}
 use Rattle.fault_graph.specs.declared.distilling.TheConstants.{MARKED}
 
--- a kid is marked where it costs no more
+-- a kid is marked where it costs something, and no more
 abbrev pub mark_of : List ℕ → List ℕ → ℕ → ℕ → ℕ → ℕ
-mark_of kids values cost node mark = if is_kid kids node && nat_le (slice_index values node) cost then MARKED else mark
+mark_of kids values cost node mark = if is_kid kids node && keeps values cost node then MARKED else mark
 
 -- a node is a kid of a marked one, and costs no more
 pub record HasMarkedParent (nodes : List Node) (values marks : List ℕ) (node : ℕ) : Type 0 where
@@ -16,10 +17,13 @@ pub record HasMarkedParent (nodes : List Node) (values marks : List ℕ) (node :
   pub kid : is_kid (node_at nodes parent).kids node ≡ true
   pub cheap : slice_index values node ≤ slice_index values parent
 
--- The root is marked, and nothing that costs more; of each marked node from one on the kids that cost no more than it, and no others.
+-- The root is marked, and nothing that costs nothing, or more; of each marked node from one on the kids that cost something and no
+-- more than it, and no others.
 pub record AreMarks (nodes : List Node) (values marks : List ℕ) (from : ℕ) : Type 0 where
   pub root : slice_index marks (length nodes - 1) ≡ MARKED
+  pub dear : (k : ℕ) → k < length nodes → slice_index marks k ≡ MARKED → 0 < slice_index values k
   pub low : (k : ℕ) → k < length nodes → slice_index marks k ≡ MARKED → slice_index values k ≤ slice_index values (length nodes - 1)
   pub down : (k j : ℕ) → from ≤ k → k < length nodes → slice_index marks k ≡ MARKED
-      → is_kid (node_at nodes k).kids j ≡ true → slice_index values j ≤ slice_index values k → slice_index marks j ≡ MARKED
+      → is_kid (node_at nodes k).kids j ≡ true → 0 < slice_index values j → slice_index values j ≤ slice_index values k
+      → slice_index marks j ≡ MARKED
   pub up : (k : ℕ) → k < length nodes → slice_index marks k ≡ MARKED → (k ≡ length nodes - 1) ⊎ HasMarkedParent nodes values marks k

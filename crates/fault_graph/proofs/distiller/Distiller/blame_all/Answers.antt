@@ -20,7 +20,7 @@ returns-clause-steps g c =
 pub returns-clause-again : goal.returns-clause-again
 returns-clause-again g c = λ same.
     let d = known-distilled c.args.graph.now c.args.costs.now c.args.words.now c.prepare.new.self c.known-small.result.now c.prepare.ensures.serves c.prepare.ensures.last c.known-small.ensures.small c.known-small.ensures.whole in
-    subst (λ (ds : List (List Bool)). c.blame_all.new.steps ≤ c.args.steps.now + (2 * fault_count (get_or ds 0 []) + 2)) d.diagnoses (omega (arith, c.prepare.ensures.again same, c.blame_all.ensures.few_steps))
+    subst (λ (ds : List (List Bool)). c.blame_all.new.steps ≤ c.args.steps.now + (2 * fault_count (get_or ds 0 []) + 2)) d.diagnoses (omega (arith, (c.prepare.ensures.again same).2, c.blame_all.ensures.few_steps))
 
 pub returns-in-Ok-false-clause-blame : goal.returns-in-Ok-false-clause-blame
 returns-in-Ok-false-clause-blame g c = λ part lt.

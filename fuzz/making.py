@@ -2,19 +2,23 @@
 
 import re
 from dataclasses import dataclass
+from functools import partial
 
-from rules import designs, netlists
+from rules import designs, frames, netlists
 from rules.clauses import clauses_of, sum_of, tidied
 from rules.devices import MANY_INPUTS
 from rules.texts import Refused
 
-NAMES = [b"a", b"b", b"c", b"a1", b"a-1", b"a.1", b"10", b"2", b"22", b"INPUT", b"and", b"AND", b"x[0]", b"~", b"!y", b"Z", b"z" * 64]
+NAMES = [b"a", b"b", b"c", b"a1", b"a-1", b"a.1", b"10", b"2", b"22", b"INPUT", b"and", b"AND", b"x[0]", b"~", b"!y", b"Z", b"z" * 64,
+         b"a@", b"a@0001"]
 PLAIN_NAMES = [name for name in NAMES if b"." not in name and name != b"AND"]
 COMMANDS = ["open", "close", "see", "unsee", "hold", "unhold", "min", "next", "list", "after", "probe", "probes", "blame", "dnnf"]
 OFTEN = [2, 1, 16, 2, 3, 2, 8, 10, 6, 2, 4, 2, 8, 2]
 # What may stand where a byte is broken.
 BYTES = b"(),=# \t\r\n\x0b\0.-+_~\x7f\x80\xff019aALOn"
 VARIABLES = 17
+# So many steps over all times take a tenth of a second, and a greater sum seconds.
+STEPS, SUM = 50000, 5000
 
 
 def chance(r, percent):
@@ -46,9 +50,10 @@ def gate_of(r, signals):
     return kind, [r.choice(signals) for _ in range(count)]
 
 
-def netlist(r):
-    names = r.sample(NAMES, r.randint(1, 8))
-    gates = r.randint(0, min(6, len(names)))
+def netlist(r, flip_flops=0, most=8):
+    """With so many flip-flops, which may read any signal, and at most so many wires."""
+    names = r.sample(NAMES, r.randint(1, most))
+    gates = r.randint(min(flip_flops, len(names)), min(6, len(names)))
     outputs, inputs = names[:gates], names[gates:]
     lines = [spaced(r, [cased(r, "input"), b"(", name, b")"]) for name in inputs]
     lines += [spaced(r, [cased(r, "output"), b"(", name, b")"]) for name in names if chance(r, 30)]
@@ -59,6 +64,8 @@ def netlist(r):
         signals = names if chance(r, 20) or not inputs + outputs[:place] else inputs + outputs[:place]
         # now and then so many clauses that a state has more than one word
         kind, of = (r.choice(["XOR", "XNOR"]), same) if is_wide else gate_of(r, signals)
+        if place < flip_flops:
+            kind, of = "DFF", r.choices(names, k=r.choices([1, 2, 0], [97, 2, 1])[0])
         commas = [token for name in of for token in (name, b",")][:-1]
         lines.append(spaced(r, [output, b"=", cased(r, kind), b"(", *commas, b")"]))
     if chance(r, 30):
@@ -186,10 +193,12 @@ def script_line(r, sessions, parts, wires):
     return r.choice([b" ", b" ", b" ", b"\t", b" \r"]).join(words)
 
 
-def script(r, parts, wires):
-    """Lines of some sessions in turn, of which some are opened first, and a few lines are broken."""
+def script(r, parts, wires, looks=0):
+    """Lines of some sessions in turn, of which some are opened first, and a few lines are broken. First so many percent of the wires
+    are seen, so that much is faulty."""
     sessions = r.sample([b"S", b"T", b"S.1", b"session-2", b"q" * 64], r.randint(1, 4))
     lines = [b"open " + name for name in sessions if chance(r, 95)]
+    lines += [b"see %s %s=%d" % (name, wire, chance(r, 50)) for name in sessions for wire in wires[:60] if chance(r, looks)]
     lines += [script_line(r, sessions, parts, wires) for _ in range(r.randint(0, 40))]
     lines = [broken(r, line) if chance(r, 4) else line for line in lines]
     if chance(r, 1):
@@ -197,11 +206,19 @@ def script(r, parts, wires):
     return ended(r, lines) if lines else b""
 
 
-def options(r, form, sum):
+def frames_option(r, times):
+    """Now and then with a number that is none, or twice."""
+    wrong = [["--frames", word] for word in ("0", "65", f"+{times}", f"-{times}", f"0{times}", f"{times}.0", f" {times}", "1" * 30, "")]
+    return r.choice([*wrong, ["--frames"], ["--frames", str(times)] * 2]) if chance(r, 4) else ["--frames", str(times)]
+
+
+def options(r, form, sum, times=0):
     """Options in any order, a few of them wrong."""
-    found = []
-    if form in ("serve", "compile") and chance(r, 30):
-        found.append(["--budget", str(max(1, r.choice([sum - 1, sum, sum + 1, sum // 2, 8388608, 1])))])
+    # of a form that knows no times, or over a design, it is wrong whatever its number
+    found = [frames_option(r, times)] if times else []
+    # over several times a budget is all that shows the sum
+    if form in ("serve", "compile") and chance(r, 60 if times else 30):
+        found.append(["--budget", str(max(1, r.choice([sum - 1, sum - 1, sum, sum, sum, sum + 1, sum // 2, 8388608, 1])))])
     if form in ("serve", "ask") and chance(r, 40):
         found.append(["--sessions", str(r.choice([1, 1, 2, 3, 1024]))])
     if form in ("serve", "plan", "compile") and chance(r, 25):
@@ -209,7 +226,8 @@ def options(r, form, sum):
     r.shuffle(found)
     words = [word for option in found for word in option]
     if chance(r, 2):
-        words.insert(r.randrange(len(words) + 1), r.choice(["--budget", "0", "01", "--sessions", "--narrow", "8388609", "1025", "-1", ""]))
+        words.insert(r.randrange(len(words) + 1), r.choice(["--budget", "0", "01", "--sessions", "--narrow", "--frames", "8388609", "1025",
+                                                            "65", "-1", ""]))
     return words
 
 
@@ -238,7 +256,8 @@ def made_device(r):
     """A text of a device that is small where it is read, the device, and the ending of its language."""
     while True:
         make, read, ending = r.choice([(netlist, netlists.read, ".bench"), (design, designs.read, ".dev")])
-        text = make(r)
+        # now and then with a flip-flop, which is refused
+        text = netlist(r, 1) if make is netlist and chance(r, 3) else make(r)
         text = broken(r, text) if chance(r, 20) else text
         device = known_of(read, text)
         if device is None or is_small(device):
@@ -251,7 +270,8 @@ def asking(r):
     health = r.randint(0, vars) if vars else 0
     text = broken(r, text) if chance(r, 20) else text
     names = [b"%05d" % variable for variable in range(1, vars + 1)]
-    words = ["ask", "f.nnf", str(r.choice([vars + 1, 4097, 4096]) if chance(r, 5) else health), *options(r, "ask", 1)]
+    times = 1 if chance(r, 1) else 0
+    words = ["ask", "f.nnf", str(r.choice([vars + 1, 4097, 4096]) if chance(r, 5) else health), *options(r, "ask", 1, times)]
     return Case(words, {"f.nnf": text}, script(r, names[:health], names[health:]))
 
 
@@ -267,13 +287,67 @@ def describing(r, form):
     sum = sum_of(tidied(clauses_of(device)[0]), 100000) or 1 if device else 1
     file = "f" + ending
     lines = script(r, parts, wires) if form == "serve" else b""
-    return Case([form, file, *options(r, form, sum)], {file: text}, lines)
+    times = r.randint(1, 64) if (form != "serve" or ending == ".dev") and chance(r, 3) else 0
+    return Case([form, file, *options(r, form, sum, times)], {file: text}, lines)
+
+
+def times_for(r, device):
+    """A number of times with which a netlist is small, and its sum over these; 0 where it is never small."""
+    fitting = [times for times in range(1, r.choice([3, 8, 64]) + 1) if frames.steps_of(device, times) <= STEPS]
+    times = r.choice(fitting or [0])
+    while times:
+        sum = sum_of(frames.TimedNetlist(device, times).clauses(), SUM)
+        if sum:
+            return times, sum
+        times //= 2
+    return 0, 0
+
+
+def strangers(r, device, times):
+    """Names that are nearly those of wires at a time."""
+    wire = r.choice(device.wires)
+    return [wire, wire + b"@0000", frames.wire_at(wire, times + 1), wire + b"@1", frames.wire_at(wire, 1) + b"0"]
+
+
+def serving_times(r):
+    """A case over a netlist at several times."""
+    while True:
+        text = netlist(r, r.choice([0, 1, 1, 2, 2, 3]), r.choice([2, 3, 4, 5, 6, 8]))
+        text = broken(r, text) if chance(r, 15) else text
+        device = known_of(partial(netlists.read, takes_flip_flops=True), text)
+        if device is None:
+            lines = script(r, [b"a"], [b"b@0001"])
+            return Case(["serve", "f.bench", *options(r, "serve", 1, r.randint(1, 64))], {"f.bench": text}, lines)
+        times, sum = times_for(r, device)
+        if not times:
+            continue
+        wires = frames.TimedNetlist(device, times).wires
+        wires = wires + (strangers(r, device, times) if wires and chance(r, 30) else [])
+        lines = script(r, device.part_names(), wires, r.choice([0, 10, 30, 60]))
+        return Case(["serve", "f.bench", *options(r, "serve", sum, times)], {"f.bench": text}, lines)
+
+
+def crowded(r):
+    """A case often with as many copies, wires or clauses over all times as there may be, or more. Its budget is below its sum."""
+    times, more = r.choice([16, 32, 64, 64]), r.choice([0, 1])
+    flip_flops, wide = r.randint(0, 4096 // times), "XOR(%s)" % ",".join(f"in{place}" for place in range(64))
+    # a wide gate has 252 clauses, an exclusive nor of four 16, and a buffer or a flip-flop 2
+    wides, rest = divmod(262144 // times, 252)
+    kinds = r.choice([
+        ["BUFF(in0)"],
+        [wide] * (4096 // times + more),
+        ["DFF(in0)"] * flip_flops + ["BUFF(in0)"] * ((4096 - (times - 1) * flip_flops) // times + more),
+        [wide] * wides + ["XNOR(in0, in1, in2, in3)"] * (rest // 16) + ["BUFF(in0)"] * (rest % 16 // 2) + ["DFF(in0)"] * more])
+    inputs = r.choice([64, 16384 // times - len(kinds) + r.choice([0, 1])])
+    lines = [f"INPUT(in{place})" for place in range(inputs)] + [f"out{place} = {kind}" for place, kind in enumerate(kinds)]
+    r.shuffle(lines)
+    return Case(["serve", "f.bench", "--frames", str(times), "--budget", "1"], {"f.bench": "\n".join(lines).encode()}, b"open S\n")
 
 
 def misspelling(r):
     """Words in no order, over a file that is there."""
     words = ["serve", "plan", "compile", "check", "ask", "load", "f.bench", "f.dev", "f.nnf", ".bench", "g.bench", "1", "0", "801",
-             "--narrow", "--budget", "--sessions", "2"]
+             "--narrow", "--budget", "--sessions", "2", "--frames", "--frames"]
     files = {"f.bench": b"INPUT(a)\ny = NOT(a)\n", "f.dev": b"block M\nend\ntop M\n", "f.nnf": b"nnf 1 0 1\nL 1\n"}
     form, file = r.choice(words[:6]), r.choice(words[6:11])
     given = [form, file, *r.choices(words[11:], k=r.randint(0, 4))] if chance(r, 70) else r.choices(words, k=r.randint(0, 4))
@@ -281,9 +355,11 @@ def misspelling(r):
 
 
 def case_of(r):
-    form = r.choices(["serve", "plan", "compile", "check", "ask", "words"], [40, 12, 12, 12, 20, 4])[0]
+    form = r.choices(["serve", "frames", "plan", "compile", "check", "ask", "words"], [28, 24, 10, 10, 8, 16, 4])[0]
     if form == "ask":
         case = asking(r)
+    elif form == "frames":
+        case = crowded(r) if chance(r, 2) else serving_times(r)
     elif form == "check":
         case = checking(r)
     elif form == "words":

@@ -50,12 +50,22 @@ def allows(kind, is_ok, row):
     return not is_ok or bool(row[-1]) == gate_value(kind, row[:-1])
 
 
+def allowed_rows(kind, is_ok, ports, vars):
+    """The truth of: a part of this kind at these variables, that is ok or faulty, allows the row of their bits."""
+    table = 0
+    for row in itertools.product((0, 1), repeat=len(ports)):
+        if allows(kind, is_ok, row):
+            table |= truths.conjunction([port if bit else -port for port, bit in zip(ports, row)], vars)
+    return table
+
+
 class Device:
     """Parts and wires in the order of their names, compared byte by byte."""
 
     def __init__(self, parts, wires):
         self.parts = sorted(parts, key=lambda part: part.name)
         self.wires = sorted(wires)
+        self.places = {wire: place for place, wire in enumerate(self.wires)}
 
     def part_names(self):
         return [part.name for part in self.parts]
@@ -65,7 +75,7 @@ class Device:
 
     def wire_variable(self, wire):
         """Variables are counted from 1: first the parts, each true where it is ok, then the wires."""
-        return len(self.parts) + self.wires.index(wire) + 1
+        return len(self.parts) + self.places[wire] + 1
 
     def fits(self):
         """The truth of: every part allows the row at its wires, as its health is."""
@@ -73,10 +83,6 @@ class Device:
         fitting = truths.all_rows(vars)
         for health, part in enumerate(self.parts, 1):
             ports = [self.wire_variable(wire) for wire in part.wires]
-            allowed = 0
-            for is_ok, *row in itertools.product((0, 1), repeat=1 + len(ports)):
-                if allows(part.kind, is_ok, tuple(row)):
-                    literals = [health if is_ok else -health] + [port if bit else -port for port, bit in zip(ports, row)]
-                    allowed |= truths.conjunction(literals, vars)
-            fitting &= allowed
+            ok, faulty = (allowed_rows(part.kind, is_ok, ports, vars) for is_ok in (True, False))
+            fitting &= truths.literal(health, vars) & ok | truths.literal(-health, vars) & faulty
         return fitting

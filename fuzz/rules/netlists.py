@@ -7,6 +7,7 @@ from .devices import Device, Part, PARTS_LIMIT, WIRES_LIMIT, takes, GATES
 from .texts import Refused, is_name, lines_of
 
 FAULTS = {1: "line", 2: "name", 3: "kind", 4: "inputs", 5: "sequential", 6: "driven twice", 7: "undriven", 8: "too many"}
+FLIP_FLOP = "DFF"
 
 
 @dataclass
@@ -43,7 +44,7 @@ def arguments_of(tokens):
     return tuple(words) if well_formed else None
 
 
-def statement_of(number, tokens):
+def statement_of(number, tokens, takes_flip_flops):
     """What a line that is not blank says, or its least fault."""
     first = tokens[0].upper()
     if first in (b"INPUT", b"OUTPUT") and len(tokens) == 4 and is_word(tokens[2]) and arguments_of(tokens[1:]):
@@ -57,19 +58,19 @@ def statement_of(number, tokens):
         raise fault(number, 2)
     kind = tokens[2].upper().decode("latin-1") if tokens[2].isascii() else ""
     kind = "BUFF" if kind == "BUF" else kind
-    if kind == "DFF":
+    if kind == FLIP_FLOP and not takes_flip_flops:
         raise fault(number, 5)
-    if kind not in GATES:
+    if kind not in (*GATES, FLIP_FLOP):
         raise fault(number, 3)
     if not takes(kind, len(inputs)):
         raise fault(number, 4)
     return Statement(number, "GATE", tokens[0], kind, inputs)
 
 
-def read(text):
-    """The device of a netlist, or its first fault."""
+def read(text, takes_flip_flops=False):
+    """The device of a netlist, or its first fault. Flip-flops, where they are taken, are parts of a kind that is no gate."""
     numbered = enumerate(map(tokens_of, lines_of(text)), 1)
-    statements = [statement_of(number, tokens) for number, tokens in numbered if tokens]
+    statements = [statement_of(number, tokens, takes_flip_flops) for number, tokens in numbered if tokens]
     outside, gates = set(), set()
     for it in statements:
         if it.form == "GATE":

@@ -2,7 +2,7 @@
 
 from dataclasses import dataclass
 
-from . import clauses, designs, graphs, netlists
+from . import clauses, designs, frames, graphs, netlists
 from .pieces import Graph, Sum
 from .sessions import System, replies
 from .texts import FILE_LIMIT, Refused, plain_number_in
@@ -11,13 +11,16 @@ BUDGET_LIMIT, BUDGET = 8388608, 2097152
 SESSIONS_LIMIT, SESSIONS = 1024, 16
 HEALTH_LIMIT = 4096
 PLACES_LIMIT = 800
+LIMITS = {"--budget": BUDGET_LIMIT, "--sessions": SESSIONS_LIMIT, "--frames": frames.FRAMES_LIMIT}
 # Trying all values of more variables, or counting more states, takes too long.
 VARIABLES_TRIED = 20
 SUM_TRIED = 100000
+# So does going in more steps through the times of a netlist.
+STEPS_TRIED = 200000
 USAGE = Refused("error: usage", 2)
 DEVICES = {".bench": netlists.read, ".dev": designs.read}
-OPTIONS = {"serve": ("--budget", "--sessions", "--narrow"), "plan": ("--narrow",), "compile": ("--budget", "--narrow"), "check": (),
-           "ask": ("--sessions",)}
+OPTIONS = {"serve": ("--budget", "--sessions", "--frames", "--narrow"), "plan": ("--narrow",), "compile": ("--budget", "--narrow"),
+           "check": (), "ask": ("--sessions",)}
 
 
 class TooLarge(Exception):
@@ -31,6 +34,7 @@ class Asked:
     number: int = 0  # HEALTH of `ask`, or the places of `load`
     budget: int = BUDGET
     sessions: int = SESSIONS
+    frames: int = 0  # over how many times a netlist is served; 0 where the option is not given
     narrow: bool = False
 
 
@@ -51,7 +55,7 @@ def options_of(form, words):
         if word == "--narrow":
             found["narrow"] = True
             continue
-        found[word[2:]] = number(words.pop(0) if words else "", 1, BUDGET_LIMIT if word == "--budget" else SESSIONS_LIMIT)
+        found[word[2:]] = number(words.pop(0) if words else "", 1, LIMITS[word])
     return found
 
 
@@ -65,7 +69,10 @@ def asked_by(words):
     if form not in OPTIONS or not any(file.endswith(ending) and file != ending for ending in endings):
         raise USAGE
     health = number(rest.pop(0) if rest else "", 0, HEALTH_LIMIT) if form == "ask" else 0
-    return Asked(form, file, health, **options_of(form, rest))
+    asked = Asked(form, file, health, **options_of(form, rest))
+    if asked.frames and not file.endswith(".bench"):
+        raise USAGE
+    return asked
 
 
 class Encoded:
@@ -111,6 +118,23 @@ def weighed(encoded, budget, narrow, answer):
 
 def ready(system):
     return f"ready {len(system.parts)} {len(system.wires)}\n".encode()
+
+
+def timed(asked, text, script):
+    """`serve` over several times."""
+    device = netlists.read(text, True)
+    netlist = frames.TimedNetlist(device, asked.frames)
+    # whether the sum is above a small budget is known long before the sum is
+    is_within = clauses.sum_of(netlist.clauses(), min(asked.budget, SUM_TRIED)) is not None
+    if not is_within and asked.budget > SUM_TRIED:
+        raise TooLarge()
+    if not is_within and not asked.narrow:
+        return [above(asked.budget)]
+    if frames.steps_of(device, asked.frames) > STEPS_TRIED:
+        raise TooLarge()
+    system = frames.TimedSystem(netlist)
+    answer = [ready(system), *replies(system, asked.sessions, script)], 0
+    return [answer] if is_within else [above(asked.budget), answer]
 
 
 def described(asked, text, script):
@@ -181,7 +205,7 @@ def wanted(words, files, script):
             raise Refused("error: read", 4)
         if len(text) > FILE_LIMIT:
             raise Refused(f"error: file above {FILE_LIMIT} bytes")
-        answer = described if asked.form in ("serve", "plan", "compile") else questioned
+        answer = timed if asked.frames else described if asked.form in ("serve", "plan", "compile") else questioned
         return answer(asked, text, script)
     except Refused as refused:
         return [([refused.line], refused.status)]

@@ -3,6 +3,7 @@ use Rattle.std.proofs.Common.{◌≡◌, ℕ, ◌+◌, ◌*◌, ◌≤◌, true,
 use Rattle.std.specs.Prelude.{MatchResult}
 use Rattle.text_rules.specs.declared.text_lines.TheConstants.{TEXT_LIMIT}
 use Rattle.text_rules.specs.Expected.{IsExpectedFault}
+use Rattle.text_rules.specs.Tokens.{is_neat}
 use Rattle.graph_rules.specs.Graphs.{Graph}
 use Rattle.graph_rules.specs.GraphTexts.{parsed}
 use Rattle.graph_rules.specs.WrittenGraphs.{graph_text}
@@ -54,12 +55,12 @@ module _ (path file : List ℕ) (budget : ℕ) (clauses : Device → Result Clau
   pub graph_gives : {T E : Type 0} (result : Result T E) (vars : ℕ) → vars ≡ graph.vars
       → length file ≤ TEXT_LIMIT → described path file ≡ Ok device → within budget (clauses device) ≡ Ok cnf
       → IsServable device graph → graph.vars ≡ cnf.vars → length graph.nodes ≤ most
-      → parsed (graph_text (record graph { vars = vars })) ≡ Ok (record graph { vars = vars })
+      → is_neat (graph_text (record graph { vars = vars })) ≡ true → parsed (graph_text (record graph { vars = vars })) ≡ Ok (record graph { vars = vars })
       → Puts a b result (graph_text (record graph { vars = vars })) → MatchResult result (λ _. status ≡ 0) (λ _. status ≡ 5)
       → GivesUnlessMemory (compiled budget clauses (device_in path file)) status a b
-  graph_gives result vars same short is list servable of_cnf few_nodes reads puts ends =
+  graph_gives result vars same short is list servable of_cnf few_nodes neat reads puts ends =
       inr (subst (λ (o : Output). Gives o status a b) (sym (output_is short is list))
-      (replies_give output status a b result (λ five. absurd (omega (arith, five))) (replies_one a b result (Whole device cnf.vars most) _ ((record graph { vars = vars }, refl), spelled) puts) ends))
+      (replies_give output status a b result (λ five. absurd (omega (arith, five))) (replies_one a b result (Whole device cnf.vars most) _ ((neat, (record graph { vars = vars }, refl)), spelled) puts) ends))
     where
       spelled : IsWholeOf device cnf.vars most (parsed (graph_text (record graph { vars = vars })))
       spelled = subst (IsWholeOf device cnf.vars most) (sym (reads ∙ ap (λ n. Ok (record graph { vars = n })) same)) (is_whole servable of_cnf few_nodes)

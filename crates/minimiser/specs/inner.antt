@@ -1,4 +1,3 @@
 -- What only private contracts cite.
 pub mod Marked
 pub mod Held
-pub mod Summed

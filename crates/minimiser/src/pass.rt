@@ -2,7 +2,6 @@ ghost use Rattle.std.specs.Prelude.{◌≡◌, ◌+◌, ◌-◌, ◌<◌, ◌≤
 ghost use Rattle.conditioner.specs.Models.{least_under, total_cost};
 ghost use Rattle.minimiser.specs.Costs.{part_cost, literal_cost, cost_at, sum_costs, cheapest};
 ghost use Rattle.minimiser.specs.inner.Held.{held_cost};
-ghost use Rattle.minimiser.specs.inner.Summed.{told_by};
 ghost use Rattle.minimiser.specs.Stored.{cost_in, costs_to, AreLeastCosts};
 
 use crate::steps::Steps;
@@ -115,31 +114,21 @@ fn and_value(values: &[u32], kids: &[u32]) -> u32
     requires small { IfSome (sum_costs (map (cost_at (map cost_in values.now)) kids.now)) (λ n. n < TOTAL_LIMIT) }
     ensures { cost_in result ≡ sum_costs (map (cost_at (map cost_in values.now)) kids.now) }
 {
-    // Most nodes have two kids, for which a loop would take as long again.
-    if let [one, other] = kids {
-        return sum_value(u64::from(values[*one as usize]) + u64::from(values[*other as usize]));
-    }
     let mut total: u64 = 0;
     for k in kids {
-        total += u64::from(values[*k as usize]);
+        let value = values[*k as usize];
+        if value == NONE {
+            return NONE;
+        }
+        total += u64::from(value);
     }
-    sum_value(total)
-}
-
-// A sum of values: where one of them stands for no cost, it passes all costs.
-fn sum_value(total: u64) -> u32
-    ensures { cost_in result ≡ told_by total }
-{
-    total.min(u64::from(NONE)) as u32
+    total as u32
 }
 
 fn or_value(values: &[u32], kids: &[u32]) -> u32
     requires { All (λ k. k < length values.now) kids.now }
     ensures { cost_in result ≡ cheapest (map (cost_at (map cost_in values.now)) kids.now) }
 {
-    if let [one, other] = kids {
-        return values[*one as usize].min(values[*other as usize]);
-    }
     let mut best = NONE;
     for k in kids {
         best = best.min(values[*k as usize]);

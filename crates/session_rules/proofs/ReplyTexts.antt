@@ -9,7 +9,7 @@ use Rattle.ranking.specs.Systems.{System, least_cost, all_diagnoses}
 use Rattle.device_model.specs.Devices.{place_of}
 use Rattle.graph_rules.specs.Graphs.{IsGraph}
 use Rattle.projector.specs.Projecting.{projection, projected_text}
-use Rattle.projector.proofs.Projected.{projected_text-means}
+use Rattle.projector.proofs.Projected.{projected_text-means, projected_text-is_neat}
 use Rattle.script_lang.specs.Script.{Line, Blank, Refused, Ask, Request, Start, Stop, See, Unsee, Hold, Unhold, Min, Next, Several, After, Probe, Probes, Blame, Dnnf, line_of}
 use Rattle.session_rules.specs.declared.refusal.Refusal.{Refusal}
 use Rattle.session_rules.specs.declared.refusal.Refusal.TheVariants.{Full, NoWire, NoPart}
@@ -158,7 +158,7 @@ module _ (subject : Subject) (is : IsGraph subject.graph) (room : length subject
       let words = case_words subject.graph.vars known in
       let long = length-case_words subject.graph.vars known (omega (arith, h.0, h.1, room)) in
       let narrow : parts ≤ subject.graph.vars = omega (arith, room) in
-      ((projection subject.graph words parts, refl), projected_text-means subject.graph words parts is long narrow few)
+      ((projected_text-is_neat subject.graph words parts is long narrow few, (projection subject.graph words parts, refl)), projected_text-means subject.graph words parts is long narrow few)
 
   projected-has : (known : Case) → IsCaseOf system known → HasText (Projected (length subject.parts) (system.consistent known))
   projected-has known h = (projected_text subject.graph (case_words subject.graph.vars known) (length subject.parts), case-spelled known h)

@@ -1,6 +1,7 @@
 -- Which bytes spell a list of items.
-use Rattle.std.specs.Prelude.{◌≡◌, ◌≤◌, ℕ, List, [], ◌∷◌, ◌++◌, length, Option, Result, MatchResult, Ok, Err}
+use Rattle.std.specs.Prelude.{◌≡◌, ◌≤◌, ℕ, true, List, [], ◌∷◌, ◌++◌, length, Option, Result, MatchResult, Ok, Err}
 use Rattle.std.specs.Io.KnownBytes.{Appends}
+use Rattle.text_rules.specs.Tokens.{is_neat}
 use Rattle.graph_rules.specs.Graphs.{Graph, Decomposable}
 use Rattle.graph_rules.specs.GraphTexts.{Parsed, parsed}
 use Rattle.graph_rules.specs.WrittenGraphs.{graph_text}
@@ -15,9 +16,9 @@ IsWholeOf device vars most (Err refusal) = ⊥
 IsWholeOf device vars most (Ok graph) =
     (graph.vars ≡ vars) × Decomposable graph.nodes × (length graph.nodes ≤ most) × IsGraphOf device graph
 
--- the text is the one in which a graph is written
+-- the text is the one in which a graph is written, without a blank line
 abbrev pub IsWritten : List ℕ → Type 0
-IsWritten text = (graph : Graph) × (text ≡ graph_text graph)
+IsWritten text = (is_neat text ≡ true) × ((graph : Graph) × (text ≡ graph_text graph))
 
 abbrev pub Spelled : Item → List ℕ → Type 0
 Spelled (Plain bytes) text = text ≡ bytes

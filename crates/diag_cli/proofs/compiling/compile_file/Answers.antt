@@ -13,7 +13,7 @@ returns-in-Ok-write_nnf-clause-said g c =
     let put : Result (Unit {0}) (Unit {0}) = Ok tt in
     by_same found.list (λ order list.
     graph_gives c.args.path.now c.args.file.now c.args.budget (clauses_by c.args.is_narrow order) _ _ _ _ _ _ put _ c.vars.ensures.vars c.requires.short c.in-Ok.ensures list
-    found.servable found.vars found.few_nodes wrote.read c.in-Ok-write_nnf.ensures.bytes refl)
+    found.servable found.vars found.few_nodes wrote.neat wrote.read c.in-Ok-write_nnf.ensures.bytes refl)
 
 pub returns-clause-said : goal.returns-clause-said
 returns-clause-said g c =
@@ -22,7 +22,7 @@ returns-clause-said g c =
     let put : Result (Unit {0}) (Unit {0}) = Err tt in
     by_same found.list (λ order list.
     graph_gives c.args.path.now c.args.file.now c.args.budget (clauses_by c.args.is_narrow order) _ _ _ _ _ _ put _ c.vars.ensures.vars c.requires.short c.in-Ok.ensures list
-    found.servable found.vars found.few_nodes wrote.read c.in-Err-write_nnf.ensures.bytes refl)
+    found.servable found.vars found.few_nodes wrote.neat wrote.read c.in-Err-write_nnf.ensures.bytes refl)
 
 pub returns-in-Err-graph_within-clause-said : goal.returns-in-Err-graph_within-clause-said
 returns-in-Err-graph_within-clause-said g c =

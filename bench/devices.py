@@ -29,6 +29,11 @@ def by_bit(_kind, role, bit):
     return f"bit{bit:03}_{role}"
 
 
+def by_stage(_kind, role, bit):
+    """The same, the gates of a bit in the order in which they are wired: the sum is less."""
+    return f"bit{bit:03}_{'c a b half both carried sum out'.split().index(role)}{role}"
+
+
 def by_kind(kind, role, bit):
     """A name that begins with the kind of the gate."""
     return f"{kind}_{role}{bit}"

@@ -9,7 +9,7 @@ _diag() {
     return
   fi
   case $form in
-    serve) ending='@(bench|dev)' options='--budget --sessions --frames --narrow' ;;
+    serve) ending='@(bench|dev)' options='--budget --sessions --frames --levels --least --narrow' ;;
     plan) ending='@(bench|dev)' options='--narrow' ;;
     compile) ending='@(bench|dev)' options='--budget --narrow' ;;
     check) ending='nnf' ;;
@@ -31,10 +31,11 @@ _diag() {
     if [[ ${#COMPREPLY[@]} -eq 1 && ${COMPREPLY[0]} == */ ]]; then compopt -o nospace 2>/dev/null; fi
     return
   fi
-  # Behind `--budget`, `--sessions` and `--frames` stands a number, which nobody but the user knows; so does HEALTH behind the file of `ask`.
+  # Behind `--budget`, `--sessions`, `--frames` and `--levels` stands a number, which nobody but the user knows; so does HEALTH behind the file
+  # of `ask`.
   if [ "$COMP_CWORD" -lt "$place" ]; then return; fi
   case ${COMP_WORDS[COMP_CWORD - 1]} in
-    --budget | --sessions | --frames) return ;;
+    --budget | --sessions | --frames | --levels) return ;;
   esac
   # Each option stands at most once.
   for given in "${COMP_WORDS[@]:2:COMP_CWORD-2}"; do options=${options//$given/}; done

@@ -7,6 +7,8 @@ from functools import partial
 from rules import designs, frames, netlists
 from rules.clauses import clauses_of, sum_of, tidied
 from rules.devices import MANY_INPUTS
+from rules.graphs import BITS_LIMIT
+from rules.runs import LEVELS_LIMIT
 from rules.texts import Refused
 
 NAMES = [b"a", b"b", b"c", b"a1", b"a-1", b"a.1", b"10", b"2", b"22", b"INPUT", b"and", b"AND", b"x[0]", b"~", b"!y", b"Z", b"z" * 64,
@@ -14,11 +16,16 @@ NAMES = [b"a", b"b", b"c", b"a1", b"a-1", b"a.1", b"10", b"2", b"22", b"INPUT", 
 PLAIN_NAMES = [name for name in NAMES if b"." not in name and name != b"AND"]
 COMMANDS = ["open", "close", "see", "unsee", "hold", "unhold", "min", "next", "list", "after", "probe", "probes", "blame", "dnnf"]
 OFTEN = [2, 1, 16, 2, 3, 2, 8, 10, 6, 2, 4, 2, 8, 2]
+# Commands that an option of `serve` allows, and how often they stand where it is given.
+ALLOWED = {"--levels": (["level", "levels", "after"], [8, 8, 4]), "--least": (["leastnnf"], [8])}
 # What may stand where a byte is broken.
 BYTES = b"(),=# \t\r\n\x0b\0.-+_~\x7f\x80\xff019aALOn"
 VARIABLES = 17
 # So many steps over all times take a tenth of a second, and a greater sum seconds.
 STEPS, SUM = 50000, 5000
+# Sets of costs of more words, over all nodes, take the program seconds.
+WORDS = 100000
+LEVELS = [0, 1, 1, 2, 2, 2, 3, 3, 5, 9, 31, 32, 63, 64, 999, 1000, 3003]
 
 
 def chance(r, percent):
@@ -174,8 +181,17 @@ def broken(r, text):
     return text[:place] + r.choice([b"", byte, byte + text[place:place + 1]]) + text[place + 1:]
 
 
-def script_line(r, sessions, parts, wires):
-    command = r.choices(COMMANDS, OFTEN)[0]
+def commands(options):
+    """The commands, and how often each stands in a script under these options: one that is not allowed now and then."""
+    found, often = [*COMMANDS], [*OFTEN]
+    for option, (more, times) in ALLOWED.items():
+        found += more
+        often += times if option in options else [0.3] * len(more)
+    return found, often
+
+
+def script_line(r, sessions, parts, wires, options):
+    command = r.choices(*commands(options))[0]
     words = [command.encode(), r.choice(sessions)]
     part, wire = (r.choice(names) if names and not chance(r, 2) else b"nobody" for names in (parts, wires))
     if command == "see":
@@ -186,20 +202,20 @@ def script_line(r, sessions, parts, wires):
         words.append(wire)
     elif command == "unhold":
         words.append(part)
-    elif command == "list":
+    elif command in ("list", "levels"):
         words.append(b"%d" % r.choice([1, 2, 3, 9, 1000000]))
     elif command == "after":
         words += r.choices(parts, k=r.randint(0, 3)) if parts else []
     return r.choice([b" ", b" ", b" ", b"\t", b" \r"]).join(words)
 
 
-def script(r, parts, wires, looks=0):
+def script(r, parts, wires, looks=0, options=()):
     """Lines of some sessions in turn, of which some are opened first, and a few lines are broken. First so many percent of the wires
     are seen, so that much is faulty."""
     sessions = r.sample([b"S", b"T", b"S.1", b"session-2", b"q" * 64], r.randint(1, 4))
     lines = [b"open " + name for name in sessions if chance(r, 95)]
     lines += [b"see %s %s=%d" % (name, wire, chance(r, 50)) for name in sessions for wire in wires[:60] if chance(r, looks)]
-    lines += [script_line(r, sessions, parts, wires) for _ in range(r.randint(0, 40))]
+    lines += [script_line(r, sessions, parts, wires, options) for _ in range(r.randint(0, 40))]
     lines = [broken(r, line) if chance(r, 4) else line for line in lines]
     if chance(r, 1):
         lines.insert(r.randrange(len(lines) + 1), r.choice([b"#", b"x"]) * r.choice([1048576, 1048577]))
@@ -212,7 +228,14 @@ def frames_option(r, times):
     return r.choice([*wrong, ["--frames"], ["--frames", str(times)] * 2]) if chance(r, 4) else ["--frames", str(times)]
 
 
-def options(r, form, sum, times=0):
+def levels_option(r, nodes):
+    """Now and then with a number that is none, or twice."""
+    top = str(r.choice([top for top in LEVELS if (top // 32 + 1) * nodes <= WORDS] or [0]))
+    wrong = [["--levels", word] for word in ("4096001", "+1", "-1", "00", "01", "1.0", " 1", "1" * 30, "")]
+    return r.choice([*wrong, ["--levels"], ["--levels", top] * 2]) if chance(r, 4) else ["--levels", top]
+
+
+def options(r, form, sum, times=0, vars=0):
     """Options in any order, a few of them wrong."""
     # of a form that knows no times, or over a design, it is wrong whatever its number
     found = [frames_option(r, times)] if times else []
@@ -223,12 +246,21 @@ def options(r, form, sum, times=0):
         found.append(["--sessions", str(r.choice([1, 1, 2, 3, 1024]))])
     if form in ("serve", "plan", "compile") and chance(r, 25):
         found.append(["--narrow"])
+    if form == "serve" and chance(r, 35):
+        found.append(levels_option(r, nodes_within(sum, vars)))
+    if form == "serve" and chance(r, 35):
+        found.append(["--least"])
     r.shuffle(found)
     words = [word for option in found for word in option]
     if chance(r, 2):
-        words.insert(r.randrange(len(words) + 1), r.choice(["--budget", "0", "01", "--sessions", "--narrow", "--frames", "8388609", "1025",
-                                                            "65", "-1", ""]))
+        words.insert(r.randrange(len(words) + 1), r.choice(["--budget", "0", "01", "--sessions", "--narrow", "--frames", "--levels",
+                                                            "--least", "8388609", "1025", "65", "-1", ""]))
     return words
+
+
+def nodes_within(sum, vars):
+    """At most so many nodes has a graph that is compiled from clauses of this sum."""
+    return 3 * sum + 2 * vars + 2
 
 
 def is_small(device):
@@ -285,10 +317,50 @@ def describing(r, form):
     text, device, ending = made_device(r)
     parts, wires = (device.part_names(), device.wires) if device else ([b"a"], [b"b"])
     sum = sum_of(tidied(clauses_of(device)[0]), 100000) or 1 if device else 1
-    file = "f" + ending
-    lines = script(r, parts, wires) if form == "serve" else b""
+    file, vars = "f" + ending, clauses_of(device)[1] if device else 0
     times = r.randint(1, 64) if (form != "serve" or ending == ".dev") and chance(r, 3) else 0
-    return Case([form, file, *options(r, form, sum, times)], {file: text}, lines)
+    words = [form, file, *options(r, form, sum, times, vars)]
+    # much is faulty where it is asked for what is next best, or for a graph of many diagnoses
+    looks = r.choice([0, 30, 60]) if {"--levels", "--least"} & {*words} else 0
+    return Case(words, {file: text}, script(r, parts, wires, looks, words) if form == "serve" else b"")
+
+
+def doubtful(r):
+    """A case of many diagnoses: rows of buffers, of which some cost more than others, and each is seen wrong at its end."""
+    rows = r.choice([[2, 2, 3], [3, 3], [2, 4], [1, 2, 3], [6], [3, 4], [7]])
+    names = r.sample([name for name in PLAIN_NAMES if name not in (b"D", b"M")], sum(rows) + len(rows))
+    ends, lines, wrong = [*names], [], []
+    for length in rows:
+        row = [ends.pop() for _ in range(length + 1)]
+        bit = r.randrange(2)
+        wrong += [b"%s=%d" % (row[0], bit), b"%s=%d" % (row[-1], 1 - bit)]
+        lines += [b"part %s %s %s %s" % (row[place + 1], r.choice([b"BUFF", b"BUFF", b"D"]), row[place], row[place + 1])
+                  for place in range(length)]
+    r.shuffle(lines)
+    text = [b"type D x y", b"ok 00", b"ok 11", b"cost %d" % r.choice([1, 2, 3, 1000]), b"end", b"block M", b" ".join([b"wire", *names]),
+            *lines, b"end", b"top M"]
+    vars = 2 * len(names) - len(rows)
+    words = ["serve", "f.dev", *options(r, "serve", 20 * vars, 0, vars)]
+    parts = [line.split()[1] for line in lines]
+    told = []
+    for line in script(r, parts, names, options=words).split(b"\n"):
+        told.append(line)
+        if line.startswith(b"open "):
+            told += [b"see " + line[5:] + b" " + reading for reading in wrong]
+    return Case(words, {"f.dev": ended(r, text)}, b"\n".join(told))
+
+
+def brimming(r):
+    """A case whose sets of costs have as many bits as they may have, or a few more. It asks for little, since that takes long."""
+    while True:
+        text, device, ending = made_device(r)
+        sum = sum_of(tidied(clauses_of(device)[0]), SUM) if device else None
+        most = (BITS_LIMIT // nodes_within(sum, clauses_of(device)[1]) - len(device.parts)) // 32 if sum else LEVELS_LIMIT
+        # a set of so many words is that of costs up to 32 less than the first that needs one word more
+        if 32 * most <= LEVELS_LIMIT:
+            top = r.choice([32 * most - 1, 32 * most, LEVELS_LIMIT])
+            words = ["serve", "f" + ending, "--levels", str(top), *(["--least"] if chance(r, 30) else [])]
+            return Case(words, {"f" + ending: text}, b"open S\nlevel S\n")
 
 
 def times_for(r, device):
@@ -316,15 +388,15 @@ def serving_times(r):
         text = broken(r, text) if chance(r, 15) else text
         device = known_of(partial(netlists.read, takes_flip_flops=True), text)
         if device is None:
-            lines = script(r, [b"a"], [b"b@0001"])
-            return Case(["serve", "f.bench", *options(r, "serve", 1, r.randint(1, 64))], {"f.bench": text}, lines)
+            words = ["serve", "f.bench", *options(r, "serve", 1, r.randint(1, 64))]
+            return Case(words, {"f.bench": text}, script(r, [b"a"], [b"b@0001"], options=words))
         times, sum = times_for(r, device)
         if not times:
             continue
-        wires = frames.TimedNetlist(device, times).wires
-        wires = wires + (strangers(r, device, times) if wires and chance(r, 30) else [])
-        lines = script(r, device.part_names(), wires, r.choice([0, 10, 30, 60]))
-        return Case(["serve", "f.bench", *options(r, "serve", sum, times)], {"f.bench": text}, lines)
+        timed = frames.TimedNetlist(device, times)
+        wires = timed.wires + (strangers(r, device, times) if timed.wires and chance(r, 30) else [])
+        words = ["serve", "f.bench", *options(r, "serve", sum, times, timed.vars())]
+        return Case(words, {"f.bench": text}, script(r, device.part_names(), wires, r.choice([0, 10, 30, 60]), words))
 
 
 def crowded(r):
@@ -347,7 +419,7 @@ def crowded(r):
 def misspelling(r):
     """Words in no order, over a file that is there."""
     words = ["serve", "plan", "compile", "check", "ask", "load", "f.bench", "f.dev", "f.nnf", ".bench", "g.bench", "1", "0", "801",
-             "--narrow", "--budget", "--sessions", "2", "--frames", "--frames"]
+             "--narrow", "--budget", "--sessions", "2", "--frames", "--frames", "--levels", "--least"]
     files = {"f.bench": b"INPUT(a)\ny = NOT(a)\n", "f.dev": b"block M\nend\ntop M\n", "f.nnf": b"nnf 1 0 1\nL 1\n"}
     form, file = r.choice(words[:6]), r.choice(words[6:11])
     given = [form, file, *r.choices(words[11:], k=r.randint(0, 4))] if chance(r, 70) else r.choices(words, k=r.randint(0, 4))
@@ -358,6 +430,8 @@ def case_of(r):
     form = r.choices(["serve", "frames", "plan", "compile", "check", "ask", "words"], [28, 24, 10, 10, 8, 16, 4])[0]
     if form == "ask":
         case = asking(r)
+    elif form == "serve" and chance(r, 13):
+        case = doubtful(r) if chance(r, 75) else brimming(r)
     elif form == "frames":
         case = crowded(r) if chance(r, 2) else serving_times(r)
     elif form == "check":

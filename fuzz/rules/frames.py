@@ -59,10 +59,18 @@ class TimedNetlist:
             if count > most:
                 raise Refused(f"error: {what} {count} above {most}")
 
+    def copies(self):
+        """The device of all copies."""
+        return Device([copy_at(part, time) for part in self.device.parts for time in self.times_of(part)], self.wires)
+
+    def vars(self):
+        """How many variables the clauses are over."""
+        copies = self.copies()
+        return clauses_of(copies)[1] - len(copies.parts) + len(self.device.parts)
+
     def clauses(self):
         """Those of the device of all copies, in which the health of its part stands for that of a copy."""
-        parts = self.device.part_names()
-        copies = Device([copy_at(part, time) for part in self.device.parts for time in self.times_of(part)], self.wires)
+        parts, copies = self.device.part_names(), self.copies()
         owners = [parts.index(name.split(b"@", 1)[1]) + 1 for name in copies.part_names()]
 
         def shared(literal):

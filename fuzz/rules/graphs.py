@@ -62,7 +62,7 @@ def read(text):
     nodes, vars = parsed(text)
     if len(nodes) * vars > BITS_LIMIT:
         raise Refused(f"error: fault 6 bits {len(nodes) * vars} above {BITS_LIMIT}")
-    below = []
+    below = variables_below(nodes)
     for place, node in enumerate(nodes):
         mentioned, shared = set(), set()
         for kid in node.kids:
@@ -70,8 +70,24 @@ def read(text):
             mentioned |= below[kid]
         if node.kind == "A" and shared:
             raise Refused(f"error: fault 7 shared node {place} variable {min(shared)}")
-        below.append({abs(node.number)} if node.kind == "L" else mentioned)
     return nodes, vars
+
+
+def variables_below(nodes):
+    """Of each node the variables that stand at or below it."""
+    below = []
+    for node in nodes:
+        below.append({abs(node.number)} if node.kind == "L" else set().union(*(below[kid] for kid in node.kids)))
+    return below
+
+
+def rough(nodes):
+    """The first or of whose children one has a variable below it that another one has not; none of a smooth graph."""
+    below = variables_below(nodes)
+    for place, node in enumerate(nodes):
+        if node.kind == "O" and any(below[kid] != below[node.kids[0]] for kid in node.kids):
+            return place
+    return None
 
 
 def edges(nodes):

@@ -10,11 +10,12 @@ from .texts import Refused
 @dataclass
 class Graph:
     """A text of a graph over so many variables, with at most so many nodes, that has this truth table over the first few, for some
-    bits of the others."""
+    bits of the others. Where it has to be smooth, and is true somewhere, all variables stand below its root."""
     vars: int
     few: int
     table: int
     most_nodes: int = None
+    smooth: bool = False
 
     def take(self, out):
         """What is left behind it, and what is wrong with it or none."""
@@ -33,7 +34,16 @@ class Graph:
         if self.most_nodes is not None and len(nodes) > self.most_nodes:
             return rest, f"{len(nodes)} nodes, at most {self.most_nodes} wanted"
         differs = truths.over_first(graphs.truth(nodes, vars), vars, self.few) ^ self.table
-        return rest, f"it differs in the rows {truths.rows_of(differs, self.few)[:9]}" if differs else None
+        if differs:
+            return rest, f"it differs in the rows {truths.rows_of(differs, self.few)[:9]}"
+        return rest, self.rough(nodes) if self.smooth else None
+
+    def rough(self, nodes):
+        """Where a graph is not smooth, or none."""
+        if (place := graphs.rough(nodes)) is not None:
+            return f"the or {place} is not smooth"
+        missing = set(range(1, self.vars + 1)) - graphs.variables_below(nodes)[-1]
+        return f"below the root no literal of {sorted(missing)}" if self.table and missing else None
 
 
 @dataclass
@@ -56,6 +66,23 @@ class Sum:
         line = re.match(rb"sum ([0-9]+)\n", out)
         if not line or not 1 <= int(line[1]) <= self.most:
             return out, f"no sum of at most {self.most}"
+        return out[line.end():], None
+
+
+@dataclass
+class Bits:
+    """The line of too many bits: so many for each node of a graph that is compiled from clauses over so many variables, and of a sum of
+    at most so much."""
+    each: int
+    vars: int
+    most: int
+
+    def take(self, out):
+        line = re.match(rb"error: bits ([0-9]+) above %d\n" % graphs.BITS_LIMIT, out)
+        nodes, rest = divmod(int(line[1]) if line else 0, self.each)
+        sum, left = divmod(nodes - 2 * self.vars - 2, 3)
+        if rest or left or not 1 <= sum <= self.most or nodes * self.each <= graphs.BITS_LIMIT:
+            return out, f"no bits above the limit, {self.each} for each node of a sum of at most {self.most}, got {out[:200]!r}"
         return out[line.end():], None
 
 

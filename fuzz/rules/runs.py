@@ -3,7 +3,7 @@
 from dataclasses import dataclass
 
 from . import clauses, designs, frames, graphs, netlists
-from .pieces import Graph, Sum
+from .pieces import Bits, Graph, Sum
 from .sessions import System, replies
 from .texts import FILE_LIMIT, Refused, plain_number_in
 
@@ -11,7 +11,11 @@ BUDGET_LIMIT, BUDGET = 8388608, 2097152
 SESSIONS_LIMIT, SESSIONS = 1024, 16
 HEALTH_LIMIT = 4096
 PLACES_LIMIT = 800
-LIMITS = {"--budget": BUDGET_LIMIT, "--sessions": SESSIONS_LIMIT, "--frames": frames.FRAMES_LIMIT}
+LEVELS_LIMIT = 4096000
+RANGES = {"--budget": (1, BUDGET_LIMIT), "--sessions": (1, SESSIONS_LIMIT), "--frames": (1, frames.FRAMES_LIMIT),
+          "--levels": (0, LEVELS_LIMIT)}
+# Options without a number.
+FLAGS = ("--narrow", "--least")
 # Trying all values of more variables, or counting more states, takes too long.
 VARIABLES_TRIED = 20
 SUM_TRIED = 100000
@@ -19,8 +23,8 @@ SUM_TRIED = 100000
 STEPS_TRIED = 200000
 USAGE = Refused("error: usage", 2)
 DEVICES = {".bench": netlists.read, ".dev": designs.read}
-OPTIONS = {"serve": ("--budget", "--sessions", "--frames", "--narrow"), "plan": ("--narrow",), "compile": ("--budget", "--narrow"),
-           "check": (), "ask": ("--sessions",)}
+OPTIONS = {"serve": ("--budget", "--sessions", "--frames", "--levels", "--least", "--narrow"), "plan": ("--narrow",),
+           "compile": ("--budget", "--narrow"), "check": (), "ask": ("--sessions",)}
 
 
 class TooLarge(Exception):
@@ -35,6 +39,8 @@ class Asked:
     budget: int = BUDGET
     sessions: int = SESSIONS
     frames: int = 0  # over how many times a netlist is served; 0 where the option is not given
+    levels: int = None  # the cost up to which states are listed
+    least: bool = False
     narrow: bool = False
 
 
@@ -52,10 +58,10 @@ def options_of(form, words):
         word = words.pop(0)
         if word not in OPTIONS[form] or word[2:] in found:
             raise USAGE
-        if word == "--narrow":
-            found["narrow"] = True
+        if word in FLAGS:
+            found[word[2:]] = True
             continue
-        found[word[2:]] = number(words.pop(0) if words else "", 1, LIMITS[word])
+        found[word[2:]] = number(words.pop(0) if words else "", *RANGES[word])
     return found
 
 
@@ -109,11 +115,33 @@ def above(budget):
     return [f"error: sum above {budget}\n".encode()], 3
 
 
-def weighed(encoded, budget, narrow, answer):
-    """The answer within the budget, or that the sum is above it. By another order it may be within where it is not by the names."""
+def weighed(encoded, budget, narrow, *answers):
+    """The answers within the budget, or that the sum is above it. By another order it may be within where it is not by the names."""
     if encoded.sum <= budget:
-        return [answer]
-    return [above(budget), answer] if narrow else [above(budget)]
+        return [*answers]
+    return [above(budget), *answers] if narrow else [above(budget)]
+
+
+def bits_for_node(asked, parts):
+    """How many bits each option takes for each node, in the order in which they are refused."""
+    found = []
+    if asked.levels is not None:
+        found.append(parts + 32 * (asked.levels // 32 + 1))
+    if asked.least:
+        found.append(32 * (2 + (parts + 31) // 32))
+    return found
+
+
+def listed(asked, sum, vars, parts, system_of, script):
+    """What `serve` may answer within the budget: the replies, or that an option takes too many bits. By another order, in which the sum
+    is no greater than by the names, it may take fewer."""
+    nodes = 3 * sum + 2 * vars + 2
+    many = [each for each in bits_for_node(asked, parts) if nodes * each > graphs.BITS_LIMIT]
+    if many and not asked.narrow:
+        return [([b"error: bits %d above %d\n" % (nodes * many[0], graphs.BITS_LIMIT)], 1)]
+    system = system_of()
+    system.levels, system.least = asked.levels, asked.least
+    return [*(([Bits(each, vars, sum)], 1) for each in many), ([ready(system), *replies(system, asked.sessions, script)], 0)]
 
 
 def ready(system):
@@ -125,16 +153,18 @@ def timed(asked, text, script):
     device = netlists.read(text, True)
     netlist = frames.TimedNetlist(device, asked.frames)
     # whether the sum is above a small budget is known long before the sum is
-    is_within = clauses.sum_of(netlist.clauses(), min(asked.budget, SUM_TRIED)) is not None
-    if not is_within and asked.budget > SUM_TRIED:
+    sum = clauses.sum_of(netlist.clauses(), min(asked.budget, SUM_TRIED))
+    if sum is None and asked.budget > SUM_TRIED:
         raise TooLarge()
-    if not is_within and not asked.narrow:
+    if sum is None and not asked.narrow:
         return [above(asked.budget)]
-    if frames.steps_of(device, asked.frames) > STEPS_TRIED:
-        raise TooLarge()
-    system = frames.TimedSystem(netlist)
-    answer = [ready(system), *replies(system, asked.sessions, script)], 0
-    return [answer] if is_within else [above(asked.budget), answer]
+
+    def system():
+        if frames.steps_of(device, asked.frames) > STEPS_TRIED:
+            raise TooLarge()
+        return frames.TimedSystem(netlist)
+    answers = listed(asked, sum or asked.budget, netlist.vars(), len(device.parts), system, script)
+    return answers if sum else [above(asked.budget), *answers]
 
 
 def described(asked, text, script):
@@ -147,10 +177,11 @@ def described(asked, text, script):
     if asked.form == "compile":
         most = 3 * encoded.sum + 2 * encoded.vars + 2
         answer = [Graph(encoded.vars, encoded.outer(), encoded.fits(), most)], 0
-    else:
-        system = encoded.system()
-        answer = [ready(system), *replies(system, asked.sessions, script)], 0
-    return weighed(encoded, asked.budget, asked.narrow, answer)
+        return weighed(encoded, asked.budget, asked.narrow, answer)
+    # where it is above the budget by the names, another order is within
+    sum = min(encoded.sum, asked.budget)
+    answers = listed(asked, sum, encoded.vars, len(encoded.device.parts), encoded.system, script)
+    return weighed(encoded, asked.budget, asked.narrow, *answers)
 
 
 def questioned(asked, text, script):

@@ -1,5 +1,6 @@
 """Scripts: what each line asks, and what each session replies."""
 
+from bisect import bisect_right
 from dataclasses import dataclass, field
 
 from . import truths
@@ -11,20 +12,23 @@ LIST_LIMIT = 1000000
 SESSION_NAME, NAME = 64, 255
 # How many words each command has; of `after` at least so many.
 COMMANDS = {b"open": 2, b"close": 2, b"see": 3, b"unsee": 3, b"hold": 3, b"unhold": 3, b"min": 2, b"next": 2, b"list": 3, b"after": 2,
-            b"probe": 3, b"probes": 2, b"blame": 2, b"dnnf": 2}
+            b"probe": 3, b"probes": 2, b"blame": 2, b"dnnf": 2, b"level": 2, b"levels": 3, b"leastnnf": 2}
+COUNTED = (b"list", b"levels")
 VALUES = {b"see": {b"0": False, b"1": True}, b"hold": {b"ok": True, b"bad": False}}
 REASONS = {1: "unknown command", 2: "bad words", 3: "bad name", 4: "bad value", 5: "line too long", 6: "no session",
-           7: "open already", 8: "full", 9: "no wire", 10: "no part"}
+           7: "open already", 8: "full", 9: "no wire", 10: "no part", 11: "no levels", 12: "no least"}
 
 
 class System:
     """What sessions are asked over. Variables are the parts, true where ok, then the wires, then others; `table` has the rows that
-    are allowed. `text_of(held, seen)` gives the one text of `dnnf` where it is known, and else None."""
+    are allowed. `text_of(held, seen)` gives the one text of `dnnf` where it is known, and else None. `levels` is the cost up to which
+    states are listed, if they are, and `least` whether the graph of the diagnoses is told."""
 
     def __init__(self, parts, wires, costs, table, vars, text_of=lambda held, seen: None):
         self.parts, self.wires, self.costs = parts, wires, costs
         self.table, self.vars, self.text_of = table, vars, text_of
-        self.known = {}
+        self.levels, self.least = None, False
+        self.known, self.listed = {}, {}
 
     def allowed(self, held, seen):
         """The truth table of the health states that agree."""
@@ -41,12 +45,20 @@ class System:
     def cost(self, state):
         return sum(cost for cost, is_ok in zip(self.costs, state) if not is_ok)
 
-    def least(self, held, seen):
+    def least_cost(self, held, seen):
         return min(map(self.cost, self.states(held, seen)), default=None)
 
     def diagnoses(self, held, seen):
-        least = self.least(held, seen)
+        least = self.least_cost(held, seen)
         return [state for state in self.states(held, seen) if self.cost(state) == least]
+
+    def by_cost(self, held, seen):
+        """The states that are listed, each behind its cost: the cheapest first, and of one cost in their order."""
+        key = frozenset(held.items()), frozenset(seen.items())
+        if key not in self.listed:
+            priced = sorted((self.cost(state), state) for state in self.states(held, seen))
+            self.listed[key] = [pair for pair in priced if pair[0] <= self.levels]
+        return self.listed[key]
 
     def faulty(self, state):
         return [name for name, is_ok in zip(self.parts, state) if not is_ok]
@@ -107,7 +119,7 @@ class Session:
     def min(self):
         if not self.diagnoses():
             return [b"inconsistent"]
-        least = self.system.least(self.held, self.seen)
+        least = self.system.least_cost(self.held, self.seen)
         return [b" ".join([b"min", b"%d" % least, *self.system.faulty(self.diagnoses()[0])])]
 
     def next(self):
@@ -119,16 +131,33 @@ class Session:
         self.point = rest[0]
         return [b" ".join([b"diag", *self.system.faulty(rest[0])])]
 
-    def list(self, count):
+    def repeated(self, step, count):
         replies = []
         while len(replies) < count and replies[-1:] not in ([b"end"], [b"inconsistent"]):
-            replies += self.next()
+            replies += step()
         return replies
+
+    def list(self, count):
+        return self.repeated(self.next, count)
+
+    def level(self):
+        demand(self.system.levels is not None, 11)
+        if not self.system.states(self.held, self.seen):
+            return [b"inconsistent"]
+        listed = self.system.by_cost(self.held, self.seen)
+        place = 0 if self.point is None else bisect_right(listed, (self.system.cost(self.point), self.point))
+        if place == len(listed):
+            return [b"end"]
+        cost, self.point = listed[place]
+        return [b" ".join([b"level", b"%d" % cost, *self.system.faulty(self.point)])]
+
+    def levels(self, count):
+        return self.repeated(self.level, count)
 
     def least_with(self, wire, bit):
         if self.seen.get(wire, bit) != bit:
             return b"-"
-        least = self.system.least(self.held, {**self.seen, wire: bit})
+        least = self.system.least_cost(self.held, {**self.seen, wire: bit})
         return b"-" if least is None else b"%d" % least
 
     def probe(self, name):
@@ -155,6 +184,11 @@ class Session:
         text, parts = self.system.text_of(self.held, self.seen), len(self.system.parts)
         return [b"dnnf", Graph(parts, parts, self.system.allowed(self.held, self.seen)) if text is None else Text(text)]
 
+    def leastnnf(self):
+        demand(self.system.least, 12)
+        parts = len(self.system.parts)
+        return [b"leastnnf", Graph(parts, parts, truths.table_of(self.diagnoses()), smooth=True)]
+
 
 def asked(line):
     """The command, the session and the arguments of a line that asks something, or why it is declined; none of any other line."""
@@ -168,12 +202,12 @@ def asked(line):
     if command in VALUES:
         demand(b"=" in rest[1], 2)
         rest[1:] = rest[1].split(b"=", 1)
-    names = rest[1:2] if command in VALUES else [] if command == b"list" else rest[1:]
+    names = rest[1:2] if command in VALUES else [] if command in COUNTED else rest[1:]
     demand(is_name(rest[0], SESSION_NAME) and all(is_name(name, NAME) for name in names), 3)
     if command in VALUES:
         demand(rest[2] in VALUES[command], 4)
         rest[2] = VALUES[command][rest[2]]
-    if command == b"list":
+    if command in COUNTED:
         rest[1] = plain_number_in(rest[1], 1, LIST_LIMIT)
         demand(rest[1] is not None, 4)
     return command, rest[0], rest[1:]

@@ -35,3 +35,8 @@ def rows_of(table, vars):
     """Each row as a tuple of bits, in order: of two rows the one with 0 where they first differ comes first."""
     numbers = (row for row in range(1 << vars) if table >> row & 1)
     return sorted(tuple(row >> var & 1 for var in range(vars)) for row in numbers)
+
+
+def table_of(rows):
+    """The truth table of rows, each a tuple of bits."""
+    return sum(1 << sum(bit << var for var, bit in enumerate(row)) for row in rows)

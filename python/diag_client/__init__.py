@@ -15,7 +15,7 @@ measure 10: of 2 diagnoses 1 goes on with 0 and 1 with 1, so that 1.0 are expect
 
 from .advice import Proposal
 from .errors import DiagError, Ended, Inconsistent, NotBuilt, Refused
-from .replies import Blame, Diagnosis, Graph, Minimum, Probe, Verdict
+from .replies import Blame, Diagnosis, Graph, Level, Minimum, Probe, Verdict
 from .service import Service, Session, find_program
 
 __all__ = [
@@ -25,6 +25,7 @@ __all__ = [
     "Ended",
     "Graph",
     "Inconsistent",
+    "Level",
     "Minimum",
     "NotBuilt",
     "Probe",

@@ -29,7 +29,9 @@ def words_of() -> argparse.ArgumentParser:
     draws.add_argument("--session", metavar="S", help="the session that is drawn; else the one that the script speaks of last")
     draws.add_argument("--most", type=int, metavar="N", default=picture.MOST, help="draw at most N parts (%(default)s)")
 
-    commands.add_parser("shell", parents=[served], help="ask a device interactively")
+    asks = commands.add_parser("shell", parents=[served], help="ask a device interactively")
+    asks.add_argument("--levels", type=int, metavar="C", help="what is next best may be asked for, up to a cost of C")
+    asks.add_argument("--least", action="store_true", help="the graph of the diagnoses may be asked for")
     commands.add_parser("man", help="write the manual page that says what the launcher's help says")
     return parser
 
@@ -60,7 +62,8 @@ def main() -> int:
         if words.command == "man":
             sys.stdout.write(manual.page(manual.read_help()))
             return 0
-        with Service(words.file, narrow=words.narrow, budget=words.budget, frames=words.frames, program=words.program) as service:
+        given = {name: getattr(words, name, None) for name in ("narrow", "budget", "frames", "levels", "least", "program")}
+        with Service(words.file, **given) as service:
             return draw(words, service) if words.command == "picture" else shell.run(service)
     except (DiagError, OSError) as error:
         print(f"diag_client: {error}", file=sys.stderr)

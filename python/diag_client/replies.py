@@ -39,6 +39,17 @@ class Diagnosis:
 
 
 @dataclasses.dataclass(frozen=True)
+class Level:
+    """A set of faulty parts that explains the case, be it a cheapest one or not, and what it costs."""
+
+    cost: int
+    faulty: tuple[str, ...]
+
+    def __str__(self) -> str:
+        return f"{self.cost}: {' '.join(self.faulty) or 'nothing'}"
+
+
+@dataclasses.dataclass(frozen=True)
 class Probe:
     """The least cost where a wire is seen as 0 too, and where it is seen as 1 too; None where no set explains that."""
 

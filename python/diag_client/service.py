@@ -13,7 +13,7 @@ from typing import TYPE_CHECKING
 from . import advice
 from .child import Child
 from .errors import Inconsistent, NotBuilt
-from .replies import AnyLine, Blame, Change, Diagnosis, Graph, GraphText, Listing, Minimum, Probe, Ready, Request, Verdict
+from .replies import AnyLine, Blame, Change, Diagnosis, Graph, GraphText, Level, Listing, Minimum, Probe, Ready, Request, Verdict
 
 if TYPE_CHECKING:
     from .advice import Proposal
@@ -22,6 +22,8 @@ TOP = pathlib.Path(__file__).resolve().parents[2]
 BLANKS = " \t\r\n"
 FIRST_PAGE = 8
 LARGEST_PAGE = 512
+# The commands that list states: the word of their lines, and how many words stand between it and the names of the faulty parts.
+LISTINGS = {"list": ("diag", 0), "levels": ("level", 1)}
 
 Program = str | os.PathLike[str] | Sequence[str]
 
@@ -60,10 +62,10 @@ def option_words(options: Mapping[str, int | bool | None]) -> list[str]:
 class Service:
     """A device that is served by a program of its own, which is started here and ended by `close` or at the end of `with`.
 
-    `file` is a netlist (`.bench`) or a design (`.dev`). `narrow`, `budget`, `sessions` and `frames` are the options of `diag serve`, and
-    whatever else is given by name is handed on as an option of that name, as `levels=3` for `--levels 3`. With `health=N` the file is a
-    graph (`.nnf`) whose first N variables are parts, and `diag ask` serves it. `program` is the program or launcher to start, a path or
-    words; where none is given see `find_program`.
+    `file` is a netlist (`.bench`) or a design (`.dev`). `narrow`, `budget`, `sessions`, `frames`, `levels` and `least` are the options of
+    `diag serve`, and whatever else is given by name is handed on as an option of that name. With `health=N` the file is a graph (`.nnf`)
+    whose first N variables are parts, and `diag ask` serves it. `program` is the program or launcher to start, a path or words; where
+    none is given see `find_program`.
 
     Raises `NotBuilt` where there is no program, and `Ended` where it refuses the words or the file.
 
@@ -85,13 +87,16 @@ class Service:
         budget: int | None = None,
         sessions: int | None = None,
         frames: int | None = None,
+        levels: int | None = None,
+        least: bool = False,
         program: Program | None = None,
         **options: int | bool | None,
     ) -> None:
         start = find_program() if program is None else program
         words = [os.fspath(start)] if isinstance(start, (str, os.PathLike)) else list(start)
         words += ["serve", os.fspath(file)] if health is None else ["ask", os.fspath(file), str(health)]
-        words += option_words({"narrow": narrow, "budget": budget, "sessions": sessions, "frames": frames, **options})
+        given = {"narrow": narrow, "budget": budget, "sessions": sessions, "frames": frames, "levels": levels, "least": least}
+        words += option_words({**given, **options})
         self.file = pathlib.Path(file)
         self._numbers = itertools.count(1)
         self._given: set[str] = set()
@@ -215,8 +220,8 @@ class Session:
     """What was seen and held in one session, and the answers to it. `Service.session` opens one.
 
     A session is closed by `close` or at the end of `with`. It may be used by one thread at a time, and the sessions of one service by
-    several. `minimum`, `diagnoses`, `probe`, `probes`, `blame` and `best_probe` raise `Inconsistent` where no set of faulty parts
-    explains the case. All raise `Refused` for what cannot be done, which changes nothing, and `Ended` where the program has ended.
+    several. `minimum`, `diagnoses`, `levels`, `probe`, `probes`, `blame` and `best_probe` raise `Inconsistent` where no set of faulty
+    parts explains the case. All raise `Refused` for what cannot be done, which changes nothing, and `Ended` where the program has ended.
 
     >>> with Service("examples/c17.bench") as service, service.session() as session:
     ...     session.see({"1": 0, "2": 0, "3": 0, "6": 0, "7": 0})
@@ -233,7 +238,7 @@ class Session:
         self._seen: dict[str, int] = {}
         self._held: dict[str, str] = {}
         self._is_open = False
-        # How often the case was changed; where `diagnoses` begins; and where the program's own point stands.
+        # How often the case was changed; where `diagnoses` and `levels` begin; and where the program's own point stands.
         self._changes = 0
         self._start: tuple[str, ...] | None = None
         self._point: tuple[str, ...] | None = None
@@ -324,25 +329,34 @@ class Session:
         ...     [str(diagnosis) for diagnosis in session.diagnoses()]
         ['10', '22']
         """
-        changes, point, page = self._changes, self._start, FIRST_PAGE
-        left = limit
-        while left is None or left > 0:
-            size = page if left is None else min(page, left)
-            told = self._page(point, size)
-            for names in told:
-                if self._changes != changes:
-                    raise RuntimeError(f"the case of session {self.name} was changed while its diagnoses were taken")
-                yield Diagnosis(tuple(names))
-            if self._changes != changes:
-                raise RuntimeError(f"the case of session {self.name} was changed while its diagnoses were taken")
-            if len(told) < size:
-                return
-            point = tuple(told[-1])
-            left = None if left is None else left - size
-            page = min(2 * page, LARGEST_PAGE)
+        for names in self._listed("list", limit):
+            yield Diagnosis(tuple(names))
+
+    def levels(self, limit: int | None = None) -> Iterator[Level]:
+        """What explains the case, by rising cost up to that which the service was given, at most `limit` of it: the diagnoses first, then
+        what is next best. It is taken as `diagnoses` are, by `levels`, and refused where the service was given no `levels`.
+
+        >>> with Service("examples/c17.bench", levels=2) as service, service.session() as session:
+        ...     session.see({"1": 0, "3": 0, "22": 1, "16": 1})
+        ...     [str(state) for state in session.levels(4)]
+        ['1: 10', '1: 22', '2: 10 11', '2: 10 16']
+        """
+        for cost, *names in self._listed("levels", limit):
+            yield Level(int(cost), tuple(names))
+
+    def level(self) -> Level | None:
+        """The first of `levels`, or None where all that explains the case costs more than is listed.
+
+        >>> with Service("examples/c17.bench", levels=2) as service, service.session() as session:
+        ...     session.see({"1": 0, "3": 0, "22": 1, "16": 1})
+        ...     session.after("10", "11")
+        ...     session.level()
+        Level(cost=2, faulty=('10', '16'))
+        """
+        return next(self.levels(1), None)
 
     def after(self, *faulty: str) -> None:
-        """From now on `diagnoses` begins behind the state in which just these parts are faulty, be it a diagnosis or none.
+        """From now on `diagnoses` and `levels` begin behind the state in which just these parts are faulty, be it a diagnosis or none.
 
         So a listing goes on where another one ended. Each `see`, `unsee`, `hold` and `unhold` takes it back.
 
@@ -388,9 +402,18 @@ class Session:
         ...     session.graph().parts
         6
         """
-        request = GraphText(self.name, self._line("dnnf"), "dnnf")
-        self._carry_out([request])
-        return Graph(request.text)
+        return self._graph("dnnf")
+
+    def least_graph(self) -> Graph:
+        """The graph of the diagnoses: it is true for these alone, and never where nothing explains the case. It is smooth: below all
+        children of an or stand the same parts. It is refused where the service was not given `least`.
+
+        >>> with Service("examples/c17.bench", least=True) as service, service.session() as session:
+        ...     session.see({"1": 0, "3": 0, "22": 1, "16": 1})
+        ...     session.least_graph().parts
+        6
+        """
+        return self._graph("leastnnf")
 
     def best_probe(self, among: Iterable[str] | None = None, limit: int = advice.AT_HAND) -> Proposal | None:
         """The unseen wire that splits the diagnoses at hand best, with the counts that say why; None where no wire splits them.
@@ -488,15 +511,44 @@ class Session:
             raise Inconsistent(self.name)
         return request.told(word)
 
-    def _page(self, point: tuple[str, ...] | None, size: int) -> list[list[str]]:
-        """The faulty parts of the next diagnoses behind a point, at most so many."""
+    def _graph(self, command: str) -> Graph:
+        request = GraphText(self.name, self._line(command), command)
+        self._carry_out([request])
+        return Graph(request.text)
+
+    def _listed(self, command: str, limit: int | None) -> Iterator[list[str]]:
+        """What a command lists, page by page: of each line the words behind the first."""
+        changes, point, page = self._changes, self._start, FIRST_PAGE
+        left = limit
+        while left is None or left > 0:
+            size = page if left is None else min(page, left)
+            told = self._page(command, point, size)
+            for row in told:
+                if self._changes != changes:
+                    raise RuntimeError(f"the case of session {self.name} was changed while its states were taken")
+                yield row
+            if self._changes != changes:
+                raise RuntimeError(f"the case of session {self.name} was changed while its states were taken")
+            if len(told) < size:
+                return
+            point = self._faulty(command, told[-1])
+            left = None if left is None else left - size
+            page = min(2 * page, LARGEST_PAGE)
+
+    def _page(self, command: str, point: tuple[str, ...] | None, size: int) -> list[list[str]]:
+        """The next lines behind a point, at most so many."""
+        word, _ = LISTINGS[command]
         placing = [] if self._is_point_known and self._point == point else self._placing(point)
-        page = Listing(self.name, self._line("list", str(size)), last="end inconsistent", more="diag", most=size)
+        page = Listing(self.name, self._line(command, str(size)), last="end inconsistent", more=word, most=size)
         self._is_point_known = False
         self._carry_out([*placing, page])
-        told = self._rows(page, "diag")
-        self._note_point(tuple(told[-1]) if told else point)
+        told = self._rows(page, word)
+        self._note_point(self._faulty(command, told[-1]) if told else point)
         return told
+
+    @staticmethod
+    def _faulty(command: str, row: list[str]) -> tuple[str, ...]:
+        return tuple(row[LISTINGS[command][1]:])
 
     def _placing(self, point: tuple[str, ...] | None) -> list[Request]:
         """Lines that put the program's point somewhere, or take it back, and change nothing else."""

@@ -1,5 +1,6 @@
 """A program that answers scripts, badly: as its first word says."""
 
+import json
 import os
 import signal
 import sys
@@ -20,9 +21,14 @@ def main():
         # More than a pipe holds, on the side that nobody waits for.
         sys.stderr.write("noise\n" * 50_000)
         sys.stderr.flush()
+    # What is told to some lines.
+    canned = json.loads(sys.argv[2]) if how == "tells" else {}
     say("ready 1 1")
     for number, line in enumerate(sys.stdin):
         command, session, *_ = line.split() + ["", ""]
+        if line.rstrip("\n") in canned:
+            say(canned[line.rstrip("\n")])
+            continue
         if how == "dies" and number == 2:
             say("error: read")
             return 4

@@ -1,5 +1,6 @@
 """Sessions over the built program. What commands and refusals are called is taken from the program's own replies."""
 
+import json
 import os
 import re
 import shutil
@@ -9,9 +10,11 @@ import time
 import unittest
 from unittest import mock
 
-from support import C17, EXAMPLES, TOP, needs_program, replies
+from support import C17, EXAMPLES, TOP, needs_program, replies, stand_in
 
-from diag_client import Blame, Diagnosis, Ended, Inconsistent, Minimum, NotBuilt, Probe, Refused, Service, Verdict, find_program, service
+from diag_client import (
+    Blame, Diagnosis, Ended, Inconsistent, Level, Minimum, NotBuilt, Probe, Refused, Service, Verdict, find_program, service,
+)
 
 ZERO = {"1": 0, "2": 0, "3": 0, "6": 0, "7": 0}
 CASE = {**ZERO, "22": 1, "23": 0}
@@ -195,6 +198,84 @@ class Listing(unittest.TestCase):
 
 
 @needs_program
+class Levels(unittest.TestCase):
+    """States by rising cost, and the graph of the diagnoses, over the example that stores its replies."""
+
+    def setUp(self):
+        self.served = self.enterContext(Service(EXAMPLES / "pump.dev", levels=9, least=True))
+        self.session = self.enterContext(self.served.session("S"))
+        self.session.see(switch=1, ready=1, inlet=0)
+
+    def test_levels(self):
+        told = [line.split()[2:] for line in (EXAMPLES / "levels/pump.expected").read_text().splitlines() if line.startswith("S level ")]
+        found = [[str(state.cost), *state.faulty] for state in self.session.levels()]
+        self.assertEqual(found[:7], told[:7])
+        self.assertEqual(self.session.level(), Level(1, ("relay",)))
+        # Both listings have one point, and neither disturbs the other.
+        self.assertEqual(list(self.session.diagnoses()), [Diagnosis(("relay",))])
+        self.session.after("at_outlet", "at_tank", "relay")
+        self.assertEqual(next(self.session.levels()), Level(8, ("pump",)))
+        self.session.hold({"pump": "ok", "relay": "ok", "at_inlet": "ok"})
+        with self.assertRaises(Inconsistent):
+            self.session.level()
+
+    def test_least_graph(self):
+        graph = self.session.least_graph()
+        self.assertEqual((graph.nodes + 1, graph.parts), (graph.text.count("\n"), 5))
+        self.assertEqual(self.session.minimum().cost, 1)
+
+
+class Canned(unittest.TestCase):
+    """The same by replies that a stand-in has stored: the lines that are asked, and what is read from them."""
+
+    TOLD = {
+        "levels S 8": ["level 0", *(f"level 1 p{part}" for part in range(7))],
+        "levels S 16": ["level 1 p7", "level 2 p0 p1", "end"],
+        "levels S 3": ["level 0", "level 1 p0", "level 1 p1"],
+        "levels S 1": ["end"],
+        "leastnnf S": ["leastnnf"],
+    }
+    GRAPH = ["nnf 4 1 1", "L 1", "L -1", "A 1 0", "A 1 2"]
+
+    def session(self, **told):
+        lines = {line: "\n".join([f"S {reply}" for reply in replies]) for line, replies in {**self.TOLD, **told}.items()}
+        lines["leastnnf S"] += "\n" + "\n".join(self.GRAPH) if lines["leastnnf S"] == "S leastnnf" else ""
+        served = self.enterContext(Service(C17, levels=2, least=True, program=stand_in("tells", json.dumps(lines))))
+        return self.enterContext(served.session("S"))
+
+    def test_levels(self):
+        session = self.session()
+        expected = [Level(0, ()), *(Level(1, (f"p{part}",)) for part in range(8)), Level(2, ("p0", "p1"))]
+        self.assertEqual(list(session.levels()), expected)
+        self.assertEqual(list(session.levels(3)), expected[:3])
+        self.assertEqual([str(state) for state in expected[::9]], ["0: nothing", "2: p0 p1"])
+        self.assertIsNone(session.level())
+
+    def test_changed_between(self):
+        session = self.session()
+        listing = session.levels()
+        next(listing)
+        session.hold(p1="ok")
+        with self.assertRaises(RuntimeError):
+            next(listing)
+
+    def test_no_state(self):
+        with self.assertRaises(Inconsistent):
+            self.session(**{"levels S 1": ["inconsistent"]}).level()
+
+    def test_least_graph(self):
+        graph = self.session().least_graph()
+        self.assertEqual((graph.nodes, graph.parts, graph.text.splitlines()), (4, 1, self.GRAPH))
+
+    def test_refused(self):
+        session = self.session(**{"levels S 8": ["error 11 no levels"], "leastnnf S": ["error 12 no least"]})
+        for number, ask in ((11, lambda: next(session.levels())), (12, session.least_graph)):
+            with self.assertRaises(Refused) as caught:
+                ask()
+            self.assertEqual(caught.exception.number, number)
+
+
+@needs_program
 class Refusals(unittest.TestCase):
     """Each refusal is an exception with the number and the text that the program has for it."""
 
@@ -210,6 +291,8 @@ class Refusals(unittest.TestCase):
         "probe S 99": lambda session: session.best_probe(among=["99"]),
         "hold S 1=ok": lambda session: session.hold({"1": "ok"}),
         "after S 10 1": lambda session: session.after("10", "1"),
+        "level S": lambda session: session.level(),
+        "leastnnf S": lambda session: session.least_graph(),
         "see S " + "1" * 1_048_576 + "=1": lambda session: session.see({"1" * 1_048_576: 1}),
     }
 
@@ -275,8 +358,8 @@ class Services(unittest.TestCase):
             self.assertEqual((caught.exception.status, caught.exception.last_line), (status, last_line))
 
     def test_options(self):
-        given = {"narrow": True, "budget": None, "frames": 3, "levels": 2, "least": False}
-        self.assertEqual(service.option_words(given), ["--narrow", "--frames", "3", "--levels", "2"])
+        given = {"narrow": True, "budget": None, "frames": 3, "levels": 0, "least": True, "more": False}
+        self.assertEqual(service.option_words(given), ["--narrow", "--frames", "3", "--levels", "0", "--least"])
         with Service(EXAMPLES / "narrow/multiplier.bench", narrow=True, sessions=2) as served:
             self.assertTrue(served.is_running)
 

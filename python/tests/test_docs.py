@@ -41,7 +41,10 @@ class Examples(unittest.TestCase):
 
     def test_each_call_has_an_example(self):
         """Every method of a session that answers something is tried in its docstring."""
-        for name in ("see", "hold", "minimum", "diagnoses", "after", "probe", "blame", "graph", "best_probe", "copy", "ask"):
+        for name in (
+            "see", "hold", "minimum", "diagnoses", "levels", "level", "after", "probe", "blame", "graph", "least_graph", "best_probe", "copy",
+            "ask",
+        ):
             self.assertIn(">>>", getattr(diag_client.Session, name).__doc__, name)
 
 

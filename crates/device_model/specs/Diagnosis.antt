@@ -5,7 +5,7 @@ use Rattle.text_rules.specs.Names.{Name}
 use Rattle.ranking.specs.Bits.{lists_of_bits}
 use Rattle.ranking.specs.Cases.{Case, agrees}
 use Rattle.ranking.specs.Ranking.{passing}
-use Rattle.ranking.specs.Systems.{System}
+use Rattle.ranking.specs.Systems.{System, no_extras}
 use Rattle.device_model.specs.Devices.{Device, fits, part_names, part_costs}
 
 -- The state has what is held, and some bits of so many wires have what was seen and fit.
@@ -13,13 +13,14 @@ abbrev pub is_consistent : (List Bool → List Bool → Bool) → ℕ → Case �
 is_consistent fits_by wires known state =
     agrees known.held state && list_any (λ bits. agrees known.seen bits && fits_by state bits) (lists_of_bits wires)
 
--- the system of some names and costs in which such states agree with a case
+-- the system of some names and costs in which such states agree with a case, which tells nothing besides
 abbrev pub fitting_system : (parts wires : List Name) → List ℕ → (List Bool → List Bool → Bool) → System
 fitting_system parts wires costs fits_by = record {
   parts = parts;
   wires = wires;
   costs = costs;
   consistent = λ known. passing (length parts) (is_consistent fits_by (length wires) known);
+  extras = no_extras;
 }
 
 -- the system of a device

@@ -2,25 +2,32 @@
 use Rattle.std.proofs.Common.{◌≡◌, ℕ, List, [], ◌∷◌, map, true, false, Some, None, codes, refl}
 use Rattle.std.specs.Fmt.{digits}
 use Rattle.session_rules.specs.Items.{Item, Plain}
-use Rattle.diag_cli.specs.Words.{Load, Over, Serve, Ask, Plan, Check, Compile, form_of}
+use Rattle.ranking.specs.Systems.{no_extras}
+use Rattle.diag_cli.specs.declared.words.ServeOptions.{ServeOptions}
+use Rattle.diag_cli.specs.Words.{Load, Over, Serve, ServeFrames, Ask, Plan, Check, Compile, form_of}
 use Rattle.diag_cli.specs.Describing.{long_file_line}
+use Rattle.diag_cli.specs.Besides.{levels_bits, least_bits, bits_line}
 use Rattle.diag_cli.specs.Courses.{Ended, Failed, Cut, read_error, script_too_long, served}
 
 -- ---- words with a form
 
-serve_a_netlist : form_of (codes "serve" ∷ codes "c17.bench" ∷ []) ≡ Some (Over (codes "c17.bench") (Serve 2097152 16 false))
+-- how `serve` answers where no option is given
+abbrev usual : ServeOptions
+usual = record { budget = 2097152; sessions = 16; narrow = false; extras = no_extras }
+
+serve_a_netlist : form_of (codes "serve" ∷ codes "c17.bench" ∷ []) ≡ Some (Over (codes "c17.bench") (Serve usual))
 serve_a_netlist = refl
 
-serve_within_a_budget : form_of (codes "serve" ∷ codes "d/adder.dev" ∷ codes "--budget" ∷ codes "8388608" ∷ []) ≡ Some (Over (codes "d/adder.dev") (Serve 8388608 16 false))
+serve_within_a_budget : form_of (codes "serve" ∷ codes "d/adder.dev" ∷ codes "--budget" ∷ codes "8388608" ∷ []) ≡ Some (Over (codes "d/adder.dev") (Serve (record usual { budget = 8388608 })))
 serve_within_a_budget = refl
 
-serve_many_sessions : form_of (codes "serve" ∷ codes "c.bench" ∷ codes "--sessions" ∷ codes "1024" ∷ []) ≡ Some (Over (codes "c.bench") (Serve 2097152 1024 false))
+serve_many_sessions : form_of (codes "serve" ∷ codes "c.bench" ∷ codes "--sessions" ∷ codes "1024" ∷ []) ≡ Some (Over (codes "c.bench") (Serve (record usual { sessions = 1024 })))
 serve_many_sessions = refl
 
-budget_before_sessions : form_of (codes "serve" ∷ codes "c.bench" ∷ codes "--budget" ∷ codes "7" ∷ codes "--sessions" ∷ codes "1" ∷ []) ≡ Some (Over (codes "c.bench") (Serve 7 1 false))
+budget_before_sessions : form_of (codes "serve" ∷ codes "c.bench" ∷ codes "--budget" ∷ codes "7" ∷ codes "--sessions" ∷ codes "1" ∷ []) ≡ Some (Over (codes "c.bench") (Serve (record usual { budget = 7; sessions = 1 })))
 budget_before_sessions = refl
 
-sessions_before_budget : form_of (codes "serve" ∷ codes "c.bench" ∷ codes "--sessions" ∷ codes "1" ∷ codes "--budget" ∷ codes "7" ∷ []) ≡ Some (Over (codes "c.bench") (Serve 7 1 false))
+sessions_before_budget : form_of (codes "serve" ∷ codes "c.bench" ∷ codes "--sessions" ∷ codes "1" ∷ codes "--budget" ∷ codes "7" ∷ []) ≡ Some (Over (codes "c.bench") (Serve (record usual { budget = 7; sessions = 1 })))
 sessions_before_budget = refl
 
 compile_a_design : form_of (codes "compile" ∷ codes "adder.dev" ∷ []) ≡ Some (Over (codes "adder.dev") (Compile 2097152 false))
@@ -32,10 +39,10 @@ compile_within_a_budget = refl
 plan_a_netlist : form_of (codes "plan" ∷ codes "c.bench" ∷ []) ≡ Some (Over (codes "c.bench") (Plan false))
 plan_a_netlist = refl
 
-serve_in_another_order : form_of (codes "serve" ∷ codes "c.bench" ∷ codes "--narrow" ∷ []) ≡ Some (Over (codes "c.bench") (Serve 2097152 16 true))
+serve_in_another_order : form_of (codes "serve" ∷ codes "c.bench" ∷ codes "--narrow" ∷ []) ≡ Some (Over (codes "c.bench") (Serve (record usual { narrow = true })))
 serve_in_another_order = refl
 
-another_order_between_others : form_of (codes "serve" ∷ codes "c.bench" ∷ codes "--budget" ∷ codes "7" ∷ codes "--narrow" ∷ codes "--sessions" ∷ codes "1" ∷ []) ≡ Some (Over (codes "c.bench") (Serve 7 1 true))
+another_order_between_others : form_of (codes "serve" ∷ codes "c.bench" ∷ codes "--budget" ∷ codes "7" ∷ codes "--narrow" ∷ codes "--sessions" ∷ codes "1" ∷ []) ≡ Some (Over (codes "c.bench") (Serve (record usual { budget = 7; sessions = 1; narrow = true })))
 another_order_between_others = refl
 
 another_order_before_others : form_of (codes "compile" ∷ codes "c.bench" ∷ codes "--narrow" ∷ codes "--budget" ∷ codes "7" ∷ []) ≡ Some (Over (codes "c.bench") (Compile 7 true))
@@ -62,7 +69,64 @@ load_an_adder = refl
 load_the_largest : form_of (codes "load" ∷ codes "800" ∷ []) ≡ Some (Load 800)
 load_the_largest = refl
 
+states_of_no_cost : form_of (codes "serve" ∷ codes "c.bench" ∷ codes "--levels" ∷ codes "0" ∷ []) ≡ Some (Over (codes "c.bench") (Serve (record usual { extras = record { levels = Some 0; least = false } })))
+states_of_no_cost = refl
+
+all_states_and_the_graph : form_of (codes "serve" ∷ codes "c.dev" ∷ codes "--least" ∷ codes "--levels" ∷ codes "4096000" ∷ [])
+    ≡ Some (Over (codes "c.dev") (Serve (record usual { extras = record { levels = Some 4096000; least = true } })))
+all_states_and_the_graph = refl
+
+the_graph_at_the_end : form_of (codes "serve" ∷ codes "c.bench" ∷ codes "--budget" ∷ codes "7" ∷ codes "--least" ∷ [])
+    ≡ Some (Over (codes "c.bench") (Serve (record usual { budget = 7; extras = record { levels = None; least = true } })))
+the_graph_at_the_end = refl
+
+all_options : form_of (codes "serve" ∷ codes "c.bench" ∷ codes "--least" ∷ codes "--frames" ∷ codes "3" ∷ codes "--narrow" ∷ codes "--levels" ∷ codes "2" ∷ codes "--sessions" ∷ codes "1" ∷ codes "--budget" ∷ codes "7" ∷ [])
+    ≡ Some (Over (codes "c.bench") (ServeFrames 3 (record { budget = 7; sessions = 1; narrow = true; extras = record { levels = Some 2; least = true } })))
+all_options = refl
+
 -- ---- words without one
+
+levels_twice : form_of (codes "serve" ∷ codes "c.bench" ∷ codes "--levels" ∷ codes "2" ∷ codes "--levels" ∷ codes "2" ∷ []) ≡ None
+levels_twice = refl
+
+levels_above_their_limit : form_of (codes "serve" ∷ codes "c.bench" ∷ codes "--levels" ∷ codes "4096001" ∷ []) ≡ None
+levels_above_their_limit = refl
+
+least_twice : form_of (codes "serve" ∷ codes "c.bench" ∷ codes "--least" ∷ codes "--least" ∷ []) ≡ None
+least_twice = refl
+
+least_as_a_value : form_of (codes "serve" ∷ codes "c.bench" ∷ codes "--budget" ∷ codes "--least" ∷ codes "5" ∷ []) ≡ None
+least_as_a_value = refl
+
+compile_by_cost : form_of (codes "compile" ∷ codes "c.bench" ∷ codes "--levels" ∷ codes "2" ∷ []) ≡ None
+compile_by_cost = refl
+
+compile_the_least : form_of (codes "compile" ∷ codes "c.bench" ∷ codes "--least" ∷ []) ≡ None
+compile_the_least = refl
+
+plan_by_cost : form_of (codes "plan" ∷ codes "c.bench" ∷ codes "--levels" ∷ codes "2" ∷ []) ≡ None
+plan_by_cost = refl
+
+plan_the_least : form_of (codes "plan" ∷ codes "c.bench" ∷ codes "--least" ∷ []) ≡ None
+plan_the_least = refl
+
+check_by_cost : form_of (codes "check" ∷ codes "g.nnf" ∷ codes "--levels" ∷ codes "2" ∷ []) ≡ None
+check_by_cost = refl
+
+check_the_least : form_of (codes "check" ∷ codes "g.nnf" ∷ codes "--least" ∷ []) ≡ None
+check_the_least = refl
+
+ask_by_cost : form_of (codes "ask" ∷ codes "g.nnf" ∷ codes "2" ∷ codes "--levels" ∷ codes "2" ∷ []) ≡ None
+ask_by_cost = refl
+
+ask_the_least : form_of (codes "ask" ∷ codes "g.nnf" ∷ codes "2" ∷ codes "--least" ∷ []) ≡ None
+ask_the_least = refl
+
+load_by_cost : form_of (codes "load" ∷ codes "1" ∷ codes "--levels" ∷ codes "2" ∷ []) ≡ None
+load_by_cost = refl
+
+load_the_least : form_of (codes "load" ∷ codes "1" ∷ codes "--least" ∷ []) ≡ None
+load_the_least = refl
 
 load_too_large : form_of (codes "load" ∷ codes "801" ∷ []) ≡ None
 load_too_large = refl
@@ -195,3 +259,19 @@ a_long_script = refl
 a_long_file : long_file_line ≡ codes "error: file above 16777216 bytes\n"
 unfolding digits
 a_long_file = refl
+
+-- ---- what is told besides
+
+-- over a field of 4095 gates, and over a chain of 1000 buffers
+bits_of_levels : levels_bits 159704 20476 4095 (Some 32) ≡ 2162954494
+bits_of_levels = refl
+
+bits_of_a_drawing : least_bits 159704 20476 4095 true ≡ 2163474560
+bits_of_a_drawing = refl
+
+bits_of_a_small_drawing : least_bits 5002 2001 1000 true ≡ 20682880
+bits_of_a_small_drawing = refl
+
+too_many_bits : bits_line 2162954494 ≡ codes "error: bits 2162954494 above 2147483648\n"
+unfolding digits
+too_many_bits = refl

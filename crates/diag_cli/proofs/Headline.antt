@@ -19,6 +19,7 @@ use Rattle.clause_encoder.specs.declared.encoding.EncodeError.{EncodeError}
 use Rattle.clause_encoder.specs.Clauses.{ClauseList}
 use Rattle.bench_reader.specs.SequentialNetlists.{sequential_netlist}
 use Rattle.diag_cli.specs.declared.serving.TheConstants.{SCRIPT_LIMIT}
+use Rattle.diag_cli.specs.declared.words.ServeOptions.{ServeOptions}
 use Rattle.diag_cli.specs.Words.{Form, Load, Over, Command, Serve, ServeFrames, Ask, Plan, Check, Compile, asks_script}
 use Rattle.diag_cli.specs.Describing.{netlist_line, long_file_line, or_line, described, device_in}
 use Rattle.diag_cli.specs.Frames.{sequential_in, if_unrolled}
@@ -45,16 +46,16 @@ pub short_netlist : (file : List ℕ) → length file ≤ TEXT_LIMIT → sequent
 short_netlist file short = let few : nat_le (length file) TEXT_LIMIT ≡ true = grind arith in rw few
 
 -- what is said of a short text is said of its file
-pub refused_in : (fault : Option Output) (path file : List ℕ) (budget : ℕ) (clauses : Device → Result ClauseList EncodeError) → length file ≤ TEXT_LIMIT → IsExpectedFault fault (described path file)
-    → IsExpectedFault fault (if_within budget clauses (device_in path file))
-refused_in None path file budget clauses short is = tt
-refused_in (Some output) path file budget clauses short is = ap (if_within budget clauses) (short_file path file short ∙ is)
+pub refused_in : (fault : Option Output) (path file : List ℕ) (options : ServeOptions) (clauses : Device → Result ClauseList EncodeError) → length file ≤ TEXT_LIMIT → IsExpectedFault fault (described path file)
+    → IsExpectedFault fault (if_within options clauses (device_in path file))
+refused_in None path file options clauses short is = tt
+refused_in (Some output) path file options clauses short is = ap (if_within options clauses) (short_file path file short ∙ is)
 
 -- the same of a netlist over several times
-pub refused_frames : (fault : Option Output) (file : List ℕ) (frames budget : ℕ) (put : ClauseList → ClauseList) → length file ≤ TEXT_LIMIT
-    → IsExpectedFault fault (or_line netlist_line (sequential_netlist file)) → IsExpectedFault fault (if_unrolled frames budget put (sequential_in file))
-refused_frames None file frames budget put short is = tt
-refused_frames (Some output) file frames budget put short is = ap (if_unrolled frames budget put) (short_netlist file short ∙ is)
+pub refused_frames : (fault : Option Output) (file : List ℕ) (frames : ℕ) (options : ServeOptions) (put : ClauseList → ClauseList) → length file ≤ TEXT_LIMIT
+    → IsExpectedFault fault (or_line netlist_line (sequential_netlist file)) → IsExpectedFault fault (if_unrolled frames options put (sequential_in file))
+refused_frames None file frames options put short is = tt
+refused_frames (Some output) file frames options put short is = ap (if_unrolled frames options put) (short_netlist file short ∙ is)
 
 -- words with a form may run out of memory
 with_form : (form : Form) {output : Output} {status : ℕ} {a b : Option (List ℕ)} → GivesUnlessMemory output status a b → GivesUnlessShort (Some form) output status a b
@@ -255,8 +256,8 @@ module _ (input new_input : Reading) (out new_out : Writing) (status : ℕ) wher
     }
       where
         idle_by : (any : Command) → Follows (course_by order path any file) input new_input out new_out status → asks_script (Some (Over path any)) ≡ false → IsIdle input new_input
-        idle_by (Serve budget sessions narrow) done asks = absurd (let never : ⊥ = cc in never)
-        idle_by (ServeFrames frames budget sessions narrow) done asks = absurd (let never : ⊥ = cc in never)
+        idle_by (Serve options) done asks = absurd (let never : ⊥ = cc in never)
+        idle_by (ServeFrames frames options) done asks = absurd (let never : ⊥ = cc in never)
         idle_by (Ask health sessions) done asks = absurd (let never : ⊥ = cc in never)
         idle_by (Plan narrow) done asks = done.0
         idle_by Check done asks = done.0
@@ -284,8 +285,8 @@ long_course order path command file long = by command
     no_more = grind arith
 
     by : (any : Command) → course_by order path any file ≡ Tells (says long_file_line 1)
-    by (Serve budget sessions narrow) = rw no_more
-    by (ServeFrames frames budget sessions narrow) = rw no_more
+    by (Serve options) = rw no_more
+    by (ServeFrames frames options) = rw no_more
     by (Ask health sessions) = rw no_more
     by (Plan narrow) = rw no_more
     by Check = rw no_more

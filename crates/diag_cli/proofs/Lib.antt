@@ -1,6 +1,8 @@
 mod Examples
 mod Limits
 pub mod WordLemmas
+pub mod OptionOrder
+pub mod FewBits
 pub mod Running
 pub mod ServedDevices
 pub mod AskedGraphs

@@ -1,6 +1,7 @@
 -- By which order of clauses a run goes.
-use Rattle.std.proofs.Common.{◌≡◌, ◌<◌, ◌≤◌, ℕ, Bool, true, false, Ok, Err, nat_lt, sym, ap, ◌∙◌, arith}
+use Rattle.std.proofs.Common.{◌≡◌, ◌<◌, ◌≤◌, ℕ, Bool, true, false, Result, Ok, Err, nat_lt, sym, ap, subst, ◌∙◌, arith}
 use Rattle.device_model.specs.Devices.{Device}
+use Rattle.clause_encoder.specs.declared.encoding.EncodeError.{EncodeError}
 use Rattle.clause_encoder.specs.Clauses.{ClauseList}
 use Rattle.branch_states.specs.Branches.{sum_of}
 use Rattle.clause_order.specs.Orders.{IsReordered, IsNarrowed, SameTruth}
@@ -62,12 +63,7 @@ module _ (narrow : Bool) (device : Device) (found : ClauseList) (of : IsListOf n
   pub list_alike : SameTruth of.given found
   list_alike = ordered_alike of.given found narrow of.in_order
 
-  -- by some order of clauses they are those of the device
-  list_order : ByClauses narrow (λ clauses. clauses device ≡ Ok found)
-  list_order = by_same (by_list of.given found narrow of.in_order) (λ order is. ap (put_into (list_by narrow order)) of.encoded ∙ ap Ok is)
-
-  pub list_within : (budget : ℕ) → sum_of found.clauses ≤ budget → ByClauses narrow (λ clauses. within budget (clauses device) ≡ Ok found)
-  list_within budget few = by_same list_order (λ order is. ap (within budget) is ∙ kept_within budget found few)
-
-  pub list_above : (budget : ℕ) → budget < sum_of found.clauses → ByClauses narrow (λ clauses. within budget (clauses device) ≡ Err (says (sum_line budget) 3))
-  list_above budget many = by_same list_order (λ order is. ap (within budget) is ∙ refused_above budget found many)
+  -- By some order of clauses they are those of the device, so that what holds of them holds of these.
+  pub list_gives : (Gives : Result ClauseList EncodeError → Type 0) → Gives (Ok found) → ByClauses narrow (λ clauses. Gives (clauses device))
+  list_gives Gives given =
+      by_same (by_list of.given found narrow of.in_order) (λ order is. subst Gives (sym (ap (put_into (list_by narrow order)) of.encoded ∙ ap Ok is)) given)

@@ -96,7 +96,7 @@ module _ (shown : Shown) (sound : IsSound shown) where
       → Appends a b (spaced (codes "ready" ∷ decimal parts ∷ decimal wires ∷ []))
       → Makes old new (script_moves (moves_of shown) old lines) b c → Writes a c (answers_of (system_of shown.subject) shown.limit lines)
   ready_then old new lines parts wires a b c none p w ready made =
-      let over = makes_over shown sound.valid sound.room sound.few old new lines b c (no_cases old none) made in
+      let over = makes_over shown sound.valid sound.room sound.few sound.least old new lines b c (no_cases old none) made in
       writes_more a b c (ready_line system ∷ []) (replies system shown.limit [] lines) (ready_put system parts wires a b p w ready)
       (subst (λ (t : Table). Writes b c (replies system shown.limit t lines)) none (subst (Writes b c) (said-replies system shown.limit old lines) over.written))
 
@@ -125,16 +125,16 @@ module _ (shown : Shown) (sound : IsSound shown) where
         begun = (rest, spells_one (ready_line system) (part ++ rest) (sym all ∙ (λ i. spaced (codes "ready" ∷ decimal (p i) ∷ decimal (w i) ∷ []))));
         grown = grown;
       })
-      (replies-have shown.subject sound.valid sound.room sound.few shown.limit [] lines (HasCases-empty system))
+      (replies-have shown.subject sound.valid sound.room sound.few sound.least shown.limit [] lines (HasCases-empty system))
 
   -- with the replies to lines: what was written begins the answers to them and to any more
   pub lines_begun : (old new : Table) (lines : List (List ℕ)) (parts wires : ℕ) (a b c : Option (List ℕ)) → old ≡ [] → parts ≡ length shown.subject.parts → wires ≡ length shown.subject.wires
       → Appends a b (spaced (codes "ready" ∷ decimal parts ∷ decimal wires ∷ []))
       → BreaksOff new (script_moves (moves_of shown) old lines) b c → (more : List (List ℕ)) → WritesPart a c (answers_of (system_of shown.subject) shown.limit (lines ++ more))
   lines_begun old new lines parts wires a b c none p w ready broke more =
-      let over = breaks_over shown sound.valid sound.room sound.few old new lines b c (no_cases old none) broke in
+      let over = breaks_over shown sound.valid sound.room sound.few sound.least old new lines b c (no_cases old none) broke in
       part_after a b c (ready_line system ∷ []) (replies system shown.limit [] (lines ++ more)) (ready_put system parts wires a b p w ready)
-      (broken_begins_more shown.subject sound.valid sound.room sound.few shown.limit [] new lines more b c (HasCases-empty system)
+      (broken_begins_more shown.subject sound.valid sound.room sound.few sound.least shown.limit [] new lines more b c (HasCases-empty system)
       (subst (λ (t : Table). BreaksOff new (script_moves (line_moves system shown.limit) t lines) b c) none over))
 
   -- of bytes that are a front and a piece the front was answered, and a write failed in the lines behind

@@ -1,5 +1,7 @@
 -- A service over a device's graph answers as the device's system does.
 use Rattle.std.proofs.Common.{◌≡◌, ◌≤◌, ◌+◌, ◌*◌, ℕ, List, [], ◌∷◌, length, sym, subst, arith}
+use Rattle.ranking.specs.declared.extras.Extras.{Extras}
+use Rattle.ranking.specs.Systems.{with_extras}
 use Rattle.std.specs.Prelude.{Result, Ok}
 use Rattle.graph_rules.specs.Graphs.{Graph, IsGraph}
 use Rattle.device_model.specs.Devices.{Device, IsDevice}
@@ -16,8 +18,9 @@ use Rattle.session_rules.specs.GraphSystems.{compiled_system, system_of}
 use Rattle.session_rules.proofs.GraphReplies.{graph_replies}
 use Rattle.session_rules.proofs.Keeping.{HasCases-empty}
 use Rattle.session_core.specs.Services.{Shown}
+use Rattle.diag_cli.specs.declared.words.ServeOptions.{ServeOptions}
 use Rattle.diag_cli.specs.Output.{Output}
-use Rattle.diag_cli.specs.Courses.{ready_line, answers_of, if_within, served_or_refused}
+use Rattle.diag_cli.specs.Courses.{ready_line, answers_of, if_within, served_device, served_or_refused}
 use Rattle.diag_cli.specs.Following.{Reading, Writing, IsServed, Follows}
 use Rattle.diag_cli.specs.inner.Serving.{IsServable, IsServiceOf}
 
@@ -38,15 +41,16 @@ module _ (device : Device) (cnf : ClauseList) (is : encoded device ≡ Ok cnf) w
 
 -- ---- the same answers
 
-same_answers : (device : Device) (graph : Graph) → IsGraphOf device graph → (sessions : ℕ) → answers_of (compiled_system device graph) sessions ≡ answers_of (device_system device) sessions
-same_answers device graph is sessions = λ k lines. ready_line (device_system device) ∷ graph_replies device graph is sessions [] (HasCases-empty (device_system device)) lines k
+same_answers : (device : Device) (graph : Graph) → IsGraphOf device graph → (extras : Extras) (sessions : ℕ)
+    → answers_of (with_extras extras (compiled_system device graph)) sessions ≡ answers_of (with_extras extras (device_system device)) sessions
+same_answers device graph is extras sessions = λ k lines. ready_line (device_system device) ∷ graph_replies device graph is extras sessions [] (HasCases-empty (device_system device)) lines k
 
--- What the service of a device answers is what the device's system does. So it follows the course of the device, where its
--- sum is within the budget.
-pub device_served : (budget sessions : ℕ) (clauses : Device → Result ClauseList EncodeError) (device : Device) (service : Shown) (input new_input : Reading) (out new_out : Writing) (status : ℕ) → IsServiceOf device sessions service
-    → if_within budget clauses (Ok device) ≡ Ok device → IsServed (answers_of (system_of service.subject) service.limit) input new_input out new_out status
-    → Follows (served_or_refused device_system sessions (if_within budget clauses (Ok device))) input new_input out new_out status
-device_served budget sessions clauses device service input new_input out new_out status of within_it done =
-    subst (λ (expected : Result Device Output). Follows (served_or_refused device_system sessions expected) input new_input out new_out status) (sym within_it)
-    (subst (λ (answers : List (List ℕ) → List Item). IsServed answers input new_input out new_out status) (same_answers device of.graph of.servable.meaning sessions)
+-- What the service of a device answers is what the device's system does. So it follows the course of the device, where it may be
+-- served.
+pub device_served : (options : ServeOptions) (clauses : Device → Result ClauseList EncodeError) (device : Device) (service : Shown) (input new_input : Reading) (out new_out : Writing) (status : ℕ) → IsServiceOf device options service
+    → if_within options clauses (Ok device) ≡ Ok device → IsServed (answers_of (system_of service.subject) service.limit) input new_input out new_out status
+    → Follows (served_or_refused (served_device options) options.sessions (if_within options clauses (Ok device))) input new_input out new_out status
+device_served options clauses device service input new_input out new_out status of within_it done =
+    subst (λ (expected : Result Device Output). Follows (served_or_refused (served_device options) options.sessions expected) input new_input out new_out status) (sym within_it)
+    (subst (λ (answers : List (List ℕ) → List Item). IsServed answers input new_input out new_out status) (same_answers device of.graph of.servable.meaning options.extras options.sessions)
     (subst (λ (s : Shown). IsServed (answers_of (system_of s.subject) s.limit) input new_input out new_out status) of.shown done))

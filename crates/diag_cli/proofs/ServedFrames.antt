@@ -13,7 +13,7 @@ use Rattle.clause_order.specs.Orders.{SameTruth}
 use Rattle.frame_unroller.specs.Unrolling.{unrolled, reason, IsUnrolled}
 use Rattle.frame_unroller.proofs.Refusing.{unrolled-names}
 use Rattle.dnnf_compiler.proofs.Laws.{graph_over}
-use Rattle.diag_cli.specs.Planning.{within, sum_line}
+use Rattle.diag_cli.specs.Planning.{within}
 use Rattle.diag_cli.specs.Orders.{list_by, ByOrder}
 use Rattle.std.proofs.lemmas.List.{length-map, length-replicate}
 use Rattle.ranking.specs.Ranking.{plain_costs}
@@ -28,59 +28,60 @@ use Rattle.session_rules.specs.GraphSystems.{system_of}
 use Rattle.session_rules.proofs.GraphReplies.{fitting_replies}
 use Rattle.session_rules.proofs.Keeping.{HasCases-empty}
 use Rattle.session_core.specs.Services.{Shown}
-use Rattle.diag_cli.specs.Output.{Output, says}
-use Rattle.diag_cli.specs.Courses.{ready_line, answers_of, served_or_refused}
+use Rattle.ranking.specs.Systems.{with_extras}
+use Rattle.diag_cli.specs.declared.words.ServeOptions.{ServeOptions}
+use Rattle.diag_cli.specs.Output.{Output}
+use Rattle.diag_cli.specs.Besides.{in_few_bits}
+use Rattle.diag_cli.specs.Courses.{ready_line, answers_of, served_frames, served_or_refused}
 use Rattle.diag_cli.specs.Frames.{unrolled_within, netlist_by, if_unrolled}
 use Rattle.diag_cli.specs.Following.{Reading, Writing, IsServed, Follows}
 use Rattle.diag_cli.specs.inner.Ordering.{IsInOrder}
 use Rattle.diag_cli.specs.inner.Serving.{IsFrameService, frames_told}
-use Rattle.diag_cli.proofs.Ordering.{by_same, by_list, kept_within, refused_above}
+use Rattle.diag_cli.proofs.Ordering.{by_same, by_list}
 
-module _ (seq : Sequential) (frames sessions : ℕ) where
+module _ (seq : Sequential) (frames : ℕ) (options : ServeOptions) where
   named : length (part_names seq.device.parts) ≡ length seq.device.parts
   named = length-map seq.device.parts (λ (part : Component). part.name)
 
-  module _ (service : Shown) (of : IsFrameService seq frames sessions service) where
+  module _ (service : Shown) (of : IsFrameService seq frames options service) where
     over_names : IsGraphOver (length (part_names seq.device.parts)) (length (frame_wires seq frames)) (fits_over seq frames) of.graph
     over_names = subst (λ n. IsGraphOver n (length (frame_wires seq frames)) (fits_over seq frames) of.graph) (sym named) of.meaning
 
-    same_answers : answers_of (system_of service.subject) service.limit ≡ answers_of (frame_system seq frames) sessions
+    same_answers : answers_of (system_of service.subject) service.limit ≡ answers_of (served_frames frames options seq) options.sessions
     same_answers =
         ap (λ (s : Shown). answers_of (system_of s.subject) s.limit) of.shown
         ∙ (λ k lines. ready_line (frame_system seq frames)
-        ∷ fitting_replies (part_names seq.device.parts) (frame_wires seq frames) (plain_costs (length seq.device.parts)) (fits_over seq frames) of.graph over_names sessions [] (HasCases-empty (frame_system seq frames)) lines k)
+        ∷ fitting_replies (part_names seq.device.parts) (frame_wires seq frames) (plain_costs (length seq.device.parts)) (fits_over seq frames) of.graph over_names options.extras options.sessions [] (HasCases-empty (frame_system seq frames)) lines k)
 
-    -- so it follows the course of the netlist, where it is unrolled within the budget
-    pub frames_served : (budget : ℕ) (put : ClauseList → ClauseList) (input new_input : Reading) (out new_out : Writing) (status : ℕ) → if_unrolled frames budget put (Ok seq) ≡ Ok seq
+    -- so it follows the course of the netlist, where it may be served
+    pub frames_served : (put : ClauseList → ClauseList) (input new_input : Reading) (out new_out : Writing) (status : ℕ) → if_unrolled frames options put (Ok seq) ≡ Ok seq
         → IsServed (answers_of (system_of service.subject) service.limit) input new_input out new_out status
-        → Follows (served_or_refused (λ s. frame_system s frames) sessions (if_unrolled frames budget put (Ok seq))) input new_input out new_out status
-    frames_served budget put input new_input out new_out status within_it done =
-        subst (λ (expected : Result Sequential Output). Follows (served_or_refused (λ s. frame_system s frames) sessions expected) input new_input out new_out status) (sym within_it)
+        → Follows (served_or_refused (served_frames frames options) options.sessions (if_unrolled frames options put (Ok seq))) input new_input out new_out status
+    frames_served put input new_input out new_out status within_it done =
+        subst (λ (expected : Result Sequential Output). Follows (served_or_refused (served_frames frames options) options.sessions expected) input new_input out new_out status) (sym within_it)
         (subst (λ (answers : List (List ℕ) → List Item). IsServed answers input new_input out new_out status) same_answers done)
 
--- ---- a netlist that is not unrolled, or whose sum is above the budget
+-- ---- a netlist that is not unrolled, or not served
 
-module _ (seq : Sequential) (frames budget : ℕ) where
+module _ (seq : Sequential) (frames : ℕ) (options : ServeOptions) where
   pub not_unrolled_told : (put : ClauseList → ClauseList) (error : UnrollError) (told : Option Output) → told ≡ frames_told error → IsExpectedFault (reason error) (unrolled seq frames)
-      → IsExpectedFault told (if_unrolled frames budget put (Ok seq))
-  not_unrolled_told put error told is h = subst (λ o. IsExpectedFault o (if_unrolled frames budget put (Ok seq))) (sym is) (by error h)
+      → IsExpectedFault told (if_unrolled frames options put (Ok seq))
+  not_unrolled_told put error told is h = subst (λ o. IsExpectedFault o (if_unrolled frames options put (Ok seq))) (sym is) (by error h)
     where
-      by : (e : UnrollError) → IsExpectedFault (reason e) (unrolled seq frames) → IsExpectedFault (frames_told e) (if_unrolled frames budget put (Ok seq))
-      by (TooManyParts count) h = ap (λ r. netlist_by seq (unrolled_within budget put r)) h
-      by (TooManyWires count) h = ap (λ r. netlist_by seq (unrolled_within budget put r)) h
-      by (TooManyClauses count) h = ap (λ r. netlist_by seq (unrolled_within budget put r)) h
+      by : (e : UnrollError) → IsExpectedFault (reason e) (unrolled seq frames) → IsExpectedFault (frames_told e) (if_unrolled frames options put (Ok seq))
+      by (TooManyParts count) h = ap (λ r. netlist_by seq (in_few_bits options.extras (length seq.device.parts) (unrolled_within options.budget put r))) h
+      by (TooManyWires count) h = ap (λ r. netlist_by seq (in_few_bits options.extras (length seq.device.parts) (unrolled_within options.budget put r))) h
+      by (TooManyClauses count) h = ap (λ r. netlist_by seq (in_few_bits options.extras (length seq.device.parts) (unrolled_within options.budget put r))) h
       by NoMemory h = tt
 
-  -- by the order in which its clauses were put
-  module _ (made : Unrolled) (is : unrolled seq frames ≡ Ok made) (narrow : Bool) (found : ClauseList) (in_order : IsInOrder narrow made.cnf found) where
-    put_so : (order : ClauseList → ClauseList) → list_by narrow order made.cnf ≡ found → if_unrolled frames budget (list_by narrow order) (Ok seq) ≡ netlist_by seq (within budget (Ok found))
-    put_so order same = ap (λ r. netlist_by seq (unrolled_within budget (list_by narrow order) r)) is ∙ ap (λ cnf. netlist_by seq (within budget (Ok cnf))) same
-
-    pub sum_told : budget < sum_of found.clauses → ByOrder (λ order. if_unrolled frames budget (list_by narrow order) (Ok seq) ≡ Err (says (sum_line budget) 3))
-    sum_told above = by_same (by_list made.cnf found narrow in_order) (λ order same. put_so order same ∙ ap (netlist_by seq) (refused_above budget found above))
-
-    pub sum_within : sum_of found.clauses ≤ budget → ByOrder (λ order. if_unrolled frames budget (list_by narrow order) (Ok seq) ≡ Ok seq)
-    sum_within few = by_same (by_list made.cnf found narrow in_order) (λ order same. put_so order same ∙ ap (netlist_by seq) (kept_within budget found few))
+  -- what its clauses come to in the order in which they were put
+  pub unrolled_gives : (made : Unrolled) → unrolled seq frames ≡ Ok made → (found : ClauseList) → IsInOrder options.narrow made.cnf found → (Gives : Result Sequential Output → Type 0)
+      → Gives (netlist_by seq (in_few_bits options.extras (length seq.device.parts) (within options.budget (Ok found)))) → ByOrder (λ order. Gives (if_unrolled frames options (list_by options.narrow order) (Ok seq)))
+  unrolled_gives made is found in_order Gives given =
+      by_same (by_list made.cnf found options.narrow in_order) (λ order same.
+      let so = ap (λ r. netlist_by seq (in_few_bits options.extras (length seq.device.parts) (unrolled_within options.budget (list_by options.narrow order) r))) is
+      ∙ ap (λ cnf. netlist_by seq (in_few_bits options.extras (length seq.device.parts) (within options.budget (Ok cnf)))) same in
+      subst Gives (sym so) given)
 
 -- ---- the service of what was unrolled
 
@@ -91,10 +92,12 @@ module _ (seq : Sequential) (frames : ℕ) (made : Unrolled) (is : unrolled seq 
   wires_are : made.wires ≡ frame_wires seq frames
   wires_are = (unrolled-names seq frames made is).1
 
+  pub many_parts : length made.parts ≡ length seq.device.parts
+  many_parts = ap length parts_are ∙ length-map seq.device.parts (λ (part : Component). part.name)
+
   -- a cost for each part
   pub many_costs : (costs : List ℕ) → costs ≡ plain_costs (length seq.device.parts) → length costs ≡ length made.parts
-  many_costs costs are =
-      omega (arith, ap length are, length-replicate {A = ℕ} (length seq.device.parts) 1, ap length parts_are, length-map seq.device.parts (λ (part : Component). part.name))
+  many_costs costs are = omega (arith, ap length are, length-replicate {A = ℕ} (length seq.device.parts) 1, many_parts)
 
   -- the clauses in another order describe the same
   module _ (describes : DescribesBy made.cnf (length seq.device.parts) (length (frame_wires seq frames)) (fits_over seq frames)) (found : ClauseList) (vars_are : found.vars ≡ made.cnf.vars)
@@ -102,16 +105,16 @@ module _ (seq : Sequential) (frames : ℕ) (made : Unrolled) (is : unrolled seq 
       (graph : Graph) (count : ℕ) (decomposable : IsGraph graph) (vars : graph.vars ≡ found.vars) (says : SaysAll found.clauses graph)
       (few_made : count ≤ 3 * sum_of found.clauses + 2) (few_nodes : length graph.nodes ≤ count + 2 * found.vars) (small : sum_of found.clauses ≤ BUDGET_LIMIT) where
     room : length seq.device.parts + length (frame_wires seq frames) ≤ made.cnf.vars
-    room = omega (arith, valid.room, ap length parts_are, ap length wires_are, length-map seq.device.parts (λ (part : Component). part.name))
+    room = omega (arith, valid.room, many_parts, ap length wires_are)
 
-    pub frame_service : (sessions : ℕ) (costs : List ℕ) (service : Shown) → costs ≡ plain_costs (length seq.device.parts)
-        → service ≡ record { subject = record { parts = made.parts; wires = made.wires; costs = costs; graph = graph }; limit = sessions; table = [] }
-        → IsFrameService seq frames sessions service
-    frame_service sessions costs service are shown = record {
+    pub frame_service : (options : ServeOptions) (costs : List ℕ) (service : Shown) → costs ≡ plain_costs (length seq.device.parts)
+        → service ≡ record { subject = record { parts = made.parts; wires = made.wires; costs = costs; graph = graph; extras = options.extras }; limit = options.sessions; table = [] }
+        → IsFrameService seq frames options service
+    frame_service options costs service are shown = record {
       graph = graph;
       valid = decomposable;
       meaning = graph_over (length seq.device.parts) (length (frame_wires seq frames)) (fits_over seq frames) made.cnf graph room describes (vars ∙ vars_are) (λ a. says a ∙ alike a);
       few_vars = omega (arith, vars, vars_are, valid.few_vars);
       few_nodes = omega (arith, vars, vars_are, valid.few_vars, few_made, few_nodes, small);
-      shown = shown ∙ (λ i. record { subject = record { parts = parts_are i; wires = wires_are i; costs = are i; graph = graph }; limit = sessions; table = [] });
+      shown = shown ∙ (λ i. record { subject = record { parts = parts_are i; wires = wires_are i; costs = are i; graph = graph; extras = options.extras }; limit = options.sessions; table = [] });
     }

@@ -5,7 +5,7 @@ use Rattle.text_rules.specs.TextLines.{whole_lines, all_lines}
 use Rattle.diag_edge.specs.declared.loading.LoadError.{LoadError}
 use Rattle.diag_edge.specs.declared.loading.LoadError.TheVariants.{Failed as LoadFailed, Long, Memory}
 use Rattle.device_model.specs.Devices.{Device}
-use Rattle.ranking.specs.Systems.{System}
+use Rattle.ranking.specs.Systems.{System, with_extras}
 use Rattle.device_model.specs.Diagnosis.{device_system}
 use Rattle.clause_encoder.specs.Clauses.{ClauseList}
 use Rattle.clause_encoder.specs.declared.encoding.EncodeError.{EncodeError}
@@ -14,11 +14,14 @@ use Rattle.session_rules.specs.Items.{Item, Plain, Whole, line}
 use Rattle.session_rules.specs.Sessions.{replies}
 use Rattle.session_rules.specs.GraphSystems.{system_of}
 use Rattle.diag_cli.specs.declared.serving.TheConstants.{SCRIPT_LIMIT}
+use Rattle.diag_cli.specs.declared.words.ServeOptions.{ServeOptions}
 use Rattle.diag_cli.specs.Words.{Form, Load, Over, Command, Serve, ServeFrames, Ask, Plan, Check, Compile}
 use Rattle.diag_cli.specs.Output.{Output, says, too_long_line, no_memory}
 use Rattle.diag_cli.specs.Describing.{long_file_line, device_in}
 use Rattle.diag_cli.specs.Orders.{list_by, clauses_by}
 use Rattle.diag_cli.specs.Planning.{within, sizes_in, planned}
+use Rattle.diag_cli.specs.Besides.{in_few_bits}
+use Rattle.bench_reader.specs.declared.sequential.Sequential.{Sequential}
 use Rattle.frame_unroller.specs.Diagnosis.{frame_system}
 use Rattle.diag_cli.specs.Frames.{sequential_in, if_unrolled}
 use Rattle.diag_cli.specs.Checking.{graph_in, checked}
@@ -91,14 +94,22 @@ pub data Course : Type 0 where
   Tells : (output : Output) → Course
   Serves : (answers : List (List ℕ) → List Item) → Course
 
--- the sum of a device is within a budget
+-- the sum of a device is within the budget, and what is told besides takes few bits
 abbrev pub device_by : Device → Result ClauseList Output → Result Device Output
 device_by device (Ok cnf) = Ok device
 device_by device (Err output) = Err output
 
-abbrev pub if_within : ℕ → (Device → Result ClauseList EncodeError) → Result Device Output → Result Device Output
-if_within budget clauses (Ok device) = device_by device (within budget (clauses device))
-if_within budget clauses (Err output) = Err output
+abbrev pub if_within : ServeOptions → (Device → Result ClauseList EncodeError) → Result Device Output → Result Device Output
+if_within options clauses (Ok device) =
+    device_by device (in_few_bits options.extras (length device.parts) (within options.budget (clauses device)))
+if_within options clauses (Err output) = Err output
+
+-- the systems of a device, and of a netlist over so many times, with what is told besides
+abbrev pub served_device : ServeOptions → Device → System
+served_device options device = with_extras options.extras (device_system device)
+
+abbrev pub served_frames : ℕ → ServeOptions → Sequential → System
+served_frames frames options seq = with_extras options.extras (frame_system seq frames)
 
 -- the script is answered over the system of what was found, with at most so many sessions open
 abbrev pub served_or_refused : {A : Type 0} → (A → System) → ℕ → Result A Output → Course
@@ -113,10 +124,10 @@ whole_output (Serves answers) (Some script) = Some (wholly_served answers script
 
 -- by the command, over a file, and by the order of clauses that is used where another one is asked for
 abbrev pub course_by : (ClauseList → ClauseList) → List ℕ → Command → List ℕ → Course
-course_by order path (Serve budget sessions narrow) file =
-    served_or_refused device_system sessions (if_within budget (clauses_by narrow order) (device_in path file))
-course_by order path (ServeFrames frames budget sessions narrow) file =
-    served_or_refused (λ seq. frame_system seq frames) sessions (if_unrolled frames budget (list_by narrow order) (sequential_in file))
+course_by order path (Serve options) file =
+    served_or_refused (served_device options) options.sessions (if_within options (clauses_by options.narrow order) (device_in path file))
+course_by order path (ServeFrames frames options) file =
+    served_or_refused (served_frames frames options) options.sessions (if_unrolled frames options (list_by options.narrow order) (sequential_in file))
 course_by order path (Ask health sessions) file = served_or_refused system_of sessions (asked health (graph_in file))
 course_by order path (Plan narrow) file = Tells (planned (sizes_in (clauses_by narrow order) (device_in path file)))
 course_by order path Check file = Tells (checked (graph_in file))

@@ -13,7 +13,9 @@ use Rattle.frame_unroller.specs.Unrolling.{unrolled}
 use Rattle.diag_edge.specs.ErrorLines.{above_line}
 use Rattle.diag_cli.specs.Output.{Output, says, no_memory}
 use Rattle.diag_cli.specs.Describing.{netlist_line, long_file_line, or_line}
+use Rattle.diag_cli.specs.declared.words.ServeOptions.{ServeOptions}
 use Rattle.diag_cli.specs.Planning.{within}
+use Rattle.diag_cli.specs.Besides.{in_few_bits}
 
 -- the netlist of a file, which may be too long
 abbrev pub sequential_in : List ℕ → Result Sequential Output
@@ -31,11 +33,12 @@ abbrev pub unrolled_within : ℕ → (ClauseList → ClauseList) → Result Unro
 unrolled_within budget put (Ok made) = within budget (Ok (put made.cnf))
 unrolled_within budget put (Err error) = Err (not_unrolled error)
 
--- the netlist, where it is unrolled within a budget
+-- the netlist, where it is unrolled within the budget, and what is told besides takes few bits
 abbrev pub netlist_by : Sequential → Result ClauseList Output → Result Sequential Output
 netlist_by seq (Ok cnf) = Ok seq
 netlist_by seq (Err output) = Err output
 
-abbrev pub if_unrolled : ℕ → ℕ → (ClauseList → ClauseList) → Result Sequential Output → Result Sequential Output
-if_unrolled frames budget put (Ok seq) = netlist_by seq (unrolled_within budget put (unrolled seq frames))
-if_unrolled frames budget put (Err output) = Err output
+abbrev pub if_unrolled : ℕ → ServeOptions → (ClauseList → ClauseList) → Result Sequential Output → Result Sequential Output
+if_unrolled frames options put (Ok seq) =
+    netlist_by seq (in_few_bits options.extras (length seq.device.parts) (unrolled_within options.budget put (unrolled seq frames)))
+if_unrolled frames options put (Err output) = Err output

@@ -7,6 +7,7 @@ pub mod Asking
 pub mod Planning
 pub mod Frames
 pub mod Loads
+pub mod Besides
 pub mod Courses
 pub mod Following
 pub mod Runs

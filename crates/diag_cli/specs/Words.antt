@@ -9,6 +9,8 @@ use Rattle.branch_states.specs.declared.measuring.TheConstants.{BUDGET_LIMIT}
 use Rattle.frame_unroller.specs.declared.unrolling.TheConstants.{FRAME_LIMIT}
 use Rattle.diag_edge.specs.Edge.{Holding, told_bytes}
 use Rattle.diag_cli.specs.declared.words.Options.{Options}
+use Rattle.diag_cli.specs.declared.words.ServeOptions.{ServeOptions}
+use Rattle.level_lister.specs.declared.levels.TheConstants.{TOP_LIMIT}
 use Rattle.session_core.specs.declared.limits.TheConstants.{SESSION_LIMIT}
 use Rattle.diag_cli.specs.declared.words.TheConstants.{DEFAULT_BUDGET, DEFAULT_SESSIONS}
 
@@ -16,8 +18,8 @@ use Rattle.diag_cli.specs.declared.words.TheConstants.{DEFAULT_BUDGET, DEFAULT_S
 
 -- what is done over a file; `serve` with a number of frames takes flip-flops
 pub data Command : Type 0 where
-  Serve : (budget sessions : ℕ) (narrow : Bool) → Command
-  ServeFrames : (frames budget sessions : ℕ) (narrow : Bool) → Command
+  Serve : (options : ServeOptions) → Command
+  ServeFrames : (frames : ℕ) (options : ServeOptions) → Command
   Ask : (health sessions : ℕ) → Command
   Plan : (narrow : Bool) → Command
   Check : Command
@@ -43,8 +45,8 @@ told_file held name = option_map_or (λ path. told_bytes (held path)) name (Some
 
 -- only `serve` and `ask` ask for a script
 abbrev pub asks_script : Option Form → Bool
-asks_script (Some (Over path (Serve budget sessions narrow))) = true
-asks_script (Some (Over path (ServeFrames frames budget sessions narrow))) = true
+asks_script (Some (Over path (Serve options))) = true
+asks_script (Some (Over path (ServeFrames frames options))) = true
 asks_script (Some (Over path (Ask health sessions))) = true
 asks_script form = false
 
@@ -73,14 +75,18 @@ is_graph_path path = ends_in (codes ".nnf") path
 -- ---- options
 
 abbrev pub no_options : Options
-no_options = record { budget = None; sessions = None; frames = None; narrow = false }
+no_options = record { budget = None; sessions = None; frames = None; levels = None; narrow = false; least = false }
 
--- no option with a number was given
-abbrev pub has_no_number : Options → Bool
-has_no_number options = (is_none options.budget && is_none options.sessions) && is_none options.frames
+-- none was given that `serve` alone takes
+abbrev pub none_of_serve : Options → Bool
+none_of_serve options = (is_none options.sessions && is_none options.frames) && (is_none options.levels && not options.least)
+
+-- none was given but `--narrow`
+abbrev pub none_but_order : Options → Bool
+none_but_order options = is_none options.budget && none_of_serve options
 
 abbrev pub are_none : Options → Bool
-are_none options = has_no_number options && not options.narrow
+are_none options = none_but_order options && not options.narrow
 
 -- a number, where none was given before
 abbrev pub given_once : Option ℕ → Option ℕ → Option ℕ
@@ -99,9 +105,17 @@ with_sessions given number = option_map (λ n. record given { sessions = Some n 
 abbrev pub with_frames : Options → Option ℕ → Option Options
 with_frames given number = option_map (λ n. record given { frames = Some n }) (given_once given.frames number)
 
+-- the options that were given, with a greatest cost of states
+abbrev pub with_levels : Options → Option ℕ → Option Options
+with_levels given number = option_map (λ n. record given { levels = Some n }) (given_once given.levels number)
+
 -- the options that were given, with another order
 abbrev pub with_order : Options → Option Options
 with_order given = if given.narrow then None else Some (record given { narrow = true })
+
+-- the options that were given, with the graph of the diagnoses
+abbrev pub with_least : Options → Option Options
+with_least given = if given.least then None else Some (record given { least = true })
 
 -- the options that were given, and one more with its value
 abbrev pub and_option : Options → List ℕ → List ℕ → Option Options
@@ -109,17 +123,23 @@ and_option given option value =
     if same_name option (codes "--budget") then with_budget given (plain_number_in 7 1 BUDGET_LIMIT value)
     else if same_name option (codes "--sessions") then with_sessions given (plain_number_in 4 1 SESSION_LIMIT value)
     else if same_name option (codes "--frames") then with_frames given (plain_number_in 2 1 FRAME_LIMIT value)
+    else if same_name option (codes "--levels") then with_levels given (plain_number_in 7 0 TOP_LIMIT value)
     else None
 
-abbrev pub asks_order : List ℕ → Bool
-asks_order word = same_name word (codes "--narrow")
+-- an option that has no value
+abbrev pub stands_alone : List ℕ → Bool
+stands_alone word = same_name word (codes "--narrow") || same_name word (codes "--least")
 
--- and those of further words, one after the other: `--narrow`, or an option and its value
+-- the options that were given, and one more that has no value
+abbrev pub and_alone : Options → List ℕ → Option Options
+and_alone given word = if same_name word (codes "--narrow") then with_order given else with_least given
+
+-- and those of further words, one after the other: an option alone, or one and its value
 abbrev pub and_options : Options → List (List ℕ) → Option Options
 and_options given [] = Some given
-and_options given (option ∷ []) = if asks_order option then with_order given else None
+and_options given (option ∷ []) = if stands_alone option then and_alone given option else None
 and_options given (option ∷ value ∷ words) =
-    if asks_order option then option_and_then (λ more. and_options more (value ∷ words)) (with_order given)
+    if stands_alone option then option_and_then (λ more. and_options more (value ∷ words)) (and_alone given option)
     else option_and_then (λ more. and_options more words) (and_option given option value)
 
 -- ---- words
@@ -128,19 +148,30 @@ and_options given (option ∷ value ∷ words) =
 abbrev pub only_if : Bool → Form → Option Form
 only_if are_taken form = if are_taken then Some form else None
 
+-- the budget that was given, or the default
+abbrev pub budget_of : Options → ℕ
+budget_of options = unwrap_or options.budget DEFAULT_BUDGET
+
+-- how `serve` answers a script by the options that were given
+abbrev pub serve_options : Options → ServeOptions
+serve_options options = record {
+  budget = budget_of options;
+  sessions = unwrap_or options.sessions DEFAULT_SESSIONS;
+  narrow = options.narrow;
+  extras = record { levels = options.levels; least = options.least };
+}
+
 -- `serve`, over a netlist where there are frames
-abbrev pub form_serve : List ℕ → ℕ → ℕ → Bool → Option ℕ → Option Form
-form_serve path budget sessions narrow None = only_if (is_device_path path) (Over path (Serve budget sessions narrow))
-form_serve path budget sessions narrow (Some frames) = only_if (is_netlist_path path) (Over path (ServeFrames frames budget sessions narrow))
+abbrev pub form_serve : List ℕ → ServeOptions → Option ℕ → Option Form
+form_serve path options None = only_if (is_device_path path) (Over path (Serve options))
+form_serve path options (Some frames) = only_if (is_netlist_path path) (Over path (ServeFrames frames options))
 
 -- a command over a file, with options
 abbrev pub form_by : List ℕ → List ℕ → Options → Option Form
 form_by command path options =
-    let budget = unwrap_or options.budget DEFAULT_BUDGET in
-    let sessions = unwrap_or options.sessions DEFAULT_SESSIONS in
-    if same_name command (codes "serve") then form_serve path budget sessions options.narrow options.frames
-    else if same_name command (codes "compile") then only_if ((is_device_path path && is_none options.sessions) && is_none options.frames) (Over path (Compile budget options.narrow))
-    else if same_name command (codes "plan") then only_if (is_device_path path && has_no_number options) (Over path (Plan options.narrow))
+    if same_name command (codes "serve") then form_serve path (serve_options options) options.frames
+    else if same_name command (codes "compile") then only_if (is_device_path path && none_of_serve options) (Over path (Compile (budget_of options) options.narrow))
+    else if same_name command (codes "plan") then only_if (is_device_path path && none_but_order options) (Over path (Plan options.narrow))
     else if same_name command (codes "check") then only_if (is_graph_path path && are_none options) (Over path Check)
     else None
 

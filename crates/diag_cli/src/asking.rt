@@ -20,7 +20,7 @@ use device_model::{PART_LIMIT, WIRE_LIMIT};
 use diag_edge::{Sink, Source};
 use nnf_ask::{AskError, ask_costs, ask_names};
 use node_store::Graph;
-use session_core::{SESSION_LIMIT, Service};
+use session_core::{Extras, SESSION_LIMIT, Service};
 use std::alloc::Global;
 use text_rules::TEXT_LIMIT;
 
@@ -49,7 +49,12 @@ fn service_over(alloc: Global, graph: Graph, health: u32, sessions: u32) -> Resu
         Err(error) => return Err(unnamed(error)),
     };
     let costs = ask_costs(alloc, health)?;
-    match Service::over(alloc, parts, wires, costs, graph, sessions) {
+    // States by rising cost and the graph of the diagnoses are not told.
+    let extras = Extras {
+        levels: None,
+        least: false,
+    };
+    match Service::over(alloc, parts, wires, costs, graph, sessions, extras) {
         Ok(service) => Ok(service),
         Err(_) => Err(Refusal::Memory),
     }

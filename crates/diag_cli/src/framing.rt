@@ -5,26 +5,26 @@ ghost use Rattle.text_rules.specs.Expected.{Fulfils};
 ghost use Rattle.ranking.specs.Ranking.{plain_costs};
 ghost use Rattle.diag_edge.specs.Edge.{RoseExactly};
 ghost use Rattle.bench_reader.specs.SequentialNetlists.{sequential_netlist, HasShortNames};
-ghost use Rattle.frame_unroller.specs.Diagnosis.{frame_system};
 ghost use Rattle.diag_cli.specs.Orders.{list_by, ByOrder};
-ghost use Rattle.diag_cli.specs.Courses.{served_or_refused};
+ghost use Rattle.diag_cli.specs.Courses.{served_frames, served_or_refused};
 ghost use Rattle.diag_cli.specs.Describing.{netlist_line, or_line};
 ghost use Rattle.diag_cli.specs.Frames.{sequential_in, if_unrolled};
 ghost use Rattle.diag_cli.specs.Refusals.{Finds, told_by};
 ghost use Rattle.diag_cli.specs.Following.{Follows};
+ghost use Rattle.diag_cli.specs.inner.Forms.{AreWithinLimits};
 ghost use Rattle.diag_cli.specs.inner.Serving.{IsFrameService, frames_told};
 
+use crate::besides::compile_in_few_bits;
 use crate::refusal::{Refusal, above, tell};
 use crate::serving::{SCRIPT_LIMIT, answer};
 use crate::weighing::in_order;
+use crate::words::ServeOptions;
 use bench_reader::{BenchError, Sequential, read_sequential};
-use branch_states::{BUDGET_LIMIT, MeasureError};
 use clause_encoder::CLAUSE_LIMIT;
 use device_model::{PART_LIMIT, WIRE_LIMIT};
 use diag_edge::{Sink, Source};
-use dnnf_compiler::compile_within;
 use frame_unroller::{FRAME_LIMIT, UnrollError, Unrolled, unroll};
-use session_core::{SESSION_LIMIT, Service};
+use session_core::Service;
 use std::alloc::{AllocError, Global};
 use text_rules::TEXT_LIMIT;
 
@@ -67,67 +67,58 @@ fn plain_costs(alloc: Global, parts: usize) -> Result<Vec<u32>, AllocError>
     vec![in alloc; 1u32; parts]
 }
 
-// The service of a netlist over so many times, where the sum of its clauses is within a budget.
+// The service of a netlist over so many times, where the sum of its clauses is within the budget and what is told besides takes few
+// bits.
 fn service_within(
     alloc: Global,
     seq: &Sequential,
     frames: u32,
-    budget: u32,
-    is_narrow: bool,
-    sessions: u32,
+    options: ServeOptions,
 ) -> Result<Service, Refusal>
     requires some_frames { 1 ≤ frames }
     requires few_frames { frames ≤ FRAME_LIMIT }
     requires short { HasShortNames seq.now.device }
-    requires budget { budget ≤ BUDGET_LIMIT }
-    requires some { 1 ≤ sessions }
-    requires few { sessions ≤ SESSION_LIMIT }
-    ensures service { IfOk result (IsFrameService seq.now frames sessions) }
+    requires options { AreWithinLimits options }
+    ensures service { IfOk result (IsFrameService seq.now frames options) }
     ensures within { ByOrder (λ order.
-        Fulfils (λ _. seq.now) told_by (if_unrolled frames budget (list_by is_narrow order) (Ok seq.now)) result) }
+        Fulfils (λ _. seq.now) told_by (if_unrolled frames options (list_by options.narrow order) (Ok seq.now)) result) }
 {
     let made = match unroll(alloc, seq, frames) {
         Ok(made) => made,
         Err(error) => return Err(not_unrolled(error)),
     };
     let Unrolled { parts, wires, cnf } = made;
-    let cnf = in_order(alloc, cnf, is_narrow)?;
-    let graph = match compile_within(alloc, &cnf, budget) {
-        Ok(compiled) => compiled.graph,
-        Err(MeasureError::Above) => return Err(Refusal::Sum { budget }),
-        Err(MeasureError::Memory) => return Err(Refusal::Memory),
-    };
-    let costs = plain_costs(alloc, seq.device.parts().len())?;
+    let count = seq.device.parts().len();
+    let cnf = in_order(alloc, cnf, options.narrow)?;
+    let compiled = compile_in_few_bits(alloc, &cnf, count as u32, options)?;
+    let costs = plain_costs(alloc, count)?;
     match Service::over(
         alloc,
         parts.into_vec(),
         wires.into_vec(),
         costs,
-        graph,
-        sessions,
+        compiled.graph,
+        options.sessions,
+        options.extras,
     ) {
         Ok(service) => Ok(service),
         Err(_) => Err(Refusal::Memory),
     }
 }
 
-// Answers the script over a netlist, if it is unrolled within the budget.
+// Answers the script over a netlist, if it may be served so.
 fn serve_sequential<I: Source, O: Sink>(
     alloc: Global,
     seq: Sequential,
     frames: u32,
-    budget: u32,
-    is_narrow: bool,
-    sessions: u32,
+    options: ServeOptions,
     input: &mut I,
     out: &mut O,
 ) -> u8
     requires some_frames { 1 ≤ frames }
     requires few_frames { frames ≤ FRAME_LIMIT }
     requires short { HasShortNames seq.device }
-    requires budget { budget ≤ BUDGET_LIMIT }
-    requires some { 1 ≤ sessions }
-    requires few { sessions ≤ SESSION_LIMIT }
+    requires options { AreWithinLimits options }
     requires taken { I.taken input.old < 2 ^ 62 }
     requires reads { I.faults input.old < 2 ^ 64 - 1 }
     requires writes { O.faults out.old < 2 ^ 64 - 1 }
@@ -136,7 +127,7 @@ fn serve_sequential<I: Source, O: Sink>(
     ensures not_usage { result ≢ 2 }
     ensures few { result ≤ 7 }
     ensures follows { ByOrder (λ order.
-        Follows (served_or_refused (λ s. frame_system s frames) sessions (if_unrolled frames budget (list_by is_narrow order) (Ok seq)))
+        Follows (served_or_refused (served_frames frames options) options.sessions (if_unrolled frames options (list_by options.narrow order) (Ok seq)))
         (record { left = I.left input.old; taken = I.taken input.old; faults = I.faults input.old })
         (record { left = I.left input.new; taken = I.taken input.new; faults = I.faults input.new })
         (record { got = O.got out.old; faults = O.faults out.old })
@@ -144,7 +135,7 @@ fn serve_sequential<I: Source, O: Sink>(
     ensures cut { result ≡ 7 → I.taken input.new ≡ I.taken input.old + SCRIPT_LIMIT }
     ensures short { result ≢ 5 → result ≢ 7 → I.taken input.new < I.taken input.old + SCRIPT_LIMIT }
 {
-    match service_within(alloc, &seq, frames, budget, is_narrow, sessions) {
+    match service_within(alloc, &seq, frames, options) {
         Ok(mut service) => {
             let status = answer(&mut service, input, out);
             service.finish();
@@ -159,17 +150,13 @@ pub(crate) fn serve_frames<I: Source, O: Sink>(
     alloc: Global,
     file: &[u8],
     frames: u32,
-    budget: u32,
-    is_narrow: bool,
-    sessions: u32,
+    options: ServeOptions,
     input: &mut I,
     out: &mut O,
 ) -> u8
     requires some_frames { 1 ≤ frames }
     requires few_frames { frames ≤ FRAME_LIMIT }
-    requires budget { budget ≤ BUDGET_LIMIT }
-    requires some { 1 ≤ sessions }
-    requires few { sessions ≤ SESSION_LIMIT }
+    requires options { AreWithinLimits options }
     requires short { length file.now ≤ TEXT_LIMIT }
     requires taken { I.taken input.old < 2 ^ 62 }
     requires reads { I.faults input.old < 2 ^ 64 - 1 }
@@ -179,7 +166,7 @@ pub(crate) fn serve_frames<I: Source, O: Sink>(
     ensures not_usage { result ≢ 2 }
     ensures few { result ≤ 7 }
     ensures follows { ByOrder (λ order.
-        Follows (served_or_refused (λ s. frame_system s frames) sessions (if_unrolled frames budget (list_by is_narrow order) (sequential_in file.now)))
+        Follows (served_or_refused (served_frames frames options) options.sessions (if_unrolled frames options (list_by options.narrow order) (sequential_in file.now)))
         (record { left = I.left input.old; taken = I.taken input.old; faults = I.faults input.old })
         (record { left = I.left input.new; taken = I.taken input.new; faults = I.faults input.new })
         (record { got = O.got out.old; faults = O.faults out.old })
@@ -188,7 +175,7 @@ pub(crate) fn serve_frames<I: Source, O: Sink>(
     ensures short { result ≢ 5 → result ≢ 7 → I.taken input.new < I.taken input.old + SCRIPT_LIMIT }
 {
     match sequential(alloc, file) {
-        Ok(seq) => serve_sequential(alloc, seq, frames, budget, is_narrow, sessions, input, out),
+        Ok(seq) => serve_sequential(alloc, seq, frames, options, input, out),
         Err(refusal) => tell(out, refusal),
     }
 }

@@ -1,9 +1,10 @@
 //! What a device is asked by: its graph, and the costs of its parts.
-ghost use Rattle.std.specs.Prelude.{◌≡◌, ◌+◌, ◌*◌, ◌<◌, ◌≤◌, length, All, IfOk};
+ghost use Rattle.std.specs.Prelude.{◌≡◌, ◌+◌, ◌*◌, ◌<◌, ◌≤◌, Ok, length, All, IfOk};
 ghost use Rattle.std.specs.List.{sum};
 ghost use Rattle.text_rules.specs.Expected.{Fulfils};
 ghost use Rattle.device_model.specs.Devices.{part_costs};
 ghost use Rattle.branch_states.specs.Branches.{sum_of};
+ghost use Rattle.dnnf_compiler.specs.Compiled.{IsCompiled};
 ghost use Rattle.diag_cli.specs.Orders.{ByClauses};
 ghost use Rattle.diag_cli.specs.Planning.{within};
 ghost use Rattle.diag_cli.specs.Refusals.{told_by};
@@ -14,7 +15,7 @@ use crate::weighing::ordered_clauses;
 use branch_states::{BUDGET_LIMIT, MeasureError};
 use clause_encoder::Cnf;
 use device_model::{COST_LIMIT, Device, PART_LIMIT};
-use dnnf_compiler::compile_within;
+use dnnf_compiler::{Compiled, compile_within};
 use node_store::Graph;
 use std::alloc::{AllocError, Global};
 
@@ -35,8 +36,19 @@ pub(crate) fn graph_within(
     // Its contract says that a device has few parts and wires.
     let _parts = device.parts();
     let cnf = ordered_clauses(alloc, device, is_narrow)?;
-    match compile_within(alloc, &cnf, budget) {
-        Ok(compiled) => Ok((cnf, compiled.graph)),
+    let compiled = compiled_within(alloc, &cnf, budget)?;
+    Ok((cnf, compiled.graph))
+}
+
+/// The graph of clauses, where their sum is within a budget.
+pub(crate) fn compiled_within(alloc: Global, cnf: &Cnf, budget: u32) -> Result<Compiled, Refusal>
+    requires { budget ≤ BUDGET_LIMIT }
+    ensures list { Fulfils (λ _. cnf.now) told_by (within budget (Ok cnf.now)) result }
+    ensures within { IfOk result (λ _. sum_of cnf.now.clauses ≤ budget) }
+    ensures compiled { IfOk result (IsCompiled cnf.now) }
+{
+    match compile_within(alloc, cnf, budget) {
+        Ok(compiled) => Ok(compiled),
         Err(MeasureError::Above) => Err(Refusal::Sum { budget }),
         Err(MeasureError::Memory) => Err(Refusal::Memory),
     }

@@ -3,6 +3,7 @@
 
 mod adapters;
 mod asking;
+mod besides;
 mod checking;
 mod compiling;
 mod describing;

@@ -43,17 +43,10 @@ pub(crate) fn run_file<I: Source, O: Sink>(
     ensures short { result ≢ 5 → result ≢ 7 → I.taken input.new < I.taken input.old + SCRIPT_LIMIT }
 {
     match command {
-        Command::Serve {
-            budget,
-            sessions,
-            narrow,
-        } => serve_file(alloc, path, file, budget, narrow, sessions, input, out),
-        Command::ServeFrames {
-            frames,
-            budget,
-            sessions,
-            narrow,
-        } => serve_frames(alloc, file, frames, budget, narrow, sessions, input, out),
+        Command::Serve { options } => serve_file(alloc, path, file, options, input, out),
+        Command::ServeFrames { frames, options } => {
+            serve_frames(alloc, file, frames, options, input, out)
+        }
         Command::Ask { health, sessions } => ask_file(alloc, file, health, sessions, input, out),
         Command::Plan { narrow } => plan_file(alloc, path, file, narrow, out),
         Command::Check => check_file(alloc, file, out),

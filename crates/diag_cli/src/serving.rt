@@ -2,70 +2,69 @@ ghost use Rattle.std.specs.Prelude.{◌≡◌, ◌≢◌, ◌+◌, ◌-◌, ◌^
 ghost use Rattle.text_rules.specs.Tokens.{spaced};
 ghost use Rattle.text_rules.specs.Expected.{Fulfils};
 ghost use Rattle.diag_edge.specs.Edge.{HasCause, Puts, RoseExactly};
-ghost use Rattle.device_model.specs.Diagnosis.{device_system};
 ghost use Rattle.session_rules.specs.GraphSystems.{system_of};
 ghost use Rattle.diag_cli.specs.Orders.{ByClauses};
-ghost use Rattle.diag_cli.specs.Courses.{answers_of, if_within, served_or_refused};
+ghost use Rattle.diag_cli.specs.Courses.{answers_of, if_within, served_device, served_or_refused};
 ghost use Rattle.diag_cli.specs.Describing.{device_in};
 ghost use Rattle.diag_cli.specs.Refusals.{told_by};
 ghost use Rattle.diag_cli.specs.Following.{Follows, IsServed};
-ghost use Rattle.diag_cli.specs.inner.Serving.{IsServable, IsServiceOf};
+ghost use Rattle.diag_cli.specs.inner.Forms.{AreWithinLimits};
+ghost use Rattle.diag_cli.specs.inner.Serving.{IsServable, IsServiceOf, CanTell};
 
+use crate::besides::graph_in_few_bits;
 use crate::describing::described;
-use crate::graphs::{costs_of, graph_within};
+use crate::graphs::costs_of;
 use crate::refusal::{Refusal, tell};
 use crate::saying::{say_read_fault, say_too_long};
-use branch_states::BUDGET_LIMIT;
+use crate::words::ServeOptions;
 use device_model::Device;
 use diag_edge::{Sink, Source, WriteFailed, put_line};
 use itoa::Buffer;
 use node_store::Graph;
-use session_core::{SESSION_LIMIT, ServeEnd, Service};
+use session_core::{ServeEnd, Service};
 use std::alloc::Global;
 use text_rules::TEXT_LIMIT;
 
 /// A script of so many bytes is cut.
 pub const SCRIPT_LIMIT: u64 = 1_099_511_627_776;
 
-// A service over a device and its graph, of at most so many sessions. All their memory is taken here.
+// A service over a device and its graph. All its memory is taken here.
 fn service_over(
     alloc: Global,
     device: Device,
     graph: Graph,
-    sessions: u32,
+    options: ServeOptions,
 ) -> Result<Service, Refusal>
+    requires options { AreWithinLimits options }
     requires graph { IsServable device graph }
-    requires some { 1 ≤ sessions }
-    requires few { sessions ≤ SESSION_LIMIT }
-    ensures service { IfOk result (IsServiceOf device sessions) }
+    requires told { CanTell options.extras graph (length device.parts) }
+    ensures service { IfOk result (IsServiceOf device options) }
     ensures memory { IfErr result (λ refusal. refusal ≡ Refusal.Memory) }
 {
+    let ServeOptions {
+        sessions,
+        extras,
+        ..
+    } = options;
     // Its contract says that the names of a device rise, and are few.
     let _parts = device.parts();
     let costs = costs_of(alloc, &device)?;
     let (parts, wires) = device.take_names(alloc)?;
-    match Service::over(alloc, parts, wires, costs, graph, sessions) {
+    match Service::over(alloc, parts, wires, costs, graph, sessions, extras) {
         Ok(service) => Ok(service),
         Err(_) => Err(Refusal::Memory),
     }
 }
 
-// The service of a device whose sum is within a budget.
-fn service_within(
-    alloc: Global,
-    device: Device,
-    budget: u32,
-    is_narrow: bool,
-    sessions: u32,
-) -> Result<Service, Refusal>
-    requires budget { budget ≤ BUDGET_LIMIT }
-    requires some { 1 ≤ sessions }
-    requires few { sessions ≤ SESSION_LIMIT }
-    ensures service { IfOk result (IsServiceOf device sessions) }
-    ensures within { ByClauses is_narrow (λ clauses. Fulfils (λ _. device) told_by (if_within budget clauses (Ok device)) result) }
+// The service of a device, where the sum of its clauses is within the budget and what is told besides takes few bits.
+fn service_within(alloc: Global, device: Device, options: ServeOptions) -> Result<Service, Refusal>
+    requires { AreWithinLimits options }
+    ensures service { IfOk result (IsServiceOf device options) }
+    ensures within { ByClauses options.narrow (λ clauses.
+        Fulfils (λ _. device) told_by (if_within options clauses (Ok device)) result) }
 {
-    let (_, graph) = graph_within(alloc, &device, budget, is_narrow)?;
-    service_over(alloc, device, graph, sessions)
+    let graph = graph_in_few_bits(alloc, &device, options)?;
+    service_over(alloc, device, graph, options)
 }
 
 // The line `ready` with the numbers of parts and wires.
@@ -114,19 +113,15 @@ pub(crate) fn answer<I: Source, O: Sink>(service: &mut Service, input: &mut I, o
     }
 }
 
-// Answers the script over a device, if its sum is within the budget.
+// Answers the script over a device, if it may be served so.
 fn serve_device<I: Source, O: Sink>(
     alloc: Global,
     device: Device,
-    budget: u32,
-    is_narrow: bool,
-    sessions: u32,
+    options: ServeOptions,
     input: &mut I,
     out: &mut O,
 ) -> u8
-    requires budget { budget ≤ BUDGET_LIMIT }
-    requires some { 1 ≤ sessions }
-    requires few { sessions ≤ SESSION_LIMIT }
+    requires options { AreWithinLimits options }
     requires taken { I.taken input.old < 2 ^ 62 }
     requires reads { I.faults input.old < 2 ^ 64 - 1 }
     requires writes { O.faults out.old < 2 ^ 64 - 1 }
@@ -134,7 +129,8 @@ fn serve_device<I: Source, O: Sink>(
     ensures read_fault { result ≢ 5 → RoseExactly (I.faults input.old) (I.faults input.new) (result ≡ 4) }
     ensures not_usage { result ≢ 2 }
     ensures few { result ≤ 7 }
-    ensures follows { ByClauses is_narrow (λ clauses. Follows (served_or_refused device_system sessions (if_within budget clauses (Ok device)))
+    ensures follows { ByClauses options.narrow (λ clauses.
+        Follows (served_or_refused (served_device options) options.sessions (if_within options clauses (Ok device)))
         (record { left = I.left input.old; taken = I.taken input.old; faults = I.faults input.old })
         (record { left = I.left input.new; taken = I.taken input.new; faults = I.faults input.new })
         (record { got = O.got out.old; faults = O.faults out.old })
@@ -142,7 +138,7 @@ fn serve_device<I: Source, O: Sink>(
     ensures cut { result ≡ 7 → I.taken input.new ≡ I.taken input.old + SCRIPT_LIMIT }
     ensures short { result ≢ 5 → result ≢ 7 → I.taken input.new < I.taken input.old + SCRIPT_LIMIT }
 {
-    match service_within(alloc, device, budget, is_narrow, sessions) {
+    match service_within(alloc, device, options) {
         Ok(mut service) => {
             let status = answer(&mut service, input, out);
             service.finish();
@@ -157,15 +153,11 @@ pub(crate) fn serve_file<I: Source, O: Sink>(
     alloc: Global,
     path: &str,
     file: &[u8],
-    budget: u32,
-    is_narrow: bool,
-    sessions: u32,
+    options: ServeOptions,
     input: &mut I,
     out: &mut O,
 ) -> u8
-    requires budget { budget ≤ BUDGET_LIMIT }
-    requires some { 1 ≤ sessions }
-    requires few { sessions ≤ SESSION_LIMIT }
+    requires options { AreWithinLimits options }
     requires short { length file.now ≤ TEXT_LIMIT }
     requires taken { I.taken input.old < 2 ^ 62 }
     requires reads { I.faults input.old < 2 ^ 64 - 1 }
@@ -174,7 +166,8 @@ pub(crate) fn serve_file<I: Source, O: Sink>(
     ensures read_fault { result ≢ 5 → RoseExactly (I.faults input.old) (I.faults input.new) (result ≡ 4) }
     ensures not_usage { result ≢ 2 }
     ensures few { result ≤ 7 }
-    ensures follows { ByClauses is_narrow (λ clauses. Follows (served_or_refused device_system sessions (if_within budget clauses (device_in path.now file.now)))
+    ensures follows { ByClauses options.narrow (λ clauses.
+        Follows (served_or_refused (served_device options) options.sessions (if_within options clauses (device_in path.now file.now)))
         (record { left = I.left input.old; taken = I.taken input.old; faults = I.faults input.old })
         (record { left = I.left input.new; taken = I.taken input.new; faults = I.faults input.new })
         (record { got = O.got out.old; faults = O.faults out.old })
@@ -183,7 +176,7 @@ pub(crate) fn serve_file<I: Source, O: Sink>(
     ensures short { result ≢ 5 → result ≢ 7 → I.taken input.new < I.taken input.old + SCRIPT_LIMIT }
 {
     match described(alloc, path, file) {
-        Ok(device) => serve_device(alloc, device, budget, is_narrow, sessions, input, out),
+        Ok(device) => serve_device(alloc, device, options, input, out),
         Err(refusal) => tell(out, refusal),
     }
 }

@@ -69,8 +69,19 @@ pub(crate) fn clauses_within(
     ensures sum { IfOk result (λ found. found.1 ≡ sum_of found.0.clauses) }
 {
     let cnf = ordered_clauses(alloc, device, is_narrow)?;
-    match measure(alloc, &cnf, budget) {
-        Ok(sum) => Ok((cnf, sum)),
+    let sum = sum_within(alloc, &cnf, budget)?;
+    Ok((cnf, sum))
+}
+
+/// The sum of clauses, where it is within a budget.
+pub(crate) fn sum_within(alloc: Global, cnf: &Cnf, budget: u32) -> Result<u32, Refusal>
+    requires { budget ≤ BUDGET_LIMIT }
+    ensures list { Fulfils (λ _. cnf.now) told_by (within budget (Ok cnf.now)) result }
+    ensures sum { IfOk result (λ sum. sum ≡ sum_of cnf.now.clauses) }
+    ensures few { IfOk result (λ sum. sum ≤ budget) }
+{
+    match measure(alloc, cnf, budget) {
+        Ok(sum) => Ok(sum),
         Err(MeasureError::Above) => Err(Refusal::Sum { budget }),
         Err(MeasureError::Memory) => Err(Refusal::Memory),
     }

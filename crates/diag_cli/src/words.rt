@@ -1,14 +1,15 @@
 ghost use Rattle.std.specs.Prelude.{◌≡◌, map, string_bytes, IfSome};
 ghost use Rattle.std.specs.Option.{option_map};
 ghost use Rattle.text_rules.specs.Numbers.{plain_number_in};
-ghost use Rattle.diag_cli.specs.Words.{form_of, form_by_words, form_over, form_load, form_ask, sessions_in, form_by, form_serve, has_no_number, are_none, given_once, with_order, and_option, and_options, ends_in, is_design_path, is_netlist_path, is_device_path, is_graph_path};
+ghost use Rattle.diag_cli.specs.Words.{form_of, form_by_words, form_over, form_load, form_ask, sessions_in, form_by, form_serve, serve_options, budget_of, none_of_serve, none_but_order, are_none, given_once, with_order, with_least, stands_alone, and_alone, and_option, and_options, ends_in, is_design_path, is_netlist_path, is_device_path, is_graph_path};
 ghost use Rattle.diag_cli.specs.inner.Forms.{meant, IsWithinLimits};
 
 use adder_load::PLACE_LIMIT;
 use branch_states::BUDGET_LIMIT;
 use device_model::PART_LIMIT;
 use frame_unroller::FRAME_LIMIT;
-use session_core::SESSION_LIMIT;
+use level_lister::TOP_LIMIT;
+use session_core::{Extras, SESSION_LIMIT};
 use text_rules::plain_number;
 
 /// The budget where the words give none.
@@ -17,40 +18,35 @@ pub const DEFAULT_BUDGET: u32 = 2_097_152;
 /// How many sessions may be open at a time where the words give no number.
 pub const DEFAULT_SESSIONS: u32 = 16;
 
+/// How `serve` answers a script.
+#[derive(Clone, Copy, Debug)]
+pub struct ServeOptions {
+    /// The sum of the clauses is at most this, from 1 to `BUDGET_LIMIT`.
+    pub budget: u32,
+    /// So many sessions may be open at a time, from 1 to `SESSION_LIMIT`.
+    pub sessions: u32,
+    /// Clauses are put into a better order.
+    pub narrow: bool,
+    /// What sessions are told besides: states up to a cost of at most `TOP_LIMIT`, and the graph of the diagnoses.
+    pub extras: Extras,
+}
+
 /// What is done over a file.
 #[derive(Clone, Copy, Debug)]
 pub enum Command {
-    /// `serve`: answers the script on the input over the device of the file, whose sum is within a budget, with at most so
-    /// many sessions open at a time. Its clauses may be put into a better order.
-    Serve {
-        budget: u32,
-        sessions: u32,
-        narrow: bool,
-    },
+    /// `serve`: answers the script on the input over the device of the file.
+    Serve { options: ServeOptions },
     /// `serve` with `--frames`: answers it over a netlist with flip-flops and so many times.
-    ServeFrames {
-        frames: u32,
-        budget: u32,
-        sessions: u32,
-        narrow: bool,
-    },
+    ServeFrames { frames: u32, options: ServeOptions },
     /// `ask`: answers the script on the input over the graph of the file, whose first variables are so many parts, with at most
     /// so many sessions open at a time.
-    Ask {
-        health: u32,
-        sessions: u32,
-    },
+    Ask { health: u32, sessions: u32 },
     /// `plan`: tells how large a device is, and the sum that the budget limits.
-    Plan {
-        narrow: bool,
-    },
+    Plan { narrow: bool },
     /// `check`: tells whether the text of the file is a decomposable graph.
     Check,
     /// `compile`: writes the graph of a device whose sum is within a budget.
-    Compile {
-        budget: u32,
-        narrow: bool,
-    },
+    Compile { budget: u32, narrow: bool },
 }
 
 /// What the words of the command line ask for.
@@ -71,23 +67,57 @@ pub struct Options {
     pub sessions: Option<u32>,
     /// `--frames N`, from 1 to `FRAME_LIMIT`.
     pub frames: Option<u32>,
+    /// `--levels N`, from 0 to `TOP_LIMIT`.
+    pub levels: Option<u32>,
     /// `--narrow`: clauses are put into a better order.
     pub narrow: bool,
+    /// `--least`: the graph of the diagnoses is told.
+    pub least: bool,
 }
 
 impl Options {
-    // Whether no option with a number is given.
-    fn has_no_number(self) -> bool
-        ensures { result ≡ has_no_number self }
+    // Whether no option is given that `serve` alone takes.
+    fn none_of_serve(self) -> bool
+        ensures { result ≡ none_of_serve self }
     {
-        self.budget.is_none() && self.sessions.is_none() && self.frames.is_none()
+        let no_number = self.sessions.is_none() && self.frames.is_none();
+        no_number && self.levels.is_none() && !self.least
+    }
+
+    // Whether no option is given but `--narrow`.
+    fn none_but_order(self) -> bool
+        ensures { result ≡ none_but_order self }
+    {
+        self.budget.is_none() && self.none_of_serve()
     }
 
     // Whether no option is given.
     fn are_none(self) -> bool
         ensures { result ≡ are_none self }
     {
-        self.has_no_number() && !self.narrow
+        self.none_but_order() && !self.narrow
+    }
+
+    // The budget that is given, or the default.
+    fn budget(self) -> u32
+        ensures { result ≡ budget_of self }
+    {
+        self.budget.unwrap_or(DEFAULT_BUDGET)
+    }
+
+    // How `serve` answers a script by these options.
+    fn of_serve(self) -> ServeOptions
+        ensures { result ≡ serve_options self }
+    {
+        ServeOptions {
+            budget: self.budget(),
+            sessions: self.sessions.unwrap_or(DEFAULT_SESSIONS),
+            narrow: self.narrow,
+            extras: Extras {
+                levels: self.levels,
+                least: self.least,
+            },
+        }
     }
 
     // These options and a better order.
@@ -101,6 +131,30 @@ impl Options {
             narrow: true,
             ..self
         })
+    }
+
+    // These options and the graph of the diagnoses.
+    fn and_least(self) -> Option<Options>
+        ensures { result ≡ with_least self }
+    {
+        if self.least {
+            return None;
+        }
+        Some(Options {
+            least: true,
+            ..self
+        })
+    }
+
+    // These options and one more that has no value.
+    fn and_alone(self, option: &str) -> Option<Options>
+        ensures { result ≡ and_alone self option.now }
+    {
+        if option == "--narrow" {
+            self.and_order()
+        } else {
+            self.and_least()
+        }
     }
 
     // These options and one more with its value.
@@ -126,6 +180,13 @@ impl Options {
                 let frames = given_once(self.frames, number_to(2, FRAME_LIMIT, value))?;
                 Some(Options {
                     frames: Some(frames),
+                    ..self
+                })
+            }
+            "--levels" => {
+                let levels = given_once(self.levels, number_in(7, 0, TOP_LIMIT, value))?;
+                Some(Options {
+                    levels: Some(levels),
                     ..self
                 })
             }
@@ -161,14 +222,21 @@ fn given_once(earlier: Option<u32>, number: Option<u32>) -> Option<u32>
     }
 }
 
+// Whether an option has no value.
+fn stands_alone(option: &str) -> bool
+    ensures { result ≡ stands_alone option.now }
+{
+    option == "--narrow" || option == "--least"
+}
+
 // The options that were given, and those of further words. No option is taken twice, so it calls itself at most once for each.
 fn and_options(given: Options, words: &[String]) -> Option<Options>
     ensures { result ≡ and_options given (map string_bytes words.now) }
 {
     match words {
         [] => Some(given),
-        [option, rest @ ..] if option.as_str() == "--narrow" => {
-            let more = given.and_order()?;
+        [option, rest @ ..] if stands_alone(option.as_str()) => {
+            let more = given.and_alone(option.as_str())?;
             and_options(more, rest)
         }
         [option, value, rest @ ..] => {
@@ -215,27 +283,12 @@ fn is_graph_path(path: &str) -> bool
 }
 
 // What `serve` is, over a netlist where there are frames.
-fn form_serve<'a>(
-    path: &'a str,
-    budget: u32,
-    sessions: u32,
-    narrow: bool,
-    frames: Option<u32>,
-) -> Option<Form<'a>>
-    ensures { option_map meant result ≡ form_serve path.now budget sessions narrow frames }
+fn form_serve<'a>(path: &'a str, options: ServeOptions, frames: Option<u32>) -> Option<Form<'a>>
+    ensures { option_map meant result ≡ form_serve path.now options frames }
 {
     let command = match frames {
-        None if is_device_path(path) => Command::Serve {
-            budget,
-            sessions,
-            narrow,
-        },
-        Some(frames) if is_netlist_path(path) => Command::ServeFrames {
-            frames,
-            budget,
-            sessions,
-            narrow,
-        },
+        None if is_device_path(path) => Command::Serve { options },
+        Some(frames) if is_netlist_path(path) => Command::ServeFrames { frames, options },
         _ => return None,
     };
     Some(Form::Over { path, command })
@@ -245,16 +298,14 @@ fn form_serve<'a>(
 fn form_by<'a>(command: &str, path: &'a str, options: Options) -> Option<Form<'a>>
     ensures { option_map meant result ≡ form_by command.now path.now options }
 {
-    let budget = options.budget.unwrap_or(DEFAULT_BUDGET);
-    let sessions = options.sessions.unwrap_or(DEFAULT_SESSIONS);
+    let budget = options.budget();
     let narrow = options.narrow;
     let command = match command {
-        "serve" => return form_serve(path, budget, sessions, narrow, options.frames),
-        "compile"
-            if is_device_path(path) && options.sessions.is_none() && options.frames.is_none() => {
+        "serve" => return form_serve(path, options.of_serve(), options.frames),
+        "compile" if is_device_path(path) && options.none_of_serve() => {
             Command::Compile { budget, narrow }
         }
-        "plan" if is_device_path(path) && options.has_no_number() => Command::Plan { narrow },
+        "plan" if is_device_path(path) && options.none_but_order() => Command::Plan { narrow },
         "check" if is_graph_path(path) && options.are_none() => Command::Check,
         _ => return None,
     };

@@ -4,6 +4,8 @@
 #[cfg(test)]
 mod adapters;
 #[cfg(test)]
+mod besides;
+#[cfg(test)]
 mod failing;
 #[cfg(test)]
 mod greatest;

@@ -1,13 +1,16 @@
 use crate::running::{CHAIN, FREE, File, INPUT, Meeting, NOT, NOTHING_FAILS, VALVE, run};
 use device_tests::C17;
+use std::alloc::Global;
+use std::process::Abort;
 use std::test::Fail;
 
-struct Row {
-    file: File,
-    words: &'static [&'static str],
-    script: &'static str,
-    out: &'static str,
-    status: u8,
+/// The words, the file and the script of a run, and what it writes and ends with.
+pub struct Row {
+    pub file: File,
+    pub words: &'static [&'static str],
+    pub script: &'static str,
+    pub out: &'static str,
+    pub status: u8,
 }
 
 const C17_FILE: File = File {
@@ -21,14 +24,14 @@ const SAME: File = File {
     text: "INPUT(a)\ny = NAND(a, a)\n",
 };
 
-// An adder of two bits whose names begin with the kinds of the gates. By these its sum is 8531.
-const BY_KIND: File = File {
+/// An adder of two bits whose names begin with the kinds of the gates. By these its sum is 8531.
+pub const BY_KIND: File = File {
     name: "kinds.bench",
     text: "INPUT(in_c0)\nINPUT(in_a0)\nINPUT(in_b0)\nINPUT(in_a1)\nINPUT(in_b1)\nxor_half0 = XOR(in_a0, in_b0)\nand_both0 = AND(in_a0, in_b0)\nand_carried0 = AND(xor_half0, in_c0)\nxor_sum0 = XOR(xor_half0, in_c0)\nor_out0 = OR(and_both0, and_carried0)\nxor_half1 = XOR(in_a1, in_b1)\nand_both1 = AND(in_a1, in_b1)\nand_carried1 = AND(xor_half1, or_out0)\nxor_sum1 = XOR(xor_half1, or_out0)\nor_out1 = OR(and_both1, and_carried1)\n",
 };
 
-// One of two parts is faulty.
-const EITHER_FAULTY: File = File {
+/// One of two parts is faulty.
+pub const EITHER_FAULTY: File = File {
     name: "f.nnf",
     text: "nnf 3 2 2\nL -1\nL -2\nO 0 2 0 1\n",
 };
@@ -622,7 +625,7 @@ const REFUSED: [(&str, &str, &str); 34] = [
 ];
 
 // Words that ask for nothing that the program does.
-const WRONG: [&[&str]; 65] = [
+const WRONG: [&[&str]; 77] = [
     &[],
     &["serve"],
     &["--help"],
@@ -642,6 +645,18 @@ const WRONG: [&[&str]; 65] = [
     &["plan", "c17.bench", "--narrow", "--narrow"],
     &["check", "a.nnf", "--narrow"],
     &["load", "1", "--narrow"],
+    &["serve", "c17.bench", "--levels"],
+    &["serve", "c17.bench", "--levels", "02"],
+    &["serve", "c17.bench", "--levels", "4096001"],
+    &["serve", "c17.bench", "--levels", "2", "--levels", "2"],
+    &["serve", "c17.bench", "--least", "--least"],
+    &["serve", "c17.bench", "--levels", "--least"],
+    &["plan", "c17.bench", "--levels", "2"],
+    &["plan", "c17.bench", "--least"],
+    &["compile", "c17.bench", "--levels", "2"],
+    &["compile", "c17.bench", "--least"],
+    &["check", "c17.nnf", "--least"],
+    &["load", "1", "--levels", "2"],
     &["answer", "c17.bench"],
     &["check", "c17.bench"],
     &["serve", "c17.nnf"],
@@ -690,28 +705,27 @@ const WRONG: [&[&str]; 65] = [
     &["load", "1", "--budget", "5"],
 ];
 
-#[test]
-fn answers_rows(rt: HostRuntime) -> Result<(), Fail> {
+/// Runs each row, with the script in one piece, in pieces of 7 bytes, and byte by byte.
+pub fn answer_rows(rt: &impl Abort, alloc: Global, rows: &[Row]) -> Result<(), Fail> {
     for piece in [1, 7, 4096] {
-        for row in &ROWS {
+        for row in rows {
             let meeting = Meeting {
                 piece,
                 ..NOTHING_FAILS
             };
             assert!(rt; 0 < meeting.piece);
-            let ran = run(
-                rt.alloc(),
-                row.file,
-                row.words,
-                row.script.as_bytes(),
-                &meeting,
-            )?;
+            let ran = run(alloc, row.file, row.words, row.script.as_bytes(), &meeting)?;
             let words = row.words;
             assert_eq!(rt; ran.out.as_slice(), row.out.as_bytes(), "{words:?}");
             assert_eq!(rt; ran.status, row.status, "{words:?}");
         }
     }
     Ok(())
+}
+
+#[test]
+fn answers_rows(rt: HostRuntime) -> Result<(), Fail> {
+    answer_rows(&rt, rt.alloc(), &ROWS)
 }
 
 #[test]

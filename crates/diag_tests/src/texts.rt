@@ -19,8 +19,9 @@ struct Row {
 
 // The sums are 7 of the inverter, 12 of the chain, 1 where there is no clause, and 8 of the valve. A graph that is compiled has at
 // most three nodes for each of the sum, two for each variable and two, and the text of what a session allows one more for each
-// part that is held, and one.
-const ROWS: [Row; 8] = [
+// part that is held, and one. The text of the diagnoses has at most as many nodes as a graph has nodes and edges, two for each part,
+// and one.
+const ROWS: [Row; 10] = [
     // where the inverter is faulty each row is allowed, and where it is ok those in which its wires differ
     Row {
         file: NOT,
@@ -94,6 +95,25 @@ const ROWS: [Row; 8] = [
         nodes: 33,
         allowed: &[],
     },
+    // The diagnoses alone, and not both buffers faulty. A graph within a sum of 12 has at most 48 nodes and 78 edges.
+    Row {
+        file: CHAIN,
+        words: &["serve", "chain.bench", "--least"],
+        script: "open S\nsee S a=0\nsee S c=1\nleastnnf S\n",
+        before: "ready 2 3\nS open\nS ok\nS ok\nS leastnnf\n",
+        vars: 2,
+        nodes: 131,
+        allowed: &[0b01, 0b10],
+    },
+    Row {
+        file: VALVE,
+        words: &["serve", "valve.dev", "--least", "--narrow"],
+        script: "open S\nsee S a=0\nsee S y=1\nleastnnf S\n",
+        before: "ready 1 2\nS open\nS ok\nS ok\nS leastnnf\n",
+        vars: 1,
+        nodes: 89,
+        allowed: &[],
+    },
 ];
 
 fn allows_row(rt: &impl Abort, alloc: Global, row: &Row) -> Result<(), Fail> {
@@ -148,6 +168,21 @@ fn what_was_compiled_is_asked(rt: HostRuntime) -> Result<(), Fail> {
         ran.out.as_slice(),
         "ready 2 3\nS open\nS ok\nS ok\nS diag 00001\nS diag 00002\nS end\n".as_bytes()
     );
+    assert_eq!(rt; ran.status, 0);
+    Ok(())
+}
+
+// Where no state agrees, the text of the diagnoses ends with an or of nothing.
+#[test]
+fn tells_that_there_is_no_diagnosis(rt: HostRuntime) -> Result<(), Fail> {
+    let ran = run(
+        rt.alloc(),
+        VALVE,
+        &["serve", VALVE.name, "--least"],
+        b"open S\nsee S a=0\nsee S y=1\nleastnnf S\n",
+        &NOTHING_FAILS,
+    )?;
+    assert!(rt; ran.out.as_slice().ends_with(b"\nO 0 0\n"));
     assert_eq!(rt; ran.status, 0);
     Ok(())
 }

@@ -3,3 +3,4 @@ pub mod NodeValues
 pub mod NodesFit
 pub mod Kids
 pub mod Mentions
+pub mod BelowKids

@@ -1,3 +1,4 @@
 pub mod Graphs
 pub mod GraphTexts
 pub mod WrittenGraphs
+pub mod StateGraphs

@@ -10,6 +10,10 @@ mod distilling;
 #[cfg(test)]
 mod fronts;
 #[cfg(test)]
+mod least_graphs;
+#[cfg(test)]
+mod levels;
+#[cfg(test)]
 mod listing;
 #[cfg(test)]
 mod projecting;

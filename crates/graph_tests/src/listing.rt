@@ -111,7 +111,7 @@ const ROWS: [Row; 9] = [
 ];
 
 // Three parts, of which the first or the second is faulty. No node mentions the third.
-fn either_is_faulty(alloc: Global) -> Result<Option<Graph>, AllocError> {
+pub(crate) fn either_is_faulty(alloc: Global) -> Result<Option<Graph>, AllocError> {
     let mut builder = GraphBuilder::new(alloc, 3);
     let one = builder.push(
         NodeKind::Literal {

@@ -67,7 +67,7 @@ pub usual_bit-fault : (k : Option Bool) (w : ℕ) → fault k w (usual_bit k) �
 usual_bit-fault None w = omega arith
 usual_bit-fault (Some b) w = omega arith
 
-from_min : (c d : Option ℕ) (n : ℕ) → min_costs c d ≡ Some n → (c ≡ Some n) ⊎ (d ≡ Some n)
+pub from_min : (c d : Option ℕ) (n : ℕ) → min_costs c d ≡ Some n → (c ≡ Some n) ⊎ (d ≡ Some n)
 from_min None d n e = inr e
 from_min (Some c) None n e = inl e
 from_min (Some c) (Some d) n e = grind arith
@@ -111,6 +111,11 @@ fits_known false false w n e = refl
 same_cond : (p q : Bool) (n : ℕ) → p ≡ q → cond q n 0 ≤ cond p n 0
 same_cond p q n e = subst (λ x. cond x n 0 ≤ cond p n 0) e (omega arith)
 
+pub cond-le : (x y : Bool) (n : ℕ) → (x ≡ true → y ≡ true) → cond x n 0 ≤ cond y n 0
+cond-le true true n h = omega arith
+cond-le true false n h = absurd (let no : false ≡ true = h refl in cc)
+cond-le false y n h = omega arith
+
 -- what is known of each variable, what it costs where it is false, and how many variables there are whose cost may not be 0
 module _ (known : ℕ → Option Bool) (cost : ℕ → ℕ) (parts : ℕ) where
   abbrev pub Agrees : Assignment → Type 0
@@ -121,6 +126,10 @@ module _ (known : ℕ → Option Bool) (cost : ℕ → ℕ) (parts : ℕ) where
 
   abbrev pub all_faults : Assignment → ℕ
   all_faults a = total (λ v. fault (known v) (cost v) (a v)) 1 parts
+
+  -- among more variables there are no fewer
+  pub faults_in-le : (m o : ℕ → Bool) (a : Assignment) → ((v : ℕ) → m v ≡ true → o v ≡ true) → faults_in m a ≤ faults_in o a
+  faults_in-le m o a h = total-le _ _ (λ v. cond-le (m v) (o v) (fault (known v) (cost v) (a v)) (h v)) 1 parts
 
   pub record Reaches (t : Assignment → Bool) (n : ℕ) : Type 0 where
     pub by : Assignment

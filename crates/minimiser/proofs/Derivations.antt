@@ -19,8 +19,8 @@ use Rattle.graph_rules.proofs.Kids.{at_most_one-tail, not_both}
 use Rattle.graph_rules.proofs.NodesFit.{fits-get, apart-get}
 use Rattle.conditioner.specs.Words.{leaf_of}
 use Rattle.minimiser.specs.Costs.{part_cost, known_at, cost_at, sum_costs, cheapest, node_cost, cost_by, literal_cost}
-use Rattle.minimiser.proofs.Totals.{total-le, add-le-total, le-total}
-use Rattle.minimiser.proofs.Costs.{fault, false_is, IsCost, Agrees, faults_in, all_faults, and_left, and_right, joins, from_add, AtMost-min_left, AtMost-min_right, apart_sum}
+use Rattle.minimiser.proofs.Totals.{add-le-total, le-total}
+use Rattle.minimiser.proofs.Costs.{fault, false_is, IsCost, Agrees, cond-le, faults_in, faults_in-le, all_faults, and_left, and_right, joins, from_add, AtMost-min_left, AtMost-min_right, apart_sum}
 use Rattle.minimiser.proofs.Nodes.{nodes_are, kids_and}
 use Rattle.minimiser.proofs.Apart.{decomposed}
 use Rattle.minimiser.proofs.Whole.{part_cost-none}
@@ -234,16 +234,11 @@ module _ (graph : Graph) (words costs : List ℕ) (ok : IsGraph graph) where
     abbrev faults : (ℕ → Bool) → ℕ
     faults m = faults_in kn price n m a
 
-    cond-le : (x y : Bool) (w : ℕ) → (x ≡ true → y ≡ true) → cond x w 0 ≤ cond y w 0
-    cond-le true true w h = omega arith
-    cond-le true false w h = absurd (false≢true (h refl))
-    cond-le false y w h = omega arith
-
     faults-le : (m o : ℕ → Bool) → ((v : ℕ) → m v ≡ true → o v ≡ true) → faults m ≤ faults o
-    faults-le m o h = total-le _ _ (λ v. cond-le (m v) (o v) (fl v) (h v)) 1 n
+    faults-le m o h = faults_in-le kn price n m o a h
 
     -- variables among which the faulty one is cost more than those among which it is not
-    faults-lt : (m o : ℕ → Bool) → ((v : ℕ) → m v ≡ true → o v ≡ true) → m p ≡ false → o p ≡ true → faults m < faults o
+    pub faults-lt : (m o : ℕ → Bool) → ((v : ℕ) → m v ≡ true → o v ≡ true) → m p ≡ false → o p ≡ true → faults m < faults o
     faults-lt m o h e f = omega (arith, add-le-total (λ v. cond (m v) (fl v) 0) (λ v. cond (eqb p v) (fl v) 0) (λ v. cond (o v) (fl v) 0) each 1 n, le-total (λ v. cond (eqb p v) (fl v) 0) p 1 n low high, own) where
       own : fl p ≤ cond (eqb p p) (fl p) 0
       own = rw (eq-eqb p p refl) (omega arith)

@@ -14,7 +14,7 @@ use std::sync::ledger::Ledger;
 pub const TOTAL_LIMIT: u32 = 2_147_483_647;
 
 /// What stands for no cost.
-pub(crate) const NONE: u32 = u32::MAX;
+pub const NONE: u32 = u32::MAX;
 
 /// The least cost of a health state that some bits of the other variables make a model: they agree with the words, and the graph
 /// is true under them. `None` where there is none.
@@ -43,7 +43,8 @@ pub fn least<L: Ledger>(
     least_cost(graph, words, costs, values)
 }
 
-fn least_cost(graph: &Graph, words: &[u32], costs: &[u32], values: &mut [u32]) -> Option<u32>
+/// The same as [`least`], for what counts no passes.
+pub fn least_cost(graph: &Graph, words: &[u32], costs: &[u32], values: &mut [u32]) -> Option<u32>
     requires long { length words.now ≡ graph.now.vars }
     requires words { All (λ w. w < 3) words.now }
     requires parts { length costs.now ≤ graph.now.vars }

@@ -4,7 +4,7 @@ use Rattle.std.specs.Prelude.{ℕ, ◌+◌, ◌-◌, ◌/◌, ◌%◌, List, [],
 use Rattle.std.specs.List.{range_with_len}
 use Rattle.text_rules.specs.Names.{Name}
 use Rattle.ranking.specs.Ranking.{plain_costs}
-use Rattle.ranking.specs.Systems.{System}
+use Rattle.ranking.specs.Systems.{System, no_extras}
 use Rattle.graph_rules.specs.Graphs.{Graph}
 use Rattle.device_model.specs.declared.limits.TheConstants.{WIRE_LIMIT}
 use Rattle.session_rules.specs.GraphSystems.{Subject, system_of}
@@ -37,13 +37,14 @@ abbrev pub told : AskError → Option AskError
 told Memory = None
 told error = Some error
 
--- what is asked over a graph, so many of whose variables are parts
+-- what is asked over a graph, so many of whose variables are parts; nothing is told besides
 abbrev pub asked_subject : ℕ → Graph → Subject
 asked_subject health graph = record {
   parts = asked_parts health;
   wires = asked_wires health graph.vars;
   costs = plain_costs health;
   graph = graph;
+  extras = no_extras;
 }
 
 abbrev pub asked_system : ℕ → Graph → System

@@ -7,11 +7,13 @@ mod header;
 mod lines;
 mod node_lines;
 mod numbers;
+mod ranges;
 mod reading;
 mod sharing;
 mod writing;
 
 pub use error::NnfError;
 pub use lines::{add_header, add_node};
+pub use ranges::add_counted_range;
 pub use reading::read_nnf;
 pub use writing::write_nnf;

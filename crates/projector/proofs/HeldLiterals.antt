@@ -12,7 +12,7 @@ use Rattle.graph_rules.specs.GraphTexts.{edges}
 use Rattle.std.proofs.lemmas.List.Sums.{sum_by-cons}
 use Rattle.graph_rules.proofs.NodeValues.{are_below, value_of, value_of-at}
 use Rattle.projector.specs.Projecting.{held_literal}
-use Rattle.projector.proofs.Kids.{at_most_one-from}
+use Rattle.graph_rules.proofs.BelowKids.{at_most_one-from}
 
 -- those of parts of which the first has this number
 abbrev pub held_from : ℕ → List (Option Bool) → List Node

@@ -1,6 +1,5 @@
 mod Examples
 mod HeldLiterals
-mod Kids
 mod Lines
 mod Literals
 mod Meeting

@@ -30,8 +30,9 @@ use Rattle.conditioner.specs.Words.{known_of, known}
 use Rattle.conditioner.specs.Models.{has_model, fits_words, models}
 use Rattle.conditioner.proofs.FittingWords.{known-at, fits_words-at, fits_words-from, fits_words-front}
 use Rattle.nnf_text.proofs.ReadingBack.{IsList, graph_text-read, graph_text-is_neat}
-use Rattle.projector.specs.Projecting.{projected_kind, projected_node, held_literals, root_with, projection, projected_text, IsGraphOfStates}
-use Rattle.projector.proofs.Kids.{each_below, any_more, at_most_one-from, at_most_one-less}
+use Rattle.graph_rules.specs.StateGraphs.{IsGraphOfStates}
+use Rattle.projector.specs.Projecting.{projected_kind, projected_node, held_literals, root_with, projection, projected_text}
+use Rattle.graph_rules.proofs.BelowKids.{each_below, any_more, at_most_one-from, at_most_one-less, range-below}
 use Rattle.projector.proofs.Literals.{wanted_of, literal-truth, literal-mentions, literal-fits}
 use Rattle.projector.proofs.Meeting.{Agrees, Meets, Meets-same, can_by, node_is}
 use Rattle.projector.proofs.HeldLiterals.{length-held, held-alone, held-apart, held-fit, values-alone, held-agrees, held-once, held-known}
@@ -135,10 +136,6 @@ nodes_fit-append vars own (x ∷ xs) ys first second =
     let both = and_parts (node_fits vars own x) (nodes_fit vars (own + 1) xs) first in
     let e : own + suc (length xs) ≡ (own + 1) + length xs = omega arith in
     and_from _ _ both.0 (nodes_fit-append vars (own + 1) xs ys both.1 (subst (λ n. nodes_fit vars n ys ≡ true) e second))
-
-range-below : (start len end : ℕ) → start + len ≤ end → are_below end (range_with_len start len) ≡ true
-range-below start zero end few = refl
-range-below start (suc len) end few = and_from _ _ (lt-ltb start end (omega arith)) (range-below (start + 1) len end (omega arith))
 
 -- ---- the projection
 

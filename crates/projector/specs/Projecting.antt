@@ -54,10 +54,3 @@ projection graph words parts =
 
 abbrev pub projected_text : Graph → List ℕ → ℕ → List ℕ
 projected_text graph words parts = graph_text (projection graph words parts)
-
--- a graph over so many parts, decomposable, and true for these states alone
-abbrev pub IsGraphOfStates : ℕ → List (List Bool) → Parsed → Type 0
-IsGraphOfStates parts states (Err refusal) = ⊥
-IsGraphOfStates parts states (Ok graph) =
-    (graph.vars ≡ parts) × Decomposable graph.nodes
-    × ((h : List Bool) → length h ≡ parts → holds graph h ≡ list_any (pointwise same_bit h) states)

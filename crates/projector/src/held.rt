@@ -10,7 +10,7 @@ ghost use Rattle.projector.specs.inner.Lines.{held_line};
 
 use diag_edge::{Chunk, Sink, WriteFailed};
 use graph_rules::NodeKind;
-use nnf_text::add_node;
+use nnf_text::{add_counted_range, add_node};
 
 // Of how many parts something is known.
 pub(crate) fn held_count(health: &[u32]) -> u32
@@ -101,55 +101,4 @@ fn add_root<O: Sink>(
 {
     chunk.add(out, b"A")?;
     add_counted_range(chunk, out, first, count)
-}
-
-// Adds how many numbers there are from a first one on and each of them, each behind a space, and a line feed.
-fn add_counted_range<O: Sink>(
-    chunk: &mut Chunk,
-    out: &mut O,
-    first: u32,
-    count: u32,
-) -> Result<(), WriteFailed>
-    requires { first + count < 2 ^ 32 }
-    ensures bytes { Adds (O.got out.old) (O.got out.new) chunk.old chunk.new result
-        ((32 ∷ decimal count)
-        ++ (flat_map (λ n. 32 ∷ decimal n) (range_with_len first count) ++ 10 ∷ [])) }
-    ensures cause { HasCause (O.faults out.old) (O.faults out.new) result }
-{
-    chunk.add_count(out, count)?;
-    add_range_end(chunk, out, first, count)
-}
-
-#[tactic(auto, using(diag_edge::proofs::Added::adds_on))]
-fn add_range_end<O: Sink>(
-    chunk: &mut Chunk,
-    out: &mut O,
-    first: u32,
-    count: u32,
-) -> Result<(), WriteFailed>
-    requires { first + count < 2 ^ 32 }
-    ensures bytes { Adds (O.got out.old) (O.got out.new) chunk.old chunk.new result
-        (flat_map (λ n. 32 ∷ decimal n) (range_with_len first count) ++ 10 ∷ []) }
-    ensures cause { HasCause (O.faults out.old) (O.faults out.new) result }
-{
-    add_range(chunk, out, first, count)?;
-    chunk.add(out, b"\n")
-}
-
-// Adds so many numbers from a first one on, each behind a space.
-fn add_range<O: Sink>(
-    chunk: &mut Chunk,
-    out: &mut O,
-    first: u32,
-    count: u32,
-) -> Result<(), WriteFailed>
-    requires { first + count < 2 ^ 32 }
-    ensures bytes { Adds (O.got out.old) (O.got out.new) chunk.old chunk.new result
-        (flat_map (λ n. 32 ∷ decimal n) (range_with_len first count)) }
-    ensures cause { HasCause (O.faults out.old) (O.faults out.new) result }
-{
-    for i in 0..count {
-        chunk.add_count(out, first + i)?;
-    }
-    Ok(())
 }

@@ -4,7 +4,8 @@ ghost use Rattle.text_rules.specs.Tokens.{is_neat};
 ghost use Rattle.graph_rules.specs.Graphs.{IsGraph};
 ghost use Rattle.graph_rules.specs.GraphTexts.{parsed};
 ghost use Rattle.conditioner.specs.Models.{models};
-ghost use Rattle.projector.specs.Projecting.{projected_text, IsGraphOfStates};
+ghost use Rattle.graph_rules.specs.StateGraphs.{IsGraphOfStates};
+ghost use Rattle.projector.specs.Projecting.{projected_text};
 
 use crate::held::{add_ends, held_count};
 use crate::nodes::add_nodes;

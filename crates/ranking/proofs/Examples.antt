@@ -3,6 +3,7 @@ use Rattle.std.proofs.Common.{◌≡◌, Bool, true, false, List, [], ◌∷◌,
 use Rattle.std.specs.List.{filter}
 use Rattle.ranking.specs.Bits.{has_odd_ones, row_number}
 use Rattle.ranking.specs.Cases.{agrees, empty_case}
+use Rattle.ranking.specs.Levels.{levels, levels_rest}
 use Rattle.ranking.specs.Ranking.{cost, plain_costs, is_before, states, least, diagnoses, rest}
 
 -- both parts faulty, the first, the second, none
@@ -72,3 +73,24 @@ odd = refl
 
 sixth_row : row_number (false ∷ true ∷ true ∷ []) ≡ 6
 sixth_row = refl
+
+-- ---- by rising cost
+
+by_cost : levels (plain_costs 2) 2 (both ∷ first ∷ second ∷ []) ≡ first ∷ second ∷ both ∷ []
+by_cost = refl
+
+up_to_one : levels (plain_costs 2) 1 (both ∷ first ∷ second ∷ []) ≡ first ∷ second ∷ []
+up_to_one = refl
+
+dear_first_part : levels (2 ∷ 1 ∷ []) 3 (both ∷ first ∷ second ∷ none ∷ []) ≡ none ∷ second ∷ first ∷ both ∷ []
+dear_first_part = refl
+
+levels_after_the_second : levels_rest (plain_costs 2) (first ∷ second ∷ both ∷ []) (Some second) ≡ both ∷ []
+levels_after_the_second = refl
+
+-- a point that is none of them goes by its own cost
+levels_after_none : levels_rest (plain_costs 2) (first ∷ second ∷ both ∷ []) (Some none) ≡ first ∷ second ∷ both ∷ []
+levels_after_none = refl
+
+levels_after_no_point : levels_rest (plain_costs 2) (first ∷ second ∷ both ∷ []) None ≡ first ∷ second ∷ both ∷ []
+levels_after_no_point = refl

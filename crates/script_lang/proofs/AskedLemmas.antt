@@ -10,7 +10,7 @@ use Rattle.text_rules.specs.Numbers.{number_in, value_behind, are_digits, has_le
 use Rattle.script_lang.specs.declared.limits.TheConstants.{COUNT_LIMIT, LINE_LIMIT}
 use Rattle.script_lang.proofs.Asked.{is_well_named, is_well_asked}
 use Rattle.script_lang.specs.declared.refusal.LineRefusal.TheVariants.{TooLong}
-use Rattle.script_lang.specs.Script.{Request, Start, Stop, See, Unsee, Hold, Unhold, Min, Next, Several, After, Probe, Probes, Blame, Dnnf, Line, Blank, Refused, is_script_name, on_session, on_name, on_value, on_pair, if_value, on_count, if_count, on_names, at_equals, value_in, read_by, read_as, commands, begins_comment, line_of_words, line_of}
+use Rattle.script_lang.specs.Script.{Request, Start, Stop, See, Unsee, Hold, Unhold, Min, Next, Several, After, Probe, Probes, Blame, Dnnf, Level, Levels, LeastNnf, Line, Blank, Refused, is_script_name, on_session, on_name, on_value, on_pair, if_value, on_count, if_count, on_names, at_equals, value_in, read_by, read_as, commands, begins_comment, line_of_words, line_of}
 
 choice : (test : Bool) (one other : Line) → (test ≡ true → is_well_asked one ≡ true) → is_well_asked other ≡ true → is_well_asked (if test then one else other) ≡ true
 choice true one other first second = first refl
@@ -49,25 +49,28 @@ well-on_value one other request well (s ∷ pair ∷ []) = well-on_pair one othe
 well-on_value one other request well (s ∷ pair ∷ t ∷ ws) = refl
 
 -- a number that is read lies in its range
-chosen : (test : Bool) (n : ℕ) (s : Name) → is_short_name s ≡ true → (test ≡ true → is_well_named (Several n) ≡ true) → is_well_asked (if_count s Several (if test then Some n else None)) ≡ true
-chosen true n s named well = and_from _ _ named (well refl)
-chosen false n s named well = refl
+abbrev IsCounted : (ℕ → Request) → Type 0
+IsCounted request = (n : ℕ) → (nat_le 1 n && nat_le n COUNT_LIMIT) ≡ true → is_well_named (request n) ≡ true
 
-in_range : (word : List ℕ) (s : Name) → is_short_name s ≡ true → is_well_asked (if_count s Several (number_in 7 1 COUNT_LIMIT word)) ≡ true
-in_range word s named = elim (cases_Bool (are_digits 7 word)) [
-  | inl digits ↦ rw (digits, number_in) (chosen (nat_le 1 (value_behind 0 word) && nat_le (value_behind 0 word) COUNT_LIMIT) (value_behind 0 word) s named (λ within. within))
+chosen : (request : ℕ → Request) (test : Bool) (n : ℕ) (s : Name) → is_short_name s ≡ true → (test ≡ true → is_well_named (request n) ≡ true) → is_well_asked (if_count s request (if test then Some n else None)) ≡ true
+chosen request true n s named well = and_from _ _ named (well refl)
+chosen request false n s named well = refl
+
+in_range : (request : ℕ → Request) → IsCounted request → (word : List ℕ) (s : Name) → is_short_name s ≡ true → is_well_asked (if_count s request (number_in 7 1 COUNT_LIMIT word)) ≡ true
+in_range request well word s named = elim (cases_Bool (are_digits 7 word)) [
+  | inl digits ↦ rw (digits, number_in) (chosen request (nat_le 1 (value_behind 0 word) && nat_le (value_behind 0 word) COUNT_LIMIT) (value_behind 0 word) s named (well (value_behind 0 word)))
   | inr other ↦ rw (other, number_in)
 ]
 
-well-count : (zero_first : Bool) (word : List ℕ) (s : Name) → is_short_name s ≡ true → is_well_asked (if_count s Several (if zero_first then None else number_in 7 1 COUNT_LIMIT word)) ≡ true
-well-count true word s named = refl
-well-count false word s named = in_range word s named
+well-count : (request : ℕ → Request) → IsCounted request → (zero_first : Bool) (word : List ℕ) (s : Name) → is_short_name s ≡ true → is_well_asked (if_count s request (if zero_first then None else number_in 7 1 COUNT_LIMIT word)) ≡ true
+well-count request well true word s named = refl
+well-count request well false word s named = in_range request well word s named
 
-well-on_count : (ws : List (List ℕ)) → is_well_asked (on_count Several ws) ≡ true
-well-on_count [] = refl
-well-on_count (s ∷ []) = refl
-well-on_count (s ∷ count ∷ []) = choice (is_short_name s) _ _ (λ named. well-count (has_leading_zero count) count s named) refl
-well-on_count (s ∷ count ∷ t ∷ ws) = refl
+well-on_count : (request : ℕ → Request) → IsCounted request → (ws : List (List ℕ)) → is_well_asked (on_count request ws) ≡ true
+well-on_count request well [] = refl
+well-on_count request well (s ∷ []) = refl
+well-on_count request well (s ∷ count ∷ []) = choice (is_short_name s) _ _ (λ named. well-count request well (has_leading_zero count) count s named) refl
+well-on_count request well (s ∷ count ∷ t ∷ ws) = refl
 
 well-on_names : (ws : List (List ℕ)) → is_well_asked (on_names After ws) ≡ true
 well-on_names [] = refl
@@ -105,7 +108,7 @@ each_command ws = (
               well-on_session Min refl ws,
               (
                 well-on_session Next refl ws,
-                (well-on_count ws, (well-on_names ws, (well-on_name Probe (λ name named. named) ws, (well-on_session Probes refl ws, (well-on_session Blame refl ws, (well-on_session Dnnf refl ws, tt)))))),
+                (well-on_count Several (λ n within. within) ws, (well-on_names ws, (well-on_name Probe (λ name named. named) ws, (well-on_session Probes refl ws, (well-on_session Blame refl ws, (well-on_session Dnnf refl ws, (well-on_session Level refl ws, (well-on_count Levels (λ n within. within) ws, (well-on_session LeastNnf refl ws, tt))))))))),
               ),
             ),
           ),

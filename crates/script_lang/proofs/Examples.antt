@@ -1,7 +1,7 @@
 -- Worked rows: what the definitions give at lines of which a reader can say it beforehand. Their check computes both sides.
 use Rattle.std.proofs.Common.{◌≡◌, ℕ, true, false, List, [], ◌∷◌, ◌++◌, length, map, codes, replicate, refl, arith}
 use Rattle.script_lang.proofs.LineLemmas.{line_of-too_long}
-use Rattle.script_lang.specs.Script.{Blank, Refused, Ask, Start, Stop, See, Unsee, Hold, Unhold, Min, Next, Several, After, Probe, Probes, Blame, Dnnf, line_of}
+use Rattle.script_lang.specs.Script.{Blank, Refused, Ask, Start, Stop, See, Unsee, Hold, Unhold, Min, Next, Several, After, Probe, Probes, Blame, Dnnf, Level, Levels, LeastNnf, line_of}
 use Rattle.script_lang.specs.Refusals.{refusal_number, refusal_text}
 use Rattle.script_lang.specs.declared.refusal.LineRefusal.TheVariants.{UnknownCommand, BadWords, BadName, BadValue, TooLong}
 
@@ -61,6 +61,15 @@ blame_all = refl
 write_a_formula : line_of (codes "dnnf S") ≡ Ask (codes "S") Dnnf
 write_a_formula = refl
 
+next_state : line_of (codes "level S") ≡ Ask (codes "S") Level
+next_state = refl
+
+nine_states : line_of (codes "levels S 9") ≡ Ask (codes "S") (Levels 9)
+nine_states = refl
+
+write_the_least : line_of (codes "leastnnf S") ≡ Ask (codes "S") LeastNnf
+write_the_least = refl
+
 -- a tab parts words, and a carriage return at the end is a blank
 blanks_of_each_kind : line_of (codes "open" ++ 9 ∷ codes "S" ++ 13 ∷ []) ≡ Ask (codes "S") Start
 blanks_of_each_kind = refl
@@ -91,6 +100,12 @@ command_in_capitals = refl
 
 no_session : line_of (codes "open") ≡ Refused BadWords
 no_session = refl
+
+no_count : line_of (codes "levels S") ≡ Refused BadWords
+no_count = refl
+
+count_behind_level : line_of (codes "level S 9") ≡ Refused BadWords
+count_behind_level = refl
 
 word_too_many : line_of (codes "open S T") ≡ Refused BadWords
 word_too_many = refl
@@ -155,6 +170,9 @@ count_with_a_leading_zero = refl
 
 count_above_a_million : line_of (codes "list S 1000001") ≡ Refused BadValue
 count_above_a_million = refl
+
+states_above_a_million : line_of (codes "levels S 1000001") ≡ Refused BadValue
+states_above_a_million = refl
 
 -- ---- lines that are too long
 

@@ -21,4 +21,7 @@ meaning (line.Probe session name) = script.Ask session.now (script.Probe name.no
 meaning (line.Probes session) = script.Ask session.now script.Probes
 meaning (line.Blame session) = script.Ask session.now script.Blame
 meaning (line.Dnnf session) = script.Ask session.now script.Dnnf
+meaning (line.Level session) = script.Ask session.now script.Level
+meaning (line.Levels session count) = script.Ask session.now (script.Levels count)
+meaning (line.LeastNnf session) = script.Ask session.now script.LeastNnf
 meaning (line.Refused refusal) = script.Refused refusal

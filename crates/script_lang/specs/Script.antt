@@ -27,6 +27,9 @@ pub data Request : Type 0 where
   Probes : Request
   Blame : Request
   Dnnf : Request
+  Level : Request
+  Levels : (count : ℕ) → Request
+  LeastNnf : Request
 
 -- nothing, a refusal, or a session and what is asked of it
 pub data Line : Type 0 where
@@ -102,6 +105,9 @@ commands = (codes "open", on_session Start)
     ∷ (codes "probes", on_session Probes)
     ∷ (codes "blame", on_session Blame)
     ∷ (codes "dnnf", on_session Dnnf)
+    ∷ (codes "level", on_session Level)
+    ∷ (codes "levels", on_count Levels)
+    ∷ (codes "leastnnf", on_session LeastNnf)
     ∷ []
 
 -- a first word that is no command is refused

@@ -72,6 +72,19 @@ pub enum Line<'a> {
     Dnnf {
         session: &'a [u8],
     },
+    /// `level S`.
+    Level {
+        session: &'a [u8],
+    },
+    /// `levels S COUNT`: a count from 1 to a million.
+    Levels {
+        session: &'a [u8],
+        count: u32,
+    },
+    /// `leastnnf S`.
+    LeastNnf {
+        session: &'a [u8],
+    },
     /// Nothing that can be asked.
     Refused(LineRefusal),
 }

@@ -161,6 +161,12 @@ fn read_command<'a>(command: &[u8], text: &'a [u8]) -> Result<Line<'a>, LineRefu
         session_in(text).map(|session| Line::Blame { session })
     } else if same_word(command, b"dnnf") {
         session_in(text).map(|session| Line::Dnnf { session })
+    } else if same_word(command, b"level") {
+        session_in(text).map(|session| Line::Level { session })
+    } else if same_word(command, b"levels") {
+        count_in(text).map(|(session, count)| Line::Levels { session, count })
+    } else if same_word(command, b"leastnnf") {
+        session_in(text).map(|session| Line::LeastNnf { session })
     } else {
         Err(LineRefusal::UnknownCommand)
     }

@@ -9,7 +9,7 @@ use Rattle.script_lang.specs.Script.{Probe as ProbeOf}
 use Rattle.session_rules.specs.declared.refusal.Refusal.TheVariants.{NoWire}
 use Rattle.session_rules.specs.GraphSystems.{Subject}
 use Rattle.session_rules.specs.Replies.{probe_line, if_any}
-use Rattle.session_rules.specs.Sessions.{Entry, Outcome, Declined, when_open, tells, at_place}
+use Rattle.session_rules.specs.Sessions.{Entry, Outcome, Declined, when_open, tells, with_number}
 use Rattle.session_core.specs.declared.telling.Question.{Question}
 use Rattle.session_core.specs.declared.telling.Question.TheVariants.{Minimum, Probe, Probes, Blame}
 use Rattle.session_core.specs.inner.Obeying.{asked_request, NamesNoWire}
@@ -50,8 +50,8 @@ name-at name names place e = equal_if_same name (get_or names place []) (positio
 
 pub wire-at : (system : System) (session : Name) (entry : Entry) (name : Name) (wire : ℕ) → Some wire ≡ place_of name system.wires → when_open system session entry (ProbeOf name) ≡ tells (told_of system session entry.known (Probe wire))
 wire-at system session entry name wire e =
-    ap (at_place NoWire (tells_wire system session entry name)) (sym e)
+    ap (with_number NoWire (tells_wire system session entry name)) (sym e)
     ∙ ap (λ (n : Name). tells_wire system session entry n wire) (name-at name system.wires wire e)
 
 pub wire-nowhere : (system : System) (session : Name) (entry : Entry) (name : Name) → None ≡ place_of name system.wires → when_open system session entry (ProbeOf name) ≡ Declined NoWire
-wire-nowhere system session entry name e = ap (at_place NoWire (tells_wire system session entry name)) (sym e)
+wire-nowhere system session entry name e = ap (with_number NoWire (tells_wire system session entry name)) (sym e)

@@ -1,23 +1,25 @@
 -- What a service writes is one text of what its system answers: where its moves were made, or broke off, those over the
 -- system were.
-use Rattle.std.proofs.Common.{◌≡◌, ℕ, ◌+◌, ◌^◌, ◌<◌, ◌≤◌, List, [], ◌∷◌, ◌++◌, length, Option, Some, None, refl, ap, sym, ◌∙◌, subst, append_assoc}
-use Rattle.std.specs.Prelude.{nat_le}
+use Rattle.std.proofs.Common.{◌≡◌, ℕ, Bool, true, false, ◌+◌, ◌^◌, ◌<◌, ◌≤◌, List, [], ◌∷◌, ◌++◌, length, Option, Some, None, refl, ap, sym, ◌∙◌, subst, append_assoc}
+use Rattle.std.specs.Prelude.{nat_le, codes, if◌then◌else◌}
 use Rattle.text_rules.specs.Names.{Name}
-use Rattle.ranking.specs.Systems.{System}
+use Rattle.ranking.specs.Cases.{Case}
+use Rattle.ranking.specs.Systems.{System, all_diagnoses}
 use Rattle.graph_rules.specs.Graphs.{IsGraph}
-use Rattle.script_lang.specs.Script.{Line, Ask, Dnnf, line_of}
-use Rattle.session_rules.specs.Items.{Item, Projected}
+use Rattle.script_lang.specs.Script.{Line, Ask, Request, Dnnf, LeastNnf, line_of}
+use Rattle.session_rules.specs.declared.refusal.Refusal.TheVariants.{NoLeast}
+use Rattle.session_rules.specs.Items.{Item, Projected, LeastText, line}
 use Rattle.session_rules.specs.Spelling.{Spelled, Spells}
-use Rattle.session_rules.specs.Sessions.{Table, Entry, Step, entry_of, carried, outcome}
+use Rattle.session_rules.specs.Sessions.{Table, Entry, Step, Declined, tells, entry_of, carried, outcome}
 use Rattle.session_rules.specs.Moves.{said, left_by, moves, line_moves, script_moves}
 use Rattle.session_rules.specs.Carrying.{Makes, BreaksOff}
-use Rattle.session_rules.specs.GraphSystems.{system_of}
-use Rattle.session_rules.specs.CaseSizes.{IsCaseOf, HasCasesOf}
+use Rattle.session_rules.specs.GraphSystems.{HasLeastTexts, system_of}
+use Rattle.session_rules.specs.CaseSizes.{HasCasesOf}
 use Rattle.session_rules.proofs.Spellings.{spells_more}
 use Rattle.session_rules.proofs.Whole.{line_moves-whole}
 use Rattle.session_rules.proofs.Keeping.{step-keeps}
-use Rattle.session_rules.proofs.ReplyTexts.{case-spelled}
-use Rattle.session_core.specs.Services.{Shown, told_graph, exact_moves, moves_of}
+use Rattle.session_rules.proofs.ReplyTexts.{case-spelled, least-spelled}
+use Rattle.session_core.specs.Services.{Shown, case_text, least_case_text, told_graph, exact_moves, moves_of}
 
 -- A move leads to the table of another, and a text that spells its items spells the other's.
 pub record IsExact (exact move : Step) : Type 0 where
@@ -118,31 +120,52 @@ breaks_same new es ms a b h broke =
 
 -- ---- over a graph whose cases have a text
 
-module _ (shown : Shown) (is : IsGraph shown.subject.graph) (room : length shown.subject.parts + length shown.subject.wires ≤ shown.subject.graph.vars) (few : length shown.subject.graph.nodes + length shown.subject.parts + 1 < 2 ^ 32) where
+module _ (shown : Shown) (is_graph : IsGraph shown.subject.graph) (room : length shown.subject.parts + length shown.subject.wires ≤ shown.subject.graph.vars) (few : length shown.subject.graph.nodes + length shown.subject.parts + 1 < 2 ^ 32)
+    (drawn : shown.subject.extras.least ≡ true → HasLeastTexts shown.subject) where
   abbrev system : System
   system = system_of shown.subject
 
-  -- a text of a session's graph is one of its states
-  told : (table : Table) (s : Name) (entry : Option Entry) → ((e : Entry) → entry ≡ Some e → IsCaseOf system e.known)
-      → let answer = carried table s (outcome system s (nat_le shown.limit (length table)) entry Dnnf) ∷ [] in
-      AreExact (told_graph shown table s entry answer) answer
-  told table s None h = are_same (carried table s (outcome system s (nat_le shown.limit (length table)) None Dnnf) ∷ [])
-  told table s (Some entry) h = (
-    record {
-      table = refl;
-      spells = λ text (head, rest, all, one, (graph, end, behind, is_text, none)). (
-        head,
-        rest,
-        all,
-        one,
-        (graph, end, behind, subst (Spelled (Projected (length shown.subject.parts) (system.consistent entry.known))) (sym is_text) (case-spelled shown.subject is room few entry.known (h entry refl)), none),
-      );
-    },
-    tt,
-  )
+  -- Where an open session is told a line and an item, a text that spells the item may stand in its place.
+  told : (word : List ℕ) (text : Case → List ℕ) (item : Case → Item) (table : Table) (s : Name) (entry : Option Entry) (moves : List Step)
+      → ((e : Entry) → entry ≡ Some e → (moves ≡ record { table = table; items = line (s ∷ word ∷ []) ∷ item e.known ∷ [] } ∷ []) × Spelled (item e.known) (text e.known))
+      → AreExact (told_graph word text table s entry moves) moves
+  told word text item table s None moves h = are_same moves
+  told word text item table s (Some entry) moves h =
+      let by = h entry refl in
+      subst (λ (ms : List Step). AreExact (told_graph word text table s (Some entry) moves) ms) (sym by.0) (
+        record {
+          table = refl;
+          spells = λ all (head, rest, both, one, (graph, end, behind, is_text, none)). (head, rest, both, one, (graph, end, behind, subst (Spelled (item entry.known)) (sym is_text) by.1, none));
+        },
+        tt,
+      )
+
+  -- what an open session answers
+  answered : (table : Table) (s : Name) (request : Request) (e : Entry) → entry_of s table ≡ Some e
+      → carried table s (outcome system s (nat_le shown.limit (length table)) (entry_of s table) request) ≡ carried table s (outcome system s (nat_le shown.limit (length table)) (Some e) request)
+  answered table s request e is = ap (λ (o : Option Entry). carried table s (outcome system s (nat_le shown.limit (length table)) o request)) is
+
+  least_told : (told : Bool) → shown.subject.extras.least ≡ told → (table : Table) (s : Name) → HasCasesOf system table
+      → let step = carried table s (outcome system s (nat_le shown.limit (length table)) (entry_of s table) LeastNnf) ∷ [] in
+      AreExact (if told then told_graph (codes "leastnnf") (least_case_text shown.subject) table s (entry_of s table) step else step) step
+  least_told false is table s h = are_same (carried table s (outcome system s (nat_le shown.limit (length table)) (entry_of s table) LeastNnf) ∷ [])
+  least_told true is table s h =
+      told (codes "leastnnf") (least_case_text shown.subject) (λ known. LeastText (length system.parts) (all_diagnoses system known)) table s (entry_of s table) _
+      (λ e there. (
+        ap (λ (step : Step). step ∷ [])
+            (answered table s LeastNnf e there
+            ∙ ap (λ (b : Bool). carried table s (if b then tells (line (s ∷ codes "leastnnf" ∷ []) ∷ LeastText (length system.parts) (all_diagnoses system e.known) ∷ []) else Declined NoLeast)) is),
+        least-spelled shown.subject is_graph room few drawn e.known (h s e there) is,
+      ))
 
   line_exact : (table : Table) (l : Line) → HasCasesOf system table → AreExact (exact_moves shown table l) (moves system shown.limit table l)
-  line_exact table (Ask s Dnnf) h = told table s (entry_of s table) (h s)
+  line_exact table (Ask s Dnnf) h =
+      told (codes "dnnf") (case_text shown.subject) (λ known. Projected (length system.parts) (system.consistent known)) table s (entry_of s table) _
+      (λ e there. (
+        ap (λ (step : Step). step ∷ []) (answered table s Dnnf e there),
+        case-spelled shown.subject is_graph room few drawn e.known (h s e there),
+      ))
+  line_exact table (Ask s LeastNnf) h = least_told shown.subject.extras.least refl table s h
   line_exact table l h = are_same (moves system shown.limit table l)
 
   cases_kept : (table : Table) (bytes : List ℕ) → HasCasesOf system table → HasCasesOf system (left_by table (line_moves system shown.limit table bytes))

@@ -13,7 +13,7 @@ use Rattle.session_rules.specs.declared.refusal.Refusal.TheVariants.{NoWire, NoP
 use Rattle.session_rules.specs.CaseWords.{case_of_words, AreWords}
 use Rattle.session_rules.specs.GraphSystems.{Subject, system_of}
 use Rattle.session_rules.specs.Items.{line}
-use Rattle.session_rules.specs.Sessions.{Table, Entry, Declined, outcome_in, when_open, becomes, at_wire, at_part, at_place, with_entry, with_seen, with_held}
+use Rattle.session_rules.specs.Sessions.{Table, Entry, Declined, outcome_in, when_open, becomes, at_wire, at_part, with_number, with_entry, with_seen, with_held}
 use Rattle.session_rules.proofs.Spellings.{replies_one}
 use Rattle.session_table.specs.Tables.{Opened}
 use Rattle.session_core.specs.Services.{Shown}
@@ -68,11 +68,11 @@ seen-open system session entry name (Some bit) = refl
 pub seen-at : (system : System) (session : Name) (entry : Entry) (name : Name) (bit : Option Bool) (wire : ℕ) → Some wire ≡ place_of name system.wires
     → when_open system session entry (seen_request name bit) ≡ becomes session (with_seen entry wire bit) (codes "ok")
 seen-at system session entry name bit wire e =
-    seen-open system session entry name bit ∙ ap (at_place NoWire (λ w. becomes session (with_seen entry w bit) (codes "ok"))) (sym e)
+    seen-open system session entry name bit ∙ ap (with_number NoWire (λ w. becomes session (with_seen entry w bit) (codes "ok"))) (sym e)
 
 pub seen-nowhere : (system : System) (session : Name) (entry : Entry) (name : Name) (bit : Option Bool) → None ≡ place_of name system.wires → when_open system session entry (seen_request name bit) ≡ Declined NoWire
 seen-nowhere system session entry name bit e =
-    seen-open system session entry name bit ∙ ap (at_place NoWire (λ w. becomes session (with_seen entry w bit) (codes "ok"))) (sym e)
+    seen-open system session entry name bit ∙ ap (with_number NoWire (λ w. becomes session (with_seen entry w bit) (codes "ok"))) (sym e)
 
 pub held-move : (name : Name) (ok : Option Bool) → IsOneMove (held_request name ok)
 held-move name None = λ shown table session. refl
@@ -90,11 +90,11 @@ held-open system session entry name (Some ok) = refl
 pub held-at : (system : System) (session : Name) (entry : Entry) (name : Name) (ok : Option Bool) (part : ℕ) → Some part ≡ place_of name system.parts
     → when_open system session entry (held_request name ok) ≡ becomes session (with_held entry part ok) (codes "ok")
 held-at system session entry name ok part e =
-    held-open system session entry name ok ∙ ap (at_place NoPart (λ p. becomes session (with_held entry p ok) (codes "ok"))) (sym e)
+    held-open system session entry name ok ∙ ap (with_number NoPart (λ p. becomes session (with_held entry p ok) (codes "ok"))) (sym e)
 
 pub held-nowhere : (system : System) (session : Name) (entry : Entry) (name : Name) (ok : Option Bool) → None ≡ place_of name system.parts → when_open system session entry (held_request name ok) ≡ Declined NoPart
 held-nowhere system session entry name ok e =
-    held-open system session entry name ok ∙ ap (at_place NoPart (λ p. becomes session (with_held entry p ok) (codes "ok"))) (sym e)
+    held-open system session entry name ok ∙ ap (with_number NoPart (λ p. becomes session (with_held entry p ok) (codes "ok"))) (sym e)
 
 -- a list that was lent whole and written back
 pub written_back : {A : Type 0} (n : ℕ) (new old : List A) → n ≡ length new → take n (new ++ drop (length new) old) ≡ new

@@ -6,6 +6,8 @@ pub mod Told
 pub mod Questions
 pub mod Desks
 pub mod Staying
+mod ByCost
+mod Rooms
 pub mod Obeying
 pub mod Holding
 pub mod Stepping

@@ -1,6 +1,6 @@
 -- A session that moves on, once and so many times.
 use Rattle.std.proofs.Common.{◌≡◌, ◌∙◌, ◌∷◌, ◌++◌, [], ℕ, suc, Bool, true, false, List, map, Option, Some, None, Result, Ok, Err, IsErr, Ordering, Less, Equal, Greater, codes, decimal, refl, ap, sym, subst, append_assoc, append-nil}
-use Rattle.std.specs.Prelude.{IfOk, slice_index_or}
+use Rattle.std.specs.Prelude.{IfOk, slice_index_or, is_some, nat_le, length}
 use Rattle.std.proofs.lemmas.List.{map-append}
 use Rattle.std.specs.Ordering.{nat_cmp}
 use Rattle.std.specs.Cmp.Lexicographic.{slice_cmp}
@@ -10,24 +10,29 @@ use Rattle.text_rules.specs.Names.{Name}
 use Rattle.text_rules.specs.Tokens.{spaced}
 use Rattle.diag_edge.specs.Edge.{Puts}
 use Rattle.ranking.specs.Ranking.{rest}
-use Rattle.ranking.specs.Systems.{all_diagnoses}
+use Rattle.ranking.specs.Systems.{System, all_diagnoses}
 use Rattle.diagnosis_lister.specs.declared.listing.Step.{Step as Answer}
 use Rattle.diagnosis_lister.specs.declared.listing.Step.TheVariants.{Found, End, Inconsistent}
-use Rattle.script_lang.specs.Script.{Ask, Next, Several}
+use Rattle.script_lang.specs.Script.{Ask, Request, Several, Level, Levels as LevelsOf}
 use Rattle.session_rules.specs.GraphSystems.{Subject, system_of}
-use Rattle.session_rules.specs.declared.refusal.Refusal.TheVariants.{NoSession}
+use Rattle.session_rules.specs.declared.refusal.Refusal.{Refusal}
+use Rattle.session_rules.specs.Refusals.{refusal_number, refusal_text}
+use Rattle.session_rules.specs.declared.refusal.Refusal.TheVariants.{NoSession, NoLevels}
 use Rattle.session_rules.specs.Items.{Item, line}
-use Rattle.session_rules.specs.Replies.{Found as Reply, next_of, listing, diagnosis_line, inconsistent, end_line}
-use Rattle.session_rules.specs.Sessions.{Table, Entry, Step, Declined, entry_of, with_entry, carried, moved}
-use Rattle.session_rules.specs.Moves.{moves, goes_on, listing_moves}
+use Rattle.session_rules.specs.Replies.{Found as Reply, listing, diagnosis_line, inconsistent, end_line}
+use Rattle.session_rules.specs.Sessions.{Table, Entry, Step, Declined, with_number, goes_to, goes_through, entry_of, with_entry, carried, when_open, outcome}
+use Rattle.session_rules.specs.Moves.{goes_on, listing_moves, next_for, level_for, level_moves}
 use Rattle.session_rules.specs.Spelling.{WritesPart, Replies}
 use Rattle.session_rules.specs.Carrying.{Makes, BreaksOff, CarriesOut}
 use Rattle.session_rules.proofs.Spellings.{writes_none, replies_one}
 use Rattle.session_rules.proofs.Broken.{makes_none, makes_more, breaks_after, carries_step}
 use Rattle.session_table.specs.Tables.{StandsAt}
-use Rattle.session_core.specs.Services.{Shown, ChangesTable}
-use Rattle.session_core.specs.inner.Obeying.{Obeys, the_next, next_entry, PointMoves, MovesOn}
-use Rattle.session_core.proofs.Obeying.{obeys_outcome, asked_open}
+use Rattle.session_core.specs.Services.{Shown, ChangesTable, exact_moves}
+use Rattle.session_core.specs.declared.listing.Listed.{Listed}
+use Rattle.session_core.specs.declared.listing.Listed.TheVariants.{Diagnoses, Levels}
+use Rattle.session_core.specs.inner.Desks.{top_of}
+use Rattle.session_core.specs.inner.Obeying.{Obeys, the_found, found_by, found_entry, found_moves, PointMoves, NextMoves, MovesOn}
+use Rattle.session_core.proofs.Obeying.{IsOneMove, obeys_outcome, asked_open}
 use Rattle.session_core.proofs.Stepping.{found_inconsistent, found_end, found_more}
 
 -- ---- a reply that failed
@@ -62,58 +67,57 @@ put_twice name v w (e ∷ es) = twice_by name v w e es (slice_cmp nat_cmp name e
 
 -- ---- once
 
-module _ (subject : Subject) (old new : Table) (place : ℕ) (session : Name) (entry : Entry) (found : Answer) (m : PointMoves subject old new place session entry found) where
+module _ (subject : Subject) (old new : Table) (place : ℕ) (session : Name) (entry : Entry) (found : Answer) (m : NextMoves subject old new place session entry found) where
   abbrev later : List (List Bool)
   later = rest (all_diagnoses (system_of subject) entry.known) entry.point
 
-  pub next_inconsistent : found ≡ Inconsistent → the_next subject session entry ≡ record { item = inconsistent session; point = entry.point; more = false }
+  pub next_inconsistent : found ≡ Inconsistent → the_found subject Diagnoses session entry ≡ record { item = inconsistent session; point = entry.point; more = false }
   next_inconsistent e = found_inconsistent (system_of subject).costs ((system_of subject).consistent entry.known) session (diagnosis_line (system_of subject) session) entry.point later (sym m.answer ∙ e)
 
-  pub next_end : found ≡ End → the_next subject session entry ≡ record { item = end_line session; point = entry.point; more = false }
+  pub next_end : found ≡ End → the_found subject Diagnoses session entry ≡ record { item = end_line session; point = entry.point; more = false }
   next_end e = found_end (system_of subject).costs ((system_of subject).consistent entry.known) session (diagnosis_line (system_of subject) session) entry.point later (sym m.answer ∙ e)
 
-  next_found : found ≡ Found → the_next subject session entry ≡ record { item = diagnosis_line (system_of subject) session (slice_index_or later 0 []); point = Some (slice_index_or later 0 []); more = true }
+  next_found : found ≡ Found → the_found subject Diagnoses session entry ≡ record { item = diagnosis_line (system_of subject) session (slice_index_or later 0 []); point = Some (slice_index_or later 0 []); more = true }
   next_found e = found_more (system_of subject).costs ((system_of subject).consistent entry.known) session (diagnosis_line (system_of subject) session) entry.point later (sym m.answer ∙ e)
 
   -- the point is then the diagnosis that is shown
-  pub found_state : found ≡ Found → (state : List Bool) × ((the_next subject session entry).point ≡ Some state) × ((the_next subject session entry).item ≡ diagnosis_line (system_of subject) session state) × ((the_next subject session entry).more ≡ true)
+  pub found_state : found ≡ Found → (state : List Bool) × ((the_found subject Diagnoses session entry).point ≡ Some state) × ((the_found subject Diagnoses session entry).item ≡ diagnosis_line (system_of subject) session state) × ((the_found subject Diagnoses session entry).more ≡ true)
   found_state e = (slice_index_or later 0 [], ap (λ (f : Reply). f.point) (next_found e), ap (λ (f : Reply). f.item) (next_found e), ap (λ (f : Reply). f.more) (next_found e))
 
-pub moves_on : {E : Type 0} (old new : Shown) (place : ℕ) (session : Name) (entry : Entry) (answer : Answer) (before after : Option (List ℕ)) (result : Result Bool E)
-    → PointMoves old.subject old.table new.table place session entry answer → ChangesTable old new
-    → Replies before after result ((the_next old.subject session entry).item ∷ []) → IfOk result (λ more. more ≡ (the_next old.subject session entry).more)
-    → MovesOn old new place session entry before after result
-moves_on old new place session entry answer before after result m stays reply more = record {
+pub moves_on : {E : Type 0} (old new : Shown) (listed : Listed) (place : ℕ) (session : Name) (entry : Entry) (known : Type 0) (before after : Option (List ℕ)) (result : Result Bool E)
+    → PointMoves old.subject listed old.table new.table place session entry known → ChangesTable old new
+    → Replies before after result ((the_found old.subject listed session entry).item ∷ []) → IfOk result (λ more. more ≡ (the_found old.subject listed session entry).more)
+    → MovesOn old new listed place session entry before after result
+moves_on old new listed place session entry known before after result m stays reply more = record {
   reply = reply;
   more = more;
   moved = stays ∙ ap (λ (t : Table). record old { table = t }) m.moved;
   stands = m.stands;
 }
 
--- `next` is one such move
-pub obeys_next : {T E : Type 0} (old new : Shown) (session : Name) (entry : Entry) (before after : Option (List ℕ)) (result : Result T E)
-    → entry_of session old.table ≡ Some entry → Replies before after result ((the_next old.subject session entry).item ∷ [])
-    → new ≡ record old { table = with_entry session (next_entry old.subject session entry) old.table } → Obeys old new session Next before after result
-obeys_next old new session entry before after result there reply moves =
-    let f = the_next old.subject session entry in
-    obeys_outcome old session Next (λ shown table s. refl) before after result (moved entry f.point (f.item ∷ [])) new
-    (asked_open old session Next entry there) moves reply
+-- a request that is one such move
+pub obeys_found : {T E : Type 0} (old new : Shown) (listed : Listed) (session : Name) (entry : Entry) (before after : Option (List ℕ)) (result : Result T E) (request : Request) → IsOneMove request
+    → entry_of session old.table ≡ Some entry → when_open (system_of old.subject) session entry request ≡ goes_to entry (the_found old.subject listed session entry)
+    → Replies before after result ((the_found old.subject listed session entry).item ∷ [])
+    → new ≡ record old { table = with_entry session (found_entry old.subject listed session entry) old.table } → Obeys old new session request before after result
+obeys_found old new listed session entry before after result request one there is reply moves =
+    obeys_outcome old session request one before after result (goes_to entry (the_found old.subject listed session entry)) new
+    (asked_open old session request entry there ∙ is) moves reply
 
 -- ---- so many times
 
--- Some diagnoses of a listing were shown, and so many more are left.
-pub record Lists (old now : Shown) (place : ℕ) (session : Name) (entry : Entry) (count left : ℕ) (before after : Option (List ℕ)) : Type 0 where
+-- Some of a listing were shown, and so many more are left.
+pub record Lists (old now : Shown) (listed : Listed) (place : ℕ) (session : Name) (entry : Entry) (count left : ℕ) (before after : Option (List ℕ)) : Type 0 where
   pub point : Option (List Bool)
   pub done : List Reply
-  pub both : done ++ listing (next_of (system_of old.subject) session (all_diagnoses (system_of old.subject) entry.known)) left point
-      ≡ listing (next_of (system_of old.subject) session (all_diagnoses (system_of old.subject) entry.known)) count entry.point
+  pub both : done ++ listing (found_by old.subject listed session entry) left point ≡ listing (found_by old.subject listed session entry) count entry.point
   pub made : Makes old.table now.table (map (goes_on old.table session entry) done) before after
   pub moved : now ≡ record old { table = with_entry session (record entry { point = point }) old.table }
   pub stands : StandsAt now.table place session (record entry { point = point })
 
 -- none was shown yet
-pub lists_none : (old : Shown) (place : ℕ) (session : Name) (entry : Entry) (count : ℕ) (before : Option (List ℕ)) → StandsAt old.table place session entry → Lists old old place session entry count count before before
-lists_none old place session entry count before stands = record {
+pub lists_none : (old : Shown) (listed : Listed) (place : ℕ) (session : Name) (entry : Entry) (count : ℕ) (before : Option (List ℕ)) → StandsAt old.table place session entry → Lists old old listed place session entry count count before before
+lists_none old listed place session entry count before stands = record {
   point = entry.point;
   done = [];
   both = refl;
@@ -122,9 +126,15 @@ lists_none old place session entry count before stands = record {
   stands = stands;
 }
 
-module _ (old : Shown) (place : ℕ) (session : Name) (entry : Entry) (count : ℕ) where
+-- what comes next does not hang on the point that a session had
+same_found : (subject : Subject) (listed : Listed) (session : Name) (entry : Entry) (point : Option (List Bool))
+    → the_found subject listed session (record entry { point = point }) ≡ found_by subject listed session entry point
+same_found subject Diagnoses session entry point = refl
+same_found subject Levels session entry point = refl
+
+module _ (old : Shown) (listed : Listed) (place : ℕ) (session : Name) (entry : Entry) (count : ℕ) where
   abbrev next : Option (List Bool) → Reply
-  next = next_of (system_of old.subject) session (all_diagnoses (system_of old.subject) entry.known)
+  next = found_by old.subject listed session entry
 
   abbrev move : Reply → Step
   move = goes_on old.table session entry
@@ -143,10 +153,10 @@ module _ (old : Shown) (place : ℕ) (session : Name) (entry : Entry) (count : �
   none_left left point e = ap (λ (b : Bool). next point ∷ (elim b as (λ _. List Reply) [ true ↦ listing next left (next point).point | false ↦ [] ])) e
 
   -- the move that was made, or broke off
-  module _ {E : Type 0} (now new : Shown) (left : ℕ) (a b c : Option (List ℕ)) (lists : Lists old now place session entry count left a b) (result : Result Bool E)
-      (m : MovesOn now new place session (at_point lists.point) b c result) where
-    same_next : the_next now.subject session (at_point lists.point) ≡ next lists.point
-    same_next = ap (λ (v : Shown). the_next v.subject session (at_point lists.point)) lists.moved
+  module _ {E : Type 0} (now new : Shown) (left : ℕ) (a b c : Option (List ℕ)) (lists : Lists old now listed place session entry count left a b) (result : Result Bool E)
+      (m : MovesOn now new listed place session (at_point lists.point) b c result) where
+    same_next : the_found now.subject listed session (at_point lists.point) ≡ next lists.point
+    same_next = ap (λ (v : Shown). the_found v.subject listed session (at_point lists.point)) lists.moved ∙ same_found old.subject listed session entry lists.point
 
     new_table : new.table ≡ with_entry session (at_point (next lists.point).point) old.table
     new_table =
@@ -157,7 +167,7 @@ module _ (old : Shown) (place : ℕ) (session : Name) (entry : Entry) (count : �
 
     pub moved_again : new ≡ record old { table = with_entry session (at_point (next lists.point).point) old.table }
     moved_again =
-        m.moved ∙ (ap (λ (v : Shown). record v { table = with_entry session (next_entry now.subject session (at_point lists.point)) now.table }) lists.moved
+        m.moved ∙ (ap (λ (v : Shown). record v { table = with_entry session (found_entry now.subject listed session (at_point lists.point)) now.table }) lists.moved
         ∙ ap (λ (t : Table). record old { table = t }) (sym (ap (λ (v : Shown). v.table) m.moved) ∙ new_table))
 
     says_next : Replies b c result ((next lists.point).item ∷ [])
@@ -170,14 +180,14 @@ module _ (old : Shown) (place : ℕ) (session : Name) (entry : Entry) (count : �
     stands_next = subst (λ (f : Reply). StandsAt new.table place session (at_point f.point)) same_next m.stands
 
   -- the same for each result
-  module _ {E : Type 0} (now new : Shown) (left : ℕ) (a b c : Option (List ℕ)) (lists : Lists old now place session entry count (suc left) a b) where
-    made_one : (v : Bool) → MovesOn now new place session (at_point lists.point) b c (ok_of E v) → Makes old.table new.table (map move (lists.done ++ next lists.point ∷ [])) a c
+  module _ {E : Type 0} (now new : Shown) (left : ℕ) (a b c : Option (List ℕ)) (lists : Lists old now listed place session entry count (suc left) a b) where
+    made_one : (v : Bool) → MovesOn now new listed place session (at_point lists.point) b c (ok_of E v) → Makes old.table new.table (map move (lists.done ++ next lists.point ∷ [])) a c
     made_one v m =
         subst (λ (ms : List Step). Makes old.table new.table ms a c) (sym (map-append move lists.done (next lists.point ∷ [])))
         (makes_more lists.made (record { written = says_next now new (suc left) a b c lists (ok_of E v) m; table = new_table now new (suc left) a b c lists (ok_of E v) m }))
 
     -- another one was shown
-    pub lists_more : MovesOn now new place session (at_point lists.point) b c (ok_of E true) → Lists old new place session entry count left a c
+    pub lists_more : MovesOn now new listed place session (at_point lists.point) b c (ok_of E true) → Lists old new listed place session entry count left a c
     lists_more m = record {
       point = (next lists.point).point;
       done = lists.done ++ next lists.point ∷ [];
@@ -189,13 +199,13 @@ module _ (old : Shown) (place : ℕ) (session : Name) (entry : Entry) (count : �
     }
 
     -- nothing was found any more
-    pub lists_end : MovesOn now new place session (at_point lists.point) b c (ok_of E false) → Makes old.table new.table (map move (listing next count entry.point)) a c
+    pub lists_end : MovesOn now new listed place session (at_point lists.point) b c (ok_of E false) → Makes old.table new.table (map move (listing next count entry.point)) a c
     lists_end m =
         subst (λ (fs : List Reply). Makes old.table new.table (map move fs) a c)
         (ap (λ fs. lists.done ++ fs) (sym (none_left left lists.point (sym (is_more now new (suc left) a b c lists (ok_of E false) m)))) ∙ lists.both) (made_one false m)
 
     -- a write failed
-    pub lists_broken : (e : E) → MovesOn now new place session (at_point lists.point) b c (Err e) → BreaksOff new.table (map move (listing next count entry.point)) a c
+    pub lists_broken : (e : E) → MovesOn now new listed place session (at_point lists.point) b c (Err e) → BreaksOff new.table (map move (listing next count entry.point)) a c
     lists_broken e m =
         subst (λ (fs : List Reply). BreaksOff new.table (map move fs) a c) lists.both
         (subst (λ (ms : List Step). BreaksOff new.table ms a c) (sym (map-append move lists.done (next lists.point ∷ (later_of left lists.point))))
@@ -211,36 +221,110 @@ module _ (old : Shown) (place : ℕ) (session : Name) (entry : Entry) (count : �
         })))
 
   -- all were shown
-  pub lists_all : (now : Shown) (a b : Option (List ℕ)) → Lists old now place session entry count 0 a b → Makes old.table now.table (map move (listing next count entry.point)) a b
+  pub lists_all : (now : Shown) (a b : Option (List ℕ)) → Lists old now listed place session entry count 0 a b → Makes old.table now.table (map move (listing next count entry.point)) a b
   lists_all now a b lists = subst (λ (fs : List Reply). Makes old.table now.table (map move fs) a b) (sym (append-nil lists.done) ∙ lists.both) lists.made
-
-  -- these are the moves of the request
-  pub several_moves : (n : ℕ) → count ≡ suc n → entry_of session old.table ≡ Some entry
-      → map move (listing next count entry.point) ≡ moves (system_of old.subject) old.limit old.table (Ask session (Several count))
-  several_moves n e found =
-      ap (λ (k : ℕ). map move (listing next k entry.point)) e
-      ∙ (ap (listing_moves (system_of old.subject) old.table session (suc n)) (sym found)
-      ∙ ap (λ (k : ℕ). moves (system_of old.subject) old.limit old.table (Ask session (Several k))) (sym e))
-
-  -- and so the request is obeyed
-  pub obeys_several : {T E : Type 0} (new : Shown) (before after : Option (List ℕ)) (result : Result T E) (n : ℕ) (table : Table) → count ≡ suc n → entry_of session old.table ≡ Some entry
-      → CarriesOut old.table new.table (map move (listing next count entry.point)) before after result → new ≡ record old { table = table } → Obeys old new session (Several count) before after result
-  obeys_several new before after result n table long found carried moved = record {
-    carried = subst (λ (ms : List Step). CarriesOut old.table new.table ms before after result) (several_moves n long found) carried;
-    stays = moved ∙ sym (ap (λ (v : Shown). record old { table = v.table }) moved);
-  }
 
 pub carries_broken : {T E : Type 0} (old new : Table) (ms : List Step) (before after : Option (List ℕ)) (result : Result T E) → IsErr result → BreaksOff new ms before after → CarriesOut old new ms before after result
 carries_broken old new ms before after (Ok v) failed broke = absurd (let no : ⊥ = cc in no)
 carries_broken old new ms before after (Err e) failed broke = broke
 
+-- ---- the moves of requests for listings
+
+-- the moves of a request were made, or broke off
+pub obeys_moves : {T E : Type 0} (old new : Shown) (session : Name) (request : Request) (ms : List Step) (before after : Option (List ℕ)) (result : Result T E) → ms ≡ exact_moves old old.table (Ask session request)
+    → CarriesOut old.table new.table ms before after result → ChangesTable old new → Obeys old new session request before after result
+obeys_moves old new session request ms before after result is carried stays = record {
+  carried = subst (λ (ms : List Step). CarriesOut old.table new.table ms before after result) is carried;
+  stays = stays;
+}
+
+several_moves : (old : Shown) (session : Name) (entry : Entry) (n : ℕ) → entry_of session old.table ≡ Some entry
+    → found_moves old Diagnoses session entry (suc n) ≡ exact_moves old old.table (Ask session (Several (suc n)))
+several_moves old session entry n found = ap (listing_moves (next_for (system_of old.subject) session) old.table session (suc n)) (sym found)
+
+-- the request for so many diagnoses is obeyed
+pub obeys_several : {T E : Type 0} (old new : Shown) (session : Name) (entry : Entry) (count n : ℕ) (before after : Option (List ℕ)) (result : Result T E) → count ≡ suc n → entry_of session old.table ≡ Some entry
+    → CarriesOut old.table new.table (found_moves old Diagnoses session entry count) before after result → ChangesTable old new → Obeys old new session (Several count) before after result
+obeys_several old new session entry count n before after result long found carried stays =
+    obeys_moves old new session (Several count) (found_moves old Diagnoses session entry count) before after result
+    (ap (found_moves old Diagnoses session entry) long ∙ several_moves old session entry n found ∙ ap (λ (k : ℕ). exact_moves old old.table (Ask session (Several k))) (sym long))
+    carried stays
+
+levels_moves : (old : Shown) (session : Name) (entry : Entry) (n : ℕ) (levels : Option ℕ) → is_some levels ≡ true → entry_of session old.table ≡ Some entry
+    → map (goes_on old.table session entry) (listing (level_for (system_of old.subject) session (top_of levels) entry) (suc n) entry.point)
+    ≡ level_moves (system_of old.subject) old.limit old.table session (suc n) levels
+levels_moves old session entry n None told found = absurd (let no : ⊥ = cc in no)
+levels_moves old session entry n (Some top) told found = ap (listing_moves (level_for (system_of old.subject) session top) old.table session (suc n)) (sym found)
+
+-- and that for so many states by cost, where these are told
+pub obeys_levels : {T E : Type 0} (old new : Shown) (session : Name) (entry : Entry) (count n : ℕ) (before after : Option (List ℕ)) (result : Result T E) → count ≡ suc n → is_some old.subject.extras.levels ≡ true → entry_of session old.table ≡ Some entry
+    → CarriesOut old.table new.table (found_moves old Levels session entry count) before after result → ChangesTable old new → Obeys old new session (LevelsOf count) before after result
+obeys_levels old new session entry count n before after result long told found carried stays =
+    obeys_moves old new session (LevelsOf count) (found_moves old Levels session entry count) before after result
+    (ap (found_moves old Levels session entry) long ∙ levels_moves old session entry n old.subject.extras.levels told found ∙ ap (λ (k : ℕ). exact_moves old old.table (Ask session (LevelsOf k))) (sym long))
+    carried stays
+
+-- a refusal of one move
+refused : {T E : Type 0} (old : Shown) (session : Name) (request : Request) (refusal : Refusal) (before after : Option (List ℕ)) (result : Result T E)
+    → carried old.table session (Declined refusal) ∷ [] ≡ exact_moves old old.table (Ask session request)
+    → Puts before after result (spaced (session ∷ codes "error" ∷ decimal (refusal_number refusal) ∷ refusal_text refusal ∷ [])) → Obeys old old session request before after result
+refused old session request refusal before after result is put =
+    let declined = carried old.table session (Declined refusal) in
+    obeys_moves old old session request (declined ∷ []) before after result is
+    (carries_step old.table old.table declined declined before after result refl
+    (replies_one before after result (line (session ∷ codes "error" ∷ decimal (refusal_number refusal) ∷ refusal_text refusal ∷ [])) _ refl put) refl)
+    refl
+
 -- a session that is not open
 pub obeys_unopened : {T E : Type 0} (old : Shown) (session : Name) (before after : Option (List ℕ)) (result : Result T E) (count n : ℕ) → count ≡ suc n → entry_of session old.table ≡ None
     → Puts before after result (spaced (session ∷ codes "error" ∷ decimal 6 ∷ codes "no session" ∷ [])) → Obeys old old session (Several count) before after result
-obeys_unopened old session before after result count n long none put = record {
-  carried = subst (λ (ms : List Step). CarriesOut old.table old.table ms before after result)
-      (ap (listing_moves (system_of old.subject) old.table session (suc n)) (sym none) ∙ ap (λ (k : ℕ). moves (system_of old.subject) old.limit old.table (Ask session (Several k))) (sym long))
-      (carries_step old.table old.table (carried old.table session (Declined NoSession)) (carried old.table session (Declined NoSession)) before after result refl
-      (replies_one before after result (line (session ∷ codes "error" ∷ decimal 6 ∷ codes "no session" ∷ [])) _ refl put) refl);
-  stays = refl;
-}
+obeys_unopened old session before after result count n long none put =
+    refused old session (Several count) NoSession before after result
+    (ap (listing_moves (next_for (system_of old.subject) session) old.table session (suc n)) (sym none) ∙ ap (λ (k : ℕ). exact_moves old old.table (Ask session (Several k))) (sym long))
+    put
+
+unopened_levels : (old : Shown) (session : Name) (n : ℕ) (levels : Option ℕ) → old.subject.extras.levels ≡ levels → entry_of session old.table ≡ None
+    → carried old.table session (Declined NoSession) ∷ [] ≡ level_moves (system_of old.subject) old.limit old.table session (suc n) levels
+unopened_levels old session n None is none =
+    ap (λ (e : Option Entry). carried old.table session (outcome (system_of old.subject) session (nat_le old.limit (length old.table)) e (LevelsOf (suc n))) ∷ []) (sym none)
+unopened_levels old session n (Some top) is none = ap (listing_moves (level_for (system_of old.subject) session top) old.table session (suc n)) (sym none)
+
+pub levels_unopened : {T E : Type 0} (old : Shown) (session : Name) (before after : Option (List ℕ)) (result : Result T E) (count n : ℕ) → count ≡ suc n → entry_of session old.table ≡ None
+    → Puts before after result (spaced (session ∷ codes "error" ∷ decimal 6 ∷ codes "no session" ∷ [])) → Obeys old old session (LevelsOf count) before after result
+levels_unopened old session before after result count n long none put =
+    refused old session (LevelsOf count) NoSession before after result
+    (unopened_levels old session n old.subject.extras.levels refl none ∙ ap (λ (k : ℕ). exact_moves old old.table (Ask session (LevelsOf k))) (sym long))
+    put
+
+-- states by cost that are not told
+untold : (old : Shown) (session : Name) (entry : Entry) (n : ℕ) (levels : Option ℕ) → old.subject.extras.levels ≡ levels → levels ≡ None → entry_of session old.table ≡ Some entry
+    → carried old.table session (Declined NoLevels) ∷ [] ≡ level_moves (system_of old.subject) old.limit old.table session (suc n) levels
+untold old session entry n (Some top) is none found = absurd (let no : ⊥ = cc in no)
+untold old session entry n None is none found =
+    ap (λ (levels : Option ℕ). carried old.table session (with_number NoLevels (λ top. goes_through entry (listing (level_for (system_of old.subject) session top entry) (suc n) entry.point)) levels) ∷ []) (sym is)
+    ∙ ap (λ (e : Option Entry). carried old.table session (outcome (system_of old.subject) session (nat_le old.limit (length old.table)) e (LevelsOf (suc n))) ∷ []) (sym found)
+
+none_some : {A : Type 0} (o : Option A) → is_some o ≡ false → o ≡ None
+none_some None none = refl
+none_some (Some a) none = absurd (let no : ⊥ = cc in no)
+
+pub levels_untold : {T E : Type 0} (old : Shown) (session : Name) (entry : Entry) (before after : Option (List ℕ)) (result : Result T E) (count n : ℕ) → count ≡ suc n → is_some old.subject.extras.levels ≡ false → entry_of session old.table ≡ Some entry
+    → Puts before after result (spaced (session ∷ codes "error" ∷ decimal 11 ∷ codes "no levels" ∷ [])) → Obeys old old session (LevelsOf count) before after result
+levels_untold old session entry before after result count n long told found put =
+    refused old session (LevelsOf count) NoLevels before after result
+    (untold old session entry n old.subject.extras.levels refl (none_some old.subject.extras.levels told) found ∙ ap (λ (k : ℕ). exact_moves old old.table (Ask session (LevelsOf k))) (sym long))
+    put
+
+-- one state by cost is one move, where these are told
+pub level_found : (system : System) (session : Name) (entry : Entry) → is_some system.extras.levels ≡ true
+    → when_open system session entry Level ≡ goes_to entry (level_for system session (top_of system.extras.levels) entry entry.point)
+level_found system session entry told = by system.extras.levels told
+  where
+    by : (levels : Option ℕ) → is_some levels ≡ true
+        → with_number NoLevels (λ top. goes_to entry (level_for system session top entry entry.point)) levels ≡ goes_to entry (level_for system session (top_of levels) entry entry.point)
+    by None told = absurd (let no : ⊥ = cc in no)
+    by (Some top) told = refl
+
+pub level_untold : (system : System) (session : Name) (entry : Entry) → is_some system.extras.levels ≡ false → when_open system session entry Level ≡ Declined NoLevels
+level_untold system session entry told =
+    ap (with_number NoLevels (λ top. goes_to entry (level_for system session top entry entry.point))) (none_some system.extras.levels told)

@@ -6,32 +6,35 @@ use Rattle.std.specs.Io.KnownBytes.{Appends}
 use Rattle.text_rules.specs.Names.{Name, is_among}
 use Rattle.ranking.specs.Cases.{Case}
 use Rattle.ranking.specs.Ranking.{rest}
+use Rattle.ranking.specs.Levels.{levels, levels_rest}
 use Rattle.ranking.specs.Systems.{System, least_cost, all_diagnoses}
 use Rattle.device_model.specs.Devices.{place_of}
-use Rattle.script_lang.specs.Script.{Line, Blank, Refused, Ask, Request, Start, Stop, See, Unsee, Hold, Unhold, Min, Next, Several, After, Probe, Probes, Blame, Dnnf, line_of}
+use Rattle.script_lang.specs.Script.{Line, Blank, Refused, Ask, Request, Start, Stop, See, Unsee, Hold, Unhold, Min, Next, Several, After, Probe, Probes, Blame, Dnnf, Level, Levels, LeastNnf, line_of}
 use Rattle.session_rules.specs.declared.refusal.Refusal.{Refusal}
-use Rattle.session_rules.specs.declared.refusal.Refusal.TheVariants.{Full, NoWire, NoPart}
-use Rattle.session_rules.specs.Items.{Item, Plain, Projected, Whole}
-use Rattle.session_rules.specs.Replies.{Found, min_line, found, next_of, listing, seen_at, probe_line, probe_lines, blame_lines, if_any, end_line, diagnosis_line}
-use Rattle.session_rules.specs.Sessions.{Table, Entry, Step, Outcome, Declined, Done, at_place, becomes, tells, with_seen, with_held, new_entry, state_of, outcome, entry_of, carried, step}
+use Rattle.session_rules.specs.declared.refusal.Refusal.TheVariants.{Full, NoWire, NoPart, NoLevels, NoLeast}
+use Rattle.session_rules.specs.Items.{Item, Plain, Projected, LeastText, Whole, line}
+use Rattle.session_rules.specs.Replies.{Found, min_line, found, next_of, level_of, level_line, listing, seen_at, probe_line, probe_lines, blame_lines, if_any, end_line, diagnosis_line}
+use Rattle.session_rules.specs.Sessions.{Table, Entry, Step, Outcome, Declined, Done, with_number, becomes, tells, goes_to, goes_through, with_seen, with_held, new_entry, state_of, outcome, entry_of, carried, step}
 use Rattle.session_rules.specs.Moves.{said, left_by, line_moves, script_moves}
 use Rattle.session_rules.specs.Spelling.{Spells}
 use Rattle.session_rules.specs.Carrying.{Makes}
 use Rattle.session_rules.specs.GraphSystems.{system_of}
 use Rattle.session_rules.proofs.Whole.{line_moves-whole, said-append}
-use Rattle.session_core.specs.Services.{Shown, told_graph, with_graph, moves_of}
+use Rattle.session_core.specs.Services.{Shown, told_graph, case_text, least_case_text, with_graph, moves_of}
 
 -- items that are texts
 abbrev pub ArePlain : List Item → Type 0
 ArePlain [] = Unit {0}
 ArePlain (Plain bytes ∷ items) = ArePlain items
 ArePlain (Projected parts states ∷ items) = ⊥
+ArePlain (LeastText parts states ∷ items) = ⊥
 ArePlain (Whole device vars most ∷ items) = ⊥
 
 plain_both : (xs ys : List Item) → ArePlain xs → ArePlain ys → ArePlain (xs ++ ys)
 plain_both [] ys h k = k
 plain_both (Plain bytes ∷ xs) ys h k = plain_both xs ys h k
 plain_both (Projected parts states ∷ xs) ys h k = absurd h
+plain_both (LeastText parts states ∷ xs) ys h k = absurd h
 plain_both (Whole device vars most ∷ xs) ys h k = absurd h
 
 -- are spelled by one text
@@ -40,6 +43,7 @@ one_spelling [] a b h one other = one ∙ sym other
 one_spelling (Plain bytes ∷ items) a b h one other =
     one.2 ∙ ap₂ (λ front rest. front ++ rest) (one.3 ∙ sym other.3) (one_spelling items one.1 other.1 h one.4 other.4) ∙ sym other.2
 one_spelling (Projected parts states ∷ items) a b h one other = absurd h
+one_spelling (LeastText parts states ∷ items) a b h one other = absurd h
 one_spelling (Whole device vars most ∷ items) a b h one other = absurd h
 
 -- ---- every reply but a graph is a text
@@ -76,6 +80,10 @@ min-plain system s fewest (d ∷ ds) = tt
 next-plain : (system : System) (s : Name) (ds : List (List Bool)) (point : Option (List Bool)) → ArePlain ((next_of system s ds point).item ∷ [])
 next-plain system s ds point = found-plain s (diagnosis_line system s) (λ state. tt) point ds (rest ds point)
 
+level-plain : (system : System) (s : Name) (top : ℕ) (states : List (List Bool)) (point : Option (List Bool)) → ArePlain ((level_of system s top states point).item ∷ [])
+level-plain system s top states point =
+    found-plain s (level_line system s) (λ state. tt) point states (levels_rest system.costs (levels system.costs top states) point)
+
 probe_lines-plain : (system : System) (s : Name) (known : Case) (wire : ℕ) (names : List Name) → ArePlain (probe_lines system s known wire names)
 probe_lines-plain system s known wire [] = tt
 probe_lines-plain system s known wire (name ∷ names) =
@@ -89,7 +97,7 @@ abbrev IsPlain : Outcome → Type 0
 IsPlain (Declined refusal) = Unit {0}
 IsPlain (Done change items) = ArePlain items
 
-placed : (refusal : Refusal) (act : ℕ → Outcome) (place : Option ℕ) → ((i : ℕ) → IsPlain (act i)) → IsPlain (at_place refusal act place)
+placed : (refusal : Refusal) (act : ℕ → Outcome) (place : Option ℕ) → ((i : ℕ) → IsPlain (act i)) → IsPlain (with_number refusal act place)
 placed refusal act None h = tt
 placed refusal act (Some i) h = h i
 
@@ -101,17 +109,19 @@ carried-plain : (table : Table) (s : Name) (o : Outcome) → IsPlain o → ArePl
 carried-plain table s (Declined refusal) h = tt
 carried-plain table s (Done change items) h = h
 
--- where a graph is asked for, that is so of a session that is not open
-abbrev IsPlainFor : Request → Option Entry → Outcome → Type 0
-IsPlainFor Dnnf entry o = entry ≡ None → IsPlain o
-IsPlainFor request entry o = IsPlain o
+-- where a graph is asked for, that is so of a session that is not open, or of a graph that is not told
+abbrev IsPlainFor : System → Request → Option Entry → Outcome → Type 0
+IsPlainFor system Dnnf entry o = entry ≡ None → IsPlain o
+IsPlainFor system LeastNnf entry o = (entry ≡ None → IsPlain o) × (system.extras.least ≡ false → IsPlain o)
+IsPlainFor system request entry o = IsPlain o
 
-abbrev ArePlainFor : Table → Line → List Item → Type 0
-ArePlainFor table (Ask s Dnnf) items = entry_of s table ≡ None → ArePlain items
-ArePlainFor table l items = ArePlain items
+abbrev ArePlainFor : System → Table → Line → List Item → Type 0
+ArePlainFor system table (Ask s Dnnf) items = entry_of s table ≡ None → ArePlain items
+ArePlainFor system table (Ask s LeastNnf) items = (entry_of s table ≡ None → ArePlain items) × (system.extras.least ≡ false → ArePlain items)
+ArePlainFor system table l items = ArePlain items
 
 module _ (system : System) where
-  outcome-plain : (s : Name) (full : Bool) (entry : Option Entry) (request : Request) → IsPlainFor request entry (outcome system s full entry request)
+  outcome-plain : (s : Name) (full : Bool) (entry : Option Entry) (request : Request) → IsPlainFor system request entry (outcome system s full entry request)
   outcome-plain s full (Some entry) Start = tt
   outcome-plain s full (Some entry) Stop = tt
   outcome-plain s full (Some entry) (See name bit) = placed NoWire (λ i. becomes s (with_seen entry i (Some bit)) (codes "ok")) (place_of name system.wires) (λ i. tt)
@@ -136,34 +146,59 @@ module _ (system : System) where
       let lines = blame_lines s ds 0 system.parts in
       if_any-plain s ds (lines ++ end_line s ∷ []) (plain_both lines (end_line s ∷ []) (blame_lines-plain s ds 0 system.parts) tt)
   outcome-plain s full (Some entry) Dnnf = λ none. absurd (let never : ⊥ = cc in never)
+  outcome-plain s full (Some entry) Level =
+      let level = λ (top : ℕ). level_of system s top (system.consistent entry.known) in
+      placed NoLevels (λ top. goes_to entry (level top entry.point)) system.extras.levels (λ top. level-plain system s top (system.consistent entry.known) entry.point)
+  outcome-plain s full (Some entry) (Levels count) =
+      let level = λ (top : ℕ). level_of system s top (system.consistent entry.known) in
+      placed NoLevels (λ top. goes_through entry (listing (level top) count entry.point)) system.extras.levels
+      (λ top. listing-plain (level top) (level-plain system s top (system.consistent entry.known)) count entry.point)
+  outcome-plain s full (Some entry) LeastNnf = (
+    (λ none. absurd (let never : ⊥ = cc in never)),
+    (λ untold.
+        subst (λ (told : Bool). IsPlain (if told then tells (line (s ∷ codes "leastnnf" ∷ []) ∷ LeastText (length system.parts) (all_diagnoses system entry.known) ∷ []) else Declined NoLeast))
+        (sym untold) tt),
+  )
   outcome-plain s full None Start = chosen full (Declined Full) (becomes s (new_entry system) (codes "open")) tt tt
   outcome-plain s full None Dnnf = λ none. tt
+  outcome-plain s full None LeastNnf = ((λ none. tt), (λ untold. tt))
   outcome-plain s full None request = tt
 
-  step-plain : (limit : ℕ) (table : Table) (l : Line) → ArePlainFor table l (step system limit table l).items
+  step-plain : (limit : ℕ) (table : Table) (l : Line) → ArePlainFor system table l (step system limit table l).items
   step-plain limit table Blank = tt
   step-plain limit table (Refused refusal) = tt
   step-plain limit table (Ask s Dnnf) = λ none.
       carried-plain table s (outcome system s (nat_le limit (length table)) (entry_of s table) Dnnf) (outcome-plain s (nat_le limit (length table)) (entry_of s table) Dnnf none)
+  step-plain limit table (Ask s LeastNnf) =
+      let full = nat_le limit (length table) in
+      let plain = outcome-plain s full (entry_of s table) LeastNnf in
+      let items = carried-plain table s (outcome system s full (entry_of s table) LeastNnf) in
+      ((λ none. items (plain.0 none)), (λ untold. items (plain.1 untold)))
   step-plain limit table (Ask s request) =
       carried-plain table s (outcome system s (nat_le limit (length table)) (entry_of s table) request) (outcome-plain s (nat_le limit (length table)) (entry_of s table) request)
 
 -- ---- and a graph is one too
 
 module _ (shown : Shown) where
-  told-plain : (table : Table) (s : Name) (entry : Option Entry) (moves : List Step) → (entry ≡ None → ArePlain (said moves)) → ArePlain (said (told_graph shown table s entry moves))
-  told-plain table s None moves h = h refl
-  told-plain table s (Some entry) moves h = tt
+  told-plain : (word : List ℕ) (text : Case → List ℕ) (table : Table) (s : Name) (entry : Option Entry) (moves : List Step) → (entry ≡ None → ArePlain (said moves)) → ArePlain (said (told_graph word text table s entry moves))
+  told-plain word text table s None moves h = h refl
+  told-plain word text table s (Some entry) moves h = tt
 
-  with-plain : (table : Table) (l : Line) (moves : List Step) → ArePlainFor table l (said moves) → ArePlain (said (with_graph shown table l moves))
-  with-plain table (Ask s Dnnf) moves h = told-plain table s (entry_of s table) moves h
+  drawn-plain : (told : Bool) (table : Table) (s : Name) (moves : List Step) → (entry_of s table ≡ None → ArePlain (said moves)) → (told ≡ false → ArePlain (said moves))
+      → ArePlain (said (if told then told_graph (codes "leastnnf") (least_case_text shown.subject) table s (entry_of s table) moves else moves))
+  drawn-plain true table s moves h k = told-plain (codes "leastnnf") (least_case_text shown.subject) table s (entry_of s table) moves h
+  drawn-plain false table s moves h k = k refl
+
+  with-plain : (table : Table) (l : Line) (moves : List Step) → ArePlainFor (system_of shown.subject) table l (said moves) → ArePlain (said (with_graph shown table l moves))
+  with-plain table (Ask s Dnnf) moves h = told-plain (codes "dnnf") (case_text shown.subject) table s (entry_of s table) moves h
+  with-plain table (Ask s LeastNnf) moves h = drawn-plain shown.subject.extras.least table s moves h.0 h.1
   with-plain table l moves h = h
 
   line-plain : (table : Table) (bytes : List ℕ) → ArePlain (said (moves_of shown table bytes))
   line-plain table bytes =
       let system = system_of shown.subject in
       with-plain table (line_of bytes) (line_moves system shown.limit table bytes)
-      (subst (ArePlainFor table (line_of bytes)) (sym (ap (λ (s : Step). s.items) (line_moves-whole system shown.limit table bytes))) (step-plain system shown.limit table (line_of bytes)))
+      (subst (ArePlainFor system table (line_of bytes)) (sym (ap (λ (s : Step). s.items) (line_moves-whole system shown.limit table bytes))) (step-plain system shown.limit table (line_of bytes)))
 
   -- all that a service answers to a script
   pub script-plain : (table : Table) (lines : List (List ℕ)) → ArePlain (said (script_moves (moves_of shown) table lines))

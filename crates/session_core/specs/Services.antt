@@ -1,16 +1,32 @@
 -- What contracts see of a service.
-use Rattle.std.specs.Prelude.{◌≡◌, ◌+◌, ◌^◌, ◌<◌, ◌≤◌, ℕ, List, [], ◌∷◌, length, Option, Some, None, codes}
+use Rattle.std.specs.Prelude.{◌≡◌, ◌+◌, ◌*◌, ◌/◌, ◌^◌, ◌<◌, ◌≤◌, ℕ, true, List, [], ◌∷◌, length, Option, Some, None, codes, if◌then◌else◌}
 use Rattle.text_rules.specs.Names.{Name}
 use Rattle.ranking.specs.Cases.{Case}
-use Rattle.graph_rules.specs.Graphs.{IsGraph}
+use Rattle.graph_rules.specs.Graphs.{Graph, IsGraph}
+use Rattle.graph_rules.specs.GraphTexts.{edges}
+use Rattle.level_lister.specs.Listing.{set_words}
+use Rattle.level_lister.specs.declared.levels.TheConstants.{TOP_LIMIT}
 use Rattle.projector.specs.Projecting.{projected_text}
-use Rattle.script_lang.specs.Script.{Line, Blank, Refused, Ask, Dnnf, line_of}
+use Rattle.smooth_nnf.specs.Layouts.{least_text}
+use Rattle.script_lang.specs.Script.{Line, Blank, Refused, Ask, Dnnf, LeastNnf, line_of}
 use Rattle.session_rules.specs.declared.refusal.Refusal.{Refusal}
 use Rattle.session_rules.specs.Items.{Plain, line}
 use Rattle.session_rules.specs.Sessions.{Table, Entry, Step, Declined, entry_of, outcome_in}
 use Rattle.session_rules.specs.Moves.{moves}
 use Rattle.session_rules.specs.CaseSizes.{HasCasesOf}
-use Rattle.session_rules.specs.GraphSystems.{Subject, system_of, case_words}
+use Rattle.session_rules.specs.GraphSystems.{Subject, HasLeastTexts, system_of, case_words}
+use Rattle.session_core.specs.declared.limits.TheConstants.{SERVED_BITS}
+
+-- States are listed up to this cost. The sets of the nodes have few bits: for each node one for each part, and those of its costs.
+pub record CanList (graph : Graph) (parts top : ℕ) : Type 0 where
+  pub top_is : top ≤ TOP_LIMIT
+  pub few : length graph.nodes * (parts + 32 * set_words top) ≤ SERVED_BITS
+
+-- The graph of the diagnoses is told. Its lines can be numbered, and it is drawn with few bits: two words for each node, and one for
+-- each 32 parts.
+pub record CanDraw (graph : Graph) (parts : ℕ) : Type 0 where
+  pub lines : length graph.nodes + edges graph.nodes + 2 * parts + 1 < 2 ^ 32
+  pub few : length graph.nodes * (32 * (2 + (parts + 31) / 32)) ≤ SERVED_BITS
 
 -- what is asked over, how many sessions may be open, and those that are
 pub record Shown : Type 0 where
@@ -26,6 +42,8 @@ pub record IsSound (shown : Shown) : Type 0 where
   pub room : length shown.subject.parts + length shown.subject.wires ≤ shown.subject.graph.vars
   -- The text of a graph over the parts has numbers of 32 bits.
   pub few : length shown.subject.graph.nodes + length shown.subject.parts + 1 < 2 ^ 32
+  -- Where the graph of the diagnoses is told, so has that one.
+  pub least : shown.subject.extras.least ≡ true → HasLeastTexts shown.subject
   -- Each open session knows something, or nothing, of each wire and each part.
   pub cases : HasCasesOf (system_of shown.subject) shown.table
 
@@ -33,17 +51,26 @@ pub record IsSound (shown : Shown) : Type 0 where
 abbrev pub case_text : Subject → Case → List ℕ
 case_text subject known = projected_text subject.graph (case_words subject.graph.vars known) (length subject.parts)
 
--- An open session that asks for its graph is told this text, in place of these moves.
-abbrev pub told_graph : Shown → Table → Name → Option Entry → List Step → List Step
-told_graph shown table session None moves = moves
-told_graph shown table session (Some entry) moves = record {
+-- and that of the diagnoses' graph
+abbrev pub least_case_text : Subject → Case → List ℕ
+least_case_text subject known = least_text subject.graph (case_words subject.graph.vars known) subject.costs
+
+-- An open session that asks for a graph is told its text behind a word, in place of these moves.
+abbrev pub told_graph : List ℕ → (Case → List ℕ) → Table → Name → Option Entry → List Step → List Step
+told_graph word text table session None moves = moves
+told_graph word text table session (Some entry) moves = record {
   table = table;
-  items = line (session ∷ codes "dnnf" ∷ []) ∷ Plain (case_text shown.subject entry.known) ∷ [];
+  items = line (session ∷ word ∷ []) ∷ Plain (text entry.known) ∷ [];
 } ∷ []
 
 -- Any other line keeps them.
 abbrev pub with_graph : Shown → Table → Line → List Step → List Step
-with_graph shown table (Ask session Dnnf) moves = told_graph shown table session (entry_of session table) moves
+with_graph shown table (Ask session Dnnf) moves =
+    told_graph (codes "dnnf") (case_text shown.subject) table session (entry_of session table) moves
+with_graph shown table (Ask session LeastNnf) moves =
+    if shown.subject.extras.least
+    then told_graph (codes "leastnnf") (least_case_text shown.subject) table session (entry_of session table) moves
+    else moves
 with_graph shown table line moves = moves
 
 -- the moves of a line, from a table: those over the service's system, where a graph is told by its text

@@ -1,18 +1,20 @@
 //! Requests that leave every session as it is.
-ghost use Rattle.std.specs.Prelude.{◌≡◌, ◌<◌, ◌∷◌, [], length, codes};
+ghost use Rattle.std.specs.Prelude.{◌≡◌, ◌<◌, ◌∷◌, [], length, codes, true};
 ghost use Rattle.diag_edge.specs.Edge.{HasCause};
-ghost use Rattle.script_lang.specs.Script.{Probe, Dnnf};
+ghost use Rattle.script_lang.specs.Script.{Probe, Dnnf, LeastNnf};
 ghost use Rattle.session_rules.specs.GraphSystems.{system_of};
 ghost use Rattle.session_rules.specs.Items.{Plain, line};
 ghost use Rattle.session_rules.specs.Sessions.{Entry};
 ghost use Rattle.session_rules.specs.Spelling.{Replies};
 ghost use Rattle.session_table.specs.Tables.{StandsAt};
-ghost use Rattle.session_core.specs.Services.{case_text};
+ghost use Rattle.session_core.specs.Services.{case_text, least_case_text};
 ghost use Rattle.session_core.specs.inner.Bases.{AreKnown, case_in};
+ghost use Rattle.session_core.specs.inner.Desks.{asked_case};
 ghost use Rattle.session_core.specs.inner.Obeying.{Obeys, asked_request, NamesNoWire};
 ghost use Rattle.session_core.specs.inner.Telling.{told_of, HasPlace};
 
 use crate::basis::Basis;
+use crate::desk::Desk;
 use crate::replies::put_refusal;
 use crate::sessions::Sessions;
 use crate::telling::{Question, tell};
@@ -71,6 +73,25 @@ impl Sessions {
         }
     }
 
+    // Tells the graph of a session's diagnoses.
+    pub(crate) fn ask_least<O: Sink>(
+        &mut self,
+        session: &[u8],
+        out: &mut O,
+    ) -> Result<(), WriteFailed>
+        ensures obeys { Obeys self.old self.new session.now LeastNnf (O.got out.old) (O.got out.new) result }
+        ensures cause { HasCause (O.faults out.old) (O.faults out.new) result }
+    {
+        let Some(place) = self.open.find(session) else {
+            return put_refusal(out, session, Refusal::NoSession);
+        };
+        if !self.desk.basis().tells_least() {
+            return put_refusal(out, session, Refusal::NoLeast);
+        }
+        self.desk.take_up(self.open.words(place));
+        tell_least(&mut self.desk, session, out)
+    }
+
     // Tells what is asked of the case of the session at a place.
     fn tell_at<O: Sink>(
         &mut self,
@@ -107,4 +128,16 @@ fn tell_graph<O: Sink>(
     let graph = basis.graph();
     put_line(out, &[session, b"dnnf"])?;
     write_projected(graph, known, basis.parts().len() as u32, out)
+}
+
+// The graph of the diagnoses of the case that is asked.
+fn tell_least<O: Sink>(desk: &mut Desk, session: &[u8], out: &mut O) -> Result<(), WriteFailed>
+    requires told { desk.old.subject.extras.least ≡ true }
+    ensures reply { Replies (O.got out.old) (O.got out.new) result
+        (line (session.now ∷ codes "leastnnf" ∷ []) ∷ Plain (least_case_text desk.old.subject (asked_case desk.old)) ∷ []) }
+    ensures same { desk.new ≡ desk.old }
+    ensures cause { HasCause (O.faults out.old) (O.faults out.new) result }
+{
+    put_line(out, &[session, b"leastnnf"])?;
+    desk.write_least(out)
 }

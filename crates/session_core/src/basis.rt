@@ -1,40 +1,53 @@
-ghost use Rattle.std.specs.Prelude.{◌≡◌, ◌+◌, ◌≤◌, ◌<◌, [], length, true, All, IfOk, slice_index_or};
+ghost use Rattle.std.specs.Prelude.{◌≡◌, ◌+◌, ◌*◌, ◌≤◌, ◌<◌, [], length, true, All, IfOk, IfSome, IsNone, Some, None, is_some, slice_index_or};
+ghost use Rattle.std.specs.Option.{option_map};
 ghost use Rattle.text_rules.specs.Names.{names_rise};
 ghost use Rattle.device_model.specs.Devices.{place_of};
 ghost use Rattle.device_model.specs.declared.limits.TheConstants.{PART_LIMIT, WIRE_LIMIT};
 ghost use Rattle.conditioner.specs.Models.{total_cost};
 ghost use Rattle.minimiser.specs.declared.pass.TheConstants.{TOTAL_LIMIT};
+ghost use Rattle.level_lister.specs.Listing.{IsFor};
+ghost use Rattle.level_lister.specs.declared.levels.TheConstants.{TOP_LIMIT};
+ghost use Rattle.scratch_pool.specs.declared.region.TheConstants.{REGION_LIMIT};
+ghost use Rattle.session_core.specs.Services.{CanList, CanDraw};
 
 use crate::limits::{SERVED_NODES, SERVED_VARIABLES};
 use crate::name_table::NameTable;
 use device_model::Name;
+use level_lister::Levels;
 use node_store::Graph;
+use ranking::Extras;
+use scratch_pool::REGION_LIMIT;
+use smooth_nnf::set_words;
 use std::alloc::{AllocError, Global};
 use std::marker::Model;
 
-/// What sessions ask over, which no line changes: the names of parts and wires, what the failure of each part costs, and a graph
-/// whose variables are the parts, the wires, and inner ones.
+/// What sessions ask over, which no line changes: the names of parts and wires, what the failure of each part costs, a graph whose
+/// variables are the parts, the wires, and inner ones, and what is told besides.
 #[derive(Drop)]
 pub(crate) struct Basis {
     parts: NameTable,
     wires: NameTable,
     costs: Vec<u32>,
     graph: Graph,
+    // what lists states by rising cost, where these are told
+    levels: Option<Levels>,
+    least: bool,
 }
 
 impl Model for Basis {
     ghost use Rattle.session_rules.specs.GraphSystems.{Subject};
-    ghost use Rattle.session_core.specs.inner.Bases.{IsBasis};
+    ghost use Rattle.session_core.specs.inner.Bases.{IsBasis, ListsLevels, basis_of};
 
     ghost Value = { Subject };
 
-    ghost view = { λ g. record { parts = g.parts; wires = g.wires; costs = g.costs.items; graph = g.graph } };
+    ghost view = { λ g. basis_of g.parts g.wires g.costs.items g.graph g.levels g.least };
 
-    ghost invariant = { λ g. IsBasis (record { parts = g.parts; wires = g.wires; costs = g.costs.items; graph = g.graph }) };
+    ghost invariant = { λ g. let subject = basis_of g.parts g.wires g.costs.items g.graph g.levels g.least in
+        IsBasis subject × ListsLevels subject g.levels };
 }
 
 impl Basis {
-    ghost use Rattle.session_core.specs.inner.Bases.{IsBasis};
+    ghost use Rattle.session_core.specs.inner.Bases.{IsBasis, AreEnough, level_room, least_room};
 
     /// Names, costs and a graph. `Err` means that memory ran out.
     pub(crate) fn of(
@@ -43,6 +56,7 @@ impl Basis {
         wires: Vec<Name>,
         costs: Vec<u32>,
         graph: Graph,
+        extras: Extras,
     ) -> Result<Basis, AllocError>
         requires parts_rise { names_rise parts.items ≡ true }
         requires wires_rise { names_rise wires.items ≡ true }
@@ -54,16 +68,21 @@ impl Basis {
         requires vars { length parts.items + length wires.items ≤ graph.vars }
         requires few_vars { graph.vars ≤ SERVED_VARIABLES }
         requires few_nodes { length graph.nodes < SERVED_NODES }
+        requires levels { IfSome extras.levels (CanList graph (length parts.items)) }
+        requires least { extras.least ≡ true → CanDraw graph (length parts.items) }
         ensures { IfOk result (λ basis. basis
-            ≡ record { parts = parts.items; wires = wires.items; costs = costs.items; graph = graph }) }
+            ≡ record { parts = parts.items; wires = wires.items; costs = costs.items; graph = graph; extras = extras }) }
     {
         // a graph is one whose children stand before it and share no variable below an and
         let _nodes = graph.len();
+        let levels = levels_of(alloc, &graph, &costs, extras.levels)?;
         Ok(Basis {
             parts: NameTable::of(alloc, parts)?,
             wires: NameTable::of(alloc, wires)?,
             costs,
             graph,
+            levels,
+            least: extras.least,
         })
     }
 
@@ -120,6 +139,76 @@ impl Basis {
         self.wires.find(name)
     }
 
+    /// What lists states by rising cost, where they are told.
+    pub(crate) fn levels(&self) -> Option<&Levels>
+        ensures none { IsNone result → self.now.extras.levels ≡ None }
+        ensures some { IfSome result (λ levels. (self.now.extras.levels ≡ Some levels.now.top)
+            × IsFor self.now.graph levels.now × (levels.now.costs ≡ self.now.costs)) }
+        ensures basis { IsBasis self.now }
+    {
+        self.levels.as_ref()
+    }
+
+    /// Whether states are told by rising cost.
+    pub(crate) fn tells_levels(&self) -> bool
+        ensures { result ≡ is_some self.now.extras.levels }
+    {
+        self.levels.is_some()
+    }
+
+    /// Whether the graph of the diagnoses is told.
+    pub(crate) fn tells_least(&self) -> bool
+        ensures { result ≡ self.now.extras.least }
+    {
+        self.least
+    }
+
+    /// How many words are enough for each answer that takes some.
+    pub(crate) fn most_room(&self) -> usize
+        ensures enough { AreEnough self.now result }
+        ensures few { result < REGION_LIMIT }
+    {
+        let levels = match self.levels() {
+            None => 0,
+            Some(levels) => self.level_room(levels),
+        };
+        self.probes_room().max(levels).max(self.drawing_room())
+    }
+
+    /// How many words the probes of all wires work with.
+    pub(crate) fn probes_room(&self) -> usize
+        ensures room { result ≡ 4 * length self.now.graph.nodes }
+        ensures some { 1 ≤ result }
+        ensures few { result < REGION_LIMIT }
+        ensures basis { IsBasis self.now }
+    {
+        4 * self.nodes()
+    }
+
+    /// How many words a step by rising cost works with.
+    pub(crate) fn level_room(&self, levels: &Levels) -> usize
+        requires told { self.now.extras.levels ≡ Some levels.now.top }
+        requires for_graph { IsFor self.now.graph levels.now }
+        requires costs { levels.now.costs ≡ self.now.costs }
+        ensures room { result ≡ level_room self.now levels.now.top }
+        ensures some { 1 ≤ result }
+        ensures few { result < REGION_LIMIT }
+        ensures basis { IsBasis self.now }
+    {
+        levels.room(self.graph())
+    }
+
+    // How many words the graph of the diagnoses is drawn with, where it is told.
+    fn drawing_room(&self) -> usize
+        ensures enough { self.now.extras.least ≡ true → least_room self.now ≤ result }
+        ensures few { result < REGION_LIMIT }
+    {
+        if !self.tells_least() {
+            return 0;
+        }
+        self.nodes() * (2 + set_words(self.parts().len() as u32))
+    }
+
     /// How many variables the graph has.
     pub(crate) fn vars(&self) -> usize
         ensures vars { result ≡ self.now.graph.vars }
@@ -134,5 +223,26 @@ impl Basis {
         ensures basis { IsBasis self.now }
     {
         self.graph.len() as usize
+    }
+}
+
+// What lists states by rising cost, where they are told.
+fn levels_of(
+    alloc: Global,
+    graph: &Graph,
+    costs: &[u32],
+    top: Option<u32>,
+) -> Result<Option<Levels>, AllocError>
+    requires parts { length costs.now ≤ graph.now.vars }
+    requires few { length costs.now ≤ PART_LIMIT }
+    requires total { total_cost costs.now < TOTAL_LIMIT }
+    requires top { IfSome top (λ top. top ≤ TOP_LIMIT) }
+    ensures top { IfOk result (λ levels. option_map (λ kept. kept.top) levels ≡ top) }
+    ensures listed { IfOk result (λ levels. IfSome levels
+        (λ kept. IsFor graph.now kept × (kept.costs ≡ costs.now))) }
+{
+    match top {
+        None => Ok(None),
+        Some(top) => Ok(Some(Levels::new(alloc, graph, costs, top)?)),
     }
 }

@@ -5,19 +5,25 @@ ghost use Rattle.std.specs.List.{list_all};
 ghost use Rattle.text_rules.specs.Names.{is_among};
 ghost use Rattle.text_rules.specs.Tokens.{words};
 ghost use Rattle.ranking.specs.Ranking.{rest};
+ghost use Rattle.diag_edge.specs.Edge.{HasCause, Puts};
 ghost use Rattle.diagnosis_lister.specs.Listing.{bits_of, step_of};
+ghost use Rattle.level_lister.specs.Listing.{level_step, point_if};
 ghost use Rattle.probe_report.specs.Probed.{probed};
 ghost use Rattle.session_rules.specs.Sessions.{state_of};
 ghost use Rattle.session_rules.specs.Replies.{seen_at};
+ghost use Rattle.session_core.specs.Services.{least_case_text};
 ghost use Rattle.session_core.specs.inner.Bases.{AreKnown};
-ghost use Rattle.session_core.specs.inner.Desks.{asked_case, agreeing, least_asked, diagnoses_asked, least_seen, blame_asked};
+ghost use Rattle.session_core.specs.inner.Desks.{asked_case, agreeing, least_asked, diagnoses_asked, later_asked, least_seen, blame_asked};
 
 use crate::basis::Basis;
+use diag_edge::{Sink, WriteFailed};
 use diagnosis_lister::Step;
 use fault_graph::Distiller;
+use level_lister::LevelStep;
 use minimiser::Steps;
 use probe_report::{Blame, cost_of, probe, probe_all};
 use scratch_pool::Region;
+use smooth_nnf::write_least;
 use std::alloc::{AllocError, Global};
 use std::marker::Model;
 use std::sync::ledger::Ledger;
@@ -38,7 +44,7 @@ pub(crate) struct Desk {
     numbers: Vec<u32>,
     // a smaller graph that has the diagnoses of the words that were asked last
     distiller: Distiller,
-    // room for the probes of all wires, which no other answer clears
+    // room that an answer takes whole for its while: the probes of all wires, and what is told besides
     room: Region,
 }
 
@@ -79,7 +85,7 @@ impl Desk {
             verdicts: vec![in alloc; Blame::Never; parts]?,
             numbers: vec![in alloc; 0; 2 * wires]?,
             distiller: Distiller::new(alloc, basis.graph())?,
-            room: Region::new(alloc, 4 * nodes)?,
+            room: Region::new(alloc, basis.most_room())?,
             basis,
         })
     }
@@ -202,6 +208,53 @@ impl Desk {
         )
     }
 
+    /// Whether there is a state after a point by rising cost, or any where there is no point, and what it costs; the state is then
+    /// the first such one.
+    pub(crate) fn next_level<L: Ledger>(
+        &mut self,
+        point: Option<&[u32]>,
+        steps: &mut Steps<L>,
+    ) -> LevelStep
+        requires told { is_some self.old.subject.extras.levels ≡ true }
+        requires point { IfSome point (λ old. (length old.now ≡ length self.old.subject.parts) × All (λ s. s < 2) old.now) }
+        ensures step { result ≡ level_step self.old.subject.costs (agreeing self.old)
+            (later_asked self.old (option_map (λ old. bits_of old.now) point.entry)) }
+        ensures state { (cost : ℕ) → result ≡ LevelStep.Found cost → bits_of self.new.state ≡ slice_index_or
+            (later_asked self.old (option_map (λ old. bits_of old.now) point.entry)) 0 [] }
+        ensures stays { self.new ≡ record self.old { state = self.new.state } }
+    {
+        let pointed = start_at(&mut self.state, point);
+        let levels = self.basis.levels().unwrap();
+        let run = self.room.carve(self.basis.level_room(levels)).unwrap();
+        let step = levels.next_by(
+            self.basis.graph(),
+            &mut self.known,
+            self.room.run_mut(&run),
+            &mut self.state,
+            pointed,
+            steps,
+        );
+        self.room.release(run);
+        step
+    }
+
+    /// Writes the graph of the diagnoses, where it is told.
+    pub(crate) fn write_least<O: Sink>(&mut self, out: &mut O) -> Result<(), WriteFailed>
+        requires told { self.old.subject.extras.least ≡ true }
+        ensures text { Puts (O.got out.old) (O.got out.new) result
+            (least_case_text self.old.subject (asked_case self.old)) }
+        ensures same { self.new ≡ self.old }
+        ensures cause { HasCause (O.faults out.old) (O.faults out.new) result }
+    {
+        write_least(
+            self.basis.graph(),
+            &self.known,
+            self.basis.costs(),
+            &mut self.room,
+            out,
+        )
+    }
+
     /// Of each part whether it is faulty in all diagnoses, in some or in none. The state is spoilt.
     pub(crate) fn blame<L: Ledger>(&mut self, steps: &mut Steps<L>)
         ensures blame { (part : ℕ) → part < length self.old.subject.parts
@@ -241,15 +294,14 @@ impl Desk {
         )
     }
 
-    /// Whether some state agrees with the case; and the numbers of all wires. What it works with is carved for it alone, since no
-    /// other answer needs so much.
+    /// Whether some state agrees with the case; and the numbers of all wires.
     pub(crate) fn probe_all<L: Ledger>(&mut self, steps: &mut Steps<L>) -> bool
         ensures some { result ≡ is_some (least_asked self.old) }
         ensures probed { (wire : ℕ) (bit : Bool) → wire < length self.old.subject.wires
             → probed self.new.numbers wire bit ≡ least_seen self.old wire bit }
         ensures stays { self.new ≡ record self.old { numbers = self.new.numbers } }
     {
-        let run = self.room.carve(4 * self.basis.nodes()).unwrap();
+        let run = self.room.carve(self.basis.probes_room()).unwrap();
         let least = probe_all(
             self.basis.graph(),
             &self.known,
@@ -280,6 +332,24 @@ impl Desk {
         ensures stays { self.new ≡ record self.old { state = self.new.state } }
     {
         mark_named(&self.basis, names, &mut self.state)
+    }
+}
+
+// Makes a point the state, if there is one.
+fn start_at(state: &mut [u32], point: Option<&[u32]>) -> bool
+    requires { IfSome point (λ old. (length old.now ≡ length state.old) × All (λ s. s < 2) old.now) }
+    ensures point { point_if result (bits_of state.new) ≡ option_map (λ old. bits_of old.now) point.entry }
+    ensures bits { All (λ s. s < 2) state.new }
+{
+    match point {
+        None => {
+            state.fill(0);
+            false
+        }
+        Some(old) => {
+            state.copy_from_slice(old);
+            true
+        }
     }
 }
 

@@ -5,6 +5,7 @@ mod asking;
 mod basis;
 mod desk;
 mod laws;
+mod levelling;
 mod limits;
 mod line_buffer;
 mod listing;
@@ -17,7 +18,8 @@ mod sessions;
 mod telling;
 
 pub use laws::{one_text, told_alone};
-pub use limits::{SERVED_NODES, SERVED_VARIABLES, SESSION_LIMIT};
+pub use limits::{SERVED_BITS, SERVED_NODES, SERVED_VARIABLES, SESSION_LIMIT};
+pub use ranking::Extras;
 pub use replies::put_faulty;
 pub use service::Service;
 pub use serving::{READ_LIMIT, ServeEnd};

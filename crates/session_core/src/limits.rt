@@ -10,3 +10,7 @@ pub const SERVED_VARIABLES: u32 = 110_000;
 /// The graph of a service has fewer nodes than this, so that they can be numbered. One that was compiled within the greatest
 /// budget has fewer than 26,000,000.
 pub const SERVED_NODES: u32 = 536_870_912;
+
+/// What a service keeps and works with besides, for states by rising cost and for the graph of the diagnoses, has at most so many
+/// bits each.
+pub const SERVED_BITS: u64 = 2_147_483_648;

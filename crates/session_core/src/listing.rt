@@ -9,9 +9,10 @@ ghost use Rattle.session_rules.specs.GraphSystems.{system_of};
 ghost use Rattle.session_rules.specs.Replies.{diagnosis_line};
 ghost use Rattle.session_rules.specs.Sessions.{Entry, state_of, with_entry};
 ghost use Rattle.session_rules.specs.Spelling.{Replies};
+ghost use Rattle.session_rules.specs.Carrying.{CarriesOut};
 ghost use Rattle.session_table.specs.Tables.{StandsAt};
 ghost use Rattle.session_core.specs.Services.{ChangesTable};
-ghost use Rattle.session_core.specs.inner.Obeying.{Obeys, MovesOn, PointMoves};
+ghost use Rattle.session_core.specs.inner.Obeying.{Obeys, MovesOn, NextMoves, IsTold, found_moves};
 
 use crate::replies::{put_faulty, put_refusal};
 use crate::sessions::Sessions;
@@ -22,6 +23,15 @@ use session_rules::Refusal;
 use std::marker::Brand;
 use std::sync::ledger::{Blank, Ledger};
 
+/// What is listed of a session.
+#[derive(Clone, Copy, Debug)]
+pub(crate) enum Listed {
+    /// Its diagnoses, in their order.
+    Diagnoses,
+    /// Its states by rising cost.
+    Levels,
+}
+
 impl Sessions {
     // Shows the next diagnosis of a session.
     pub(crate) fn next<O: Sink>(&mut self, session: &[u8], out: &mut O) -> Result<(), WriteFailed>
@@ -31,7 +41,7 @@ impl Sessions {
         match self.open.find(session) {
             None => put_refusal(out, session, Refusal::NoSession),
             Some(place) => {
-                self.move_on(place, session, out)?;
+                self.show_next(place, session, out)?;
                 Ok(())
             }
         }
@@ -51,16 +61,58 @@ impl Sessions {
         let Some(place) = self.open.find(session) else {
             return put_refusal(out, session, Refusal::NoSession);
         };
+        self.list_on(Listed::Diagnoses, place, session, count, out)
+    }
+
+    // Shows what comes next of a listing of the session at a place, up to so many times.
+    pub(crate) fn list_on<O: Sink>(
+        &mut self,
+        listed: Listed,
+        place: usize,
+        session: &[u8],
+        count: u32,
+        out: &mut O,
+    ) -> Result<(), WriteFailed>
+        requires place { place < length self.old.table }
+        requires told { IsTold self.old.subject listed }
+        ensures listed { (entry : Entry) → StandsAt self.old.table place session.now entry
+            → CarriesOut self.old.table self.new.table (found_moves self.old listed session.now entry count)
+            (O.got out.old) (O.got out.new) result }
+        ensures stays { ChangesTable self.old self.new }
+        ensures cause { HasCause (O.faults out.old) (O.faults out.new) result }
+    {
         for _ in 0..count {
-            if !self.move_on(place, session, out)? {
+            if !self.move_on(listed, place, session, out)? {
                 return Ok(());
             }
         }
         Ok(())
     }
 
-    // Shows the next diagnosis of the session at a place, and tells whether there was one. The point moves before the reply.
+    // Shows what comes next of a listing of the session at a place, and tells whether anything did.
     fn move_on<O: Sink>(
+        &mut self,
+        listed: Listed,
+        place: usize,
+        session: &[u8],
+        out: &mut O,
+    ) -> Result<bool, WriteFailed>
+        requires place { place < length self.old.table }
+        requires told { IsTold self.old.subject listed }
+        ensures moves { (entry : Entry) → StandsAt self.old.table place session.now entry
+            → MovesOn self.old self.new listed place session.now entry (O.got out.old) (O.got out.new) result }
+        ensures stays { ChangesTable self.old self.new }
+        ensures still { place < length self.new.table }
+        ensures cause { HasCause (O.faults out.old) (O.faults out.new) result }
+    {
+        match listed {
+            Listed::Diagnoses => self.show_next(place, session, out),
+            Listed::Levels => self.show_level(place, session, out),
+        }
+    }
+
+    // Shows the next diagnosis of the session at a place, and tells whether there was one. The point moves before the reply.
+    fn show_next<O: Sink>(
         &mut self,
         place: usize,
         session: &[u8],
@@ -68,7 +120,9 @@ impl Sessions {
     ) -> Result<bool, WriteFailed>
         requires { place < length self.old.table }
         ensures moves { (entry : Entry) → StandsAt self.old.table place session.now entry
-            → MovesOn self.old self.new place session.now entry (O.got out.old) (O.got out.new) result }
+            → MovesOn self.old self.new Listed.Diagnoses place session.now entry (O.got out.old) (O.got out.new) result }
+        ensures stays { ChangesTable self.old self.new }
+        ensures still { place < length self.new.table }
         ensures cause { HasCause (O.faults out.old) (O.faults out.new) result }
     {
         match self.find_next::<Brand>(Blank::new(1), place) {
@@ -113,7 +167,7 @@ impl Sessions {
         requires some { 0 < blank.parts }
         requires place { place < length self.old.table }
         ensures moves { (session : Name) (entry : Entry) → StandsAt self.old.table place session entry
-            → PointMoves self.old.subject self.old.table self.new.table place session entry result }
+            → NextMoves self.old.subject self.old.table self.new.table place session entry result }
         ensures stays { ChangesTable self.old self.new }
         ensures still { place < length self.new.table }
     {

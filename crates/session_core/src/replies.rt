@@ -90,6 +90,24 @@ pub(crate) fn put_min<O: Sink>(
     }
 }
 
+// The line of `level`: what a state costs and the names of its faulty parts.
+pub(crate) fn put_level<O: Sink>(
+    out: &mut O,
+    session: &[u8],
+    cost: u32,
+    parts: &[Name],
+    state: &[u32],
+) -> Result<(), WriteFailed>
+    requires { length state.now ≡ length parts.now }
+    ensures text { Puts (O.got out.old) (O.got out.new) result
+        (spaced (session.now ∷ codes "level" ∷ decimal cost ∷ faulty_names parts.now (bits_of state.now))) }
+    ensures cause { HasCause (O.faults out.old) (O.faults out.new) result }
+{
+    let mut digits = Buffer::new();
+    let cost = digits.format(cost).as_bytes();
+    put_faulty(out, session, &[b"level", cost], parts, state)
+}
+
 /// Puts the line of a first word, as the name of a session, of some more, and of the names of the faulty parts: those whose
 /// word of the state is not 0.
 pub fn put_faulty<O: Sink>(

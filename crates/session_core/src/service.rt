@@ -1,10 +1,10 @@
-ghost use Rattle.std.specs.Prelude.{◌≡◌, ◌≤◌, ◌<◌, ◌+◌, [], length, true, All, IfOk};
+ghost use Rattle.std.specs.Prelude.{◌≡◌, ◌≤◌, ◌<◌, ◌+◌, [], length, true, All, IfOk, IfSome};
 ghost use Rattle.text_rules.specs.Names.{names_rise};
 ghost use Rattle.conditioner.specs.Models.{total_cost};
 ghost use Rattle.diag_edge.specs.Edge.{HasCause};
 ghost use Rattle.script_lang.specs.Script.{line_of};
 ghost use Rattle.session_rules.specs.Carrying.{CarriesOut};
-ghost use Rattle.session_core.specs.Services.{moves_of, ChangesTable, IsRefused, IsSound};
+ghost use Rattle.session_core.specs.Services.{moves_of, ChangesTable, CanList, CanDraw, IsRefused, IsSound};
 
 use crate::basis::Basis;
 use crate::limits::{SERVED_NODES, SERVED_VARIABLES, SESSION_LIMIT};
@@ -14,6 +14,7 @@ use device_model::{Name, PART_LIMIT, WIRE_LIMIT};
 use diag_edge::{Memory, Sink, WriteFailed};
 use minimiser::TOTAL_LIMIT;
 use node_store::Graph;
+use ranking::Extras;
 use std::alloc::Global;
 use std::marker::Model;
 
@@ -34,7 +35,8 @@ impl Model for Service {
 
 impl Service {
     /// A service over the names of parts and wires, what the failure of each part costs, and a graph whose variables are the
-    /// parts, the wires, and inner ones. No session is open, and at most so many may be, from 1 to `SESSION_LIMIT`. `Err` means that memory ran out.
+    /// parts, the wires, and inner ones. No session is open, and at most so many may be, from 1 to `SESSION_LIMIT`. States by
+    /// rising cost and the graph of the diagnoses are told where the extras say so. `Err` means that memory ran out.
     pub fn over(
         alloc: Global,
         parts: Vec<Name>,
@@ -42,6 +44,7 @@ impl Service {
         costs: Vec<u32>,
         graph: Graph,
         sessions: u32,
+        extras: Extras,
     ) -> Result<Service, Memory>
         requires parts_rise { names_rise parts.items ≡ true }
         requires wires_rise { names_rise wires.items ≡ true }
@@ -55,9 +58,11 @@ impl Service {
         requires few_nodes { length graph.nodes < SERVED_NODES }
         requires some { 1 ≤ sessions }
         requires sessions { sessions ≤ SESSION_LIMIT }
+        requires levels { IfSome extras.levels (CanList graph (length parts.items)) }
+        requires least { extras.least ≡ true → CanDraw graph (length parts.items) }
         ensures { IfOk result (λ service. service
             ≡ record {
-              subject = record { parts = parts.items; wires = wires.items; costs = costs.items; graph = graph };
+              subject = record { parts = parts.items; wires = wires.items; costs = costs.items; graph = graph; extras = extras };
               limit = sessions;
               table = [];
             }) }
@@ -65,7 +70,7 @@ impl Service {
         let Ok(gathered) = LineBuffer::new(alloc) else {
             return Err(Memory);
         };
-        let Ok(basis) = Basis::of(alloc, parts, wires, costs, graph) else {
+        let Ok(basis) = Basis::of(alloc, parts, wires, costs, graph, extras) else {
             return Err(Memory);
         };
         match Sessions::new(alloc, basis, sessions) {

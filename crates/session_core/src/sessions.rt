@@ -100,6 +100,9 @@ impl Sessions {
             Line::Probes { session } => self.ask(session, Question::Probes, out),
             Line::Blame { session } => self.ask(session, Question::Blame, out),
             Line::Dnnf { session } => self.ask_graph(session, out),
+            Line::Level { session } => self.level(session, out),
+            Line::Levels { session, count } => self.list_levels(session, count, out),
+            Line::LeastNnf { session } => self.ask_least(session, out),
         }
     }
 

@@ -6,14 +6,14 @@ use Rattle.std.specs.List.{list_all, flat_map}
 use Rattle.text_rules.specs.Names.{Name, is_among}
 use Rattle.text_rules.proofs.NameLemmas.{equal_if_same}
 use Rattle.device_model.specs.Devices.{place_of}
-use Rattle.script_lang.specs.Script.{Line, Blank, Refused, Ask, Request, Start, Stop, See, Unsee, Hold, Unhold, Min, Next, Several, After, Probe, Probes, Blame, Dnnf, line_of}
+use Rattle.script_lang.specs.Script.{Line, Blank, Refused, Ask, Request, Start, Stop, See, Unsee, Hold, Unhold, Min, Next, Several, After, Probe, Probes, Blame, Dnnf, Level, Levels, LeastNnf, line_of}
 use Rattle.ranking.specs.Systems.{System, all_diagnoses}
 use Rattle.session_rules.specs.declared.refusal.Refusal.{Refusal}
-use Rattle.session_rules.specs.declared.refusal.Refusal.TheVariants.{OpenAlready, Full, NoWire, NoPart}
+use Rattle.session_rules.specs.declared.refusal.Refusal.TheVariants.{OpenAlready, Full, NoWire, NoPart, NoLevels, NoLeast}
 use Rattle.session_rules.specs.Refusals.{refusal_number, refusal_text}
-use Rattle.session_rules.specs.Items.{Item, Plain, Projected, Whole, line}
-use Rattle.session_rules.specs.Replies.{next_of, listing, point_after, probe_line, if_any}
-use Rattle.session_rules.specs.Sessions.{Table, Entry, Outcome, Declined, carried, step, entry_of, outcome, when_open, at_place, becomes, tells, with_seen, with_held, state_of, new_entry, replies}
+use Rattle.session_rules.specs.Items.{Item, Plain, Projected, LeastText, Whole, line}
+use Rattle.session_rules.specs.Replies.{next_of, level_of, listing, point_after, probe_line, if_any}
+use Rattle.session_rules.specs.Sessions.{Table, Entry, Outcome, Declined, carried, step, entry_of, outcome, when_open, with_number, becomes, tells, goes_to, goes_through, with_seen, with_held, state_of, new_entry, replies}
 use Rattle.session_rules.specs.Moves.{line_step}
 use Rattle.session_rules.specs.Alone.{Answer, lines_of, dialogue, names_session, closes_session, own_answers, Opens, AreAnsweredAlone}
 use Rattle.session_rules.proofs.Locality.{after_outcome, same_as_itself, own_step, own_items, others-stay}
@@ -31,9 +31,9 @@ dialogue-replies system limit table (bytes ∷ lines) =
 abbrev StaysOpen : Outcome → Entry → Type 0
 StaysOpen o entry = (new : Entry) × (after_outcome o (Some entry) ≡ Some new)
 
-at_place-open : (entry : Entry) (refusal : Refusal) (act : ℕ → Outcome) (place : Option ℕ) → ((i : ℕ) → StaysOpen (act i) entry) → StaysOpen (at_place refusal act place) entry
-at_place-open entry refusal act None each = (entry, refl)
-at_place-open entry refusal act (Some i) each = each i
+with_number-open : (entry : Entry) (refusal : Refusal) (act : ℕ → Outcome) (place : Option ℕ) → ((i : ℕ) → StaysOpen (act i) entry) → StaysOpen (with_number refusal act place) entry
+with_number-open entry refusal act None each = (entry, refl)
+with_number-open entry refusal act (Some i) each = each i
 
 either-open : (entry : Entry) (test : Bool) (one other : Outcome) → StaysOpen one entry → StaysOpen other entry → StaysOpen (if test then one else other) entry
 either-open entry true one other first second = first
@@ -43,13 +43,13 @@ when_open-open : (system : System) (s : Name) (entry : Entry) (request : Request
 when_open-open system s entry Start goes = (entry, refl)
 when_open-open system s entry Stop goes = absurd (let closes = same_as_itself s in let never : ⊥ = cc in never)
 when_open-open system s entry (See name bit) goes =
-    at_place-open entry NoWire (λ wire. becomes s (with_seen entry wire (Some bit)) (codes "ok")) (place_of name system.wires) (λ i. (with_seen entry i (Some bit), refl))
+    with_number-open entry NoWire (λ wire. becomes s (with_seen entry wire (Some bit)) (codes "ok")) (place_of name system.wires) (λ i. (with_seen entry i (Some bit), refl))
 when_open-open system s entry (Unsee name) goes =
-    at_place-open entry NoWire (λ wire. becomes s (with_seen entry wire None) (codes "ok")) (place_of name system.wires) (λ i. (with_seen entry i None, refl))
+    with_number-open entry NoWire (λ wire. becomes s (with_seen entry wire None) (codes "ok")) (place_of name system.wires) (λ i. (with_seen entry i None, refl))
 when_open-open system s entry (Hold name ok) goes =
-    at_place-open entry NoPart (λ part. becomes s (with_held entry part (Some ok)) (codes "ok")) (place_of name system.parts) (λ i. (with_held entry i (Some ok), refl))
+    with_number-open entry NoPart (λ part. becomes s (with_held entry part (Some ok)) (codes "ok")) (place_of name system.parts) (λ i. (with_held entry i (Some ok), refl))
 when_open-open system s entry (Unhold name) goes =
-    at_place-open entry NoPart (λ part. becomes s (with_held entry part None) (codes "ok")) (place_of name system.parts) (λ i. (with_held entry i None, refl))
+    with_number-open entry NoPart (λ part. becomes s (with_held entry part None) (codes "ok")) (place_of name system.parts) (λ i. (with_held entry i None, refl))
 when_open-open system s entry Min goes = (entry, refl)
 when_open-open system s entry Next goes = (record entry { point = (next_of system s (all_diagnoses system entry.known) entry.point).point }, refl)
 when_open-open system s entry (Several count) goes =
@@ -59,16 +59,25 @@ when_open-open system s entry (After names) goes =
     either-open entry (list_all (λ name. is_among system.parts name) names) (becomes s (record entry { point = Some (state_of names system.parts) }) (codes "ok")) (Declined NoPart)
     (record entry { point = Some (state_of names system.parts) }, refl) (entry, refl)
 when_open-open system s entry (Probe name) goes =
-    at_place-open entry NoWire (λ wire. tells (if_any s (system.consistent entry.known) (probe_line system s entry.known name wire ∷ []))) (place_of name system.wires) (λ i. (entry, refl))
+    with_number-open entry NoWire (λ wire. tells (if_any s (system.consistent entry.known) (probe_line system s entry.known name wire ∷ []))) (place_of name system.wires) (λ i. (entry, refl))
 when_open-open system s entry Probes goes = (entry, refl)
 when_open-open system s entry Blame goes = (entry, refl)
 when_open-open system s entry Dnnf goes = (entry, refl)
+when_open-open system s entry Level goes =
+    let level = λ (top : ℕ). level_of system s top (system.consistent entry.known) entry.point in
+    with_number-open entry NoLevels (λ top. goes_to entry (level top)) system.extras.levels (λ top. (record entry { point = (level top).point }, refl))
+when_open-open system s entry (Levels count) goes =
+    let found = λ (top : ℕ). listing (level_of system s top (system.consistent entry.known)) count entry.point in
+    with_number-open entry NoLevels (λ top. goes_through entry (found top)) system.extras.levels (λ top. (record entry { point = point_after entry.point (found top) }, refl))
+when_open-open system s entry LeastNnf goes =
+    either-open entry system.extras.least (tells (line (s ∷ codes "leastnnf" ∷ []) ∷ LeastText (length system.parts) (all_diagnoses system entry.known) ∷ [])) (Declined NoLeast) (entry, refl) (entry, refl)
 
 -- ---- a refusal is no opening
 
 abbrev bytes_of : Item → List ℕ
 bytes_of (Plain bytes) = bytes
 bytes_of (Projected parts states) = []
+bytes_of (LeastText parts states) = []
 bytes_of (Whole device vars most) = []
 
 abbrev first_bytes : List Item → List ℕ

@@ -1,5 +1,5 @@
 -- Worked rows: what the definitions reply to whole scripts. Their check computes both sides.
-use Rattle.std.proofs.Common.{◌≡◌, ℕ, false, List, [], ◌∷◌, ◌++◌, refl, map}
+use Rattle.std.proofs.Common.{◌≡◌, ℕ, false, Some, List, [], ◌∷◌, ◌++◌, refl, map}
 use Rattle.std.specs.Prelude.{codes}
 use Rattle.std.specs.Fmt.{digits}
 use Rattle.device_model.specs.declared.component.Component.{Component}
@@ -7,7 +7,8 @@ use Rattle.device_model.specs.declared.component.Kind.{Kind}
 use Rattle.device_model.specs.declared.component.Kind.TheVariants.{Nand, Buff, Table}
 use Rattle.device_model.specs.Devices.{Device}
 use Rattle.device_model.specs.Diagnosis.{device_system}
-use Rattle.session_rules.specs.Items.{Item, Plain, Projected, Whole, line}
+use Rattle.ranking.specs.Systems.{with_extras}
+use Rattle.session_rules.specs.Items.{Item, Plain, Projected, LeastText, Whole, line}
 use Rattle.session_rules.specs.Sessions.{replies}
 
 -- the texts of the items, where all are plain
@@ -15,6 +16,7 @@ abbrev pub text_of : List Item → List ℕ
 text_of [] = []
 text_of (Plain bytes ∷ items) = bytes ++ text_of items
 text_of (Projected parts states ∷ items) = text_of items
+text_of (LeastText parts states ∷ items) = text_of items
 text_of (Whole device vars most ∷ items) = text_of items
 
 -- lines, each with its line feed
@@ -41,6 +43,25 @@ chain = record {
 points : replied 16 chain (map codes ("open S" ∷ "see S a=0" ∷ "see S c=1" ∷ "after S b" ∷ "next S" ∷ "after S c" ∷ "next S" ∷ "after S b c" ∷ "next S" ∷ "after S" ∷ "next S" ∷ "next S" ∷ "see S c=1" ∷ "next S" ∷ []))
     ≡ text (map codes ("S open" ∷ "S ok" ∷ "S ok" ∷ "S ok" ∷ "S diag c" ∷ "S ok" ∷ "S end" ∷ "S ok" ∷ "S diag b" ∷ "S ok" ∷ "S end" ∷ "S end" ∷ "S ok" ∷ "S diag b" ∷ []))
 points = refl
+
+-- by rising cost, up to a cost
+abbrev levelled : ℕ → Device → List (List ℕ) → List ℕ
+levelled top device lines = text_of (replies (with_extras (record { levels = Some top; least = false }) (device_system device)) 16 [] lines)
+
+states_by_cost : levelled 2 chain (map codes ("open S" ∷ "see S a=0" ∷ "see S c=1" ∷ "levels S 9" ∷ "after S c" ∷ "level S" ∷ "after S" ∷ "level S" ∷ []))
+    ≡ text (map codes ("S open" ∷ "S ok" ∷ "S ok" ∷ "S level 1 b" ∷ "S level 1 c" ∷ "S level 2 b c" ∷ "S end" ∷ "S ok" ∷ "S level 2 b c" ∷ "S ok" ∷ "S level 1 b" ∷ []))
+unfolding digits
+states_by_cost = refl
+
+states_up_to_one : levelled 1 chain (map codes ("open S" ∷ "see S a=0" ∷ "see S c=1" ∷ "levels S 9" ∷ []))
+    ≡ text (map codes ("S open" ∷ "S ok" ∷ "S ok" ∷ "S level 1 b" ∷ "S level 1 c" ∷ "S end" ∷ []))
+unfolding digits
+states_up_to_one = refl
+
+nothing_besides : replied 16 chain (map codes ("open S" ∷ "level S" ∷ "leastnnf S" ∷ []))
+    ≡ text (map codes ("S open" ∷ "S error 11 no levels" ∷ "S error 12 no least" ∷ []))
+unfolding digits
+nothing_besides = refl
 
 refusals : replied 16 chain (map codes ("frob S" ∷ "open a(b" ∷ "open S" ∷ "open" ∷ "see S a" ∷ "see S a=2" ∷ "see S zz=0" ∷ "hold S zz=ok" ∷ "hold S b=no" ∷ "list S 0" ∷ "min T" ∷ "# note" ∷ "min S" ∷ []))
     ≡ text (map codes ("error 1 unknown command" ∷ "error 3 bad name" ∷ "S open" ∷ "error 2 bad words" ∷ "error 2 bad words" ∷ "error 4 bad value" ∷ "S error 9 no wire" ∷ "S error 10 no part" ∷ "error 4 bad value" ∷ "error 4 bad value" ∷ "T error 6 no session" ∷ "S min 0" ∷ []))
@@ -150,6 +171,12 @@ nothing_is_against_it : replied 16 free (map codes ("open S" ∷ "see S d=1" ∷
     ≡ text (map codes ("S open" ∷ "S ok" ∷ "S ok" ∷ "S min 1 u" ∷ "S diag u" ∷ "S end" ∷ "S ok" ∷ "S min 0" ∷ []))
 unfolding digits
 nothing_is_against_it = refl
+
+-- a part that nothing is said of is faulty in some state
+levels_of_a_free_part : levelled 1 free (map codes ("open S" ∷ "levels S 3" ∷ []))
+    ≡ text (map codes ("S open" ∷ "S level 0" ∷ "S level 1 u" ∷ "S end" ∷ []))
+unfolding digits
+levels_of_a_free_part = refl
 
 -- what is held faulty leaves one state
 projected_one : replies (device_system free) 16 [] (map codes ("open S" ∷ "hold S u=bad" ∷ "dnnf S" ∷ []))

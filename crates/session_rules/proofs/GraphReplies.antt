@@ -1,6 +1,8 @@
 -- Over a graph that is true where bits fit every script has the replies that it has over what fits, and the moves; so it is with devices.
 use Rattle.std.proofs.Common.{◌≡◌, ℕ, Bool, List, length}
 use Rattle.text_rules.specs.Names.{Name}
+use Rattle.ranking.specs.declared.extras.Extras.{Extras}
+use Rattle.ranking.specs.Systems.{System, with_extras}
 use Rattle.graph_rules.specs.Graphs.{Graph}
 use Rattle.device_model.specs.Devices.{Device, part_names, part_costs, fits}
 use Rattle.device_model.specs.Diagnosis.{fitting_system, device_system}
@@ -12,18 +14,24 @@ use Rattle.session_rules.specs.GraphSystems.{graph_system, compiled_system}
 use Rattle.session_rules.proofs.Meaning.{same_fitting, over_names}
 use Rattle.session_rules.proofs.Same.{replies-same, script_moves-same}
 
--- Both systems have the same names, so that the cases of the one are those of the other.
+-- Both systems have the same names, so that the cases of the one are those of the other; and they tell the same besides.
 module _ (parts wires : List Name) (costs : List ℕ) (fits_by : List Bool → List Bool → Bool) (graph : Graph) (is : IsGraphOver (length parts) (length wires) fits_by graph)
-    (limit : ℕ) (table : Table) (cases : HasCasesOf (fitting_system parts wires costs fits_by) table) (lines : List (List ℕ)) where
-  pub fitting_replies : replies (graph_system parts wires costs graph) limit table lines ≡ replies (fitting_system parts wires costs fits_by) limit table lines
-  fitting_replies = replies-same (graph_system parts wires costs graph) (fitting_system parts wires costs fits_by).consistent (same_fitting parts wires costs fits_by graph is) limit table lines cases
+    (extras : Extras) (limit : ℕ) (table : Table) (cases : HasCasesOf (fitting_system parts wires costs fits_by) table) (lines : List (List ℕ)) where
+  abbrev over_graph : System
+  over_graph = with_extras extras (graph_system parts wires costs graph)
 
-  pub fitting_moves : script_moves (line_moves (graph_system parts wires costs graph) limit) table lines ≡ script_moves (line_moves (fitting_system parts wires costs fits_by) limit) table lines
-  fitting_moves = script_moves-same (graph_system parts wires costs graph) (fitting_system parts wires costs fits_by).consistent (same_fitting parts wires costs fits_by graph is) limit table lines cases
+  abbrev over_fitting : System
+  over_fitting = with_extras extras (fitting_system parts wires costs fits_by)
 
-module _ (device : Device) (graph : Graph) (is : IsGraphOf device graph) (limit : ℕ) (table : Table) (cases : HasCasesOf (device_system device) table) (lines : List (List ℕ)) where
-  pub graph_replies : replies (compiled_system device graph) limit table lines ≡ replies (device_system device) limit table lines
-  graph_replies = fitting_replies (part_names device.parts) device.wires (part_costs device) (fits device) graph (over_names device graph is) limit table cases lines
+  pub fitting_replies : replies over_graph limit table lines ≡ replies over_fitting limit table lines
+  fitting_replies = replies-same over_graph (fitting_system parts wires costs fits_by).consistent (same_fitting parts wires costs fits_by graph is) limit table lines cases
 
-  pub graph_moves : script_moves (line_moves (compiled_system device graph) limit) table lines ≡ script_moves (line_moves (device_system device) limit) table lines
-  graph_moves = fitting_moves (part_names device.parts) device.wires (part_costs device) (fits device) graph (over_names device graph is) limit table cases lines
+  pub fitting_moves : script_moves (line_moves over_graph limit) table lines ≡ script_moves (line_moves over_fitting limit) table lines
+  fitting_moves = script_moves-same over_graph (fitting_system parts wires costs fits_by).consistent (same_fitting parts wires costs fits_by graph is) limit table lines cases
+
+module _ (device : Device) (graph : Graph) (is : IsGraphOf device graph) (extras : Extras) (limit : ℕ) (table : Table) (cases : HasCasesOf (device_system device) table) (lines : List (List ℕ)) where
+  pub graph_replies : replies (with_extras extras (compiled_system device graph)) limit table lines ≡ replies (with_extras extras (device_system device)) limit table lines
+  graph_replies = fitting_replies (part_names device.parts) device.wires (part_costs device) (fits device) graph (over_names device graph is) extras limit table cases lines
+
+  pub graph_moves : script_moves (line_moves (with_extras extras (compiled_system device graph)) limit) table lines ≡ script_moves (line_moves (with_extras extras (device_system device)) limit) table lines
+  graph_moves = fitting_moves (part_names device.parts) device.wires (part_costs device) (fits device) graph (over_names device graph is) extras limit table cases lines

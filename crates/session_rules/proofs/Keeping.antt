@@ -11,12 +11,13 @@ use Rattle.std.proofs.lemmas.List.{length-set, length-replicate}
 use Rattle.text_rules.specs.Names.{Name, same_name, is_among}
 use Rattle.text_rules.proofs.NameLemmas.{equal_if_same}
 use Rattle.device_model.specs.Devices.{place_of}
-use Rattle.script_lang.specs.Script.{Line, Blank, Refused, Ask, Request, Start, Stop, See, Unsee, Hold, Unhold, Min, Next, Several, After, Probe, Probes, Blame, Dnnf}
-use Rattle.ranking.specs.Systems.{System}
+use Rattle.script_lang.specs.Script.{Line, Blank, Refused, Ask, Request, Start, Stop, See, Unsee, Hold, Unhold, Min, Next, Several, After, Probe, Probes, Blame, Dnnf, Level, Levels, LeastNnf}
+use Rattle.ranking.specs.Systems.{System, all_diagnoses}
 use Rattle.session_rules.specs.declared.refusal.Refusal.{Refusal}
-use Rattle.session_rules.specs.declared.refusal.Refusal.TheVariants.{Full, NoWire, NoPart}
-use Rattle.session_rules.specs.Replies.{probe_line, if_any}
-use Rattle.session_rules.specs.Sessions.{Entry, Table, Outcome, Declined, Done, Change, Stays, Becomes, Ends, entry_of, without, changed, carried, when_open, outcome, outcome_in, at_place, becomes, tells, step, with_seen, with_held, state_of, new_entry}
+use Rattle.session_rules.specs.declared.refusal.Refusal.TheVariants.{Full, NoWire, NoPart, NoLevels, NoLeast}
+use Rattle.session_rules.specs.Items.{LeastText, line}
+use Rattle.session_rules.specs.Replies.{level_of, listing, probe_line, if_any}
+use Rattle.session_rules.specs.Sessions.{Entry, Table, Outcome, Declined, Done, Change, Stays, Becomes, Ends, entry_of, without, changed, carried, when_open, outcome, outcome_in, with_number, becomes, tells, goes_to, goes_through, step, with_seen, with_held, state_of, new_entry}
 use Rattle.session_rules.specs.CaseSizes.{IsCaseOf, HasCasesOf}
 
 -- the empty table has no case
@@ -41,7 +42,7 @@ Keeps system (Declined refusal) = Unit {0}
 Keeps system (Done change items) = ChangeKeeps system change
 
 module _ (system : System) where
-  placed : (refusal : Refusal) (act : ℕ → Outcome) (place : Option ℕ) → ((i : ℕ) → Keeps system (act i)) → Keeps system (at_place refusal act place)
+  placed : (refusal : Refusal) (act : ℕ → Outcome) (place : Option ℕ) → ((i : ℕ) → Keeps system (act i)) → Keeps system (with_number refusal act place)
   placed refusal act None k = tt
   placed refusal act (Some i) k = k i
 
@@ -72,6 +73,12 @@ module _ (system : System) where
   when_open-keeps s entry h Probes = tt
   when_open-keeps s entry h Blame = tt
   when_open-keeps s entry h Dnnf = tt
+  when_open-keeps s entry h Level =
+      placed NoLevels (λ top. goes_to entry (level_of system s top (system.consistent entry.known) entry.point)) system.extras.levels (λ top. h)
+  when_open-keeps s entry h (Levels count) =
+      placed NoLevels (λ top. goes_through entry (listing (level_of system s top (system.consistent entry.known)) count entry.point)) system.extras.levels (λ top. h)
+  when_open-keeps s entry h LeastNnf =
+      chosen system.extras.least (tells (line (s ∷ codes "leastnnf" ∷ []) ∷ LeastText (length system.parts) (all_diagnoses system entry.known) ∷ [])) (Declined NoLeast) tt tt
 
   new-keeps : IsCaseOf system (new_entry system).known
   new-keeps = (length-replicate (length system.wires) None, length-replicate (length system.parts) None)

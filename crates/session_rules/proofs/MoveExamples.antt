@@ -3,8 +3,8 @@ use Rattle.std.proofs.Common.{◌≡◌, ℕ, Bool, true, false, List, [], ◌�
 use Rattle.std.specs.Prelude.{codes}
 use Rattle.std.specs.Fmt.{digits}
 use Rattle.ranking.specs.Cases.{empty_case}
-use Rattle.ranking.specs.Systems.{System}
-use Rattle.session_rules.specs.Items.{line}
+use Rattle.ranking.specs.Systems.{System, no_extras, with_extras}
+use Rattle.session_rules.specs.Items.{line, LeastText}
 use Rattle.session_rules.specs.Sessions.{Table, Step}
 use Rattle.session_rules.specs.Moves.{left_by, line_moves, script_moves}
 
@@ -15,6 +15,7 @@ either = record {
   wires = codes "a" ∷ [];
   costs = 1 ∷ 1 ∷ [];
   consistent = λ known. (false ∷ false ∷ []) ∷ (false ∷ true ∷ []) ∷ (true ∷ false ∷ []) ∷ [];
+  extras = no_extras;
 }
 
 -- no state agrees
@@ -49,6 +50,44 @@ two_after_a_point = refl
 -- where no state agrees the point stays
 none_of_a_list : line_moves neither 16 after_b (codes "list S 3") ≡ says after_b (codes "S inconsistent") ∷ []
 none_of_a_list = refl
+
+-- ---- by rising cost
+
+-- both faults are listed too, up to a cost of two
+abbrev up_to_two : System
+up_to_two = with_extras (record { levels = Some 2; least = true }) either
+
+abbrev after_both : Table
+after_both = at_point (Some (false ∷ false ∷ []))
+
+three_levels : line_moves up_to_two 16 (at_point None) (codes "levels S 9")
+    ≡ says after_b (codes "S level 1 b") ∷ says after_c (codes "S level 1 c") ∷ says after_both (codes "S level 2 b c") ∷ says after_both (codes "S end") ∷ []
+unfolding digits
+three_levels = refl
+
+-- a point is gone on from
+after_a_point : line_moves up_to_two 16 after_c (codes "level S") ≡ says after_both (codes "S level 2 b c") ∷ []
+unfolding digits
+after_a_point = refl
+
+-- where nothing is told besides, the session and then the option is missed
+no_levels : line_moves either 16 after_b (codes "levels S 9") ≡ says after_b (codes "S error 11 no levels") ∷ []
+unfolding digits
+no_levels = refl
+
+no_levels_of_no_session : line_moves either 16 after_b (codes "level T") ≡ says after_b (codes "T error 6 no session") ∷ []
+unfolding digits
+no_levels_of_no_session = refl
+
+no_least : line_moves either 16 after_b (codes "leastnnf S") ≡ says after_b (codes "S error 12 no least") ∷ []
+unfolding digits
+no_least = refl
+
+the_least : line_moves up_to_two 16 after_b (codes "leastnnf S")
+    ≡ record { table = after_b; items = line (codes "S leastnnf" ∷ []) ∷ LeastText 2 ((false ∷ true ∷ []) ∷ (true ∷ false ∷ []) ∷ []) ∷ [] } ∷ []
+the_least = refl
+
+-- ---- lines of one move
 
 -- what is refused is one move, and so is what says nothing, or more than one line
 no_session : line_moves either 16 after_b (codes "list T 3") ≡ says after_b (codes "T error 6 no session") ∷ []

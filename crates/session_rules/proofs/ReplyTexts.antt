@@ -4,22 +4,28 @@ use Rattle.std.specs.Prelude.{nat_le, if◌then◌else◌, codes, is_some}
 use Rattle.std.specs.List.{list_all}
 use Rattle.text_rules.specs.Names.{Name, is_among}
 use Rattle.ranking.specs.Cases.{Case}
-use Rattle.ranking.specs.Ranking.{rest}
+use Rattle.ranking.specs.Ranking.{rest, diagnoses}
+use Rattle.ranking.specs.Levels.{levels, levels_rest}
 use Rattle.ranking.specs.Systems.{System, least_cost, all_diagnoses}
 use Rattle.device_model.specs.Devices.{place_of}
 use Rattle.graph_rules.specs.Graphs.{IsGraph}
+use Rattle.graph_rules.specs.GraphTexts.{parsed}
+use Rattle.conditioner.specs.Models.{models}
+use Rattle.graph_rules.specs.StateGraphs.{IsSmoothGraphOfStates}
 use Rattle.projector.specs.Projecting.{projection, projected_text}
-use Rattle.projector.proofs.Projected.{projected_text-means, projected_text-is_neat}
-use Rattle.script_lang.specs.Script.{Line, Blank, Refused, Ask, Request, Start, Stop, See, Unsee, Hold, Unhold, Min, Next, Several, After, Probe, Probes, Blame, Dnnf, line_of}
+use Rattle.projector.proofs.Projected.{projected_text-is_neat, projected_text-means}
+use Rattle.script_lang.specs.Script.{Line, Blank, Refused, Ask, Request, Start, Stop, See, Unsee, Hold, Unhold, Min, Next, Several, After, Probe, Probes, Blame, Dnnf, Level, Levels, LeastNnf, line_of}
 use Rattle.session_rules.specs.declared.refusal.Refusal.{Refusal}
-use Rattle.session_rules.specs.declared.refusal.Refusal.TheVariants.{Full, NoWire, NoPart}
-use Rattle.session_rules.specs.Items.{Item, Projected}
-use Rattle.session_rules.specs.Replies.{Found, min_line, found, next_of, listing, seen_at, probe_line, probe_lines, blame_lines, if_any, end_line, diagnosis_line}
-use Rattle.session_rules.specs.Sessions.{Table, Entry, Outcome, Declined, Done, at_place, becomes, tells, with_seen, with_held, new_entry, state_of, when_open, outcome, outcome_in, entry_of, carried, step, replies}
+use Rattle.session_rules.specs.declared.refusal.Refusal.TheVariants.{Full, NoWire, NoPart, NoLevels, NoLeast}
+use Rattle.smooth_nnf.specs.Layouts.{least_graph, least_text}
+use Rattle.smooth_nnf.proofs.WholeText.{least_text-is_neat, least_text-means}
+use Rattle.session_rules.specs.Items.{Item, Projected, LeastText, line}
+use Rattle.session_rules.specs.Replies.{Found, min_line, found, next_of, level_line, level_of, listing, seen_at, probe_line, probe_lines, blame_lines, if_any, end_line, diagnosis_line}
+use Rattle.session_rules.specs.Sessions.{Table, Entry, Outcome, Declined, Done, with_number, becomes, tells, goes_to, goes_through, with_seen, with_held, new_entry, state_of, when_open, outcome, outcome_in, entry_of, carried, step, replies}
 use Rattle.session_rules.specs.Moves.{left_by, line_moves, script_moves}
 use Rattle.session_rules.specs.Spelling.{Spelled, WritesPart}
 use Rattle.session_rules.specs.Carrying.{BreaksOff}
-use Rattle.session_rules.specs.GraphSystems.{Subject, system_of, case_words}
+use Rattle.session_rules.specs.GraphSystems.{Subject, HasLeastTexts, system_of, case_words}
 use Rattle.session_rules.specs.CaseSizes.{IsCaseOf, HasCasesOf}
 use Rattle.session_rules.proofs.Begun.{HaveSpellings, have_both}
 use Rattle.session_rules.proofs.Broken.{breaks_before, script_moves-append, broken_replies}
@@ -62,7 +68,7 @@ abbrev OutcomeHas : Outcome → Type 0
 OutcomeHas (Declined refusal) = Unit {0}
 OutcomeHas (Done change items) = HaveSpellings items
 
-placed : (refusal : Refusal) (act : ℕ → Outcome) (place : Option ℕ) → ((i : ℕ) → OutcomeHas (act i)) → OutcomeHas (at_place refusal act place)
+placed : (refusal : Refusal) (act : ℕ → Outcome) (place : Option ℕ) → ((i : ℕ) → OutcomeHas (act i)) → OutcomeHas (with_number refusal act place)
 placed refusal act None h = tt
 placed refusal act (Some i) h = h i
 
@@ -70,8 +76,13 @@ chosen : (b : Bool) (one other : Outcome) → OutcomeHas one → OutcomeHas othe
 chosen true one other h k = h
 chosen false one other h k = k
 
+-- an item that is told behind a line, where it is told
+told-has : (s : Name) (word : List ℕ) (item : Item) (told : Bool) → (told ≡ true → HasText item) → OutcomeHas (if told then tells (line (s ∷ word ∷ []) ∷ item ∷ []) else Declined NoLeast)
+told-has s word item true h = ((_, refl), (h refl, tt))
+told-has s word item false h = tt
+
 -- a change after which one word is said
-ok_at : (s : Name) (changed : ℕ → Entry) (refusal : Refusal) (place : Option ℕ) → OutcomeHas (at_place refusal (λ i. becomes s (changed i) (codes "ok")) place)
+ok_at : (s : Name) (changed : ℕ → Entry) (refusal : Refusal) (place : Option ℕ) → OutcomeHas (with_number refusal (λ i. becomes s (changed i) (codes "ok")) place)
 ok_at s changed refusal place = placed refusal (λ i. becomes s (changed i) (codes "ok")) place (λ i. ((_, refl), tt))
 
 carried-has : (s : Name) (o : Outcome) (table : Table) → OutcomeHas o → HaveSpellings (carried table s o).items
@@ -86,6 +97,10 @@ module _ (system : System) where
   next-has : (s : Name) (ds : List (List Bool)) (point : Option (List Bool)) → HasText (next_of system s ds point).item
   next-has s ds point = found-has s (diagnosis_line system s) (λ state. (_, refl)) point ds (rest ds point)
 
+  level-has : (s : Name) (top : ℕ) (states : List (List Bool)) (point : Option (List Bool)) → HasText (level_of system s top states point).item
+  level-has s top states point =
+      found-has s (level_line system s) (λ state. (_, refl)) point states (levels_rest system.costs (levels system.costs top states) point)
+
   probe_lines-have : (s : Name) (known : Case) (wire : ℕ) (names : List Name) → HaveSpellings (probe_lines system s known wire names)
   probe_lines-have s known wire [] = tt
   probe_lines-have s known wire (name ∷ names) =
@@ -97,8 +112,9 @@ module _ (system : System) where
         | false ↦ ((_, refl), probe_lines-have s known (wire + 1) names)
       ]
 
-  -- Where the states of each case have a text
-  module _ (projected : (known : Case) → IsCaseOf system known → HasText (Projected (length system.parts) (system.consistent known))) where
+  -- Where the states of each case have a text, and its diagnoses where their graph is told
+  module _ (projected : (known : Case) → IsCaseOf system known → HasText (Projected (length system.parts) (system.consistent known)))
+      (drawn : (known : Case) → IsCaseOf system known → system.extras.least ≡ true → HasText (LeastText (length system.parts) (all_diagnoses system known))) where
     when_open-has : (s : Name) (entry : Entry) → IsCaseOf system entry.known → (request : Request) → OutcomeHas (when_open system s entry request)
     when_open-has s entry h Start = tt
     when_open-has s entry h Stop = ((_, refl), tt)
@@ -125,6 +141,15 @@ module _ (system : System) where
         let lines = blame_lines s ds 0 system.parts in
         if_any-have s ds (lines ++ end_line s ∷ []) (have_both lines (end_line s ∷ []) (blame_lines-have s ds 0 system.parts) ((_, refl), tt))
     when_open-has s entry h Dnnf = ((_, refl), (projected entry.known h, tt))
+    when_open-has s entry h Level =
+        let level = λ (top : ℕ). level_of system s top (system.consistent entry.known) in
+        placed NoLevels (λ top. goes_to entry (level top entry.point)) system.extras.levels (λ top. (level-has s top (system.consistent entry.known) entry.point, tt))
+    when_open-has s entry h (Levels count) =
+        let level = λ (top : ℕ). level_of system s top (system.consistent entry.known) in
+        placed NoLevels (λ top. goes_through entry (listing (level top) count entry.point)) system.extras.levels
+        (λ top. listing-have (level top) (level-has s top (system.consistent entry.known)) count entry.point)
+    when_open-has s entry h LeastNnf =
+        told-has s (codes "leastnnf") (LeastText (length system.parts) (all_diagnoses system entry.known)) system.extras.least (drawn entry.known h)
 
     outcome-has : (s : Name) (full : Bool) (entry : Option Entry) → ((e : Entry) → entry ≡ Some e → IsCaseOf system e.known) → (request : Request) → OutcomeHas (outcome system s full entry request)
     outcome-has s full (Some entry) h request = when_open-has s entry (h entry refl) request
@@ -146,7 +171,8 @@ module _ (system : System) where
 
 -- ---- over a graph
 
-module _ (subject : Subject) (is : IsGraph subject.graph) (room : length subject.parts + length subject.wires ≤ subject.graph.vars) (few : length subject.graph.nodes + length subject.parts + 1 < 2 ^ 32) where
+module _ (subject : Subject) (is : IsGraph subject.graph) (room : length subject.parts + length subject.wires ≤ subject.graph.vars) (few : length subject.graph.nodes + length subject.parts + 1 < 2 ^ 32)
+    (least : subject.extras.least ≡ true → HasLeastTexts subject) where
   abbrev system : System
   system = system_of subject
 
@@ -163,9 +189,25 @@ module _ (subject : Subject) (is : IsGraph subject.graph) (room : length subject
   projected-has : (known : Case) → IsCaseOf system known → HasText (Projected (length subject.parts) (system.consistent known))
   projected-has known h = (projected_text subject.graph (case_words subject.graph.vars known) (length subject.parts), case-spelled known h)
 
+  -- and the text of the diagnoses' graph spells them
+  pub least-spelled : (known : Case) → IsCaseOf (system_of subject) known → subject.extras.least ≡ true
+      → Spelled (LeastText (length subject.parts) (all_diagnoses (system_of subject) known)) (least_text subject.graph (case_words subject.graph.vars known) subject.costs)
+  least-spelled known h told =
+      let words = case_words subject.graph.vars known in
+      let long = length-case_words subject.graph.vars known (omega (arith, h.0, h.1, room)) in
+      let has = least told in
+      let narrow : length subject.costs ≤ subject.graph.vars = omega (arith, room, has.costs) in (
+        (least_text-is_neat subject.graph words subject.costs is long narrow has.dear has.few, (least_graph subject.graph words subject.costs, refl)),
+        subst (λ n. IsSmoothGraphOfStates n (diagnoses subject.costs (models subject.graph words n)) (parsed (least_text subject.graph words subject.costs))) has.costs
+            (least_text-means subject.graph words subject.costs is long narrow has.dear has.few),
+      )
+
+  least-has : (known : Case) → IsCaseOf system known → system.extras.least ≡ true → HasText (LeastText (length system.parts) (all_diagnoses system known))
+  least-has known h told = (least_text subject.graph (case_words subject.graph.vars known) subject.costs, least-spelled known h told)
+
   -- each reply to a script has some text
   pub replies-have : (limit : ℕ) (table : Table) (lines : List (List ℕ)) → HasCasesOf (system_of subject) table → HaveSpellings (replies (system_of subject) limit table lines)
-  replies-have = lines-have system projected-has
+  replies-have = lines-have system projected-has least-has
 
   -- what was written where it broke off begins its replies
   pub broken_begins_replies : (limit : ℕ) (old new : Table) (lines : List (List ℕ)) (a b : Option (List ℕ)) → HasCasesOf (system_of subject) old

@@ -1,19 +1,19 @@
 -- Two systems of the same names and costs, whose consistent states are the same for each case of theirs, answer alike.
 use Rattle.std.proofs.Common.{◌≡◌, ℕ, suc, ◌+◌, Bool, true, false, List, [], ◌∷◌, ◌++◌, map, length, refl, sym, subst, ap, ap₂, ◌∙◌, Option, Some, None, set}
-use Rattle.std.specs.Prelude.{nat_le, codes, is_some}
+use Rattle.std.specs.Prelude.{nat_le, codes, is_some, if◌then◌else◌}
 use Rattle.std.proofs.lemmas.List.{length-set}
 use Rattle.text_rules.specs.Names.{Name}
 use Rattle.ranking.specs.Cases.{Case}
 use Rattle.ranking.specs.Ranking.{least, diagnoses}
 use Rattle.ranking.specs.Systems.{System}
 use Rattle.device_model.specs.Devices.{place_of}
-use Rattle.script_lang.specs.Script.{Line, Blank, Refused, Ask, Request, Start, Stop, See, Unsee, Hold, Unhold, Min, Next, Several, After, Probe, Probes, Blame, Dnnf, line_of}
+use Rattle.script_lang.specs.Script.{Line, Blank, Refused, Ask, Request, Start, Stop, See, Unsee, Hold, Unhold, Min, Next, Several, After, Probe, Probes, Blame, Dnnf, Level, Levels, LeastNnf, line_of}
 use Rattle.session_rules.specs.declared.refusal.Refusal.{Refusal}
-use Rattle.session_rules.specs.declared.refusal.Refusal.TheVariants.{NoWire}
-use Rattle.session_rules.specs.Items.{Item, Projected, line}
-use Rattle.session_rules.specs.Replies.{min_line, next_of, listing, point_after, least_at, seen_at, probe_line, probe_lines, count_text, if_any, end_line, blame_lines}
-use Rattle.session_rules.specs.Sessions.{Entry, Table, Step, Outcome, entry_of, carried, when_open, outcome, outcome_in, at_place, tells, moved, step, run, replies}
-use Rattle.session_rules.specs.Moves.{left_by, goes_on, listing_moves, moves, line_moves, script_moves}
+use Rattle.session_rules.specs.declared.refusal.Refusal.TheVariants.{NoWire, NoLevels, NoLeast}
+use Rattle.session_rules.specs.Items.{Item, Projected, LeastText, line}
+use Rattle.session_rules.specs.Replies.{Found, min_line, next_of, level_of, listing, least_at, seen_at, probe_line, probe_lines, count_text, if_any, end_line, blame_lines}
+use Rattle.session_rules.specs.Sessions.{Entry, Table, Step, Outcome, Declined, entry_of, carried, when_open, outcome, outcome_in, with_number, tells, goes_to, goes_through, step, run, replies}
+use Rattle.session_rules.specs.Moves.{left_by, goes_on, listing_moves, next_for, level_for, level_moves, moves, line_moves, script_moves}
 use Rattle.session_rules.specs.CaseSizes.{IsCaseOf, HasCasesOf}
 use Rattle.session_rules.proofs.Keeping.{step-keeps}
 use Rattle.session_rules.proofs.Whole.{line_moves-whole}
@@ -33,7 +33,7 @@ module _ (one other : Table → List ℕ → List Step) (Holds : Table → Type 
       ∙ ap (λ first. first ++ script_moves other (left_by t first) ls) (agree t l h)
 
 -- one acts as the other where it finds a place
-same_place : (refusal : Refusal) (one other : ℕ → Outcome) (place : Option ℕ) → ((i : ℕ) → one i ≡ other i) → at_place refusal one place ≡ at_place refusal other place
+same_place : (refusal : Refusal) (one other : ℕ → Outcome) (place : Option ℕ) → ((i : ℕ) → one i ≡ other i) → with_number refusal one place ≡ with_number refusal other place
 same_place refusal one other None e = refl
 same_place refusal one other (Some i) e = e i
 
@@ -72,10 +72,9 @@ module _ (system : System) (consistent : Case → List (List Bool)) (same : (kno
   when_open-same s entry Min h =
       ap (λ hs. tells (min_line system s (least system.costs hs) (diagnoses system.costs hs) ∷ [])) (same entry.known h)
   when_open-same s entry Next h =
-      ap (λ hs. let n = next_of system s (diagnoses system.costs hs) entry.point in moved entry n.point (n.item ∷ [])) (same entry.known h)
+      ap (λ hs. goes_to entry (next_of system s (diagnoses system.costs hs) entry.point)) (same entry.known h)
   when_open-same s entry (Several count) h =
-      ap (λ found. moved entry (point_after entry.point found) (map (λ f. f.item) found))
-      (ap (λ hs. listing (next_of system s (diagnoses system.costs hs)) count entry.point) (same entry.known h))
+      ap (λ hs. goes_through entry (listing (next_of system s (diagnoses system.costs hs)) count entry.point)) (same entry.known h)
   when_open-same s entry (After names) h = refl
   when_open-same s entry (Probe name) h =
       same_place NoWire
@@ -89,6 +88,12 @@ module _ (system : System) (consistent : Case → List (List Bool)) (same : (kno
       ap (λ hs. tells (if_any s (diagnoses system.costs hs) (blame_lines s (diagnoses system.costs hs) 0 system.parts ++ end_line s ∷ []))) (same entry.known h)
   when_open-same s entry Dnnf h =
       ap (λ hs. tells (line (s ∷ codes "dnnf" ∷ []) ∷ Projected (length system.parts) hs ∷ [])) (same entry.known h)
+  when_open-same s entry Level h =
+      ap (λ hs. with_number NoLevels (λ top. goes_to entry (level_of system s top hs entry.point)) system.extras.levels) (same entry.known h)
+  when_open-same s entry (Levels count) h =
+      ap (λ hs. with_number NoLevels (λ top. goes_through entry (listing (level_of system s top hs) count entry.point)) system.extras.levels) (same entry.known h)
+  when_open-same s entry LeastNnf h =
+      ap (λ hs. if system.extras.least then tells (line (s ∷ codes "leastnnf" ∷ []) ∷ LeastText (length system.parts) (diagnoses system.costs hs) ∷ []) else Declined NoLeast) (same entry.known h)
 
   outcome-same : (s : Name) (full : Bool) (entry : Option Entry) (request : Request) → ((e : Entry) → entry ≡ Some e → IsCaseOf system e.known)
       → outcome system s full entry request ≡ outcome other s full entry request
@@ -105,14 +110,27 @@ module _ (system : System) (consistent : Case → List (List Bool)) (same : (kno
   step-same limit table (Refused refusal) h = refl
   step-same limit table (Ask s request) h = ap (carried table s) (outcome_in-same limit table s request h)
 
-  listing_moves-same : (table : Table) (s : Name) (count : ℕ) (entry : Option Entry) → ((e : Entry) → entry ≡ Some e → IsCaseOf system e.known)
-      → listing_moves system table s count entry ≡ listing_moves other table s count entry
-  listing_moves-same table s count None h = refl
-  listing_moves-same table s count (Some entry) h =
-      ap (λ hs. map (goes_on table s entry) (listing (next_of system s (diagnoses system.costs hs)) count entry.point)) (same entry.known (h entry refl))
+  -- a listing by steps that are the same for the entry there
+  listing_moves-same : (next step : Entry → Option (List Bool) → Found) (table : Table) (s : Name) (count : ℕ) (entry : Option Entry) → ((e : Entry) → entry ≡ Some e → next e ≡ step e)
+      → listing_moves next table s count entry ≡ listing_moves step table s count entry
+  listing_moves-same next step table s count None e = refl
+  listing_moves-same next step table s count (Some entry) e = ap (λ f. map (goes_on table s entry) (listing f count entry.point)) (e entry refl)
+
+  next_for-same : (s : Name) (entry : Entry) → IsCaseOf system entry.known → next_for system s entry ≡ next_for other s entry
+  next_for-same s entry h = ap (λ hs. next_of system s (diagnoses system.costs hs)) (same entry.known h)
+
+  level_for-same : (s : Name) (top : ℕ) (entry : Entry) → IsCaseOf system entry.known → level_for system s top entry ≡ level_for other s top entry
+  level_for-same s top entry h = ap (level_of system s top) (same entry.known h)
+
+  level_moves-same : (limit : ℕ) (table : Table) (s : Name) (count : ℕ) (levels : Option ℕ) → HasCasesOf system table → level_moves system limit table s count levels ≡ level_moves other limit table s count levels
+  level_moves-same limit table s count None h = ap (λ (move : Step). move ∷ []) (step-same limit table (Ask s (Levels count)) h)
+  level_moves-same limit table s count (Some top) h =
+      listing_moves-same (level_for system s top) (level_for other s top) table s count (entry_of s table) (λ e is. level_for-same s top e (h s e is))
 
   moves-same : (limit : ℕ) (table : Table) (l : Line) → HasCasesOf system table → moves system limit table l ≡ moves other limit table l
-  moves-same limit table (Ask s (Several (suc n))) h = listing_moves-same table s (suc n) (entry_of s table) (h s)
+  moves-same limit table (Ask s (Several (suc n))) h =
+      listing_moves-same (next_for system s) (next_for other s) table s (suc n) (entry_of s table) (λ e is. next_for-same s e (h s e is))
+  moves-same limit table (Ask s (Levels (suc n))) h = level_moves-same limit table s (suc n) system.extras.levels h
   moves-same limit table l h = ap (λ (move : Step). move ∷ []) (step-same limit table l h)
 
   -- the moves of a line are the same in both, and those of a script

@@ -2,11 +2,12 @@
 use Rattle.std.proofs.Common.{◌≡◌, ℕ, suc, Bool, List, [], ◌∷◌, ◌++◌, map, refl, ap, ap₂, sym, ◌∙◌, Option, Some, None, append_assoc, append-nil}
 use Rattle.std.specs.Prelude.{nat_le, length}
 use Rattle.text_rules.specs.Names.{Name}
-use Rattle.ranking.specs.Systems.{System, all_diagnoses}
-use Rattle.script_lang.specs.Script.{Line, Ask, Several, line_of}
-use Rattle.session_rules.specs.Replies.{Found, next_of, point_after}
-use Rattle.session_rules.specs.Sessions.{Table, Entry, Step, with_entry, entry_of, carried, outcome, step, run, replies}
-use Rattle.session_rules.specs.Moves.{said, left_by, whole, goes_on, listing_moves, moves, line_moves, line_step, script_moves}
+use Rattle.ranking.specs.Systems.{System}
+use Rattle.script_lang.specs.Script.{Line, Ask, Several, Levels, line_of}
+use Rattle.session_rules.specs.declared.refusal.Refusal.TheVariants.{NoSession, NoLevels}
+use Rattle.session_rules.specs.Replies.{Found, listing, point_after}
+use Rattle.session_rules.specs.Sessions.{Table, Entry, Step, Outcome, Declined, with_number, goes_through, with_entry, entry_of, carried, outcome, step, run, replies}
+use Rattle.session_rules.specs.Moves.{said, left_by, whole, goes_on, listing_moves, next_for, level_for, level_moves, moves, line_moves, line_step, script_moves}
 
 -- the table that lines leave which are answered one after the other
 abbrev pub after_lines : (Table → List ℕ → Step) → Table → List (List ℕ) → Table
@@ -27,14 +28,39 @@ module _ (table : Table) (session : Name) (entry : Entry) where
   goes_on-whole f (g ∷ found) before =
       ap (λ s. record { table = s.table; items = f.item ∷ s.items }) (goes_on-whole g found (goes_on table session entry f).table)
 
-listing_moves-whole : (system : System) (table : Table) (session : Name) (full : Bool) (n : ℕ) (entry : Option Entry)
-    → whole table (listing_moves system table session (suc n) entry) ≡ carried table session (outcome system session full entry (Several (suc n)))
-listing_moves-whole system table session full n None = one_move table _
-listing_moves-whole system table session full n (Some entry) =
-    goes_on-whole table session entry (next_of system session (all_diagnoses system entry.known) entry.point) _ table
+-- a closed session has no listing
+abbrev listed : (Entry → Option (List Bool) → Found) → ℕ → Option Entry → Outcome
+listed next count None = Declined NoSession
+listed next count (Some entry) = goes_through entry (listing (next entry) count entry.point)
+
+listing_moves-whole : (next : Entry → Option (List Bool) → Found) (table : Table) (session : Name) (n : ℕ) (entry : Option Entry)
+    → whole table (listing_moves next table session (suc n) entry) ≡ carried table session (listed next (suc n) entry)
+listing_moves-whole next table session n None = one_move table _
+listing_moves-whole next table session n (Some entry) = goes_on-whole table session entry (next entry entry.point) _ table
+
+several-listed : (system : System) (session : Name) (full : Bool) (count : ℕ) (entry : Option Entry)
+    → listed (next_for system session) count entry ≡ outcome system session full entry (Several count)
+several-listed system session full count None = refl
+several-listed system session full count (Some entry) = refl
+
+levels-listed : (system : System) (session : Name) (full : Bool) (count top : ℕ) (entry : Option Entry) → system.extras.levels ≡ Some top
+    → listed (level_for system session top) count entry ≡ outcome system session full entry (Levels count)
+levels-listed system session full count top None is = refl
+levels-listed system session full count top (Some entry) is =
+    ap (with_number NoLevels (λ top. goes_through entry (listing (level_for system session top entry) count entry.point))) (sym is)
+
+level_moves-whole : (system : System) (limit : ℕ) (table : Table) (session : Name) (n : ℕ) (levels : Option ℕ) → system.extras.levels ≡ levels
+    → whole table (level_moves system limit table session (suc n) levels) ≡ step system limit table (Ask session (Levels (suc n)))
+level_moves-whole system limit table session n None is = one_move table (step system limit table (Ask session (Levels (suc n))))
+level_moves-whole system limit table session n (Some top) is =
+    listing_moves-whole (level_for system session top) table session n (entry_of session table)
+    ∙ ap (carried table session) (levels-listed system session (nat_le limit (length table)) (suc n) top (entry_of session table) is)
 
 moves-whole : (system : System) (limit : ℕ) (table : Table) (l : Line) → whole table (moves system limit table l) ≡ step system limit table l
-moves-whole system limit table (Ask session (Several (suc n))) = listing_moves-whole system table session (nat_le limit (length table)) n (entry_of session table)
+moves-whole system limit table (Ask session (Several (suc n))) =
+    listing_moves-whole (next_for system session) table session n (entry_of session table)
+    ∙ ap (carried table session) (several-listed system session (nat_le limit (length table)) (suc n) (entry_of session table))
+moves-whole system limit table (Ask session (Levels (suc n))) = level_moves-whole system limit table session n system.extras.levels refl
 moves-whole system limit table l = one_move table (step system limit table l)
 
 -- the moves of a line come to its step

@@ -1,9 +1,11 @@
 -- A system whose consistent states are the models of a graph. Its variables are the parts, then the wires, then inner ones.
-use Rattle.std.specs.Prelude.{ℕ, ◌+◌, ◌-◌, Bool, List, ◌++◌, map, length, replicate, Option, Some, None}
+use Rattle.std.specs.Prelude.{◌≡◌, ℕ, ◌+◌, ◌-◌, ◌*◌, ◌^◌, ◌<◌, Bool, All, List, ◌++◌, map, length, replicate, Option, Some, None}
 use Rattle.text_rules.specs.Names.{Name}
 use Rattle.ranking.specs.Cases.{Case}
-use Rattle.ranking.specs.Systems.{System}
+use Rattle.ranking.specs.declared.extras.Extras.{Extras}
+use Rattle.ranking.specs.Systems.{System, no_extras, with_extras}
 use Rattle.graph_rules.specs.Graphs.{Graph}
+use Rattle.graph_rules.specs.GraphTexts.{edges}
 use Rattle.device_model.specs.Devices.{Device, part_names, part_costs}
 use Rattle.conditioner.specs.Words.{word_of}
 use Rattle.conditioner.specs.Models.{models}
@@ -25,17 +27,25 @@ graph_system parts wires costs graph = record {
   wires = wires;
   costs = costs;
   consistent = λ known. models graph (case_words graph.vars known) (length parts);
+  extras = no_extras;
 }
 
--- what a service asks over: the names of parts and wires, what the failure of each part costs, and a graph
+-- what a service asks over: the names of parts and wires, what the failure of each part costs, a graph, and what is told besides
 pub record Subject : Type 0 where
   pub parts : List Name
   pub wires : List Name
   pub costs : List ℕ
   pub graph : Graph
+  pub extras : Extras
+
+-- The graph of the diagnoses has fewer lines than a text can number, under the words of every case.
+pub record HasLeastTexts (subject : Subject) : Type 0 where
+  pub costs : length subject.costs ≡ length subject.parts
+  pub dear : All (λ c. 0 < c) subject.costs
+  pub few : length subject.graph.nodes + edges subject.graph.nodes + 2 * length subject.costs + 1 < 2 ^ 32
 
 abbrev pub system_of : Subject → System
-system_of subject = graph_system subject.parts subject.wires subject.costs subject.graph
+system_of subject = with_extras subject.extras (graph_system subject.parts subject.wires subject.costs subject.graph)
 
 -- the system of a device's graph
 abbrev pub compiled_system : Device → Graph → System

@@ -5,7 +5,8 @@ use Rattle.std.specs.List.{list_any, list_all}
 use Rattle.text_rules.specs.Names.{Name}
 use Rattle.ranking.specs.Bits.{bit_in}
 use Rattle.ranking.specs.Cases.{Case}
-use Rattle.ranking.specs.Ranking.{rest}
+use Rattle.ranking.specs.Ranking.{cost, rest}
+use Rattle.ranking.specs.Levels.{levels, levels_rest}
 use Rattle.ranking.specs.Systems.{System, least_cost}
 use Rattle.session_rules.specs.Items.{Item, line}
 
@@ -49,6 +50,15 @@ diagnosis_line system session state = line (session ∷ codes "diag" ∷ faulty_
 
 abbrev pub next_of : System → Name → List (List Bool) → Option (List Bool) → Found
 next_of system session ds point = found session (diagnosis_line system session) point ds (rest ds point)
+
+abbrev pub level_line : System → Name → List Bool → Item
+level_line system session state =
+    line (session ∷ codes "level" ∷ decimal (cost system.costs state) ∷ faulty_names system.parts state)
+
+-- what comes next of these states by rising cost, up to a cost
+abbrev pub level_of : System → Name → ℕ → List (List Bool) → Option (List Bool) → Found
+level_of system session top states point =
+    found session (level_line system session) point states (levels_rest system.costs (levels system.costs top states) point)
 
 -- what at most so many steps find, up to the first that finds nothing
 abbrev pub listing : (Option (List Bool) → Found) → ℕ → Option (List Bool) → List Found

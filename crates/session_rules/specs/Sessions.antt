@@ -8,14 +8,14 @@ use Rattle.std.specs.FinMap.{find, put}
 use Rattle.text_rules.specs.Names.{Name, same_name, is_among}
 use Rattle.ranking.specs.Cases.{Case, empty_case}
 use Rattle.device_model.specs.Devices.{place_of}
-use Rattle.script_lang.specs.Script.{Line, Blank, Refused, Ask, Request, Start, Stop, See, Unsee, Hold, Unhold, Min, Next, Several, After, Probe, Probes, Blame, Dnnf, line_of}
+use Rattle.script_lang.specs.Script.{Line, Blank, Refused, Ask, Request, Start, Stop, See, Unsee, Hold, Unhold, Min, Next, Several, After, Probe, Probes, Blame, Dnnf, Level, Levels, LeastNnf, line_of}
 use Rattle.ranking.specs.Systems.{System, least_cost, all_diagnoses}
 use Rattle.script_lang.specs.Refusals as line_refusals
 use Rattle.session_rules.specs.declared.refusal.Refusal.{Refusal}
-use Rattle.session_rules.specs.declared.refusal.Refusal.TheVariants.{NoSession, OpenAlready, Full, NoWire, NoPart}
+use Rattle.session_rules.specs.declared.refusal.Refusal.TheVariants.{NoSession, OpenAlready, Full, NoWire, NoPart, NoLevels, NoLeast}
 use Rattle.session_rules.specs.Refusals.{refusal_number, refusal_text}
-use Rattle.session_rules.specs.Items.{Item, Projected, line}
-use Rattle.session_rules.specs.Replies.{end_line, min_line, next_of, listing, point_after, probe_line, probe_lines, blame_lines, if_any}
+use Rattle.session_rules.specs.Items.{Item, Projected, LeastText, line}
+use Rattle.session_rules.specs.Replies.{Found, end_line, min_line, next_of, level_of, listing, point_after, probe_line, probe_lines, blame_lines, if_any}
 
 -- what a session knows, and the state after which it goes on
 pub record Entry : Type 0 where
@@ -57,16 +57,20 @@ tells items = Done Stays items
 abbrev pub becomes : Name → Entry → List ℕ → Outcome
 becomes session entry word = Done (Becomes entry) (line (session ∷ word ∷ []) ∷ [])
 
--- what is done at a place, or the refusal where there is none
-abbrev pub at_place : Refusal → (ℕ → Outcome) → Option ℕ → Outcome
-at_place refusal act None = Declined refusal
-at_place refusal act (Some place) = act place
+-- what is done with a number, or the refusal where there is none
+abbrev pub with_number : Refusal → (ℕ → Outcome) → Option ℕ → Outcome
+with_number refusal act None = Declined refusal
+with_number refusal act (Some n) = act n
 
 abbrev pub at_wire : System → Name → (ℕ → Outcome) → Outcome
-at_wire system name act = at_place NoWire act (place_of name system.wires)
+at_wire system name act = with_number NoWire act (place_of name system.wires)
 
 abbrev pub at_part : System → Name → (ℕ → Outcome) → Outcome
-at_part system name act = at_place NoPart act (place_of name system.parts)
+at_part system name act = with_number NoPart act (place_of name system.parts)
+
+-- what is done up to the cost up to which states are listed
+abbrev pub up_to_level : System → (ℕ → Outcome) → Outcome
+up_to_level system act = with_number NoLevels act system.extras.levels
 
 -- A change of what is known leaves no point.
 abbrev pub with_seen : Entry → ℕ → Option Bool → Entry
@@ -83,6 +87,13 @@ state_of named parts = map (λ part. not (is_among named part)) parts
 abbrev pub moved : Entry → Option (List Bool) → List Item → Outcome
 moved entry point items = Done (Becomes (record entry { point = point })) items
 
+-- the same session at the point after what was found
+abbrev pub goes_to : Entry → Found → Outcome
+goes_to entry f = moved entry f.point (f.item ∷ [])
+
+abbrev pub goes_through : Entry → List Found → Outcome
+goes_through entry found = moved entry (point_after entry.point found) (map (λ f. f.item) found)
+
 -- what an open session answers
 abbrev pub when_open : System → Name → Entry → Request → Outcome
 when_open system s entry Start = Declined OpenAlready
@@ -94,10 +105,9 @@ when_open system s entry (Unhold name) = at_part system name (λ part. becomes s
 when_open system s entry Min =
     tells (min_line system s (least_cost system entry.known) (all_diagnoses system entry.known) ∷ [])
 when_open system s entry Next =
-    let f = next_of system s (all_diagnoses system entry.known) entry.point in moved entry f.point (f.item ∷ [])
+    goes_to entry (next_of system s (all_diagnoses system entry.known) entry.point)
 when_open system s entry (Several count) =
-    let found = listing (next_of system s (all_diagnoses system entry.known)) count entry.point in
-    moved entry (point_after entry.point found) (map (λ f. f.item) found)
+    goes_through entry (listing (next_of system s (all_diagnoses system entry.known)) count entry.point)
 when_open system s entry (After names) =
     if list_all (λ name. is_among system.parts name) names
     then becomes s (record entry { point = Some (state_of names system.parts) }) (codes "ok")
@@ -110,6 +120,14 @@ when_open system s entry Blame =
     let ds = all_diagnoses system entry.known in tells (if_any s ds (blame_lines s ds 0 system.parts ++ end_line s ∷ []))
 when_open system s entry Dnnf =
     tells (line (s ∷ codes "dnnf" ∷ []) ∷ Projected (length system.parts) (system.consistent entry.known) ∷ [])
+when_open system s entry Level = up_to_level system (λ top.
+    goes_to entry (level_of system s top (system.consistent entry.known) entry.point))
+when_open system s entry (Levels count) = up_to_level system (λ top.
+    goes_through entry (listing (level_of system s top (system.consistent entry.known)) count entry.point))
+when_open system s entry LeastNnf =
+    if system.extras.least
+    then tells (line (s ∷ codes "leastnnf" ∷ []) ∷ LeastText (length system.parts) (all_diagnoses system entry.known) ∷ [])
+    else Declined NoLeast
 
 -- What is answered hangs on the session's own entry alone, and where it is not open on whether there is room.
 abbrev pub outcome : System → Name → Bool → Option Entry → Request → Outcome

@@ -5,10 +5,10 @@ use Rattle.text_rules.specs.Tokens.{is_neat}
 use Rattle.graph_rules.specs.Graphs.{Graph, Decomposable}
 use Rattle.graph_rules.specs.GraphTexts.{Parsed, parsed}
 use Rattle.graph_rules.specs.WrittenGraphs.{graph_text}
+use Rattle.graph_rules.specs.StateGraphs.{IsGraphOfStates, IsSmoothGraphOfStates}
 use Rattle.device_model.specs.Devices.{Device}
 use Rattle.dnnf_compiler.specs.Compiled.{IsGraphOf}
-use Rattle.projector.specs.Projecting.{IsGraphOfStates}
-use Rattle.session_rules.specs.Items.{Item, Plain, Projected, Whole}
+use Rattle.session_rules.specs.Items.{Item, Plain, Projected, LeastText, Whole}
 
 -- a graph over so many variables, decomposable, with at most so many nodes, that means a device
 abbrev pub IsWholeOf : Device → ℕ → ℕ → Parsed → Type 0
@@ -23,6 +23,7 @@ IsWritten text = (is_neat text ≡ true) × ((graph : Graph) × (text ≡ graph_
 abbrev pub Spelled : Item → List ℕ → Type 0
 Spelled (Plain bytes) text = text ≡ bytes
 Spelled (Projected parts states) text = IsWritten text × IsGraphOfStates parts states (parsed text)
+Spelled (LeastText parts states) text = IsWritten text × IsSmoothGraphOfStates parts states (parsed text)
 Spelled (Whole device vars most) text = IsWritten text × IsWholeOf device vars most (parsed text)
 
 -- the text is those of the items, one after the other

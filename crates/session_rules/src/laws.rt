@@ -2,7 +2,8 @@
 ghost use Rattle.std.specs.Prelude.{◌≡◌, ℕ, Bool, List, length};
 ghost use Rattle.text_rules.specs.Names.{Name};
 ghost use Rattle.ranking.specs.Cases.{Case};
-ghost use Rattle.ranking.specs.Systems.{System};
+ghost use Rattle.ranking.specs.Systems.{System, with_extras};
+ghost use Rattle.ranking.specs.declared.extras.Extras.{Extras};
 ghost use Rattle.graph_rules.specs.Graphs.{Graph};
 ghost use Rattle.device_model.specs.Devices.{Device};
 ghost use Rattle.device_model.specs.Diagnosis.{fitting_system, device_system};
@@ -46,24 +47,26 @@ pub fn same_states()
         → (compiled_system device graph).consistent known ≡ (device_system device).consistent known }
 {}
 
-/// Over such a graph every script has the replies that it has over what fits, move by move, from any table whose cases have a
-/// place for each wire and each part. The empty table is one. So it has, over the graph of a device, those over the device.
+/// Over such a graph every script has the replies that it has over what fits, move by move, whatever is told besides, from any
+/// table whose cases have a place for each wire and each part. The empty table is one. So it has, over the graph of a device, those
+/// over the device.
 pub fn graph_replies()
     ensures fitting { (parts wires : List Name) (costs : List ℕ) (fits_by : List Bool → List Bool → Bool) (graph : Graph)
-        → IsGraphOver (length parts) (length wires) fits_by graph → (limit : ℕ) (table : Table)
+        → IsGraphOver (length parts) (length wires) fits_by graph → (extras : Extras) (limit : ℕ) (table : Table)
         → HasCasesOf (fitting_system parts wires costs fits_by) table → (lines : List (List ℕ))
-        → replies (graph_system parts wires costs graph) limit table lines
-        ≡ replies (fitting_system parts wires costs fits_by) limit table lines }
+        → replies (with_extras extras (graph_system parts wires costs graph)) limit table lines
+        ≡ replies (with_extras extras (fitting_system parts wires costs fits_by)) limit table lines }
     ensures fitting_moves { (parts wires : List Name) (costs : List ℕ) (fits_by : List Bool → List Bool → Bool) (graph : Graph)
-        → IsGraphOver (length parts) (length wires) fits_by graph → (limit : ℕ) (table : Table)
+        → IsGraphOver (length parts) (length wires) fits_by graph → (extras : Extras) (limit : ℕ) (table : Table)
         → HasCasesOf (fitting_system parts wires costs fits_by) table → (lines : List (List ℕ))
-        → script_moves (line_moves (graph_system parts wires costs graph) limit) table lines
-        ≡ script_moves (line_moves (fitting_system parts wires costs fits_by) limit) table lines }
-    ensures replies { (device : Device) (graph : Graph) → IsGraphOf device graph → (limit : ℕ) (table : Table)
+        → script_moves (line_moves (with_extras extras (graph_system parts wires costs graph)) limit) table lines
+        ≡ script_moves (line_moves (with_extras extras (fitting_system parts wires costs fits_by)) limit) table lines }
+    ensures replies { (device : Device) (graph : Graph) → IsGraphOf device graph → (extras : Extras) (limit : ℕ) (table : Table)
         → HasCasesOf (device_system device) table → (lines : List (List ℕ))
-        → replies (compiled_system device graph) limit table lines ≡ replies (device_system device) limit table lines }
-    ensures moves { (device : Device) (graph : Graph) → IsGraphOf device graph → (limit : ℕ) (table : Table)
+        → replies (with_extras extras (compiled_system device graph)) limit table lines
+        ≡ replies (with_extras extras (device_system device)) limit table lines }
+    ensures moves { (device : Device) (graph : Graph) → IsGraphOf device graph → (extras : Extras) (limit : ℕ) (table : Table)
         → HasCasesOf (device_system device) table → (lines : List (List ℕ))
-        → script_moves (line_moves (compiled_system device graph) limit) table lines
-        ≡ script_moves (line_moves (device_system device) limit) table lines }
+        → script_moves (line_moves (with_extras extras (compiled_system device graph)) limit) table lines
+        ≡ script_moves (line_moves (with_extras extras (device_system device)) limit) table lines }
 {}

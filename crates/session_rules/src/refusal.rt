@@ -14,10 +14,14 @@ pub enum Refusal {
     NoWire,
     /// No part has a name that is given.
     NoPart,
+    /// States are not listed by rising cost here.
+    NoLevels,
+    /// The graph of the diagnoses is not written here.
+    NoLeast,
 }
 
 impl Refusal {
-    /// The number of the refusal, 6 to 10: those of lines come before.
+    /// The number of the refusal, 6 to 12: those of lines come before.
     pub fn number(self) -> u32
         ensures { result ≡ refusal_number self }
     {
@@ -27,6 +31,8 @@ impl Refusal {
             Refusal::Full => 8,
             Refusal::NoWire => 9,
             Refusal::NoPart => 10,
+            Refusal::NoLevels => 11,
+            Refusal::NoLeast => 12,
         }
     }
 
@@ -40,6 +46,8 @@ impl Refusal {
             Refusal::Full => "full",
             Refusal::NoWire => "no wire",
             Refusal::NoPart => "no part",
+            Refusal::NoLevels => "no levels",
+            Refusal::NoLeast => "no least",
         }
     }
 }

@@ -3,7 +3,7 @@ ghost use Rattle.std.specs.Prelude.{◌≡◌, ◌<◌, length, IfOk};
 use diag_edge::{MemSink, MemSource};
 use graph_rules::NodeKind;
 use node_store::{Graph, GraphBuilder};
-use session_core::{ServeEnd, Service};
+use session_core::{Extras, ServeEnd, Service};
 use std::alloc::Global;
 use std::test::Fail;
 
@@ -35,6 +35,10 @@ fn served(alloc: Global, limit: u64) -> Result<(ServeEnd, MemSink), Fail>
         Vec::new(alloc),
         graph,
         1,
+        Extras {
+            levels: None,
+            least: false,
+        },
     )?;
     let end = service.serve(&mut input, &mut out, limit);
     service.finish();

@@ -1,14 +1,18 @@
--- What a service asks over, and the words of a case.
-use Rattle.std.specs.Prelude.{◌≡◌, ℕ, ◌+◌, ◌<◌, ◌≤◌, List, length, All, true}
-use Rattle.text_rules.specs.Names.{names_rise}
+-- What a service asks over, how much room its answers take, and the words of a case.
+use Rattle.std.specs.Prelude.{◌≡◌, ℕ, ◌+◌, ◌*◌, ◌<◌, ◌≤◌, Bool, Option, IfSome, List, length, All, true}
+use Rattle.std.specs.Option.{option_map}
+use Rattle.text_rules.specs.Names.{Name, names_rise}
 use Rattle.ranking.specs.Cases.{Case}
 use Rattle.device_model.specs.declared.limits.TheConstants.{PART_LIMIT, WIRE_LIMIT}
-use Rattle.graph_rules.specs.Graphs.{IsGraph}
+use Rattle.graph_rules.specs.Graphs.{Graph, IsGraph}
 use Rattle.conditioner.specs.Models.{total_cost}
 use Rattle.minimiser.specs.declared.pass.TheConstants.{TOTAL_LIMIT}
+use Rattle.level_lister.specs.Listing.{Kept, IsFor, set_words}
+use Rattle.smooth_nnf.specs.Sizes.{drawing_words}
 use Rattle.session_rules.specs.GraphSystems.{Subject}
 use Rattle.session_rules.specs.CaseWords.{case_of_words, AreWords}
 use Rattle.session_core.specs.declared.limits.TheConstants.{SERVED_VARIABLES, SERVED_NODES}
+use Rattle.session_core.specs.Services.{CanList, CanDraw}
 
 -- each part has a name and a cost, all together are few, and the graph has variables for parts and wires
 pub record IsBasis (subject : Subject) : Type 0 where
@@ -22,6 +26,36 @@ pub record IsBasis (subject : Subject) : Type 0 where
   pub few_nodes : length subject.graph.nodes < SERVED_NODES
   pub valid : IsGraph subject.graph
   pub parts_rise : names_rise subject.parts ≡ true
+  pub levels : IfSome subject.extras.levels (CanList subject.graph (length subject.parts))
+  pub least : subject.extras.least ≡ true → CanDraw subject.graph (length subject.parts)
+
+-- what is shown of names, costs and a graph, and of what lists states by rising cost, where they are told
+abbrev pub basis_of : List Name → List Name → List ℕ → Graph → Option Kept → Bool → Subject
+basis_of parts wires costs graph levels least = record {
+  parts = parts;
+  wires = wires;
+  costs = costs;
+  graph = graph;
+  extras = record { levels = option_map (λ (kept : Kept). kept.top) levels; least = least };
+}
+
+-- what lists states by rising cost was made for the graph
+abbrev pub ListsLevels : Subject → Option Kept → Type 0
+ListsLevels subject levels = IfSome levels (λ kept. IsFor subject.graph kept × (kept.costs ≡ subject.costs))
+
+-- how many words a step by rising cost works with
+abbrev pub level_room : Subject → ℕ → ℕ
+level_room subject top = length subject.costs + (length subject.graph.nodes + 2) * (set_words top + 1)
+
+-- and how many the graph of the diagnoses is drawn with
+abbrev pub least_room : Subject → ℕ
+least_room subject = drawing_words (length subject.graph.nodes) (length subject.costs)
+
+-- So many words are enough for each answer that takes some: for the probes of all wires, and for what is told besides.
+pub record AreEnough (subject : Subject) (words : ℕ) : Type 0 where
+  pub probes : 4 * length subject.graph.nodes ≤ words
+  pub level : IfSome subject.extras.levels (λ top. level_room subject top ≤ words)
+  pub least : subject.extras.least ≡ true → least_room subject ≤ words
 
 -- words of a case for each variable of the graph
 abbrev pub AreKnown : Subject → List ℕ → Type 0

@@ -1,18 +1,24 @@
 -- What a request does with the sessions.
-use Rattle.std.specs.Prelude.{◌≡◌, ℕ, Bool, List, [], ◌∷◌, Option, Some, None, Result, IfOk, slice_index_or}
+use Rattle.std.specs.Prelude.{◌≡◌, ℕ, Bool, true, is_some, List, [], ◌∷◌, map, Option, Some, None, Result, IfOk, slice_index_or}
 use Rattle.text_rules.specs.Names.{Name}
 use Rattle.ranking.specs.Ranking.{rest}
 use Rattle.ranking.specs.Systems.{all_diagnoses}
 use Rattle.diagnosis_lister.specs.declared.listing.Step.{Step as Answer}
 use Rattle.diagnosis_lister.specs.Listing.{step_of}
+use Rattle.level_lister.specs.declared.levels.LevelStep.{LevelStep}
+use Rattle.level_lister.specs.Listing.{level_step}
 use Rattle.script_lang.specs.Script.{Request, Ask, See, Unsee, Hold, Unhold, Min, Probe as ProbeOf, Probes as ProbesOf, Blame as BlameAll}
 use Rattle.session_rules.specs.GraphSystems.{Subject, system_of}
-use Rattle.session_rules.specs.Replies.{Found, next_of}
-use Rattle.session_rules.specs.Sessions.{Entry, Table, with_entry}
+use Rattle.session_rules.specs.Replies.{Found, listing}
+use Rattle.session_rules.specs.Moves.{goes_on, next_for, level_for}
+use Rattle.session_rules.specs.Sessions.{Entry, Table, Step, with_entry}
 use Rattle.session_rules.specs.Spelling.{Replies}
 use Rattle.session_rules.specs.Carrying.{CarriesOut}
 use Rattle.session_table.specs.Tables.{StandsAt}
 use Rattle.session_core.specs.Services.{Shown, exact_moves, ChangesTable}
+use Rattle.session_core.specs.inner.Desks.{top_of, later_by_cost}
+use Rattle.session_core.specs.declared.listing.Listed.{Listed}
+use Rattle.session_core.specs.declared.listing.Listed.TheVariants.{Diagnoses, Levels}
 use Rattle.session_core.specs.declared.telling.Question.{Question}
 use Rattle.session_core.specs.declared.telling.Question.TheVariants.{Minimum, Probe, Probes, Blame}
 
@@ -43,25 +49,47 @@ abbrev pub NamesNoWire : Question → Type 0
 NamesNoWire (Probe wire) = ⊥
 NamesNoWire question = Unit {0}
 
--- what `next` finds for a session
-abbrev pub the_next : Subject → Name → Entry → Found
-the_next subject session entry =
-    let system = system_of subject in next_of system session (all_diagnoses system entry.known) entry.point
+-- what comes after a point, of the diagnoses or of the states by rising cost
+abbrev pub found_by : Subject → Listed → Name → Entry → Option (List Bool) → Found
+found_by subject Diagnoses session = next_for (system_of subject) session
+found_by subject Levels session = level_for (system_of subject) session (top_of subject.extras.levels)
+
+-- states by rising cost are listed where they are told
+abbrev pub IsTold : Subject → Listed → Type 0
+IsTold subject Diagnoses = Unit {0}
+IsTold subject Levels = is_some subject.extras.levels ≡ true
+
+-- the moves of a listing of so many
+abbrev pub found_moves : Shown → Listed → Name → Entry → ℕ → List Step
+found_moves shown listed session entry count =
+    map (goes_on shown.table session entry) (listing (found_by shown.subject listed session entry) count entry.point)
+
+abbrev pub the_found : Subject → Listed → Name → Entry → Found
+the_found subject listed session entry = found_by subject listed session entry entry.point
 
 -- the session goes on after what was found
-abbrev pub next_entry : Subject → Name → Entry → Entry
-next_entry subject session entry = record entry { point = (the_next subject session entry).point }
+abbrev pub found_entry : Subject → Listed → Name → Entry → Entry
+found_entry subject listed session entry = record entry { point = (the_found subject listed session entry).point }
 
--- the point of a session moved to what was found, of which the lister tells whether it is a diagnosis
-pub record PointMoves (subject : Subject) (old new : Table) (place : ℕ) (session : Name) (entry : Entry) (found : Answer) : Type 0 where
-  pub answer : found ≡ step_of ((system_of subject).consistent entry.known)
-      (rest (all_diagnoses (system_of subject) entry.known) entry.point)
-  pub moved : new ≡ with_entry session (next_entry subject session entry) old
-  pub stands : StandsAt new place session (next_entry subject session entry)
+-- The point of a session moved to what was found, of which something is known.
+pub record PointMoves (subject : Subject) (listed : Listed) (old new : Table) (place : ℕ) (session : Name) (entry : Entry) (known : Type 0) : Type 0 where
+  pub answer : known
+  pub moved : new ≡ with_entry session (found_entry subject listed session entry) old
+  pub stands : StandsAt new place session (found_entry subject listed session entry)
+
+-- of the next diagnosis the lister tells whether there is one
+abbrev pub NextMoves : Subject → Table → Table → ℕ → Name → Entry → Answer → Type 0
+NextMoves subject old new place session entry found = PointMoves subject Diagnoses old new place session entry
+    (found ≡ step_of ((system_of subject).consistent entry.known) (rest (all_diagnoses (system_of subject) entry.known) entry.point))
+
+-- and of the next state by cost what it costs
+abbrev pub LevelMoves : Subject → Table → Table → ℕ → Name → Entry → LevelStep → Type 0
+LevelMoves subject old new place session entry found = PointMoves subject Levels old new place session entry
+    (found ≡ level_step subject.costs ((system_of subject).consistent entry.known) (later_by_cost subject entry.known entry.point))
 
 -- the session moved on, and what was found was written, or begun
-pub record MovesOn {E : Type 0} (old new : Shown) (place : ℕ) (session : Name) (entry : Entry) (before after : Option (List ℕ)) (result : Result Bool E) : Type 0 where
-  pub reply : Replies before after result ((the_next old.subject session entry).item ∷ [])
-  pub more : IfOk result (λ more. more ≡ (the_next old.subject session entry).more)
-  pub moved : new ≡ record old { table = with_entry session (next_entry old.subject session entry) old.table }
-  pub stands : StandsAt new.table place session (next_entry old.subject session entry)
+pub record MovesOn {E : Type 0} (old new : Shown) (listed : Listed) (place : ℕ) (session : Name) (entry : Entry) (before after : Option (List ℕ)) (result : Result Bool E) : Type 0 where
+  pub reply : Replies before after result ((the_found old.subject listed session entry).item ∷ [])
+  pub more : IfOk result (λ more. more ≡ (the_found old.subject listed session entry).more)
+  pub moved : new ≡ record old { table = with_entry session (found_entry old.subject listed session entry) old.table }
+  pub stands : StandsAt new.table place session (found_entry old.subject listed session entry)

@@ -1,5 +1,5 @@
 use Rattle.std.proofs.Common.{refl}
-use Rattle.frame_unroller.specs.Diagnosis.{frame_system}
+use Rattle.diag_cli.specs.Courses.{served_frames}
 use Rattle.diag_cli.specs.Orders.{list_by}
 use Rattle.diag_cli.specs.Frames.{sequential_in, if_unrolled}
 use Rattle.diag_cli.specs.Refusals.{told_by}
@@ -10,7 +10,8 @@ use Rattle.diag_cli.proofs.framing.serve_frames.Goals as goal
 pub returns-in-Err-clause-follows : goal.returns-in-Err-clause-follows
 returns-in-Err-clause-follows g c =
     let fault = told_by c.in-Err.refusal in
+    let options = c.args.options in
     by_any (λ order.
-    let put = list_by c.args.is_narrow order in
-    follows_refusal _ _ _ _ _ (λ s. frame_system s c.args.frames) c.args.sessions (if_unrolled c.args.frames c.args.budget put (sequential_in c.args.file.now)) fault
-    (refused_frames fault c.args.file.now c.args.frames c.args.budget put c.requires.short c.in-Err.ensures.read) (record { left = refl; taken = refl; faults = refl }) c.tell.ensures.said)
+    let put = list_by options.narrow order in
+    follows_refusal _ _ _ _ _ (served_frames c.args.frames options) options.sessions (if_unrolled c.args.frames options put (sequential_in c.args.file.now)) fault
+    (refused_frames fault c.args.file.now c.args.frames options put c.requires.short c.in-Err.ensures.read) (record { left = refl; taken = refl; faults = refl }) c.tell.ensures.said)

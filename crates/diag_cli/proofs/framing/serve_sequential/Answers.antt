@@ -1,5 +1,5 @@
 use Rattle.std.proofs.Common.{Ok, refl}
-use Rattle.frame_unroller.specs.Diagnosis.{frame_system}
+use Rattle.diag_cli.specs.Courses.{served_frames}
 use Rattle.diag_cli.specs.Orders.{list_by}
 use Rattle.diag_cli.specs.Frames.{if_unrolled}
 use Rattle.diag_cli.specs.Refusals.{told_by}
@@ -11,10 +11,11 @@ use Rattle.diag_cli.proofs.framing.serve_sequential.Goals as goal
 pub returns-in-Ok-clause-follows : goal.returns-in-Ok-clause-follows
 returns-in-Ok-clause-follows g c =
     by_same c.in-Ok.ensures.within (λ order within.
-    frames_served c.args.seq c.args.frames c.args.sessions c.in-Ok.service c.in-Ok.ensures.service c.args.budget (list_by c.args.is_narrow order) _ _ _ _ _ within c.answer-status.ensures.served)
+    frames_served c.args.seq c.args.frames c.args.options c.in-Ok.service c.in-Ok.ensures.service (list_by c.args.options.narrow order) _ _ _ _ _ within c.answer-status.ensures.served)
 
 pub returns-clause-follows : goal.returns-clause-follows
 returns-clause-follows g c =
+    let options = c.args.options in
     by_same c.in-Err.ensures.within (λ order is.
-    follows_refusal _ _ _ _ _ (λ s. frame_system s c.args.frames) c.args.sessions (if_unrolled c.args.frames c.args.budget (list_by c.args.is_narrow order) (Ok c.args.seq)) (told_by c.in-Err.refusal) is
+    follows_refusal _ _ _ _ _ (served_frames c.args.frames options) options.sessions (if_unrolled c.args.frames options (list_by options.narrow order) (Ok c.args.seq)) (told_by c.in-Err.refusal) is
     (record { left = refl; taken = refl; faults = refl }) c.tell.ensures.said)

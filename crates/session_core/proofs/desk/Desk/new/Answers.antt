@@ -1,11 +1,11 @@
-use Rattle.std.proofs.Common.{◌∙◌, ◌*◌, ◌<◌, ℕ, List, All, length, replicate, ap, sym, subst, arith}
+use Rattle.std.proofs.Common.{◌∙◌, ◌<◌, ℕ, List, All, length, replicate, ap, sym, subst, arith}
 use Rattle.std.proofs.lemmas.List.{length-replicate}
 use Rattle.std.proofs.lemmas.List.Elements.{All-replicate}
 use Rattle.graph_rules.specs.Graphs.{Graph}
 use Rattle.scratch_pool.specs.Regions.{Carved}
 use Rattle.fault_graph.specs.Distilled.{Serves}
 use Rattle.session_rules.proofs.CaseWords.{zeros-are}
-use Rattle.session_core.specs.inner.Bases.{AreKnown}
+use Rattle.session_core.specs.inner.Bases.{AreEnough, AreKnown}
 use Rattle.session_core.proofs.desk.Desk.new.Goals as goal
 
 pub invariant_of-result : goal.invariant_of-result
@@ -21,7 +21,7 @@ invariant_of-result c =
       verdict_a_part = omega (arith, c.in_ok-vec-4.field-0.ok.0, c.in_ok-vec-4.ensures.len, ap length c.parts-parts.ensures.names);
       two_a_wire = omega (arith, c.in_ok-vec-5.field-0.ok.0, c.in_ok-vec-5.ensures.len, ap length c.wires-wires.ensures.names);
       one_a_node = omega (arith, c.in_ok-vec-2.field-0.ok.0, c.in_ok-vec-2.ensures.len, c.nodes-nodes.ensures.nodes);
-      four_a_node = ap (λ (r : Carved). length r.words) c.in_ok-new-2.ensures ∙ (length-replicate (4 * c.nodes-nodes.result) 0 ∙ ap (λ n. 4 * n) c.nodes-nodes.ensures.nodes);
+      enough = subst (AreEnough basis) (sym (ap (λ (r : Carved). length r.words) c.in_ok-new-2.ensures ∙ length-replicate c.most_room.result 0)) c.most_room.ensures.enough;
       unused = ap (λ (r : Carved). r.runs) c.in_ok-new-2.ensures;
       serves = subst (λ (graph : Graph). Serves graph basis.costs c.in_ok-new.field-0) c.graph.ensures.graph (c.in_ok-new.ensures.serves basis.costs);
     }

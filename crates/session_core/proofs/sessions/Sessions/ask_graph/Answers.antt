@@ -26,7 +26,7 @@ returns-in-None-clause-obeys g c =
     let refused = carried shown.table s (Declined NoSession) in
     subst (λ (v : Shown). Obeys v v s Dnnf (g.O.Sink.got c.args.out.now) (g.O.Sink.got c.put_refusal.new.out) c.put_refusal.result) c.self.view_is
     (obeys_move shown shown s Dnnf refused _ _ _
-    (ap (λ (e : Option Entry). told_graph shown shown.table s e (carried shown.table s (outcome (system_of shown.subject) s (nat_le shown.limit (length shown.table)) e Dnnf) ∷ [])) c.in-None.ensures.none)
+    (ap (λ (e : Option Entry). told_graph (codes "dnnf") (case_text shown.subject) shown.table s e (carried shown.table s (outcome (system_of shown.subject) s (nat_le shown.limit (length shown.table)) e Dnnf) ∷ [])) c.in-None.ensures.none)
     refl (replies_one _ _ _ _ _ refl c.put_refusal.ensures.text))
 
 pub tell_graph-requires : goal.tell_graph-requires
@@ -43,7 +43,7 @@ returns-in-Some-clause-obeys g c =
     let known = case-there basis c.self.inside.open c.self.invariant c.words.result.now there.0.known (c.words.ensures.known s there.0 there.1) in
     subst (λ (v : Shown). Obeys v v s Dnnf (g.O.Sink.got c.args.out.now) (g.O.Sink.got c.tell_graph.new.out) c.tell_graph.result) c.self.view_is
     (obeys_move shown shown s Dnnf (record { table = shown.table; items = items basis s there.0.known }) _ _ _
-    (ap (λ (e : Option Entry). told_graph shown shown.table s e (carried shown.table s (outcome (system_of basis) s (nat_le shown.limit (length shown.table)) e Dnnf) ∷ [])) there.1.found)
+    (ap (λ (e : Option Entry). told_graph (codes "dnnf") (case_text basis) shown.table s e (carried shown.table s (outcome (system_of basis) s (nat_le shown.limit (length shown.table)) e Dnnf) ∷ [])) there.1.found)
     refl
     (subst (λ (k : Case). Replies (g.O.Sink.got c.args.out.now) (g.O.Sink.got c.tell_graph.new.out) c.tell_graph.result (items basis s k)) known
     (subst (λ (u : Subject). Replies (g.O.Sink.got c.args.out.now) (g.O.Sink.got c.tell_graph.new.out) c.tell_graph.result (items u s (case_in u c.words.result.now))) c.basis.ensures c.tell_graph.ensures.reply)))

@@ -13,7 +13,8 @@ use Rattle.session_table.specs.Tables.{Opened, StandsAt}
 use Rattle.session_core.specs.Services.{Shown}
 use Rattle.session_core.specs.inner.Bases.{case_in}
 use Rattle.session_core.specs.inner.Desks.{OnDesk, agreeing, diagnoses_asked}
-use Rattle.session_core.specs.inner.Obeying.{the_next, PointMoves}
+use Rattle.session_core.specs.declared.listing.Listed.TheVariants.{Diagnoses}
+use Rattle.session_core.specs.inner.Obeying.{the_found, NextMoves}
 use Rattle.session_core.proofs.Holding.{known-there, case-there}
 use Rattle.session_core.proofs.Stepping.{point_kept, found_more}
 use Rattle.session_core.proofs.sessions.Sessions.find_next.Goals as goal
@@ -26,9 +27,9 @@ module _ (subject : Subject) (session : Name) (entry : Entry) where
   later = rest (all_diagnoses (system_of subject) entry.known) entry.point
 
   -- nothing was found, and nothing changed
-  stays : (table : Table) (place : ℕ) (r : Step) → StandsAt table place session entry → r ≡ step_of states later → (r ≡ Found → ⊥) → PointMoves subject table table place session entry r
+  stays : (table : Table) (place : ℕ) (r : Step) → StandsAt table place session entry → r ≡ step_of states later → (r ≡ Found → ⊥) → NextMoves subject table table place session entry r
   stays table place r stands is none =
-      let kept : entry.point ≡ (the_next subject session entry).point = sym (point_kept (system_of subject).costs states session (diagnosis_line (system_of subject) session) entry.point r later is none) in
+      let kept : entry.point ≡ (the_found subject Diagnoses session entry).point = sym (point_kept (system_of subject).costs states session (diagnosis_line (system_of subject) session) entry.point r later is none) in
       record {
         answer = is;
         moved = sym stands.kept ∙ ap (λ (p : Option (List Bool)). with_entry session (record entry { point = p }) table) kept;
@@ -37,9 +38,9 @@ module _ (subject : Subject) (session : Name) (entry : Entry) where
 
   -- the first of those that are later is the point
   goes_on : (old new : Table) (place : ℕ) (state : List Bool) → Found ≡ step_of states later → state ≡ get_or later 0 []
-      → new ≡ with_entry session (record entry { point = Some state }) old → StandsAt new place session (record entry { point = Some state }) → PointMoves subject old new place session entry Found
+      → new ≡ with_entry session (record entry { point = Some state }) old → StandsAt new place session (record entry { point = Some state }) → NextMoves subject old new place session entry Found
   goes_on old new place state is first moved stands =
-      let point : Some state ≡ (the_next subject session entry).point =
+      let point : Some state ≡ (the_found subject Diagnoses session entry).point =
       ap (λ (h : List Bool). Some h) first ∙ sym (ap (λ f. f.point) (found_more (system_of subject).costs states session (diagnosis_line (system_of subject) session) entry.point later (sym is))) in
       record {
         answer = is;
@@ -75,7 +76,7 @@ returns-in_default-clause-moves g c = λ session entry stands.
     let here = subst (λ (v : Shown). StandsAt v.table c.args.place session entry) (sym c.self.view_is) stands in
     let case = case-there desk.subject opened c.self.invariant c.words.result.now entry.known (c.words.ensures.known session entry here) in
     let is = found_there desk c.take_up.new.self c.words.result.now entry.known _ entry.point c.next-step.result c.take_up.ensures case (sym (c.point.ensures.point session entry here)) c.next-step.ensures.step in
-    subst (λ (v : Shown). PointMoves v.subject v.table opened.table c.args.place session entry c.next-step.result) c.self.view_is
+    subst (λ (v : Shown). NextMoves v.subject v.table opened.table c.args.place session entry c.next-step.result) c.self.view_is
     (stays desk.subject session entry opened.table c.args.place c.next-step.result here is c.in_default.not-Found)
 
 pub returns-in-Found-clause-moves : goal.returns-in-Found-clause-moves
@@ -87,6 +88,6 @@ returns-in-Found-clause-moves g c = λ session entry stands.
     let at = sym (c.point.ensures.point session entry here) in
     let is = sym c.in-Found.is ∙ found_there desk c.take_up.new.self c.words.result.now entry.known _ entry.point c.next-step.result c.take_up.ensures case at c.next-step.ensures.step in
     let first = ap bits_of c.state.ensures.state ∙ state_there desk c.take_up.new.self c.words.result.now entry.known _ entry.point (bits_of c.next-step.new.self.state) c.take_up.ensures case at (c.next-step.ensures.state c.in-Found.is) in
-    subst (λ (v : Shown). PointMoves v.subject v.table c.set_point.new.self.table c.args.place session entry Found) c.self.view_is
+    subst (λ (v : Shown). NextMoves v.subject v.table c.set_point.new.self.table c.args.place session entry Found) c.self.view_is
     (goes_on desk.subject session entry opened.table c.set_point.new.self.table c.args.place (bits_of c.state.result.now) is first
     (ap (λ (o : Opened). o.table) (c.set_point.ensures.point session entry here)) (c.set_point.ensures.stands session entry here))

@@ -23,6 +23,13 @@ list-requires g c =
     let count = (and_parts (nat_le 1 n) (nat_le n COUNT_LIMIT) asked).0 in
     leb-true 1 n count
 
+pub list_levels-requires : goal.list_levels-requires
+list_levels-requires g c =
+    let n = c.in-Levels.count in
+    let asked = (and_parts (is_short_name c.in-Levels.session.now) (nat_le 1 n && nat_le n COUNT_LIMIT) (ap is_well_asked c.in-Levels.ensures ∙ well_asked c.args.line.now)).1 in
+    let count = (and_parts (nat_le 1 n) (nat_le n COUNT_LIMIT) asked).0 in
+    leb-true 1 n count
+
 pub returns-in-Blank-clause-carried : goal.returns-in-Blank-clause-carried
 returns-in-Blank-clause-carried g c =
     let old = c.args.self.now in
@@ -77,3 +84,12 @@ returns-in-Blame-clause-carried g c = line_carried c.args.self.now c.ask-in-Blam
 
 pub returns-in-Dnnf-clause-carried : goal.returns-in-Dnnf-clause-carried
 returns-in-Dnnf-clause-carried g c = line_carried c.args.self.now c.args.self.now _ _ c.args.line.now _ _ _ c.in-Dnnf.ensures c.ask_graph.ensures.obeys
+
+pub returns-in-Level-clause-carried : goal.returns-in-Level-clause-carried
+returns-in-Level-clause-carried g c = line_carried c.args.self.now c.level.new.self _ _ c.args.line.now _ _ _ c.in-Level.ensures c.level.ensures.obeys
+
+pub returns-in-Levels-clause-carried : goal.returns-in-Levels-clause-carried
+returns-in-Levels-clause-carried g c = line_carried c.args.self.now c.list_levels.new.self _ _ c.args.line.now _ _ _ c.in-Levels.ensures c.list_levels.ensures.obeys
+
+pub returns-in-LeastNnf-clause-carried : goal.returns-in-LeastNnf-clause-carried
+returns-in-LeastNnf-clause-carried g c = line_carried c.args.self.now c.ask_least.new.self _ _ c.args.line.now _ _ _ c.in-LeastNnf.ensures c.ask_least.ensures.obeys

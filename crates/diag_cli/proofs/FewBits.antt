@@ -1,0 +1,116 @@
+-- What is told besides, where it takes few bits.
+use Rattle.std.proofs.Common.{◌≡◌, ◌∙◌, ◌+◌, ◌*◌, ◌/◌, ◌^◌, ◌<◌, ◌≤◌, ℕ, Bool, true, false, not, ◌&&◌, List, length, Option, Some, None, IfSome, inl, inr, refl, ap, sym, arith, nat_lt, if◌then◌else◌}
+use Rattle.std.specs.Prelude.{Result, Ok, Err, IfOk, is_none}
+use Rattle.std.proofs.Math.Nat.{mul-le-mul_right, le_trans}
+use Rattle.std.proofs.lemmas.Bool.{lt-ltb, ltb-true, cases_lt}
+use Rattle.text_rules.specs.Expected.{IsExpectedFault, Fulfils}
+use Rattle.ranking.specs.declared.extras.Extras.{Extras}
+use Rattle.graph_rules.specs.Graphs.{Graph}
+use Rattle.graph_rules.specs.GraphTexts.{edges}
+use Rattle.clause_encoder.specs.Clauses.{ClauseList}
+use Rattle.branch_states.specs.Branches.{sum_of}
+use Rattle.branch_states.specs.declared.measuring.TheConstants.{BUDGET_LIMIT}
+use Rattle.dnnf_compiler.specs.declared.compiling.Compiled.{Compiled}
+use Rattle.dnnf_compiler.specs.Compiled.{IsCompiled}
+use Rattle.level_lister.specs.Listing.{set_words}
+use Rattle.level_lister.specs.declared.levels.TheConstants.{TOP_LIMIT, PART_LIMIT}
+use Rattle.session_core.specs.declared.limits.TheConstants.{SERVED_BITS}
+use Rattle.session_core.specs.Services.{CanList, CanDraw}
+use Rattle.diag_cli.specs.declared.refusal.Refusal.{Refusal}
+use Rattle.diag_cli.specs.Besides.{levels_bits, least_bits, bits_line, if_few, in_few_bits}
+use Rattle.diag_cli.specs.Output.{Output, says}
+use Rattle.diag_cli.specs.Refusals.{told_by}
+use Rattle.diag_cli.specs.inner.Serving.{CanTell}
+
+-- ---- few bits of the greatest graph are few of each
+
+module _ (graph : Graph) (parts sum vars : ℕ) (few : length graph.nodes ≤ 3 * sum + 2 * vars + 2) where
+  can_list : (levels : Option ℕ) → IfSome levels (λ top. top ≤ TOP_LIMIT) → levels_bits sum vars parts levels ≤ SERVED_BITS → IfSome levels (CanList graph parts)
+  can_list None top bits = tt
+  can_list (Some top) top_is bits = record {
+    top_is = top_is;
+    few = le_trans (mul-le-mul_right (parts + 32 * set_words top) few) bits;
+  }
+
+  can_draw : edges graph.nodes ≤ 6 * (sum + 1) → sum ≤ BUDGET_LIMIT → vars < 2 ^ 20 → parts ≤ PART_LIMIT → (least : Bool) → least_bits sum vars parts least ≤ SERVED_BITS → least ≡ true → CanDraw graph parts
+  can_draw few_edges small few_vars few_parts false bits told = absurd (let no : ⊥ = cc in no)
+  can_draw few_edges small few_vars few_parts true bits told = record {
+    lines = omega (arith, few_edges, small, few, few_vars, few_parts);
+    few = le_trans (mul-le-mul_right (32 * (2 + (parts + 31) / 32)) few) bits;
+  }
+
+  can_tell : (extras : Extras) → edges graph.nodes ≤ 6 * (sum + 1) → sum ≤ BUDGET_LIMIT → vars < 2 ^ 20 → parts ≤ PART_LIMIT → IfSome extras.levels (λ top. top ≤ TOP_LIMIT)
+      → levels_bits sum vars parts extras.levels ≤ SERVED_BITS → least_bits sum vars parts extras.least ≤ SERVED_BITS → CanTell extras graph parts
+  can_tell extras few_edges small few_vars few_parts top listed drawn = record {
+    levels = can_list extras.levels top listed;
+    least = can_draw few_edges small few_vars few_parts extras.least drawn;
+  }
+
+-- ---- what is refused
+
+not_many : (bits : ℕ) → nat_lt SERVED_BITS bits ≡ false → bits ≤ SERVED_BITS
+not_many bits few = elim (cases_lt SERVED_BITS bits) [
+  | inl many ↦ absurd (let is = lt-ltb SERVED_BITS bits many in let no : true ≡ false = sym is ∙ few in let never : ⊥ = cc in never)
+  | inr few ↦ few
+]
+
+pub few_pass : (bits : ℕ) (other : Result ClauseList Output) → bits ≤ SERVED_BITS → if_few bits other ≡ other
+few_pass bits other few = by (nat_lt SERVED_BITS bits) refl
+  where
+    by : (b : Bool) → nat_lt SERVED_BITS bits ≡ b → (if b then Err (says (bits_line bits) 1) else other) ≡ other
+    by false is = refl
+    by true is = absurd (let less = ltb-true SERVED_BITS bits is in omega (arith, less, few))
+
+pub many_fail : (bits : ℕ) (other : Result ClauseList Output) → SERVED_BITS < bits → if_few bits other ≡ Err (says (bits_line bits) 1)
+many_fail bits other many = ap (λ b. if b then Err (says (bits_line bits) 1) else other) (lt-ltb SERVED_BITS bits many)
+
+-- where they are not refused they are few
+passed : (bits : ℕ) (other : Result ClauseList Output) (cnf : ClauseList) → if_few bits other ≡ Ok cnf → (bits ≤ SERVED_BITS) × (other ≡ Ok cnf)
+passed bits other cnf is = by (nat_lt SERVED_BITS bits) refl is
+  where
+    by : (b : Bool) → nat_lt SERVED_BITS bits ≡ b → (if b then Err (says (bits_line bits) 1) else other) ≡ Ok cnf → (bits ≤ SERVED_BITS) × (other ≡ Ok cnf)
+    by true test is = absurd (let no : ⊥ = cc in no)
+    by false test is = (not_many bits test, is)
+
+-- nothing takes no bits
+pub nothing_is_few : (extras : Extras) (parts : ℕ) (cnf : ClauseList) → (is_none extras.levels && not extras.least) ≡ true → in_few_bits extras parts (Ok cnf) ≡ Ok cnf
+nothing_is_few extras parts cnf none = by extras.levels extras.least none
+  where
+    by : (levels : Option ℕ) (least : Bool) → (is_none levels && not least) ≡ true
+        → if_few (levels_bits (sum_of cnf.clauses) cnf.vars parts levels) (if_few (least_bits (sum_of cnf.clauses) cnf.vars parts least) (Ok cnf)) ≡ Ok cnf
+    by None false none = refl
+    by None true none = absurd (let no : ⊥ = cc in no)
+    by (Some top) least none = absurd (let no : ⊥ = cc in no)
+
+-- what fits takes few bits
+few_of_all : (extras : Extras) (parts : ℕ) (cnf : ClauseList) → in_few_bits extras parts (Ok cnf) ≡ Ok cnf
+    → (levels_bits (sum_of cnf.clauses) cnf.vars parts extras.levels ≤ SERVED_BITS) × (least_bits (sum_of cnf.clauses) cnf.vars parts extras.least ≤ SERVED_BITS)
+few_of_all extras parts cnf fits =
+    let first = passed (levels_bits (sum_of cnf.clauses) cnf.vars parts extras.levels) (if_few (least_bits (sum_of cnf.clauses) cnf.vars parts extras.least) (Ok cnf)) cnf fits in
+    (first.0, (passed (least_bits (sum_of cnf.clauses) cnf.vars parts extras.least) (Ok cnf) cnf first.1).0)
+
+-- ---- what the calls answer
+
+-- what is told besides can be told over a graph that was compiled within the budget, where that fits
+pub tells_in_few : (extras : Extras) (parts budget : ℕ) (cnf : ClauseList) (result : Result Compiled Refusal) → parts ≤ PART_LIMIT → cnf.vars < 2 ^ 20 → budget ≤ BUDGET_LIMIT → IfSome extras.levels (λ top. top ≤ TOP_LIMIT)
+    → in_few_bits extras parts (Ok cnf) ≡ Ok cnf → IfOk result (IsCompiled cnf) → IfOk result (λ (_ : Compiled). sum_of cnf.clauses ≤ budget) → IfOk result (λ compiled. CanTell extras compiled.graph parts)
+tells_in_few extras parts budget cnf (Err refusal) few_parts few_vars small top fits made within = tt
+tells_in_few extras parts budget cnf (Ok compiled) few_parts few_vars small top fits made within =
+    let bits = few_of_all extras parts cnf fits in
+    can_tell compiled.graph parts (sum_of cnf.clauses) cnf.vars (omega (arith, made.few_made, made.few_nodes)) extras made.few_edges (omega (arith, within, small)) few_vars few_parts top bits.0 bits.1
+
+pub if_ok_map : {T E : Type 0} {A B : T → Type 0} (result : Result T E) → ((t : T) → A t → B t) → IfOk result A → IfOk result B
+if_ok_map (Ok t) f is = f t is
+if_ok_map (Err e) f is = tt
+
+-- A refusal stays through what keeps refusals,
+pub fault_through : {A B : Type 0} (f : Result A Output → Result B Output) → ((output : Output) → f (Err output) ≡ Err output) → (fault : Option Output) (expected : Result A Output)
+    → IsExpectedFault fault expected → IsExpectedFault fault (f expected)
+fault_through f kept None expected is = tt
+fault_through f kept (Some output) expected is = ap f is ∙ kept output
+
+-- and so does all that was found, through what shows something else in its place.
+pub fulfils_through : {A X Y : Type 0} (f : Result X Output → Result Y Output) (x : X) (y : Y) → f (Ok x) ≡ Ok y → ((output : Output) → f (Err output) ≡ Err output)
+    → (expected : Result X Output) (result : Result A Refusal) → Fulfils (λ (_ : A). x) told_by expected result → Fulfils (λ (_ : A). y) told_by (f expected) result
+fulfils_through f x y shows kept expected (Ok found) is = ap f is ∙ shows
+fulfils_through f x y shows kept expected (Err refusal) is = fault_through f kept (told_by refusal) expected is

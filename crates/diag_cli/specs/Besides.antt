@@ -1,0 +1,33 @@
+-- What is told besides, and how many bits it may take.
+use Rattle.std.specs.Prelude.{ℕ, ◌+◌, ◌*◌, ◌/◌, Bool, true, false, List, Option, Some, None, Result, Ok, Err, codes, nat_lt, if◌then◌else◌}
+use Rattle.ranking.specs.declared.extras.Extras.{Extras}
+use Rattle.diag_edge.specs.ErrorLines.{above_line}
+use Rattle.clause_encoder.specs.Clauses.{ClauseList}
+use Rattle.branch_states.specs.Branches.{sum_of}
+use Rattle.level_lister.specs.Bits.{level_bits}
+use Rattle.session_core.specs.declared.limits.TheConstants.{SERVED_BITS}
+use Rattle.diag_cli.specs.Output.{Output, says}
+
+-- the bits of states by rising cost, where these are told, over the greatest graph that is compiled from clauses of this sum
+abbrev pub levels_bits : (sum vars parts : ℕ) → Option ℕ → ℕ
+levels_bits sum vars parts None = 0
+levels_bits sum vars parts (Some top) = level_bits sum vars parts top
+
+-- and those of the graph of the diagnoses: for each node two words, and one for each 32 parts
+abbrev pub least_bits : (sum vars parts : ℕ) → Bool → ℕ
+least_bits sum vars parts false = 0
+least_bits sum vars parts true = (3 * sum + 2 * vars + 2) * (32 * (2 + (parts + 31) / 32))
+
+abbrev pub bits_line : ℕ → List ℕ
+bits_line bits = above_line (codes "bits") bits SERVED_BITS
+
+-- too many bits are refused
+abbrev pub if_few : ℕ → Result ClauseList Output → Result ClauseList Output
+if_few bits other = if nat_lt SERVED_BITS bits then Err (says (bits_line bits) 1) else other
+
+-- clauses over so many parts, where what is told besides takes few bits: first states by rising cost, then the graph
+abbrev pub in_few_bits : Extras → ℕ → Result ClauseList Output → Result ClauseList Output
+in_few_bits extras parts (Err output) = Err output
+in_few_bits extras parts (Ok cnf) =
+    if_few (levels_bits (sum_of cnf.clauses) cnf.vars parts extras.levels)
+    (if_few (least_bits (sum_of cnf.clauses) cnf.vars parts extras.least) (Ok cnf))

@@ -1,0 +1,127 @@
+//! What is told besides, and whether it takes few bits over the graph of clauses.
+ghost use Rattle.std.specs.Prelude.{◌≡◌, ◌^◌, ◌+◌, ◌*◌, ◌<◌, ◌≤◌, Ok, Some, not, ◌&&◌, is_none, length, IfOk, IfErr, IfSome};
+ghost use Rattle.text_rules.specs.Expected.{IsExpectedFault, Fulfils};
+ghost use Rattle.branch_states.specs.Branches.{sum_of};
+ghost use Rattle.dnnf_compiler.specs.Compiled.{IsCompiled};
+ghost use Rattle.diag_cli.specs.Besides.{levels_bits, least_bits, bits_line, in_few_bits};
+ghost use Rattle.diag_cli.specs.Courses.{if_within};
+ghost use Rattle.diag_cli.specs.Orders.{ByClauses};
+ghost use Rattle.diag_cli.specs.Output.{says};
+ghost use Rattle.diag_cli.specs.Planning.{within};
+ghost use Rattle.diag_cli.specs.Refusals.{told_by};
+ghost use Rattle.diag_cli.specs.inner.Forms.{AreWithinLimits};
+ghost use Rattle.diag_cli.specs.inner.Serving.{IsServable, CanTell};
+
+use crate::graphs::compiled_within;
+use crate::refusal::{Refusal, above};
+use crate::weighing::{ordered_clauses, sum_within};
+use crate::words::ServeOptions;
+use clause_encoder::Cnf;
+use device_model::{Device, PART_LIMIT};
+use dnnf_compiler::Compiled;
+use level_lister::{TOP_LIMIT, level_bits};
+use node_store::Graph;
+use session_core::{Extras, SERVED_BITS};
+use std::alloc::Global;
+
+/// The graph of a device, where the sum of its clauses is within the budget and what is told besides takes few bits.
+pub(crate) fn graph_in_few_bits(
+    alloc: Global,
+    device: &Device,
+    options: ServeOptions,
+) -> Result<Graph, Refusal>
+    requires { AreWithinLimits options }
+    ensures within { ByClauses options.narrow (λ clauses.
+        Fulfils (λ _. device.now) told_by (if_within options clauses (Ok device.now)) result) }
+    ensures servable { IfOk result (IsServable device.now) }
+    ensures told { IfOk result (λ graph. CanTell options.extras graph (length device.now.parts)) }
+{
+    // Its contract says that a device has few parts.
+    let parts = device.parts().len() as u32;
+    let cnf = ordered_clauses(alloc, device, options.narrow)?;
+    let compiled = compile_in_few_bits(alloc, &cnf, parts, options)?;
+    Ok(compiled.graph)
+}
+
+/// The graph of clauses over so many parts, where their sum is within the budget and what is told besides takes few bits.
+pub(crate) fn compile_in_few_bits(
+    alloc: Global,
+    cnf: &Cnf,
+    parts: u32,
+    options: ServeOptions,
+) -> Result<Compiled, Refusal>
+    requires options { AreWithinLimits options }
+    requires vars { cnf.now.vars < 2 ^ 20 }
+    requires parts { parts ≤ PART_LIMIT }
+    ensures list { Fulfils (λ _. cnf.now) told_by (in_few_bits options.extras parts (within options.budget (Ok cnf.now))) result }
+    ensures within { IfOk result (λ _. sum_of cnf.now.clauses ≤ options.budget) }
+    ensures compiled { IfOk result (IsCompiled cnf.now) }
+    ensures told { IfOk result (λ compiled. CanTell options.extras compiled.graph parts) }
+{
+    check_bits(alloc, cnf, parts, options)?;
+    compiled_within(alloc, cnf, options.budget)
+}
+
+// Whether what is told besides takes few bits over clauses whose sum is within the budget.
+fn check_bits(alloc: Global, cnf: &Cnf, parts: u32, options: ServeOptions) -> Result<(), Refusal>
+    requires options { AreWithinLimits options }
+    requires vars { cnf.now.vars < 2 ^ 20 }
+    requires parts { parts ≤ PART_LIMIT }
+    ensures few { IfOk result (λ _. in_few_bits options.extras parts (Ok cnf.now) ≡ Ok cnf.now) }
+    ensures fault { IfErr result (λ refusal. IsExpectedFault (told_by refusal)
+        (in_few_bits options.extras parts (within options.budget (Ok cnf.now)))) }
+{
+    let extras = options.extras;
+    if tells_nothing(extras) {
+        return Ok(());
+    }
+    let sum = sum_within(alloc, cnf, options.budget)?;
+    few_bits(levels_bits(sum, cnf.vars(), parts, extras.levels))?;
+    few_bits(least_bits(sum, cnf.vars(), parts, extras.least))
+}
+
+// Whether nothing is told besides, so that no sum has to be found.
+fn tells_nothing(extras: Extras) -> bool
+    ensures { result ≡ (is_none extras.levels && not extras.least) }
+{
+    extras.levels.is_none() && !extras.least
+}
+
+// How many bits states by rising cost take.
+fn levels_bits(sum: u32, vars: u32, parts: u32, levels: Option<u32>) -> u64
+    requires sum { sum ≤ 2 ^ 24 }
+    requires vars { vars < 2 ^ 20 }
+    requires parts { parts ≤ PART_LIMIT }
+    requires top { IfSome levels (λ top. top ≤ TOP_LIMIT) }
+    ensures { result ≡ levels_bits sum vars parts levels }
+{
+    match levels {
+        None => 0,
+        Some(top) => level_bits(u64::from(sum), vars, parts, top),
+    }
+}
+
+// How many bits the graph of the diagnoses takes.
+fn least_bits(sum: u32, vars: u32, parts: u32, least: bool) -> u64
+    requires sum { sum ≤ 2 ^ 24 }
+    requires vars { vars < 2 ^ 20 }
+    requires parts { parts ≤ PART_LIMIT }
+    ensures { result ≡ least_bits sum vars parts least }
+{
+    if !least {
+        return 0;
+    }
+    let nodes = 3 * u64::from(sum) + 2 * u64::from(vars) + 2;
+    nodes * (32 * (2 + (u64::from(parts) + 31) / 32))
+}
+
+// Refuses too many bits.
+fn few_bits(bits: u64) -> Result<(), Refusal>
+    ensures few { IfOk result (λ _. bits ≤ SERVED_BITS) }
+    ensures many { IfErr result (λ refusal. (told_by refusal ≡ Some (says (bits_line bits) 1)) × (SERVED_BITS < bits)) }
+{
+    if bits > SERVED_BITS {
+        return Err(above("bits", bits, SERVED_BITS as usize));
+    }
+    Ok(())
+}

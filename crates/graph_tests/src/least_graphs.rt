@@ -1,0 +1,132 @@
+use crate::listing::either_is_faulty;
+use diag_edge::MemSink;
+use node_store::Graph;
+use scratch_pool::Region;
+use smooth_nnf::write_least;
+use std::alloc::Global;
+use std::process::Abort;
+use std::test::Fail;
+
+// The text of the diagnoses that the graph of three parts allows.
+fn drawn(
+    rt: &impl Abort,
+    alloc: Global,
+    graph: &Graph,
+    words: &[u32; 3],
+    costs: &[u32; 3],
+) -> Result<Vec<u8>, Fail> {
+    assert!(rt; graph.len() == 3 && graph.vars() == 3);
+    assert!(rt; graph.edges() == 2);
+    assert!(rt; words.iter().all(|word| *word < 3));
+    assert!(rt; costs.iter().all(|cost| 0 < *cost));
+    assert!(rt; costs.iter().all(|cost| *cost < 10));
+    let mut region = Region::new(alloc, 64)?;
+    let mut out = MemSink::new(alloc, 1024, Vec::new(alloc), 0)?;
+    write_least(graph, words, costs, &mut region, &mut out)?;
+    Ok(out.as_slice().to_vec(alloc)?)
+}
+
+// The first or the second part is faulty, and no node mentions the third. The words, the costs, and the text.
+const ROWS: [([u32; 3], [u32; 3], &str); 5] = [
+    // either of both, and the third is ok
+    (
+        [0, 0, 0],
+        [1, 1, 1],
+        "nnf 12 10 3
+L 1
+L -1
+L 2
+L -2
+L 3
+L -3
+A 1 1
+A 1 3
+A 2 6 2
+A 2 7 0
+O 0 2 8 9
+A 2 10 4
+",
+    ),
+    // the third is held to be faulty
+    (
+        [0, 0, 2],
+        [1, 1, 5],
+        "nnf 12 10 3
+L 1
+L -1
+L 2
+L -2
+L 3
+L -3
+A 1 1
+A 1 3
+A 2 6 2
+A 2 7 0
+O 0 2 8 9
+A 2 10 5
+",
+    ),
+    // the second costs more
+    (
+        [0, 0, 0],
+        [1, 2, 1],
+        "nnf 11 7 3
+L 1
+L -1
+L 2
+L -2
+L 3
+L -3
+A 1 1
+A 1 3
+A 2 6 2
+O 0 1 8
+A 2 9 4
+",
+    ),
+    // it is held to be faulty, so that the first is ok
+    (
+        [0, 2, 0],
+        [1, 1, 1],
+        "nnf 11 7 3
+L 1
+L -1
+L 2
+L -2
+L 3
+L -3
+A 1 1
+A 1 3
+A 2 7 0
+O 0 1 8
+A 2 9 4
+",
+    ),
+    // both are held to be ok: no state agrees
+    (
+        [1, 1, 0],
+        [1, 1, 1],
+        "nnf 10 0 3
+L 1
+L -1
+L 2
+L -2
+L 3
+L -3
+O 0 0
+O 0 0
+O 0 0
+O 0 0
+",
+    ),
+];
+
+#[test]
+fn writes_the_diagnoses_as_a_smooth_graph(rt: HostRuntime) -> Result<(), Fail> {
+    let graph = either_is_faulty(rt.alloc())?.ok_or("a graph")?;
+    for (words, costs, expected) in &ROWS {
+        let text = drawn(&rt, rt.alloc(), &graph, words, costs)?;
+        assert_eq!(rt; text.as_slice(), expected.as_bytes());
+    }
+    Ok(())
+}

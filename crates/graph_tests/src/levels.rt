@@ -1,0 +1,147 @@
+ghost use Rattle.std.specs.Prelude.{◌≡◌, ◌+◌, ◌*◌, ◌≤◌, ◌<◌, [], length, All};
+ghost use Rattle.scratch_pool.specs.Regions.{free_words};
+ghost use Rattle.level_lister.specs.Listing.{IsFor, set_words};
+
+use crate::listing::either_is_faulty;
+use level_lister::{LevelStep, Levels, level_bits};
+use node_store::Graph;
+use scratch_pool::Region;
+use std::alloc::{AllocError, Global};
+use std::process::Abort;
+use std::test::Fail;
+
+// Words, costs, the greatest cost, and the states that are listed, with their costs.
+type Row = ([u32; 3], [u32; 3], u32, &'static [([u32; 3], u32)]);
+
+// The first or the second part is faulty. No node mentions the third, which is free to be so too.
+const ROWS: [Row; 6] = [
+    (
+        [0, 0, 0],
+        [1, 1, 1],
+        3,
+        &[
+            ([1, 0, 0], 1),
+            ([0, 1, 0], 1),
+            ([1, 1, 0], 2),
+            ([1, 0, 1], 2),
+            ([0, 1, 1], 2),
+            ([1, 1, 1], 3),
+        ],
+    ),
+    ([0, 0, 0], [1, 1, 1], 1, &[([1, 0, 0], 1), ([0, 1, 0], 1)]),
+    ([0, 0, 0], [1, 1, 1], 0, &[]),
+    (
+        [0, 0, 0],
+        [2, 1, 1],
+        2,
+        &[([0, 1, 0], 1), ([1, 0, 0], 2), ([0, 1, 1], 2)],
+    ),
+    // the third is held to be faulty, and the first to be ok
+    ([1, 0, 2], [1, 1, 5], 10, &[([0, 1, 1], 6)]),
+    // sets of several words
+    (
+        [0, 0, 0],
+        [40, 70, 33],
+        143,
+        &[
+            ([1, 0, 0], 40),
+            ([0, 1, 0], 70),
+            ([1, 0, 1], 73),
+            ([0, 1, 1], 103),
+            ([1, 1, 0], 110),
+            ([1, 1, 1], 143),
+        ],
+    ),
+];
+
+// Words and a state as point, of which each part costs 1 and no more than two may be faulty; what there is after the point, and the
+// state then.
+const POINTS: [([u32; 3], [u32; 3], LevelStep, [u32; 3]); 3] = [
+    // no state agrees
+    ([1, 1, 0], [0, 0, 0], LevelStep::Inconsistent, [0, 0, 0]),
+    // points that are not listed go by their own cost: one is no diagnosis, and the other costs too much
+    ([0, 0, 0], [0, 0, 0], LevelStep::Found(1), [1, 0, 0]),
+    ([0, 0, 0], [1, 1, 1], LevelStep::End, [1, 1, 1]),
+];
+
+// The states of a row, one after the other.
+fn lists(rt: &impl Abort, alloc: Global, graph: &Graph, row: &Row) -> Result<(), AllocError> {
+    let (fixed, costs, top, listed) = *row;
+    assert!(rt; graph.len() == 3 && graph.vars() == 3);
+    assert!(rt; fixed.iter().all(|word| *word < 3));
+    assert!(rt; costs.iter().all(|cost| *cost < 100));
+    assert!(rt; top < 200);
+    let levels = Levels::new(alloc, graph, &costs, top)?;
+    let mut region = Region::new(alloc, 64)?;
+    steps_through(rt, graph, &levels, &fixed, &mut region, listed);
+    Ok(())
+}
+
+// The states that are listed under words, with their costs, from the first to the last.
+fn steps_through(
+    rt: &impl Abort,
+    graph: &Graph,
+    levels: &Levels,
+    fixed: &[u32; 3],
+    region: &mut Region,
+    listed: &[([u32; 3], u32)],
+)
+    requires graph { IsFor graph.now levels.now }
+    requires parts { length levels.now.costs ≡ 3 }
+    requires long { graph.now.vars ≡ 3 }
+    requires words { All (λ w. w < 3) fixed.now }
+    requires runs { region.old.runs ≡ [] }
+    requires room { (length graph.now.nodes + 2) * (set_words levels.now.top + 1) + 3 ≤ free_words region.old }
+{
+    let mut words = *fixed;
+    let mut state = [0; 3];
+    let mut pointed = false;
+    for (expected, cost) in listed {
+        let step = levels.next(graph, &mut words, region, &mut state, pointed);
+        assert_eq!(rt; step, LevelStep::Found(*cost));
+        assert_eq!(rt; state, *expected);
+        pointed = true;
+    }
+    let step = levels.next(graph, &mut words, region, &mut state, pointed);
+    assert_eq!(rt; step, LevelStep::End);
+    assert_eq!(rt; words, *fixed);
+}
+
+// What there is after each point, one asked after the other.
+fn goes_on(rt: &impl Abort, alloc: Global, graph: &Graph) -> Result<(), AllocError> {
+    assert!(rt; graph.len() == 3 && graph.vars() == 3);
+    let levels = Levels::new(alloc, graph, &[1, 1, 1], 2)?;
+    let mut region = Region::new(alloc, 64)?;
+    for (fixed, point, wanted, later) in &POINTS {
+        assert!(rt; fixed.iter().all(|word| *word < 3));
+        assert!(rt; point.iter().all(|s| *s < 2));
+        let mut words = *fixed;
+        let mut state = *point;
+        let step = levels.next(graph, &mut words, &mut region, &mut state, true);
+        assert_eq!(rt; step, *wanted);
+        assert_eq!(rt; state, *later);
+        assert_eq!(rt; words, *fixed);
+    }
+    Ok(())
+}
+
+#[test]
+fn lists_the_states_by_cost(rt: HostRuntime) -> Result<(), Fail> {
+    let graph = either_is_faulty(rt.alloc())?.ok_or("a graph")?;
+    for row in &ROWS {
+        lists(&rt, rt.alloc(), &graph, row)?;
+    }
+    Ok(())
+}
+
+#[test]
+fn goes_by_the_cost_of_a_point(rt: HostRuntime) -> Result<(), Fail> {
+    let graph = either_is_faulty(rt.alloc())?.ok_or("a graph")?;
+    goes_on(&rt, rt.alloc(), &graph)?;
+    Ok(())
+}
+
+#[test]
+fn tells_how_many_bits_it_needs(rt: HostRuntime) {
+    assert_eq!(rt; level_bits(159_704, 20_476, 4_095, 32), 2_162_954_494);
+}

@@ -1,0 +1,79 @@
+-- The first state by cost and then by order, and the first one after a point.
+use Rattle.std.proofs.Common.{◌≡◌, ℕ, ◌+◌, ◌<◌, ◌≤◌, Bool, true, ◌&&◌, List, Option, Some, None, refl, sym, ◌∙◌, arith, inl, inr, ⊎_elim}
+use Rattle.std.specs.Prelude.{◌⊎◌, ◌==◌, nat_lt}
+use Rattle.std.proofs.lemmas.Bool.{cases_order, and_parts, and_from, or_cases, or_left, or_right, lt-ltb, ltb-true, eq-eqb, eqb-true}
+use Rattle.ranking.specs.Ranking.{cost, is_before}
+use Rattle.graph_rules.specs.Graphs.{Graph}
+use Rattle.diagnosis_lister.specs.inner.Working.{IsFirst}
+use Rattle.ranking.specs.Levels.{is_level_before}
+use Rattle.level_lister.specs.inner.Searching.{OfCost, HasCost, NoneAfter, IsListed, IsFirstLevel, Finds, is_later}
+
+module _ (costs : List ℕ) (h k : List Bool) where
+  pub cheaper-before : cost costs h < cost costs k → is_level_before costs h k ≡ true
+  cheaper-before lt = or_left _ _ (lt-ltb (cost costs h) (cost costs k) lt)
+
+  pub same-before : cost costs h ≡ cost costs k → is_before h k ≡ true → is_level_before costs h k ≡ true
+  same-before e b = or_right _ _ (and_from _ _ (eq-eqb (cost costs h) (cost costs k) e) b)
+
+  pub before-cases : is_level_before costs h k ≡ true → (cost costs h < cost costs k) ⊎ ((cost costs h ≡ cost costs k) × (is_before h k ≡ true))
+  before-cases e = ⊎_elim
+      (λ p. inl (ltb-true (cost costs h) (cost costs k) p))
+      (λ p. let parts = and_parts (cost costs h == cost costs k) (is_before h k) p in inr (eqb-true (cost costs h) (cost costs k) parts.0, parts.1))
+      (or_cases (nat_lt (cost costs h) (cost costs k)) ((cost costs h == cost costs k) && is_before h k) e)
+
+module _ (graph : Graph) (words costs : List ℕ) (top : ℕ) where
+  pub listed-cost : (from : ℕ) (k : List Bool) → IsListed graph words costs from top k → OfCost graph words costs (cost costs k) k
+  listed-cost from k l = record { long = l.long; model = l.model; cost_is = refl }
+
+  pub listed-has : (from : ℕ) (k : List Bool) → IsListed graph words costs from top k → HasCost graph words costs (cost costs k)
+  listed-has from k l = record { state = k; is = listed-cost from k l }
+
+  -- the first state of the least cost from one on
+  pub first-from : (from c : ℕ) (h : List Bool) → from ≤ c → c ≤ top → ((d : ℕ) → from ≤ d → d < c → HasCost graph words costs d → ⊥) → IsFirst (OfCost graph words costs c) h → IsFirstLevel costs (IsListed graph words costs from top) h
+  first-from from c h low high none is = record {
+    meets = record { long = is.meets.long; model = is.meets.model; low = omega (arith, is.meets.cost_is); high = omega (arith, is.meets.cost_is) };
+    before = λ k l. ⊎_elim
+        (λ e. ⊎_elim (λ p. inl p) (λ p. inr (same-before costs h k (is.meets.cost_is ∙ sym e) p))
+        (is.before k (record { long = l.long; model = l.model; cost_is = e })))
+        (⊎_elim
+        (λ lt. absurd (none (cost costs k) l.low lt (listed-has from k l)))
+        (λ gt. inr (cheaper-before costs h k (omega (arith, is.meets.cost_is, gt)))))
+        (cases_order (cost costs k) c);
+  }
+
+  abbrev pub Later : List Bool → List Bool → Type 0
+  Later point h = IsListed graph words costs 0 top h × (is_later costs (Some point) h ≡ true)
+
+  -- a later state of the point's own cost
+  pub first-same : (point h : List Bool) → cost costs point ≤ top → IsFirst (λ k. OfCost graph words costs (cost costs point) k × (is_before point k ≡ true)) h → IsFirstLevel costs (Later point) h
+  first-same point h le is = record {
+    meets = (record { long = is.meets.0.long; model = is.meets.0.model; low = omega arith; high = omega (arith, is.meets.0.cost_is) }, same-before costs point h (sym is.meets.0.cost_is) is.meets.1);
+    before = λ k l. ⊎_elim
+        (λ lt. inr (cheaper-before costs h k (omega (arith, is.meets.0.cost_is, lt))))
+        (λ p. ⊎_elim (λ q. inl q) (λ q. inr (same-before costs h k (is.meets.0.cost_is ∙ p.0) q))
+        (is.before k (record { long = l.0.long; model = l.0.model; cost_is = sym p.0 }, p.1)))
+        (before-cases costs point k l.1);
+  }
+
+  -- where there is none, the later ones are those that cost more
+  pub later-dearer : (point : List Bool) → NoneAfter graph words costs (cost costs point) point 0 → (h : List Bool) → Later point h → IsListed graph words costs (cost costs point + 1) top h
+  later-dearer point none h l = record {
+    long = l.0.long;
+    model = l.0.model;
+    low = ⊎_elim (λ lt. omega arith) (λ p. absurd (none h (record { long = l.0.long; model = l.0.model; cost_is = sym p.0 }) (λ i g. absurd (omega arith)) p.1)) (before-cases costs point h l.1);
+    high = l.0.high;
+  }
+
+  pub dearer-later : (point h : List Bool) → IsListed graph words costs (cost costs point + 1) top h → Later point h
+  dearer-later point h l = (record { long = l.long; model = l.model; low = omega arith; high = l.high }, cheaper-before costs point h (omega (arith, l.low)))
+
+  pub none-too_dear : (point h : List Bool) → top < cost costs point → Later point h → ⊥
+  none-too_dear point h lt l = ⊎_elim (λ p. absurd (omega (arith, l.0.high))) (λ p. absurd (omega (arith, l.0.high, p.0))) (before-cases costs point h l.1)
+
+first-alike : (costs : List ℕ) (P Q : List Bool → Type 0) (h : List Bool) → ((k : List Bool) → P k → Q k) → ((k : List Bool) → Q k → P k) → IsFirstLevel costs P h → IsFirstLevel costs Q h
+first-alike costs P Q h to from is = record { meets = to h is.meets; before = λ k q. is.before k (from k q) }
+
+-- conditions that say the same
+pub finds-alike : (old costs : List ℕ) (P Q : List Bool → Type 0) (new : List ℕ) (result : Option ℕ) → ((k : List Bool) → P k → Q k) → ((k : List Bool) → Q k → P k) → Finds old costs P new result → Finds old costs Q new result
+finds-alike old costs P Q new None to from f = (f.0, λ h q. f.1 h (from h q))
+finds-alike old costs P Q new (Some c) to from f = record { others = f.others; first = first-alike costs P Q _ to from f.first; cost_is = f.cost_is }

@@ -1,0 +1,25 @@
+mod Examples
+pub mod SetBits
+pub mod Sums
+pub mod Among
+pub mod Reaching
+pub mod Missing
+pub mod Growing
+pub mod Kids
+pub mod Stacks
+pub mod Whole
+pub mod Costing
+pub mod Exact
+pub mod Leaving
+pub mod Finding
+pub mod Listed
+pub mod StateBits
+pub mod Behind
+pub mod PartSets
+pub mod Spreading
+pub mod Telling
+pub mod PairNodes
+pub mod PairWhole
+pub mod Narrowing
+pub mod Grouping
+pub mod Flags

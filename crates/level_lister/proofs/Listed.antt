@@ -1,0 +1,166 @@
+-- The list of all states by cost.
+use Rattle.std.proofs.Common.{◌≡◌, ◌≢◌, ℕ, zero, suc, ◌+◌, ◌<◌, ◌≤◌, Bool, true, false, cond, List, [], ◌∷◌, ◌++◌, length, get_or, Option, Some, None, refl, ap, sym, ◌∙◌, subst, arith, inl, inr, ⊎_elim}
+use Rattle.std.specs.Prelude.{◌⊎◌, ◌==◌}
+use Rattle.std.specs.List.{filter, flat_map, range_with_len}
+use Rattle.std.proofs.lemmas.Bool.{eq-eqb, eqb-true}
+use Rattle.ranking.specs.Bits.{lists_of_bits}
+use Rattle.ranking.specs.Ranking.{cost, states}
+use Rattle.graph_rules.specs.Graphs.{Graph}
+use Rattle.conditioner.specs.Models.{has_model, fits_words, models}
+use Rattle.ranking.proofs.Members.{In, In-append, In-append_left, In-append_right, In-filter, In-filtered, bits_in, bits_length, empty-none}
+use Rattle.diagnosis_lister.proofs.Order.{not_both_before, Sorted, Sorted-states, Sorted-filter}
+use Rattle.level_lister.specs.declared.levels.LevelStep.TheVariants.{Found, End, Inconsistent}
+use Rattle.ranking.specs.Levels.{of_cost, levels, is_level_before, levels_rest}
+use Rattle.level_lister.specs.Listing.{level_step}
+use Rattle.level_lister.specs.inner.Searching.{IsListed, IsFirstLevel, is_later}
+use Rattle.level_lister.proofs.Finding.{cheaper-before, same-before, before-cases}
+
+-- ---- sorted by cost and then by order
+
+module _ (costs : List ℕ) where
+  abbrev pub Rising : List (List Bool) → Type 0
+  Rising [] = Unit {0}
+  Rising (x ∷ xs) = ((y : List Bool) → In y xs → is_level_before costs x y ≡ true) × Rising xs
+
+  Rising-append : (xs ys : List (List Bool)) → Rising xs → Rising ys → ((x y : List Bool) → In x xs → In y ys → is_level_before costs x y ≡ true) → Rising (xs ++ ys)
+  Rising-append [] ys s t h = t
+  Rising-append (x ∷ xs) ys s t h = (
+    λ y m. ⊎_elim (λ p. s.0 y p) (λ p. h x y (inl refl) p) (In-append y xs ys m),
+    Rising-append xs ys s.1 t (λ a y p q. h a y (inr p) q),
+  )
+
+  Rising-filter : (p : List Bool → Bool) (xs : List (List Bool)) → Rising xs → Rising (filter p xs)
+  Rising-filter p [] s = tt
+  Rising-filter p (x ∷ xs) s = by_test (Rising-filter p xs s.1) (p x) where
+    by_test : Rising (filter p xs) → (b : Bool) → Rising (cond b (x ∷ filter p xs) (filter p xs))
+    by_test more true = (λ y m. s.0 y (In-filter p y xs m).0, more)
+    by_test more false = more
+
+  -- states of one cost
+  Rising-same : (c : ℕ) (xs : List (List Bool)) → ((x : List Bool) → In x xs → cost costs x ≡ c) → Sorted xs → Rising xs
+  Rising-same c [] e s = tt
+  Rising-same c (x ∷ xs) e s = (λ y m. same-before costs x y (e x (inl refl) ∙ sym (e y (inr m))) (s.0 y m), Rising-same c xs (λ y m. e y (inr m)) s.1)
+
+  of_cost-in : (hs : List (List Bool)) (c : ℕ) (h : List Bool) → In h (of_cost costs hs c) → In h hs × (cost costs h ≡ c)
+  of_cost-in hs c h m = let r = In-filter (λ h. cost costs h == c) h hs m in (r.0, eqb-true (cost costs h) c r.1)
+
+  -- those of so many costs, from one on
+  abbrev pub some_levels : List (List Bool) → ℕ → ℕ → List (List Bool)
+  some_levels hs from n = flat_map (of_cost costs hs) (range_with_len from n)
+
+  pub some_levels-in : (hs : List (List Bool)) (from n : ℕ) (h : List Bool) → In h (some_levels hs from n) → In h hs × ((from ≤ cost costs h) × (cost costs h < from + n))
+  some_levels-in hs from zero h m = absurd m
+  some_levels-in hs from (suc n) h m = ⊎_elim
+      (λ p. let r = of_cost-in hs from h p in (r.0, (omega (arith, r.1), omega (arith, r.1))))
+      (λ p. let r = some_levels-in hs (from + 1) n h p in (r.0, (omega (arith, r.1.0), omega (arith, r.1.1))))
+      (In-append h (of_cost costs hs from) (some_levels hs (from + 1) n) m)
+
+  pub some_levels-has : (hs : List (List Bool)) (from n : ℕ) (h : List Bool) → In h hs → from ≤ cost costs h → cost costs h < from + n → In h (some_levels hs from n)
+  some_levels-has hs from zero h m low high = absurd (omega arith)
+  some_levels-has hs from (suc n) h m low high = ⊎_elim
+      (λ e. In-append_left h (of_cost costs hs from) (some_levels hs (from + 1) n) (In-filtered (λ h. cost costs h == from) h hs m (eq-eqb (cost costs h) from e)))
+      (λ ne. In-append_right h (of_cost costs hs from) (some_levels hs (from + 1) n) (some_levels-has hs (from + 1) n h m (above ne) (omega arith)))
+      (same (cost costs h) from) where
+        above : cost costs h ≢ from → from + 1 ≤ cost costs h
+        above ne = omega arith
+
+        same : (a b : ℕ) → (a ≡ b) ⊎ (a ≢ b)
+        same a b = by_test (a == b) refl where
+          by_test : (t : Bool) → (a == b) ≡ t → (a ≡ b) ⊎ (a ≢ b)
+          by_test true e = inl (eqb-true a b e)
+          by_test false e = inr (λ q. no (sym e ∙ eq-eqb a b q)) where
+            no : false ≡ true → ⊥
+            no x = cc
+
+  Rising-levels : (hs : List (List Bool)) (from n : ℕ) → Sorted hs → Rising (some_levels hs from n)
+  Rising-levels hs from zero s = tt
+  Rising-levels hs from (suc n) s = Rising-append (of_cost costs hs from) (some_levels hs (from + 1) n)
+      (Rising-same from (of_cost costs hs from) (λ x m. (of_cost-in hs from x m).1) (Sorted-filter (λ h. cost costs h == from) hs s))
+      (Rising-levels hs (from + 1) n s)
+      (λ x y p q. let a = of_cost-in hs from x p in let b = some_levels-in hs (from + 1) n y q in cheaper-before costs x y (omega (arith, a.1, b.1.0)))
+
+  not_both : (h k : List Bool) → is_level_before costs h k ≡ true → is_level_before costs k h ≡ true → ⊥
+  not_both h k e f = ⊎_elim
+      (λ (p : cost costs h < cost costs k). ⊎_elim (λ (q : cost costs k < cost costs h). absurd (omega arith)) (λ q. absurd (omega (arith, q.0))) (before-cases costs k h f))
+      (λ p. ⊎_elim (λ (q : cost costs k < cost costs h). absurd (omega (arith, p.0))) (λ q. not_both_before h k p.1 q.1) (before-cases costs k h f))
+      (before-cases costs h k e)
+
+  first-rising : (xs : List (List Bool)) (h d : List Bool) → Rising xs → In h xs → ((k : List Bool) → In k xs → (k ≡ h) ⊎ (is_level_before costs h k ≡ true)) → get_or xs 0 d ≡ h
+  first-rising [] h d s m low = absurd m
+  first-rising (x ∷ xs) h d s (inl q) low = sym q
+  first-rising (x ∷ xs) h d s (inr r) low = ⊎_elim (λ q. q) (λ b. absurd (not_both h x b (s.0 h r))) (low x (inl refl))
+
+  -- ---- what comes after a point
+
+  module _ (graph : Graph) (words : List ℕ) (top : ℕ) (point : Option (List Bool)) where
+    abbrev pub ms : List (List Bool)
+    ms = models graph words (length costs)
+
+    abbrev pub later : List (List Bool)
+    later = levels_rest costs (levels costs top ms) point
+
+    abbrev pub Next : List Bool → Type 0
+    Next h = IsListed graph words costs 0 top h × (is_later costs point h ≡ true)
+
+    model-in : (h : List Bool) → length h ≡ length costs → has_model graph (fits_words words) (length costs) h ≡ true → In h ms
+    model-in h l m = In-filtered (has_model graph (fits_words words) (length costs)) h (states (length costs)) (subst (λ n. In h (lists_of_bits n)) l (bits_in h)) m
+
+    listed-in : (h : List Bool) → IsListed graph words costs 0 top h → In h (levels costs top ms)
+    listed-in h l = some_levels-has ms 0 (top + 1) h (model-in h l.long l.model) (omega arith) (omega (arith, l.high))
+
+    in-listed : (h : List Bool) → In h (levels costs top ms) → IsListed graph words costs 0 top h
+    in-listed h m =
+        let r = some_levels-in ms 0 (top + 1) h m in
+        let s = In-filter (has_model graph (fits_words words) (length costs)) h (states (length costs)) r.0 in
+        record { long = bits_length (length costs) h s.0; model = s.1; low = omega arith; high = omega (arith, r.1.1) }
+
+    next-in : (h : List Bool) → Next h → In h later
+    next-in h n = by_point point n where
+      by_point : (o : Option (List Bool)) → IsListed graph words costs 0 top h × (is_later costs o h ≡ true) → In h (levels_rest costs (levels costs top ms) o)
+      by_point None n = listed-in h n.0
+      by_point (Some p) n = In-filtered (is_level_before costs p) h (levels costs top ms) (listed-in h n.0) n.1
+
+    in-next : (h : List Bool) → In h later → Next h
+    in-next h m = by_point point m where
+      by_point : (o : Option (List Bool)) → In h (levels_rest costs (levels costs top ms) o) → IsListed graph words costs 0 top h × (is_later costs o h ≡ true)
+      by_point None m = (in-listed h m, refl)
+      by_point (Some p) m = let r = In-filter (is_level_before costs p) h (levels costs top ms) m in (in-listed h r.0, r.1)
+
+    rising : Rising later
+    rising = by_point point where
+      all : Rising (levels costs top ms)
+      all = Rising-levels ms 0 (top + 1) (Sorted-filter (has_model graph (fits_words words) (length costs)) (states (length costs)) (Sorted-states (length costs)))
+
+      by_point : (o : Option (List Bool)) → Rising (levels_rest costs (levels costs top ms) o)
+      by_point None = all
+      by_point (Some p) = Rising-filter (is_level_before costs p) (levels costs top ms) all
+
+    pub next-first : (h d : List Bool) → IsFirstLevel costs Next h → h ≡ get_or later 0 d
+    next-first h d is = sym (first-rising later h d rising (next-in h is.meets) (λ k m. is.before k (in-next k m)))
+
+    pub next-none : ((h : List Bool) → Next h → ⊥) → later ≡ []
+    next-none none = empty-none later (λ h m. none h (in-next h m))
+
+    -- ---- the answers
+
+    pub step-none : ms ≡ [] → Inconsistent ≡ level_step costs ms later
+    step-none e = sym (ap (λ xs. level_step costs xs later) e)
+
+    pub step-end : (ms ≡ [] → ⊥) → ((h : List Bool) → Next h → ⊥) → End ≡ level_step costs ms later
+    step-end some none = sym (by_list ms some later (next-none none)) where
+      by_list : (xs : List (List Bool)) → (xs ≡ [] → ⊥) → (ys : List (List Bool)) → ys ≡ [] → level_step costs xs ys ≡ End
+      by_list [] some ys e = absurd (some refl)
+      by_list (x ∷ xs) some ys e = ap (level_step costs (x ∷ xs)) e
+
+    pub step-found : (h : List Bool) → (ms ≡ [] → ⊥) → IsFirstLevel costs Next h → Found (cost costs h) ≡ level_step costs ms later
+    step-found h some is = sym (by_list ms some later (next-in h is.meets) (sym (next-first h [] is))) where
+      by_list : (xs : List (List Bool)) → (xs ≡ [] → ⊥) → (ys : List (List Bool)) → In h ys → get_or ys 0 [] ≡ h → level_step costs xs ys ≡ Found (cost costs h)
+      by_list [] some ys m e = absurd (some refl)
+      by_list (x ∷ xs) some [] m e = absurd m
+      by_list (x ∷ xs) some (y ∷ ys) m e = ap (λ k. Found (cost costs k)) e
+
+    -- where no state is allowed, none is listed
+    pub none-none : ms ≡ [] → (h : List Bool) → Next h → ⊥
+    none-none e h n = empty (subst (In h) e (model-in h n.0.long n.0.model)) where
+      empty : In h [] → ⊥
+      empty m = m

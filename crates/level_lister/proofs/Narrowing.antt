@@ -1,0 +1,151 @@
+-- The range in which the first fault is, as one pass after the other makes it smaller.
+use Rattle.std.proofs.Common.{◌≡◌, ℕ, zero, suc, ◌+◌, ◌-◌, ◌*◌, ◌/◌, ◌^◌, ◌<◌, ◌≤◌, Bool, true, false, List, length, refl, ap, sym, ◌∙◌, subst, arith, inl, inr, ⊎_elim}
+use Rattle.std.specs.Prelude.{◌⊎◌}
+use Rattle.std.proofs.lemmas.Bool.{cases_lt, false≢true}
+use Rattle.std.proofs.lemmas.Nat.{div_below}
+use Rattle.std.proofs.Math.Nat.{lt-div-mul-add, div-mul-le_self, pow-zero, pow-suc}
+use Rattle.ranking.specs.Bits.{bit_in}
+use Rattle.graph_rules.specs.Graphs.{Graph}
+use Rattle.level_lister.specs.declared.pairs.Groups.{Groups}
+use Rattle.level_lister.specs.inner.Pairs.{FaultOf, FaultIn, OkAmong}
+
+-- how large the groups of a range are
+pub size_most : (span count : ℕ) → (span + count) / (count + 1) * (count + 1) ≤ span + count
+size_most span count = div-mul-le_self (span + count) (count + 1)
+
+pub size_least : (span count : ℕ) → span ≤ (span + count) / (count + 1) * (count + 1)
+size_least span count = omega (arith, lt-div-mul-add {a = span + count} {b = count + 1} (omega arith))
+
+pub size_below : (span count : ℕ) → 0 < count → 1 < span → (span + count) / (count + 1) < span
+size_below span count some more = div_below (span + count) (count + 1) span (omega arith) (room span count some more) where
+  room : (span count : ℕ) → 0 < count → 1 < span → span + count < span * (count + 1)
+  room zero count some more = absurd (omega arith)
+  room (suc zero) count some more = absurd (omega arith)
+  room (suc (suc n)) zero some more = absurd (omega arith)
+  room (suc (suc n)) (suc m) some more = grind arith
+
+pub size_some : (span count : ℕ) → 0 < span → 0 < (span + count) / (count + 1)
+size_some span count h = by_size ((span + count) / (count + 1)) (size_least span count) where
+  by_size : (size : ℕ) → span ≤ size * (count + 1) → 0 < size
+  by_size zero e = absurd (omega arith)
+  by_size (suc n) e = omega arith
+
+module _ (graph : Graph) (words costs : List ℕ) (c from : ℕ) where
+  pub record FaultWithin (low span : ℕ) : Type 0 where
+    pub part : ℕ
+    pub from_ : low ≤ part
+    pub to : part < low + span
+    pub fault : FaultIn graph words costs c part
+
+  -- The open parts before the range are ok in all states. In the range one is faulty in some, or the range reaches behind all parts.
+  pub record IsRange (low span : ℕ) : Type 0 where
+    pub le : from ≤ low
+    pub ok : OkAmong graph words costs c from low
+    pub some : FaultWithin low span ⊎ (length costs < low + span)
+
+  pub range_start : from ≤ length costs → IsRange from (length costs - from + 1)
+  range_start le = record { le = omega arith; ok = λ part l h lt o s is. absurd (omega arith); some = inr (omega arith) }
+
+  module _ (low span count g : ℕ) (le : g ≤ count) (spans : 0 < span) where
+    size : ℕ
+    size = (span + count) / (count + 1)
+
+    abbrev groups : Groups
+    groups = record { low = low; size = (span + count) / (count + 1) }
+
+    pub range_next : (g < count → FaultOf graph words costs c (record { low = low; size = (span + count) / (count + 1) }) g) → ((h : ℕ) → h < g → FaultOf graph words costs c (record { low = low; size = (span + count) / (count + 1) }) h → ⊥)
+        → IsRange low span → IsRange (low + g * ((span + count) / (count + 1))) ((span + count) / (count + 1))
+    range_next found none is = record {
+      le = omega (arith, is.le);
+      ok = before;
+      some = ⊎_elim (λ (p : g < count). inl (in_group (found p))) (λ (p : count ≤ g). at_end p is.some) (cases_lt g count);
+    } where
+      s : ℕ
+      s = (span + count) / (count + 1)
+
+      some_size : 0 < (span + count) / (count + 1)
+      some_size = size_some span count spans
+
+      before : OkAmong graph words costs c from (low + g * ((span + count) / (count + 1)))
+      before part l h lt o state p = ⊎_elim
+          (λ (q : part < low). is.ok part l q lt o state p)
+          (λ (q : low ≤ part). by_bit q (bit_in state part) refl)
+          (cases_lt part low) where
+            by_bit : low ≤ part → (b : Bool) → bit_in state part ≡ b → bit_in state part ≡ true
+            by_bit q true e = e
+            by_bit q false e = absurd (none ((part - low) / ((span + count) / (count + 1))) (div_below (part - low) ((span + count) / (count + 1)) g some_size (omega arith))
+                (record { state = state; is = p; part = part; within = lt; open_ = o; faulty = e; low = q; group = refl }))
+
+      in_group : FaultOf graph words costs c (record { low = low; size = (span + count) / (count + 1) }) g → FaultWithin (low + g * ((span + count) / (count + 1))) ((span + count) / (count + 1))
+      in_group f =
+          let below : g * ((span + count) / (count + 1)) ≤ f.part - low = subst (λ m. m * ((span + count) / (count + 1)) ≤ f.part - low) f.group (div-mul-le_self (f.part - low) ((span + count) / (count + 1))) in
+          let above : f.part - low < g * ((span + count) / (count + 1)) + (span + count) / (count + 1) =
+          subst (λ m. f.part - low < m * ((span + count) / (count + 1)) + (span + count) / (count + 1)) f.group (lt-div-mul-add {a = f.part - low} {b = (span + count) / (count + 1)} some_size) in
+          record {
+            part = f.part;
+            from_ = omega (arith, f.low, below);
+            to = omega (arith, f.low, above);
+            fault = record { within = f.within; open_ = f.open_; state = f.state; is = f.is; faulty = f.faulty };
+          }
+
+      -- the groups and one more reach to the end
+      reach : count ≤ g → low + span ≤ low + g * ((span + count) / (count + 1)) + (span + count) / (count + 1)
+      reach p = ends ((span + count) / (count + 1)) (size_least span count) where
+        same : g ≡ count
+        same = omega arith
+
+        ends : (s : ℕ) → span ≤ s * (count + 1) → low + span ≤ low + g * s + s
+        ends s e = omega (arith, e, more s, ap (λ m. m * s) same) where
+          more : (s : ℕ) → s * (count + 1) ≡ count * s + s
+          more s = grind arith
+
+      at_end : count ≤ g → FaultWithin low span ⊎ (length costs < low + span) → FaultWithin (low + g * ((span + count) / (count + 1))) ((span + count) / (count + 1)) ⊎ (length costs < low + g * ((span + count) / (count + 1)) + (span + count) / (count + 1))
+      at_end p (inr q) = inr (omega (arith, reach p, q))
+      at_end p (inl f) = ⊎_elim
+          (λ (q : f.part < low + g * ((span + count) / (count + 1))). absurd (false≢true (sym f.fault.faulty ∙ before f.part (omega (arith, is.le, f.from_)) q f.fault.within f.fault.open_ f.fault.state f.fault.is)))
+          (λ (q : low + g * ((span + count) / (count + 1)) ≤ f.part). inl (record { part = f.part; from_ = q; to = omega (arith, reach p, f.to); fault = f.fault }))
+          (cases_lt f.part (low + g * ((span + count) / (count + 1))))
+
+  -- a range of one place
+  pub range_found : (low : ℕ) → low < length costs → IsRange low 1 → FaultIn graph words costs c low
+  range_found low lt is = ⊎_elim (λ f. let same : f.part ≡ low = omega (arith, f.from_, f.to) in subst (FaultIn graph words costs c) same f.fault) (λ q. absurd (omega arith)) is.some
+
+-- so many passes are left for a range
+pub record PassesLeft (count span steps most : ℕ) : Type 0 where
+  pub rest : ℕ
+  pub fits : span ≤ (count + 1) ^ rest
+  pub few : steps + rest ≤ most
+
+pub left_next : (count span steps most : ℕ) → 1 < span → PassesLeft count span steps most → PassesLeft count ((span + count) / (count + 1)) (steps + 1) most
+left_next count span steps most more left = by_rest left.rest left.fits left.few where
+  twice : (x : ℕ) → (x + 1) * (count + 1) ≡ x * (count + 1) + (count + 1)
+  twice x = grind arith
+
+  by_rest : (rest : ℕ) → span ≤ (count + 1) ^ rest → steps + rest ≤ most → PassesLeft count ((span + count) / (count + 1)) (steps + 1) most
+  by_rest zero fits few = let one : (count + 1) ^ 0 ≡ 1 = pow-zero (count + 1) in absurd (omega (arith, fits, more, one))
+  by_rest (suc r) fits few = record {
+    rest = r;
+    fits = omega (arith, div_below (span + count) (count + 1) ((count + 1) ^ r + 1) (omega arith) (omega (arith, twice ((count + 1) ^ r), pow-suc (count + 1) r, fits)));
+    few = omega arith;
+  }
+
+-- numbers of the range stay small
+pub range_small : (low span count g : ℕ) → g ≤ count → count ≤ 32 → 0 < count → 1 < span → low + g * ((span + count) / (count + 1)) + 33 * ((span + count) / (count + 1)) ≤ low + 33 * span
+range_small low span count g le few some more = by_size ((span + count) / (count + 1)) (size_most span count) (size_below span count some more) where
+  by_size : (s : ℕ) → s * (count + 1) ≤ span + count → s < span → low + g * s + 33 * s ≤ low + 33 * span
+  by_size s e lt = omega (arith, e, lt, few, product s, less s) where
+    product : (s : ℕ) → s * (count + 1) ≡ count * s + s
+    product s = grind arith
+
+    less : (s : ℕ) → g * s ≤ count * s
+    less s = grind (arith, le)
+
+pub group_small : (span count g : ℕ) → g ≤ count → g * ((span + count) / (count + 1)) ≤ span + count
+group_small span count g le = by_size ((span + count) / (count + 1)) (size_most span count) where
+  by_size : (s : ℕ) → s * (count + 1) ≤ span + count → g * s ≤ span + count
+  by_size s e = omega (arith, e, product s, less s) where
+    product : (s : ℕ) → s * (count + 1) ≡ count * s + s
+    product s = grind arith
+
+    less : (s : ℕ) → g * s ≤ count * s
+    less s = grind (arith, le)

@@ -1,0 +1,90 @@
+-- The bits of one word, moved by those of another.
+use Rattle.std.proofs.Common.{◌≡◌, ℕ, ◌+◌, ◌-◌, ◌*◌, ◌/◌, ◌%◌, ◌^◌, ◌<◌, ◌≤◌, true, false, ap, sym, ◌∙◌, arith, inl, inr, ⊎_elim, bit_or}
+use Rattle.std.specs.Prelude.{◌⊎◌, ◌==◌}
+use Rattle.std.specs.Int.{bit_at}
+use Rattle.std.proofs.lemmas.Nat.{pow_pos, one_shl}
+use Rattle.std.proofs.lemmas.Nat.Bits.{bit_at-zero, bit_at-pow_same, bit_at-pow_other, bit_at_cat_low, bit_at_cat_high, bit_at_above}
+use Rattle.std.proofs.lemmas.Bool.{cases_eq, cases_lt, or_cases, or_left, or_right, eq-eqb, ne_eqb, false≢true}
+use Rattle.level_lister.specs.inner.Pairs.{has_bit, SpreadOf, IsSpread}
+use Rattle.level_lister.proofs.SetBits.{or-bit}
+
+pub no_bit : (n : ℕ) → has_bit 0 n ≡ false
+no_bit n = ap (λ b. b == 1) (bit_at-zero n)
+
+-- one bit alone
+pub one_bit : (k n : ℕ) → k < 32 → has_bit (1 * 2 ^ k % 4294967296) n ≡ (n == k)
+one_bit k n h = ap (λ w. bit_at w n == 1) (one_shl k 32 h) ∙ ⊎_elim
+    (λ e. ap (λ m. bit_at (2 ^ k) m == 1) e ∙ ap (λ b. b == 1) (bit_at-pow_same k) ∙ sym (eq-eqb n k e))
+    (λ ne. ap (λ b. b == 1) (bit_at-pow_other k n ne) ∙ sym (ne_eqb n k ne))
+    (cases_eq n k)
+
+-- a word has no bit from 32 on
+pub bit-within : (w n : ℕ) → w < 2 ^ 32 → has_bit w n ≡ true → n < 32
+bit-within w n small e = ⊎_elim (λ p. p) (λ p. absurd (false≢true (sym (ap (λ b. b == 1) (bit_at_above w 32 n small p)) ∙ e))) (cases_lt n 32)
+
+cut_bit : (x b : ℕ) → b < 32 → bit_at (x % 4294967296) b ≡ bit_at x b
+cut_bit x b h =
+    let whole : (x / 4294967296) * 2 ^ 32 + x % 4294967296 ≡ x = omega arith in
+    sym (bit_at_cat_low (x / 4294967296) 32 (x % 4294967296) b h) ∙ ap (λ y. bit_at y b) whole
+
+-- a word that is moved
+moved_high : (x k b : ℕ) → k ≤ b → b < 32 → bit_at (x * 2 ^ k % 4294967296) b ≡ bit_at x (b - k)
+moved_high x k b le h =
+    let none : x * 2 ^ k + 0 ≡ x * 2 ^ k = omega arith in
+    cut_bit (x * 2 ^ k) b h ∙ ap (λ y. bit_at y b) (sym none) ∙ bit_at_cat_high x k 0 b (pow_pos k) le
+
+moved_low : (x k b : ℕ) → b < k → b < 32 → bit_at (x * 2 ^ k % 4294967296) b ≡ 0
+moved_low x k b lt h =
+    let none : x * 2 ^ k + 0 ≡ x * 2 ^ k = omega arith in
+    cut_bit (x * 2 ^ k) b h ∙ ap (λ y. bit_at y b) (sym none) ∙ bit_at_cat_low x k 0 b lt ∙ bit_at-zero b
+
+module _ (left right step : ℕ) where
+  pub spread_none : IsSpread left right step 0 0
+  spread_none = record {
+    sound = λ m e. absurd (false≢true (sym (no_bit m) ∙ e));
+    whole = λ m j e lt f h. absurd (omega arith);
+  }
+
+  wider : (count m : ℕ) → SpreadOf left right step count m → SpreadOf left right step (count + 1) m
+  wider count m s = record { first = s.first; times = s.times; on_left = s.on_left; few = omega (arith, s.few); on_right = s.on_right; sum_is = s.sum_is }
+
+  pub spread_skip : (count set : ℕ) → has_bit right count ≡ false → IsSpread left right step count set → IsSpread left right step (count + 1) set
+  spread_skip count set none is = record {
+    sound = λ m e. wider count m (is.sound m e);
+    whole = λ m j e lt f h. ⊎_elim
+        (λ (p : j < count). is.whole m j e p f h)
+        (λ (p : count ≤ j). let same : j ≡ count = omega arith in absurd (false≢true (sym none ∙ ap (has_bit right) (sym same) ∙ f)))
+        (cases_lt j count);
+  }
+
+  pub spread_more : (count set : ℕ) → has_bit right count ≡ true → IsSpread left right step count set
+      → IsSpread left right step (count + 1) (bit_or set (left * 2 ^ (step * count) % 4294967296))
+  spread_more count set some is = record {
+    sound = λ m e. ⊎_elim (λ p. wider count m (is.sound m p)) (λ p. by_place m p (cases_lt m (step * count))) (or_cases _ _ (sym (or-bit set moved m) ∙ e));
+    whole = λ m j e lt f h. or-bit set moved (m + step * j) ∙ ⊎_elim
+        (λ (p : j < count). or_left _ _ (is.whole m j e p f h))
+        (λ (p : count ≤ j). let same : j ≡ count = omega arith in or_right _ _ (at_end m j same e h))
+        (cases_lt j count);
+  } where
+    moved : ℕ
+    moved = left * 2 ^ (step * count) % 4294967296
+
+    small : (m : ℕ) → has_bit (left * 2 ^ (step * count) % 4294967296) m ≡ true → m < 32
+    small m e = bit-within (left * 2 ^ (step * count) % 4294967296) m (omega arith) e
+
+    by_place : (m : ℕ) → has_bit (left * 2 ^ (step * count) % 4294967296) m ≡ true → (m < step * count) ⊎ (step * count ≤ m) → SpreadOf left right step (count + 1) m
+    by_place m p (inl lt) = absurd (false≢true (sym (ap (λ b. b == 1) (moved_low left (step * count) m lt (small m p))) ∙ p))
+    by_place m p (inr le) = record {
+      first = m - step * count;
+      times = count;
+      on_left = sym (ap (λ b. b == 1) (moved_high left (step * count) m le (small m p))) ∙ p;
+      few = omega arith;
+      on_right = some;
+      sum_is = omega arith;
+    }
+
+    at_end : (m j : ℕ) → j ≡ count → has_bit left m ≡ true → m + step * j < 32 → has_bit (left * 2 ^ (step * count) % 4294967296) (m + step * j) ≡ true
+    at_end m j same e h =
+        let k : step * j ≡ step * count = ap (λ n. step * n) same in
+        let back : m + step * j - step * count ≡ m = omega arith in
+        ap (λ b. b == 1) (moved_high left (step * count) (m + step * j) (omega arith) h) ∙ ap (has_bit left) back ∙ e

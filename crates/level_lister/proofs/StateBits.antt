@@ -1,0 +1,17 @@
+-- The bits of a state.
+use Rattle.std.proofs.Common.{◌≡◌, ℕ, zero, suc, ◌<◌, true, false, List, [], ◌∷◌, length, get_or, refl, ◌∙◌, arith}
+use Rattle.std.specs.Prelude.{◌==◌}
+use Rattle.std.proofs.lemmas.Bool.{eq-eqb, ne_eqb}
+use Rattle.ranking.specs.Bits.{bit_in}
+use Rattle.diagnosis_lister.specs.Listing.{bits_of}
+
+pub bit_in-bits : (state : List ℕ) (i : ℕ) → i < length state → bit_in (bits_of state) i ≡ (get_or state i 0 == 0)
+bit_in-bits [] i h = absurd (omega arith)
+bit_in-bits (s ∷ state) zero h = refl
+bit_in-bits (s ∷ state) (suc i) h = bit_in-bits state i (omega arith)
+
+pub is_ok : (state : List ℕ) (i : ℕ) → i < length state → get_or state i 0 ≡ 0 → bit_in (bits_of state) i ≡ true
+is_ok state i h e = bit_in-bits state i h ∙ eq-eqb (get_or state i 0) 0 e
+
+pub is_faulty : (state : List ℕ) (i : ℕ) → i < length state → (get_or state i 0 ≡ 0 → ⊥) → bit_in (bits_of state) i ≡ false
+is_faulty state i h ne = bit_in-bits state i h ∙ ne_eqb (get_or state i 0) 0 ne

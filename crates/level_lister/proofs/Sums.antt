@@ -1,0 +1,42 @@
+-- Sums of the costs of two sets.
+use Rattle.std.proofs.Common.{◌≡◌, ℕ, ◌+◌, ◌-◌, ◌*◌, ◌<◌, ◌≤◌, true, false, ◌||◌, List, length, ap, sym, ◌∙◌, arith, ⊎_elim}
+use Rattle.std.specs.Prelude.{nat_le}
+use Rattle.std.proofs.lemmas.Bool.{cases_lt, and_parts, and_from, or_cases, or_left, or_right, le-leb, leb-true, false≢true}
+use Rattle.level_lister.specs.inner.CostSets.{has_number, has_shifted, SumOf, AreSums}
+use Rattle.level_lister.proofs.SetBits.{has-within}
+
+pub sums_none : (left right set : List ℕ) → ((n : ℕ) → has_number set n ≡ false) → AreSums left right 0 set
+sums_none left right set none = record {
+  sound = λ n e. absurd (false≢true (sym (none n) ∙ e));
+  whole = λ j k e f lt h. absurd (omega arith);
+}
+
+-- no sum is added where the right set has not the cost
+pub sums_skip : (left right set : List ℕ) (cost : ℕ) → AreSums left right cost set → has_number right cost ≡ false → AreSums left right (cost + 1) set
+sums_skip left right set cost are e = record {
+  sound = are.sound;
+  whole = λ j k f g lt h. ⊎_elim
+      (λ (p : k < cost). are.whole j k f g p h)
+      (λ (p : cost ≤ k). let same : k ≡ cost = omega arith in absurd (false≢true (sym e ∙ ap (has_number right) (sym same) ∙ g)))
+      (cases_lt k cost);
+}
+
+pub sums_add : (left right old new : List ℕ) (cost : ℕ) → length new ≡ length old → AreSums left right cost old → has_number right cost ≡ true
+    → ((n : ℕ) → n < 32 * length old → has_number new n ≡ (has_number old n || has_shifted left cost n)) → AreSums left right (cost + 1) new
+sums_add left right old new cost long are e added = record {
+  sound = λ n f. ⊎_elim (λ p. are.sound n p) (λ p. by_sum n p) (or_cases _ _ (sym (added n (inside n f)) ∙ f));
+  whole = λ j k f g lt h. added (j + k) (omega arith) ∙ ⊎_elim
+      (λ (p : k < cost). or_left _ _ (are.whole j k f g p (omega arith)))
+      (λ (p : cost ≤ k). let same : k ≡ cost = omega arith in or_right _ _ (and_from _ _ (le-leb cost (j + k) (omega arith)) (ap (has_number left) (rest j k same) ∙ f)))
+      (cases_lt k cost);
+} where
+  inside : (n : ℕ) → has_number new n ≡ true → n < 32 * length old
+  inside n f = omega (arith, has-within new n f, long)
+
+  rest : (j k : ℕ) → k ≡ cost → j + k - cost ≡ j
+  rest j k same = omega arith
+
+  by_sum : (n : ℕ) → has_shifted left cost n ≡ true → SumOf left right n
+  by_sum n p =
+      let parts = and_parts (nat_le cost n) (has_number left (n - cost)) p in
+      record { first = n - cost; second = cost; on_left = parts.1; on_right = e; sum_is = omega (arith, leb-true cost n parts.0) }

@@ -1,0 +1,22 @@
+use Rattle.std.proofs.Common.{◌≡◌, ◌*◌, ◌++◌, ◌∙◌, [], true, length, sym, ap, subst, arith, length-append}
+use Rattle.graph_rules.specs.Graphs.{mentions}
+use Rattle.std.proofs.lemmas.List.{append-nil}
+use Rattle.level_lister.specs.inner.NodeSets.{size_of, set_at, ArePartsOf}
+use Rattle.level_lister.proofs.Kids.{room_for}
+use Rattle.level_lister.proofs.Stacks.{set_at-front, set_at-here}
+use Rattle.level_lister.proofs.below.put_all.Goals as goal
+
+pub returns : goal.returns
+returns c =
+    let graph = c.args.graph.now in
+    let parts = c.args.parts in
+    let count = length graph.nodes in
+    let size = size_of parts in
+    let front = c.put_nodes.new.below in
+    let all = c.put_every.new.set in
+    let long : length c.put_nodes.new.below ≡ length graph.nodes * size_of parts = omega (arith, c.split_at_mut-nodes.ensures.front_len, ap (λ n. c.len.result * n) c.size_of-size.ensures, ap (λ n. n * size_of parts) c.len.ensures.len) in
+    let last : length c.put_every.new.set ≡ size_of parts = omega (arith, c.split_at_mut-nodes.ensures.back_len, c.requires.long, long) in record {
+      long = length-append front all ∙ omega (arith, long, last);
+      nodes = λ k lt. subst (ArePartsOf parts (λ v. mentions graph.nodes v k)) (sym (set_at-front front all k size (omega (arith, long, room_for k count size lt)))) (c.put_nodes.ensures k lt);
+      all = subst (ArePartsOf parts (λ v. true)) (sym (ap (λ xs. set_at (front ++ xs) count size) (sym (append-nil all)) ∙ set_at-here front all [] count size long last)) c.put_every.ensures;
+    }

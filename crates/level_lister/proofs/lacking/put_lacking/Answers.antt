@@ -1,0 +1,48 @@
+use Rattle.std.proofs.Common.{◌≡◌, ℕ, ◌+◌, ◌-◌, ◌<◌, true, false, not, ◌&&◌, length, get_or, set, refl, ap, sym, ◌∙◌, subst, arith}
+use Rattle.std.proofs.Math.ListN.{length-set}
+use Rattle.std.proofs.lemmas.List.{get_or-set_same, get_or-set_other}
+use Rattle.graph_rules.specs.Graphs.{mentions}
+use Rattle.level_lister.specs.inner.CostSets.{has_number}
+use Rattle.level_lister.specs.inner.NodeSets.{size_of, set_at}
+use Rattle.level_lister.proofs.Kids.{room_for}
+use Rattle.level_lister.proofs.Flags.{same_parts, flags_more}
+use Rattle.level_lister.proofs.lacking.put_lacking.Goals as goal
+
+pub loop-at-preserved : goal.loop-at-preserved
+loop-at-preserved c = record {
+  flags = flags_more c.args.graph.now c.args.parts c.loop-at.lacking c.loop-at.at c.flag.result (omega (arith, c.requires.long, c.loop-at.auto.lacking, c.loop-at.invariant.end, c.loop-at-test.true)) c.loop-at.invariant.flags
+      (λ zero what. c.kid_lacks.ensures (c.flag.ensures zero) what);
+  end = c.loop-at.invariant.end;
+}
+
+pub lacks-requires-clause-outer : goal.lacks-requires-clause-outer
+lacks-requires-clause-outer c =
+    omega (arith, c.requires.below.long, room_for (c.len-count.result - 1 + 1) (length c.args.graph.now.nodes + 1) (size_of c.args.parts) (omega (arith, c.len-count.ensures.len, c.len-count.ensures.valid.some)))
+
+pub lacks-requires-clause-inner : goal.lacks-requires-clause-inner
+lacks-requires-clause-inner c =
+    omega (arith, c.requires.below.long, room_for (c.len-count.result - 1) (length c.args.graph.now.nodes + 1) (size_of c.args.parts) (omega (arith, c.len-count.ensures.len, c.len-count.ensures.valid.some)))
+
+pub returns : goal.returns
+returns c =
+    let graph = c.args.graph.now in
+    let parts = c.args.parts in
+    let below = c.args.below.now in
+    let size = size_of parts in
+    let count = length graph.nodes in
+    let old = c.loop-at.lacking in
+    let word = c.flag-2.result in
+    let inside : length graph.nodes - 1 < length graph.nodes = omega (arith, c.len-count.ensures.valid.some) in
+    let root : c.len-count.result - 1 ≡ length graph.nodes - 1 = omega (arith, c.len-count.ensures.len) in
+    let next : c.len-count.result - 1 + 1 ≡ length graph.nodes = omega (arith, c.len-count.ensures.len, c.len-count.ensures.valid.some) in
+    let all : c.loop-at.at ≡ length graph.nodes = omega (arith, c.loop-at-test.false, c.loop-at.invariant.end, c.loop-at.auto.at-end) in
+    let long : length old ≡ length graph.nodes + 1 = c.loop-at.auto.lacking ∙ c.requires.long in
+    record {
+      long = length-set old (c.len-count.result - 1 + 1) word ∙ long;
+      ors = λ k lt what zero. c.loop-at.invariant.flags k (omega arith) what (sym (get_or-set_other old (c.len-count.result - 1 + 1) k word 0 (λ e. absurd (omega arith))) ∙ zero);
+      all = λ zero v l h. same_parts parts (set_at below (length graph.nodes) size) (set_at below (length graph.nodes - 1) size) (λ v. mentions graph.nodes v (length graph.nodes - 1)) (λ v. true)
+          (c.requires.below.nodes (length graph.nodes - 1) inside) c.requires.below.all (λ v e. refl)
+          (subst (λ m. (p : ℕ) → p < parts → (has_number (set_at below (length graph.nodes) size) p && not (has_number (set_at below m size) p)) ≡ false) root
+          (subst (λ m. (p : ℕ) → p < parts → (has_number (set_at below m size) p && not (has_number (set_at below (c.len-count.result - 1) size) p)) ≡ false) next
+          (c.lacks.ensures (c.flag-2.ensures (sym (get_or-set_same old (c.len-count.result - 1 + 1) word 0 (omega (arith, long, next))) ∙ ap (λ m. get_or (set old (c.len-count.result - 1 + 1) word) m 0) next ∙ zero))))) v l h;
+    }

@@ -1,0 +1,17 @@
+use Rattle.std.proofs.Common.{◌≡◌, ◌-◌, ◌++◌, [], ◌∷◌, length, sym, ◌∙◌, ap, subst}
+use Rattle.std.specs.Prelude.{IfSome}
+use Rattle.scratch_pool.specs.declared.region.Span.{Span}
+use Rattle.scratch_pool.specs.Regions.{Carved, words_used, carved}
+use Rattle.scratch_pool.proofs.Written.{length-written}
+use Rattle.level_lister.proofs.Behind.{none_left}
+use Rattle.level_lister.proofs.levels.Levels.next.Goals as goal
+
+pub returns-clause-free : goal.returns-clause-free
+returns-clause-free c =
+    let region = c.args.region.now in
+    let run = c.unwrap-run.result in
+    let made = subst (λ o. IfSome o (λ (run : Span). (run ≡ record { start = words_used region.runs; len = c.room-room.result }) × (c.carve.new.self ≡ carved region run))) c.unwrap-run.ensures c.carve.ensures.run in
+    let words : length c.carve.new.self.words ≡ length region.words = ap (λ (r : Carved). length r.words) made.1 ∙ length-written region.words run.start _ in
+    let same : length c.release.new.self.words ≡ length c.carve.new.self.words = ap length c.release.ensures.words ∙ length-written c.carve.new.self.words run.start _ in
+    let runs : c.release.new.self.runs ≡ [] = none_left c.release.new.self.runs c.carve.new.self.runs run run (ap (λ (r : Carved). r.runs) made.1 ∙ (λ i. c.requires.runs i ++ run ∷ [])) c.release.ensures.runs in
+    (λ i. (same ∙ words) i - words_used ((runs ∙ sym c.requires.runs) i))

@@ -1,0 +1,17 @@
+use Rattle.std.proofs.Common.{◌+◌, subst, sym}
+use Rattle.level_lister.specs.inner.Pairs.{IsSpread}
+use Rattle.level_lister.proofs.Spreading.{spread_none, spread_more, spread_skip}
+use Rattle.level_lister.proofs.pairs.spread.Goals as goal
+use Rattle.level_lister.proofs.pairs.spread.Goals.{then-has_bit, else-has_bit}
+
+pub loop-times-init : goal.loop-times-init
+loop-times-init c = spread_none c.args.left c.args.right c.args.step
+
+pub loop-times-preserved : goal.loop-times-preserved
+loop-times-preserved c =
+    let times = c.loop-times.times in elim c.if-has_bit.branch [
+      | then-has_bit w ↦ subst (IsSpread c.args.left c.args.right c.args.step (times + 1)) (sym w.set-is)
+          (spread_more c.args.left c.args.right c.args.step times c.loop-times.set (sym w.if-has_bit.ensures) c.loop-times.invariant)
+      | else-has_bit w ↦ subst (IsSpread c.args.left c.args.right c.args.step (times + 1)) (sym w.set-is)
+          (spread_skip c.args.left c.args.right c.args.step times c.loop-times.set (sym w.if-has_bit.ensures) c.loop-times.invariant)
+    ]

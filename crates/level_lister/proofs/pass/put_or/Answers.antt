@@ -1,0 +1,48 @@
+use Rattle.std.proofs.Common.{◌≡◌, ◌<◌, ◌+◌, ◌*◌, length, get_or, sym, ◌∙◌, ap, subst, arith}
+use Rattle.graph_rules.specs.Graphs.{is_true, mentions}
+use Rattle.level_lister.specs.inner.CostSets.{IsCostSet}
+use Rattle.level_lister.specs.inner.NodeSets.{set_at, ArePartsOf}
+use Rattle.level_lister.proofs.Reaching.{empty_is}
+use Rattle.level_lister.proofs.Kids.{room_for, kid-below, kid-mentions, or_more, or_all}
+use Rattle.level_lister.proofs.pass.put_or.Goals as goal
+
+pub loop-kid-init : goal.loop-kid-init
+loop-kid-init c = empty_is c.args.words.now c.args.costs.now _ c.clear.new.set c.clear.ensures
+
+pub set_at-requires : goal.set_at-requires
+set_at-requires c =
+    let kids = c.kids-kid-items.result.now in
+    omega (arith, c.requires.sets, room_for (get_or kids c.loop-kid.kid-index 0) c.args.at (length c.args.set.now) (kid-below c.args.graph.now c.args.at kids c.vars-vars.ensures.valid c.requires.at c.kids-kid-items.ensures c.loop-kid.kid-index c.loop-kid-test.true))
+
+pub set_at-requires-in-loop-kid : goal.set_at-requires-in-loop-kid
+set_at-requires-in-loop-kid c =
+    let kids = c.kids-kid-items.result.now in
+    let graph = c.args.graph.now in
+    let size = c.size_of-parts.result in
+    let below = kid-below graph c.args.at kids c.vars-vars.ensures.valid c.requires.at c.kids-kid-items.ensures c.loop-kid.kid-index c.loop-kid-test.true in
+    let long : length c.args.below.now ≡ (length graph.nodes + 1) * c.size_of-parts.result = c.requires.below.long ∙ ap (λ n. (length graph.nodes + 1) * n) (sym c.size_of-parts.ensures) in
+    omega (arith, long, room_for (get_or kids c.loop-kid.kid-index 0) (length graph.nodes + 1) size (omega arith))
+
+pub loop-kid-preserved : goal.loop-kid-preserved
+loop-kid-preserved c =
+    let graph = c.args.graph.now in
+    let kids = c.kids-kid-items.result.now in
+    let j = c.loop-kid.kid-index in
+    let kid = get_or kids j 0 in
+    let ok = c.vars-vars.ensures.valid in
+    let parts = length c.args.costs.now in
+    let below = kid-below graph c.args.at kids ok c.requires.at c.kids-kid-items.ensures j c.loop-kid-test.true in
+    let inside : kid < length graph.nodes = omega arith in
+    let size = c.size_of-parts.ensures in
+    let on_outer : ArePartsOf parts (λ v. mentions graph.nodes v c.args.at) c.set_at-own.result.now =
+    subst (ArePartsOf parts (λ v. mentions graph.nodes v c.args.at)) (sym (c.set_at-own.ensures.set ∙ ap (set_at c.args.below.now c.args.at) size)) (c.requires.below.nodes c.args.at c.requires.at) in
+    let on_inner : ArePartsOf parts (λ v. mentions graph.nodes v kid) c.set_at-in-loop-kid.result.now =
+    subst (ArePartsOf parts (λ v. mentions graph.nodes v kid)) (sym (c.set_at-in-loop-kid.ensures.set ∙ ap (set_at c.args.below.now kid) size)) (c.requires.below.nodes kid inside) in
+    let is = subst (IsCostSet c.args.words.now c.args.costs.now (λ a. is_true graph.nodes kid a) (λ v. mentions graph.nodes v kid)) (sym (c.copy_from_slice.ensures.after ∙ c.set_at.ensures.set)) (c.requires.earlier kid below) in
+    or_more graph c.args.at kids ok c.requires.at c.kids-kid-items.ensures c.args.words.now c.args.costs.now j c.loop-kid.set c.widen.new.set c.add_shifted.new.set c.loop-kid-test.true
+    (omega arith) (omega arith) (λ n h. c.add_shifted.ensures n (omega arith)) c.loop-kid.invariant
+    (c.widen.ensures (λ a. is_true graph.nodes kid a) (λ v. mentions graph.nodes v kid) (λ v. mentions graph.nodes v c.args.at) on_inner on_outer
+    (kid-mentions graph c.args.at kids ok c.requires.at c.kids-kid-items.ensures c.args.words.now c.args.costs.now j c.requires.what c.loop-kid-test.true) is)
+
+pub returns : goal.returns
+returns c = or_all c.args.graph.now c.args.at c.kids-kid-items.result.now c.vars-vars.ensures.valid c.requires.at c.kids-kid-items.ensures c.args.words.now c.args.costs.now c.loop-kid.kid-index c.loop-kid.set c.requires.what (omega arith) c.loop-kid.invariant

@@ -1,0 +1,15 @@
+use Rattle.std.proofs.Common.{refl, arith}
+use Rattle.level_lister.proofs.Kids.{literal-fits, literal_set}
+use Rattle.level_lister.proofs.pass.put_set.Goals as goal
+
+pub leaf-requires-clause-var : goal.leaf-requires-clause-var
+leaf-requires-clause-var c =
+    let fits = literal-fits c.args.graph.now c.args.at _ c.vars-vars.ensures.valid c.requires.at refl c.in-Literal.var c.in-Literal.positive c.in-Literal.ensures in
+    (fits.0, omega (arith, fits.1, c.requires.long))
+
+pub part_cost-requires : goal.part_cost-requires
+part_cost-requires c = (literal-fits c.args.graph.now c.args.at _ c.vars-vars.ensures.valid c.requires.at refl c.in-Literal.var c.in-Literal.positive c.in-Literal.ensures).0
+
+pub returns-in-Literal : goal.returns-in-Literal
+returns-in-Literal c = literal_set c.args.graph.now c.args.at _ c.vars-vars.ensures.valid c.requires.at refl c.args.words.now c.args.costs.now c.in-Literal.var c.part_cost.result c.in-Literal.positive c.leaf.result c.put_literal.new.set
+    c.in-Literal.ensures c.leaf.ensures c.part_cost.ensures c.put_literal.ensures.ruled_out (λ p n h. c.put_literal.ensures.allowed p n (omega arith))

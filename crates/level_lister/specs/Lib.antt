@@ -1,0 +1,4 @@
+pub mod Listing
+pub mod Bits
+pub mod inner
+pub mod Passes

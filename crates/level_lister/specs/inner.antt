@@ -1,0 +1,5 @@
+-- What only private contracts cite.
+pub mod CostSets
+pub mod NodeSets
+pub mod Searching
+pub mod Pairs

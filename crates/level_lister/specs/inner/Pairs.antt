@@ -1,0 +1,104 @@
+-- What two words tell of a node: its costs, where few are listed, and at which of them a part of a group is faulty.
+use Rattle.std.specs.Prelude.{◌≡◌, ℕ, ◌+◌, ◌-◌, ◌*◌, ◌/◌, ◌<◌, ◌≤◌, Bool, true, false, ◌&&◌, List, length, slice_index, nat_le, ◌==◌}
+use Rattle.std.specs.Int.{bit_at}
+use Rattle.ranking.specs.Assignments.{Assignment}
+use Rattle.ranking.specs.Bits.{bit_in}
+use Rattle.graph_rules.specs.Graphs.{Graph, is_true, mentions}
+use Rattle.level_lister.specs.declared.pairs.Pair.{Pair}
+use Rattle.level_lister.specs.declared.pairs.Groups.{Groups}
+pub use Rattle.level_lister.specs.Passes.{group_count}
+use Rattle.level_lister.specs.inner.CostSets.{Follows, cost_among}
+use Rattle.level_lister.specs.inner.Searching.{OfCost}
+
+-- the bit of a number in a word
+abbrev pub has_bit : ℕ → ℕ → Bool
+has_bit word n = bit_at word n == 1
+
+-- a number of the one word, and so many steps, as the other word has it, come to so much
+pub record SpreadOf (left right step count m : ℕ) : Type 0 where
+  pub first : ℕ
+  pub times : ℕ
+  pub on_left : has_bit left first ≡ true
+  pub few : times < count
+  pub on_right : has_bit right times ≡ true
+  pub sum_is : first + step * times ≡ m
+
+-- the numbers of the one word, each greater by so many steps as the other word has below a limit
+pub record IsSpread (left right step count word : ℕ) : Type 0 where
+  pub sound : (m : ℕ) → has_bit word m ≡ true → SpreadOf left right step count m
+  pub whole : (m j : ℕ) → has_bit left m ≡ true → j < count → has_bit right j ≡ true → m + step * j < 32
+      → has_bit word (m + step * j) ≡ true
+
+-- some assignment that agrees with the words meets a condition, and its faulty ones of some parts cost so much
+pub record Meets (words costs : List ℕ) (some : ℕ → Bool) (P : Assignment → Type 0) (n : ℕ) : Type 0 where
+  pub by : Assignment
+  pub follows : Follows words by
+  pub holds : P by
+  pub cost_is : cost_among some by 1 costs ≡ n
+
+-- The bits of a word that are a step apart, from one on, tell the costs up to a greatest one at which a condition is met.
+pub record AreCosts (words costs : List ℕ) (top step first : ℕ) (some : ℕ → Bool) (P : Assignment → Type 0) (word : ℕ) : Type 0 where
+  pub sound : (n : ℕ) → n ≤ top → has_bit word (step * n + first) ≡ true → Meets words costs some P n
+  pub whole : (a : Assignment) → Follows words a → P a → cost_among some a 1 costs ≤ top
+      → has_bit word (step * cost_among some a 1 costs + first) ≡ true
+
+-- a variable of a group is faulty, and is among some
+pub record HasFault (group some : ℕ → Bool) (a : Assignment) : Type 0 where
+  pub var : ℕ
+  pub among : some var ≡ true
+  pub of_group : group var ≡ true
+  pub faulty : a var ≡ false
+
+-- The first word tells the costs at which a test is true, of some parts, and the second one at which of them a part of each group is
+-- faulty. The test depends on these variables alone.
+pub record Tells (words costs : List ℕ) (top step : ℕ) (group : ℕ → ℕ → Bool) (test : Assignment → Bool) (some : ℕ → Bool) (pair : Pair) : Type 0 where
+  pub cost_bits : AreCosts words costs top 1 0 some (λ a. test a ≡ true) pair.costs
+  pub fault_bits : (g : ℕ) → g < step → AreCosts words costs top step g some (λ a. (test a ≡ true) × HasFault (group g) some a) pair.faults
+  pub local : (a b : Assignment) → ((v : ℕ) → some v ≡ true → a v ≡ b v) → test a ≡ test b
+
+-- the variables of the open parts of a group
+abbrev pub group_in : List ℕ → ℕ → Groups → ℕ → ℕ → Bool
+group_in words parts groups g v =
+    (nat_le (groups.low + 1) v && nat_le v parts) && ((slice_index words (v - 1) == 0) && ((v - 1 - groups.low) / groups.size == g))
+
+-- what is told of a node
+abbrev pub TellsNode : Graph → List ℕ → List ℕ → ℕ → Groups → ℕ → Pair → Type 0
+TellsNode graph words costs top groups k pair =
+    Tells words costs top (group_count top) (group_in words (length costs) groups) (λ a. is_true graph.nodes k a) (λ v. mentions graph.nodes v k) pair
+
+-- the two words of a node
+abbrev pub pair_at : List ℕ → ℕ → Pair
+pair_at values k = record { costs = slice_index values (2 * k); faults = slice_index values (2 * k + 1) }
+
+-- those of the first nodes
+abbrev pub TellNodes : Graph → List ℕ → List ℕ → ℕ → Groups → List ℕ → ℕ → Type 0
+TellNodes graph words costs top groups values n = (k : ℕ) → k < n → TellsNode graph words costs top groups k (pair_at values k)
+
+-- what is told of the last node, of all faulty parts
+abbrev pub TellsWhole : Graph → List ℕ → List ℕ → ℕ → Groups → Pair → Type 0
+TellsWhole graph words costs top groups pair =
+    Tells words costs top (group_count top) (group_in words (length costs) groups) (λ a. is_true graph.nodes (length graph.nodes - 1) a) (λ v. true) pair
+
+-- an open part of a group is faulty in some state of a cost
+pub record FaultOf (graph : Graph) (words costs : List ℕ) (c : ℕ) (groups : Groups) (g : ℕ) : Type 0 where
+  pub state : List Bool
+  pub is : OfCost graph words costs c state
+  pub part : ℕ
+  pub within : part < length costs
+  pub open_ : slice_index words part ≡ 0
+  pub faulty : bit_in state part ≡ false
+  pub low : groups.low ≤ part
+  pub group : (part - groups.low) / groups.size ≡ g
+
+-- an open part is faulty in some state of a cost
+pub record FaultIn (graph : Graph) (words costs : List ℕ) (c part : ℕ) : Type 0 where
+  pub within : part < length costs
+  pub open_ : slice_index words part ≡ 0
+  pub state : List Bool
+  pub is : OfCost graph words costs c state
+  pub faulty : bit_in state part ≡ false
+
+-- the open parts from one up to another are ok in all states of a cost
+abbrev pub OkAmong : Graph → List ℕ → List ℕ → ℕ → ℕ → ℕ → Type 0
+OkAmong graph words costs c from to =
+    (part : ℕ) → from ≤ part → part < to → part < length costs → slice_index words part ≡ 0 → (h : List Bool) → OfCost graph words costs c h → bit_in h part ≡ true

@@ -1,0 +1,82 @@
+-- What holds while the lister fixes one part after the other.
+use Rattle.std.specs.Prelude.{◌≡◌, ◌≢◌, ℕ, ◌+◌, ◌<◌, ◌≤◌, Bool, true, false, List, length, ◌⊎◌, Option, Some, None, MatchOption, slice_index, slice_set}
+use Rattle.ranking.specs.Bits.{bit_in}
+use Rattle.ranking.specs.Ranking.{cost, is_before}
+use Rattle.graph_rules.specs.Graphs.{Graph}
+use Rattle.conditioner.specs.Words.{word_of}
+use Rattle.conditioner.specs.Models.{has_model, fits_words}
+use Rattle.diagnosis_lister.specs.inner.Working.{AlikeBelow, fixed_bits}
+use Rattle.ranking.specs.Levels.{is_level_before}
+use Rattle.level_lister.specs.Listing.{Kept}
+
+-- a state of the parts that the graph allows under the words, of just so much cost
+pub record OfCost (graph : Graph) (words costs : List ℕ) (c : ℕ) (h : List Bool) : Type 0 where
+  pub long : length h ≡ length costs
+  pub model : has_model graph (fits_words words) (length costs) h ≡ true
+  pub cost_is : cost costs h ≡ c
+
+-- some state is one
+pub record HasCost (graph : Graph) (words costs : List ℕ) (c : ℕ) : Type 0 where
+  pub state : List Bool
+  pub is : OfCost graph words costs c state
+
+-- one part was settled: it was fixed before; or it is faulty in some state; or it is in none
+pub data Settled (graph : Graph) (costs : List ℕ) (c : ℕ) (old new : List ℕ) (part : ℕ) : Type 0 where
+  WasFixed : slice_index old part ≢ 0 → new ≡ old → Settled graph costs c old new part
+  IsFaulty : slice_index old part ≡ 0 → new ≡ slice_set old part 2 → HasCost graph (slice_set old part 2) costs c → Settled graph costs c old new part
+  IsOk : slice_index old part ≡ 0 → new ≡ slice_set old part 1 → (HasCost graph (slice_set old part 2) costs c → ⊥) → Settled graph costs c old new part
+
+-- no state of the cost has the point's first bits and comes after the point
+abbrev pub NoneAfter : Graph → List ℕ → List ℕ → ℕ → List Bool → ℕ → Type 0
+NoneAfter graph words costs c point n =
+    (h : List Bool) → OfCost graph words costs c h → AlikeBelow n h point → is_before point h ≡ true → ⊥
+
+-- The words say the point's bits before a part, and ok for it, where the point has faulty. Some state of the cost agrees with
+-- them, and none that has more of the point's bits comes after the point.
+pub record Leaves (graph : Graph) (old costs : List ℕ) (c : ℕ) (point : List Bool) (new : List ℕ) (part : ℕ) : Type 0 where
+  pub within : part < length costs
+  pub faulty : bit_in point part ≡ false
+  pub front : (k : ℕ) → k < part → slice_index new k ≡ word_of (bit_in point k)
+  pub ok : slice_index new part ≡ 1
+  pub kept : (k : ℕ) → slice_index old k ≢ 0 → slice_index new k ≡ slice_index old k
+  pub behind : (k : ℕ) → part < k → slice_index new k ≡ slice_index old k
+  pub some : HasCost graph new costs c
+  pub none : NoneAfter graph old costs c point (part + 1)
+
+-- a state that the graph allows under the words, of a cost from one up to another
+pub record IsListed (graph : Graph) (words costs : List ℕ) (from top : ℕ) (h : List Bool) : Type 0 where
+  pub long : length h ≡ length costs
+  pub model : has_model graph (fits_words words) (length costs) h ≡ true
+  pub low : from ≤ cost costs h
+  pub high : cost costs h ≤ top
+
+-- a state that meets P, and stands before all others that do, by cost and then by order
+pub record IsFirstLevel (costs : List ℕ) (P : List Bool → Type 0) (h : List Bool) : Type 0 where
+  pub meets : P h
+  pub before : (k : List Bool) → P k → (k ≡ h) ⊎ (is_level_before costs h k ≡ true)
+
+-- The words of the variables that are no parts' are as they were. The parts are fixed as the first state that meets P has them, by
+-- cost and then by order, and that costs so much.
+pub record Fixes (old costs : List ℕ) (P : List Bool → Type 0) (new : List ℕ) (c : ℕ) : Type 0 where
+  pub others : (k : ℕ) → length costs ≤ k → slice_index new k ≡ slice_index old k
+  pub first : IsFirstLevel costs P (fixed_bits (length costs) new)
+  pub cost_is : cost costs (fixed_bits (length costs) new) ≡ c
+
+-- The first state that meets P is found, or there is none and the words are as they were.
+abbrev pub Finds : List ℕ → List ℕ → (List Bool → Type 0) → List ℕ → Option ℕ → Type 0
+Finds old costs P new result =
+    MatchOption result ((new ≡ old) × ((h : List Bool) → P h → ⊥)) (λ c. Fixes old costs P new c)
+
+-- of the states whose cost is at least so much
+abbrev pub FindsFirst : Graph → List ℕ → Kept → ℕ → List ℕ → Option ℕ → Type 0
+FindsFirst graph old kept from new result = Finds old kept.costs (IsListed graph old kept.costs from kept.top) new result
+
+-- whether a state comes after a point
+abbrev pub is_later : List ℕ → Option (List Bool) → List Bool → Bool
+is_later costs None h = true
+is_later costs (Some point) h = is_level_before costs point h
+
+-- of those after a point
+abbrev pub FindsNext : Graph → List ℕ → Kept → Option (List Bool) → List ℕ → Option ℕ → Type 0
+FindsNext graph old kept point new result =
+    Finds old kept.costs (λ h. IsListed graph old kept.costs 0 kept.top h × (is_later kept.costs point h ≡ true)) new result

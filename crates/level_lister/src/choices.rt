@@ -1,0 +1,72 @@
+//! Parts that are free to be ok or faulty, since a kid of a node does not mention them.
+ghost use Rattle.std.specs.Prelude.{◌≡◌, ◌≢◌, ℕ, ◌+◌, ◌*◌, ◌<◌, ◌≤◌, Bool, true, false, not, ◌&&◌, ◌||◌, length, All, ◌==◌};
+ghost use Rattle.ranking.specs.Assignments.{Assignment};
+ghost use Rattle.level_lister.specs.inner.CostSets.{has_number, has_shifted, IsCostSet};
+ghost use Rattle.level_lister.specs.inner.NodeSets.{size_of, ArePartsOf};
+
+use crate::sets::{WIDTH, add_shifted, clear};
+
+// Lets each part be free that is below a node and not below a kid of it: the set of the kid's costs becomes one of the costs of all
+// parts below the node.
+pub(crate) fn widen(
+    outer: &[u32],
+    inner: &[u32],
+    words: &[u32],
+    costs: &[u32],
+    set: &mut [u32],
+    spare: &mut [u32],
+)
+    requires words { All (λ w. w < 3) words.now }
+    requires parts { length costs.now ≤ length words.now }
+    requires few { length costs.now ≤ 4096 }
+    requires outer { length outer.now ≡ size_of (length costs.now) }
+    requires inner { length inner.now ≡ size_of (length costs.now) }
+    requires spare { length spare.old ≡ length set.old }
+    ensures { (test : Assignment → Bool) (some more : ℕ → Bool)
+        → ArePartsOf (length costs.now) some inner.now → ArePartsOf (length costs.now) more outer.now
+        → ((v : ℕ) → some v ≡ true → more v ≡ true)
+        → IsCostSet words.now costs.now test some set.old → IsCostSet words.now costs.now test more set.new }
+{
+    let mut part = next_missing(outer, inner, 0);
+    while part < costs.len() {
+        add_part(words[part], costs[part], set, spare);
+        part = next_missing(outer, inner, part + 1);
+    }
+}
+
+// Adds to a set the costs with one part more: with its cost where it can be faulty, and without it where it can be ok.
+fn add_part(word: u32, cost: u32, set: &mut [u32], spare: &mut [u32])
+    requires word { word < 3 }
+    requires spare { length spare.old ≡ length set.old }
+    ensures { (n : ℕ) → n < 32 * length set.old → has_number set.new n
+        ≡ ((not (word == 2) && has_number set.old n) || (not (word == 1) && has_shifted set.old cost n)) }
+{
+    if word == 1 {
+        return;
+    }
+    spare.copy_from_slice(set);
+    if word == 2 {
+        clear(set);
+    }
+    add_shifted(set, spare, cost as usize);
+}
+
+// The first number from one on that the outer set has and the inner one has not, or one that is past both.
+pub(crate) fn next_missing(outer: &[u32], inner: &[u32], from: usize) -> usize
+    requires inner { length inner.now ≡ length outer.now }
+    requires few { length outer.now ≤ 128 }
+    ensures from { from ≤ result }
+    ensures before { (p : ℕ) → from ≤ p → p < result → (has_number outer.now p && not (has_number inner.now p)) ≡ false }
+    ensures found { result < 32 * length outer.now
+        → (has_number outer.now result && not (has_number inner.now result)) ≡ true }
+{
+    let mut at = from;
+    while at < WIDTH * outer.len() {
+        let gap = (outer[at / WIDTH] & !inner[at / WIDTH]) >> (at % WIDTH);
+        if gap != 0 {
+            return at + gap.trailing_zeros() as usize;
+        }
+        at = (at / WIDTH + 1) * WIDTH;
+    }
+    at
+}

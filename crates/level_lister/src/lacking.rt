@@ -1,0 +1,90 @@
+//! Which nodes have a kid that lacks a part.
+ghost use Rattle.std.specs.Prelude.{◌≡◌, ℕ, ◌+◌, ◌*◌, ◌<◌, ◌≤◌, false, not, ◌&&◌, length, IfOk};
+ghost use Rattle.graph_rules.specs.declared.NodeKind.TheVariants.{Or};
+ghost use Rattle.graph_rules.specs.Graphs.{node_at};
+ghost use Rattle.level_lister.specs.inner.CostSets.{has_number};
+ghost use Rattle.level_lister.specs.inner.NodeSets.{size_of, set_at, AreBelow, SameBelow, AreLacking};
+
+use crate::choices::next_missing;
+use crate::pass::{set_at, size_of};
+use graph_rules::NodeKind;
+use node_store::Graph;
+use std::alloc::{AllocError, Global};
+
+// For each node 0 where it is no Or of which a kid lacks a part, and behind them 0 where the last node lacks none at all.
+pub(crate) fn nodes_lacking(
+    alloc: Global,
+    graph: &Graph,
+    below: &[u32],
+    parts: usize,
+) -> Result<Vec<u32>, AllocError>
+    requires parts { parts ≤ 4096 }
+    requires below { AreBelow graph.now parts below.now }
+    ensures { IfOk result (λ lacking. AreLacking graph.now parts lacking.items) }
+{
+    let mut lacking = vec![in alloc; 0; graph.len() as usize + 1]?;
+    put_lacking(graph, below, parts, &mut lacking);
+    Ok(lacking)
+}
+
+fn put_lacking(graph: &Graph, below: &[u32], parts: usize, lacking: &mut [u32])
+    requires parts { parts ≤ 4096 }
+    requires below { AreBelow graph.now parts below.now }
+    requires long { length lacking.old ≡ length graph.now.nodes + 1 }
+    ensures { AreLacking graph.now parts lacking.new }
+{
+    let count = graph.len();
+    for at in 0..count {
+        lacking[at as usize] = flag(kid_lacks(graph, below, parts, at));
+    }
+    let root = count as usize - 1;
+    lacking[root + 1] = flag(lacks(below, parts, root + 1, root));
+}
+
+// The word of a node.
+fn flag(lacks: bool) -> u32
+    ensures { result ≡ 0 → lacks ≡ false }
+{
+    u32::from(lacks)
+}
+
+// Whether a node is an Or of which a kid lacks a part.
+fn kid_lacks(graph: &Graph, below: &[u32], parts: usize, at: u32) -> bool
+    requires parts { parts ≤ 4096 }
+    requires below { AreBelow graph.now parts below.now }
+    requires at { at < length graph.now.nodes }
+    ensures { result ≡ false → (node_at graph.now.nodes at).what ≡ Or → SameBelow graph.now parts at }
+{
+    match graph.what(at) {
+        NodeKind::Literal { .. } | NodeKind::And => false,
+        NodeKind::Or => one_lacks(graph, below, parts, at),
+    }
+}
+
+fn one_lacks(graph: &Graph, below: &[u32], parts: usize, at: u32) -> bool
+    requires parts { parts ≤ 4096 }
+    requires below { AreBelow graph.now parts below.now }
+    requires at { at < length graph.now.nodes }
+    requires what { (node_at graph.now.nodes at).what ≡ Or }
+    ensures { result ≡ false → SameBelow graph.now parts at }
+{
+    let _vars = graph.vars();
+    for kid in graph.kids(at) {
+        if lacks(below, parts, at as usize, *kid as usize) {
+            return true;
+        }
+    }
+    false
+}
+
+// Whether a set has a part that another has not.
+fn lacks(below: &[u32], parts: usize, outer: usize, inner: usize) -> bool
+    requires parts { parts ≤ 4096 }
+    requires outer { outer * size_of parts + size_of parts ≤ length below.now }
+    requires inner { inner * size_of parts + size_of parts ≤ length below.now }
+    ensures { result ≡ false → (p : ℕ) → p < parts
+        → (has_number (set_at below.now outer (size_of parts)) p && not (has_number (set_at below.now inner (size_of parts)) p)) ≡ false }
+{
+    let size = size_of(parts);
+    next_missing(set_at(below, outer, size), set_at(below, inner, size), 0) < parts
+}

@@ -1,0 +1,343 @@
+ghost use Rattle.std.specs.Prelude.{◌≡◌, ◌≢◌, ℕ, ◌+◌, ◌*◌, ◌^◌, ◌<◌, ◌≤◌, [], length, true, false, IfOk, All, Some, MatchOption, slice_index, slice_index_or};
+ghost use Rattle.conditioner.specs.Models.{models, total_cost};
+ghost use Rattle.diagnosis_lister.specs.Listing.{bits_of, fault_count};
+ghost use Rattle.diagnosis_lister.specs.inner.Working.{fixed_bits};
+ghost use Rattle.scratch_pool.specs.Regions.{free_words};
+ghost use Rattle.level_lister.specs.Listing.{IsFor, set_words, point_if, later_levels, level_step};
+ghost use Rattle.level_lister.specs.Passes.{group_count, fixing_passes, point_faults, most_passes};
+ghost use Rattle.level_lister.specs.inner.Searching.{FindsFirst, FindsNext};
+
+use crate::below::parts_below;
+use crate::lacking::nodes_lacking;
+use crate::states::{keep, put_back, read_state, state_cost};
+use minimiser::{Steps, TOTAL_LIMIT, least};
+use node_store::Graph;
+use scratch_pool::Region;
+use std::alloc::{AllocError, Global};
+use std::marker::{Brand, Model};
+use std::sync::ledger::{Blank, Ledger};
+
+/// States of more than this cost are never listed.
+pub const TOP_LIMIT: u32 = 4_096_000;
+
+/// A graph has at most so many parts.
+pub const PART_LIMIT: usize = 4_096;
+
+/// What comes next.
+#[derive(Clone, Copy, Debug, PartialEq, Eq)]
+pub enum LevelStep {
+    /// There is a next state, of this cost.
+    Found(u32),
+    /// There are states, and none is later of those that are listed.
+    End,
+    /// The words agree with no state.
+    Inconsistent,
+}
+
+/// What is listed of a graph: its states by rising cost, up to a greatest one.
+#[derive(Drop)]
+pub struct Levels {
+    costs: Vec<u32>,
+    top: u32,
+    // for each node the parts below it, and behind them all parts
+    below: Vec<u32>,
+    // for each node 0 where no kid lacks one of these, and behind them whether the last node lacks one
+    lacking: Vec<u32>,
+}
+
+impl Model for Levels {
+    ghost use Rattle.level_lister.specs.Listing.{Kept};
+
+    ghost Value = { Kept };
+
+    ghost view = { λ l. record { costs = l.costs.items; top = l.top; below = l.below.items; lacking = l.lacking.items } };
+}
+
+impl Levels {
+    /// What is listed of a graph whose first variables are parts of these costs: its states that cost no more than a greatest cost.
+    pub fn new(alloc: Global, graph: &Graph, costs: &[u32], top: u32) -> Result<Levels, AllocError>
+        requires parts { length costs.now ≤ graph.now.vars }
+        requires few { length costs.now ≤ PART_LIMIT }
+        requires total { total_cost costs.now < TOTAL_LIMIT }
+        requires top { top ≤ TOP_LIMIT }
+
+        ensures for_graph { IfOk result (λ levels. IsFor graph.now levels) }
+        ensures costs { IfOk result (λ levels. levels.costs ≡ costs.now) }
+        ensures top { IfOk result (λ levels. levels.top ≡ top) }
+    {
+        let below = parts_below(alloc, graph, costs.len())?;
+        let lacking = nodes_lacking(alloc, graph, &below, costs.len())?;
+        Ok(Levels {
+            costs: costs.to_vec(alloc)?,
+            top,
+            below,
+            lacking,
+        })
+    }
+
+    /// The next of the states that agree with the words, by cost and then in their order: the first one of all, or the first one
+    /// after the state, where that is a point. A point need not be listed.
+    ///
+    /// The words are the same afterwards, and so is how much of the region is free. Where nothing is found the state stays.
+    pub fn next(
+        &self,
+        graph: &Graph,
+        words: &mut [u32],
+        region: &mut Region,
+        state: &mut [u32],
+        pointed: bool,
+    ) -> LevelStep
+        requires graph { IsFor graph.now self.now }
+        requires long { length words.old ≡ graph.now.vars }
+        requires words { All (λ w. w < 3) words.old }
+        requires state { length state.old ≡ length self.now.costs }
+        requires state_words { All (λ s. s < 2) state.old }
+        requires runs { region.old.runs ≡ [] }
+        requires room { (length graph.now.nodes + 2) * (set_words self.now.top + 1) + length self.now.costs ≤ free_words region.old }
+
+        ensures step { result ≡ level_step self.now.costs (models graph.now words.old (length self.now.costs))
+            (later_levels graph.now words.old self.now (point_if pointed (bits_of state.old))) }
+        ensures next { bits_of state.new ≡ slice_index_or
+            (later_levels graph.now words.old self.now (point_if pointed (bits_of state.old))) 0 (bits_of state.old) }
+        ensures state { All (λ s. s < 2) state.new }
+        ensures words { words.new ≡ words.old }
+        ensures runs { region.new.runs ≡ [] }
+        ensures free { free_words region.new ≡ free_words region.old }
+    {
+        let room = self.room(graph);
+        let run = region.carve(room).unwrap();
+        let step = self.next_in::<Brand>(
+            Blank::new(1),
+            graph,
+            words,
+            region.run_mut(&run),
+            state,
+            pointed,
+        );
+        region.release(run);
+        step
+    }
+
+    // How many words a set has.
+    pub(crate) fn size(&self) -> usize
+        ensures { result ≡ set_words self.now.top }
+    {
+        (self.top / 32) as usize + 1
+    }
+
+    pub(crate) fn top(&self) -> u32
+        ensures { result ≡ self.now.top }
+    {
+        self.top
+    }
+
+    pub(crate) fn costs(&self) -> &[u32]
+        ensures { result.now ≡ self.now.costs }
+    {
+        &self.costs
+    }
+
+    pub(crate) fn below(&self) -> &[u32]
+        ensures { result.now ≡ self.now.below }
+    {
+        &self.below
+    }
+
+    pub(crate) fn lacking(&self) -> &[u32]
+        ensures { result.now ≡ self.now.lacking }
+    {
+        &self.lacking
+    }
+
+    /// How many words one step needs.
+    pub fn room(&self, graph: &Graph) -> usize
+        requires graph { IsFor graph.now self.now }
+        ensures { result ≡ length self.now.costs + (length graph.now.nodes + 2) * (set_words self.now.top + 1) }
+    {
+        self.costs.len() + (graph.len() as usize + 2) * (self.size() + 1)
+    }
+
+    fn next_in<L: Ledger>(
+        &self,
+        blank: Blank,
+        graph: &Graph,
+        words: &mut [u32],
+        scratch: &mut [u32],
+        state: &mut [u32],
+        pointed: bool,
+    ) -> LevelStep
+        requires name { blank.name ≡ L.name }
+        requires shares { blank.parts ≡ L.parts }
+        requires some { 0 < blank.parts }
+        requires graph { IsFor graph.now self.now }
+        requires long { length words.old ≡ graph.now.vars }
+        requires words { All (λ w. w < 3) words.old }
+        requires state { length state.old ≡ length self.now.costs }
+        requires state_words { All (λ s. s < 2) state.old }
+        requires room { length scratch.old ≡ length self.now.costs + (length graph.now.nodes + 2) * (set_words self.now.top + 1) }
+        ensures step { result ≡ level_step self.now.costs (models graph.now words.old (length self.now.costs))
+            (later_levels graph.now words.old self.now (point_if pointed (bits_of state.old))) }
+        ensures next { bits_of state.new ≡ slice_index_or
+            (later_levels graph.now words.old self.now (point_if pointed (bits_of state.old))) 0 (bits_of state.old) }
+        ensures state { All (λ s. s < 2) state.new }
+        ensures words { words.new ≡ words.old }
+    {
+        let mut steps = Steps::<L>::new(blank);
+        self.next_by(graph, words, scratch, state, pointed, &mut steps)
+    }
+
+    /// The same in words that are lent for it. The passes over the graph are counted.
+    pub fn next_by<L: Ledger>(
+        &self,
+        graph: &Graph,
+        words: &mut [u32],
+        scratch: &mut [u32],
+        state: &mut [u32],
+        pointed: bool,
+        steps: &mut Steps<L>,
+    ) -> LevelStep
+        requires graph { IsFor graph.now self.now }
+        requires long { length words.old ≡ graph.now.vars }
+        requires words { All (λ w. w < 3) words.old }
+        requires state { length state.old ≡ length self.now.costs }
+        requires state_words { All (λ s. s < 2) state.old }
+        requires room { length scratch.old ≡ length self.now.costs + (length graph.now.nodes + 2) * (set_words self.now.top + 1) }
+        ensures step { result ≡ level_step self.now.costs (models graph.now words.old (length self.now.costs))
+            (later_levels graph.now words.old self.now (point_if pointed (bits_of state.old))) }
+        ensures next { bits_of state.new ≡ slice_index_or
+            (later_levels graph.now words.old self.now (point_if pointed (bits_of state.old))) 0 (bits_of state.old) }
+        ensures state { All (λ s. s < 2) state.new }
+        ensures words { words.new ≡ words.old }
+
+        // How many passes are made at most.
+        ensures steps { (search : ℕ) → length self.now.costs < (group_count self.now.top + 1) ^ search → steps.new ≤ steps.old
+            + most_passes (length self.now.costs) self.now.top search (point_if pointed (bits_of state.old)) (bits_of state.new) }
+    {
+        let (saved, work) = scratch.split_at_mut(self.costs().len());
+        if !self.has_state(graph, words, work, steps) {
+            return LevelStep::Inconsistent;
+        }
+        keep(words, saved);
+        match self.find(graph, words, saved, work, state, pointed, steps) {
+            None => LevelStep::End,
+            Some(cost) => {
+                read_state(words, state);
+                put_back(words, saved);
+                LevelStep::Found(cost)
+            }
+        }
+    }
+
+    // Whether some state agrees with the words.
+    fn has_state<L: Ledger>(
+        &self,
+        graph: &Graph,
+        words: &[u32],
+        work: &mut [u32],
+        steps: &mut Steps<L>,
+    ) -> bool
+        requires graph { IsFor graph.now self.now }
+        requires long { length words.now ≡ graph.now.vars }
+        requires words { All (λ w. w < 3) words.now }
+        requires work { length work.old ≡ (length graph.now.nodes + 2) * (set_words self.now.top + 1) }
+        ensures none { result ≡ false → models graph.now words.now (length self.now.costs) ≡ [] }
+        ensures some { result ≡ true → models graph.now words.now (length self.now.costs) ≢ [] }
+        ensures steps { steps.new ≡ steps.old + 1 }
+    {
+        let (values, _) = work.split_at_mut(graph.len() as usize);
+        least(graph, words, self.costs(), values, steps).is_some()
+    }
+
+    // Fixes the parts as the next state has them, if there is one; what it costs.
+    fn find<L: Ledger>(
+        &self,
+        graph: &Graph,
+        words: &mut [u32],
+        saved: &[u32],
+        work: &mut [u32],
+        state: &[u32],
+        pointed: bool,
+        steps: &mut Steps<L>,
+    ) -> Option<u32>
+        requires graph { IsFor graph.now self.now }
+        requires long { length words.old ≡ graph.now.vars }
+        requires words { All (λ w. w < 3) words.old }
+        requires saved { length saved.now ≡ length self.now.costs }
+        requires same { (k : ℕ) → k < length self.now.costs → slice_index saved.now k ≡ slice_index words.old k }
+        requires work { length work.old ≡ (length graph.now.nodes + 2) * (set_words self.now.top + 1) }
+        requires state { length state.now ≡ length self.now.costs }
+        ensures found { FindsNext graph.now words.old self.now (point_if pointed (bits_of state.now)) words.new result }
+        ensures steps { MatchOption result (steps.new ≤ steps.old + (point_faults (point_if pointed (bits_of state.now)) + 1))
+            (λ _. (search : ℕ) → length self.now.costs < (group_count self.now.top + 1) ^ search → steps.new ≤ steps.old
+            + (point_faults (point_if pointed (bits_of state.now)) + 1 + fixing_passes (length self.now.costs) self.now.top search (fixed_bits (length self.now.costs) words.new))) }
+    {
+        if pointed {
+            self.find_after(graph, words, saved, work, state, steps)
+        } else {
+            self.find_from(graph, words, work, 0, steps)
+        }
+    }
+
+    // The first state after another.
+    fn find_after<L: Ledger>(
+        &self,
+        graph: &Graph,
+        words: &mut [u32],
+        saved: &[u32],
+        work: &mut [u32],
+        state: &[u32],
+        steps: &mut Steps<L>,
+    ) -> Option<u32>
+        requires graph { IsFor graph.now self.now }
+        requires long { length words.old ≡ graph.now.vars }
+        requires words { All (λ w. w < 3) words.old }
+        requires saved { length saved.now ≡ length self.now.costs }
+        requires same { (k : ℕ) → k < length self.now.costs → slice_index saved.now k ≡ slice_index words.old k }
+        requires work { length work.old ≡ (length graph.now.nodes + 2) * (set_words self.now.top + 1) }
+        requires state { length state.now ≡ length self.now.costs }
+        ensures found { FindsNext graph.now words.old self.now (Some (bits_of state.now)) words.new result }
+        ensures steps { MatchOption result (steps.new ≤ steps.old + (fault_count (bits_of state.now) + 1))
+            (λ _. (search : ℕ) → length self.now.costs < (group_count self.now.top + 1) ^ search → steps.new ≤ steps.old
+            + (fault_count (bits_of state.now) + 1 + fixing_passes (length self.now.costs) self.now.top search (fixed_bits (length self.now.costs) words.new))) }
+    {
+        let own = state_cost(state, self.costs());
+        let top = self.top();
+        if own > top {
+            return None;
+        }
+        match self.leave(graph, words, saved, work, state, own, steps) {
+            Some(part) => {
+                self.settle(graph, words, work, own, part + 1, steps);
+                Some(own)
+            }
+            None => self.find_from(graph, words, work, own + 1, steps),
+        }
+    }
+
+    // The first of the states whose cost is at least so much.
+    fn find_from<L: Ledger>(
+        &self,
+        graph: &Graph,
+        words: &mut [u32],
+        work: &mut [u32],
+        from: u32,
+        steps: &mut Steps<L>,
+    ) -> Option<u32>
+        requires graph { IsFor graph.now self.now }
+        requires long { length words.old ≡ graph.now.vars }
+        requires words { All (λ w. w < 3) words.old }
+        requires work { length work.old ≡ (length graph.now.nodes + 2) * (set_words self.now.top + 1) }
+        ensures found { FindsFirst graph.now words.old self.now from words.new result }
+        ensures steps { MatchOption result (steps.new ≤ steps.old + (1))
+            (λ _. (search : ℕ) → length self.now.costs < (group_count self.now.top + 1) ^ search → steps.new ≤ steps.old
+            + (1 + fixing_passes (length self.now.costs) self.now.top search (fixed_bits (length self.now.costs) words.new))) }
+    {
+        match self.next_cost(graph, words, work, from, steps) {
+            None => None,
+            Some(cost) => {
+                self.settle(graph, words, work, cost, 0, steps);
+                Some(cost)
+            }
+        }
+    }
+}

@@ -1,0 +1,18 @@
+//! The health states that a graph allows under the words of its variables, by rising cost, one after the other.
+#![tactic(auto)]
+
+mod below;
+mod bits;
+mod choices;
+mod lacking;
+mod levels;
+mod pair_pass;
+mod pairs;
+mod pass;
+mod searching;
+mod sets;
+mod settling;
+mod states;
+
+pub use bits::level_bits;
+pub use levels::{LevelStep, Levels, PART_LIMIT, TOP_LIMIT};

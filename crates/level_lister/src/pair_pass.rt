@@ -1,0 +1,290 @@
+//! One pass over the nodes, which brings two words for each, where only costs below 32 are listed.
+ghost use Rattle.std.specs.Prelude.{◌≡◌, ℕ, ◌+◌, ◌*◌, ◌<◌, ◌≤◌, Bool, true, false, ◌&&◌, List, length, All, slice_index, ◌==◌};
+ghost use Rattle.ranking.specs.Assignments.{Assignment};
+ghost use Rattle.ranking.specs.Bits.{same_bit};
+ghost use Rattle.ranking.specs.Cases.{agrees_at};
+ghost use Rattle.graph_rules.specs.declared.NodeKind.TheVariants.{And, Or};
+ghost use Rattle.graph_rules.specs.Graphs.{node_at};
+ghost use Rattle.minimiser.specs.Costs.{known_at};
+ghost use Rattle.level_lister.specs.Listing.{IsFor};
+ghost use Rattle.level_lister.specs.Passes.{group_count};
+ghost use Rattle.level_lister.specs.inner.NodeSets.{size_of, set_at, ArePartsOf, SameBelow};
+ghost use Rattle.level_lister.specs.inner.Pairs.{has_bit, Tells, TellsNode, TellNodes, TellsWhole, group_in, pair_at};
+
+use crate::choices::next_missing;
+use crate::levels::Levels;
+use crate::pairs::{Groups, Pair, either, joined, one};
+use crate::pass::{set_at, size_of};
+use conditioner::{Leaf, leaf};
+use graph_rules::NodeKind;
+use node_store::Graph;
+
+// What costs nothing, and has no faulty part.
+const FREE: Pair = Pair {
+    costs: 1,
+    faults: 0,
+};
+
+// What cannot be.
+const NEVER: Pair = Pair {
+    costs: 0,
+    faults: 0,
+};
+
+// The two words of a node.
+fn pair_at(values: &[u32], k: usize) -> Pair
+    requires { 2 * k + 1 < length values.now }
+    ensures { result ≡ pair_at values.now k }
+{
+    Pair {
+        costs: values[2 * k],
+        faults: values[2 * k + 1],
+    }
+}
+
+impl Levels {
+    // How many groups a word tells apart at each cost.
+    pub(crate) fn group_count(&self) -> u32
+        requires { self.now.top < 32 }
+        ensures count { result ≡ group_count self.now.top }
+        ensures some { 0 < result }
+        ensures room { result * (self.now.top + 1) ≤ 32 }
+    {
+        32 / (self.top() + 1)
+    }
+
+    // Puts the two words of each node, and brings those of all parts.
+    pub(crate) fn put_pairs(
+        &self,
+        graph: &Graph,
+        words: &[u32],
+        groups: Groups,
+        values: &mut [u32],
+    ) -> Pair
+        requires graph { IsFor graph.now self.now }
+        requires long { length words.now ≡ graph.now.vars }
+        requires words { All (λ w. w < 3) words.now }
+        requires top { self.now.top < 32 }
+        requires size { 0 < groups.size }
+        requires room { 2 * length graph.now.nodes ≤ length values.old }
+        ensures { TellsWhole graph.now words.now self.now.costs self.now.top groups result }
+    {
+        for at in 0..graph.len() {
+            let pair = self.node_pair(graph, words, groups, values, at);
+            values[2 * at as usize] = pair.costs;
+            values[2 * at as usize + 1] = pair.faults;
+        }
+        let root = graph.len() as usize - 1;
+        let pair = pair_at(values, root);
+        if self.lacking()[root + 1] == 0 {
+            return pair;
+        }
+        self.widened(words, groups, pair, root, root + 1)
+    }
+
+    // The two words of a node, from those of the nodes before it.
+    fn node_pair(
+        &self,
+        graph: &Graph,
+        words: &[u32],
+        groups: Groups,
+        values: &[u32],
+        at: u32,
+    ) -> Pair
+        requires graph { IsFor graph.now self.now }
+        requires long { length words.now ≡ graph.now.vars }
+        requires words { All (λ w. w < 3) words.now }
+        requires top { self.now.top < 32 }
+        requires size { 0 < groups.size }
+        requires at { at < length graph.now.nodes }
+        requires room { 2 * length graph.now.nodes ≤ length values.now }
+        requires earlier { TellNodes graph.now words.now self.now.costs self.now.top groups values.now at }
+        ensures { TellsNode graph.now words.now self.now.costs self.now.top groups at result }
+    {
+        let _vars = graph.vars();
+        match graph.what(at) {
+            NodeKind::Literal { var, positive } => self.literal_pair(words, groups, var, positive),
+            NodeKind::And => self.and_pair(graph, values, at),
+            NodeKind::Or => {
+                if self.lacking()[at as usize] == 0 {
+                    self.full_pair(graph, values, at)
+                } else {
+                    self.or_pair(graph, words, groups, values, at)
+                }
+            }
+        }
+    }
+
+    fn literal_pair(&self, words: &[u32], groups: Groups, var: u32, positive: bool) -> Pair
+        requires var { (1 ≤ var) × (var ≤ length words.now) }
+        requires words { All (λ w. w < 3) words.now }
+        requires parts { length self.now.costs ≤ length words.now }
+        requires top { self.now.top < 32 }
+        requires size { 0 < groups.size }
+        ensures { Tells words.now self.now.costs self.now.top (group_count self.now.top) (group_in words.now (length self.now.costs) groups)
+            (λ a. same_bit positive (a var)) (λ v. var == v) result }
+    {
+        match leaf(words, var, positive) {
+            Leaf::False => NEVER,
+            _ => if positive {
+                FREE
+            } else {
+                self.fault_pair(words, groups, var as usize - 1)
+            },
+        }
+    }
+
+    // What is told where a part is faulty. There may be no such part: then it is another variable that is false.
+    fn fault_pair(&self, words: &[u32], groups: Groups, part: usize) -> Pair
+        requires part { part < length words.now }
+        requires parts { length self.now.costs ≤ length words.now }
+        requires allowed { agrees_at (known_at words.now (part + 1)) false ≡ true }
+        requires top { self.now.top < 32 }
+        requires size { 0 < groups.size }
+        ensures { Tells words.now self.now.costs self.now.top (group_count self.now.top) (group_in words.now (length self.now.costs) groups)
+            (λ a. same_bit false (a (part + 1))) (λ v. part + 1 == v) result }
+    {
+        let costs = self.costs();
+        if part >= costs.len() {
+            return FREE;
+        }
+        Pair {
+            costs: one(costs[part]),
+            faults: self.mark(words, groups, part, costs[part]),
+        }
+    }
+
+    // The bit of a part's group at its cost, if it is open and in a group.
+    fn mark(&self, words: &[u32], groups: Groups, part: usize, cost: u32) -> u32
+        requires part { part < length self.now.costs }
+        requires parts { length self.now.costs ≤ length words.now }
+        requires top { self.now.top < 32 }
+        requires size { 0 < groups.size }
+        ensures { (n g : ℕ) → n ≤ self.now.top → g < group_count self.now.top → has_bit result (group_count self.now.top * n + g)
+            ≡ ((n == cost) && group_in words.now (length self.now.costs) groups g (part + 1)) }
+    {
+        if words[part] != 0 || cost > self.top() || part < groups.low {
+            return 0;
+        }
+        let count = self.group_count();
+        let group = (part - groups.low) / groups.size;
+        if group >= count as usize {
+            return 0;
+        }
+        one(count * cost + group as u32)
+    }
+
+    // What is told of a part about which nothing is asked.
+    fn free_pair(&self, words: &[u32], groups: Groups, part: usize) -> Pair
+        requires part { part < length self.now.costs }
+        requires parts { length self.now.costs ≤ length words.now }
+        requires words { All (λ w. w < 3) words.now }
+        requires top { self.now.top < 32 }
+        requires size { 0 < groups.size }
+        ensures { Tells words.now self.now.costs self.now.top (group_count self.now.top) (group_in words.now (length self.now.costs) groups)
+            (λ a. true) (λ v. part + 1 == v) result }
+    {
+        let word = words[part];
+        if word == 1 {
+            return FREE;
+        }
+        let faulty = self.fault_pair(words, groups, part);
+        if word == 2 {
+            faulty
+        } else {
+            either(FREE, faulty)
+        }
+    }
+
+    // Lets each part be free that is below the one node and not below the other.
+    fn widened(&self, words: &[u32], groups: Groups, pair: Pair, inner: usize, outer: usize) -> Pair
+        requires parts { length self.now.costs ≤ length words.now }
+        requires words { All (λ w. w < 3) words.now }
+        requires few { length self.now.costs ≤ 4096 }
+        requires top { self.now.top < 32 }
+        requires size { 0 < groups.size }
+        requires inner { inner * size_of (length self.now.costs) + size_of (length self.now.costs) ≤ length self.now.below }
+        requires outer { outer * size_of (length self.now.costs) + size_of (length self.now.costs) ≤ length self.now.below }
+        ensures { (test : Assignment → Bool) (some more : ℕ → Bool)
+            → ArePartsOf (length self.now.costs) some (set_at self.now.below inner (size_of (length self.now.costs)))
+            → ArePartsOf (length self.now.costs) more (set_at self.now.below outer (size_of (length self.now.costs)))
+            → ((v : ℕ) → some v ≡ true → more v ≡ true)
+            → Tells words.now self.now.costs self.now.top (group_count self.now.top) (group_in words.now (length self.now.costs) groups) test some pair
+            → Tells words.now self.now.costs self.now.top (group_count self.now.top) (group_in words.now (length self.now.costs) groups) test more result }
+    {
+        let parts = self.costs().len();
+        let below = set_at(self.below(), outer, size_of(parts));
+        let own = set_at(self.below(), inner, size_of(parts));
+        let mut pair = pair;
+        let mut part = next_missing(below, own, 0);
+        while part < parts {
+            let free = self.free_pair(words, groups, part);
+            pair = joined(pair, free, self.group_count(), self.top() + 1);
+            part = next_missing(below, own, part + 1);
+        }
+        pair
+    }
+
+    fn and_pair(&self, graph: &Graph, values: &[u32], at: u32) -> Pair
+        requires top { self.now.top < 32 }
+        requires at { at < length graph.now.nodes }
+        requires what { (node_at graph.now.nodes at).what ≡ And }
+        requires room { 2 * length graph.now.nodes ≤ length values.now }
+        ensures { (words : List ℕ) (groups : Groups) → TellNodes graph.now words self.now.costs self.now.top groups values.now at
+            → TellsNode graph.now words self.now.costs self.now.top groups at result }
+    {
+        let _vars = graph.vars();
+        let mut pair = FREE;
+        for kid in graph.kids(at) {
+            pair = joined(
+                pair,
+                pair_at(values, *kid as usize),
+                self.group_count(),
+                self.top() + 1,
+            );
+        }
+        pair
+    }
+
+    // The words of an Or whose kids lack no part.
+    fn full_pair(&self, graph: &Graph, values: &[u32], at: u32) -> Pair
+        requires at { at < length graph.now.nodes }
+        requires what { (node_at graph.now.nodes at).what ≡ Or }
+        requires same { SameBelow graph.now (length self.now.costs) at }
+        requires room { 2 * length graph.now.nodes ≤ length values.now }
+        ensures { (words : List ℕ) (groups : Groups) → TellNodes graph.now words self.now.costs self.now.top groups values.now at
+            → TellsNode graph.now words self.now.costs self.now.top groups at result }
+    {
+        let _vars = graph.vars();
+        let mut pair = NEVER;
+        for kid in graph.kids(at) {
+            pair = either(pair, pair_at(values, *kid as usize));
+        }
+        pair
+    }
+
+    // The words of an Or: parts that a kid does not mention are free where it is true.
+    fn or_pair(&self, graph: &Graph, words: &[u32], groups: Groups, values: &[u32], at: u32) -> Pair
+        requires graph { IsFor graph.now self.now }
+        requires long { length words.now ≡ graph.now.vars }
+        requires words { All (λ w. w < 3) words.now }
+        requires top { self.now.top < 32 }
+        requires size { 0 < groups.size }
+        requires at { at < length graph.now.nodes }
+        requires what { (node_at graph.now.nodes at).what ≡ Or }
+        requires room { 2 * length graph.now.nodes ≤ length values.now }
+        requires earlier { TellNodes graph.now words.now self.now.costs self.now.top groups values.now at }
+        ensures { TellsNode graph.now words.now self.now.costs self.now.top groups at result }
+    {
+        let _vars = graph.vars();
+        let mut pair = NEVER;
+        for kid in graph.kids(at) {
+            let own = pair_at(values, *kid as usize);
+            pair = either(
+                pair,
+                self.widened(words, groups, own, *kid as usize, at as usize),
+            );
+        }
+        pair
+    }
+}

@@ -1,0 +1,80 @@
+//! Two words for a node, where few costs are listed: which costs it can have, and at which of them a part of a group is faulty.
+ghost use Rattle.std.specs.Prelude.{◌≡◌, ℕ, ◌+◌, ◌*◌, ◌<◌, ◌≤◌, Bool, false, ◌&&◌, ◌||◌, List, length, ◌==◌};
+ghost use Rattle.ranking.specs.Assignments.{Assignment};
+ghost use Rattle.level_lister.specs.inner.Pairs.{has_bit, IsSpread, Tells};
+
+/// How many numbers a word tells.
+const BITS: u32 = 32;
+
+/// What is told of a node: by the first word its costs, and by the second one at which of them a part of each group is faulty.
+#[derive(Clone, Copy, Debug)]
+pub(crate) struct Pair {
+    pub(crate) costs: u32,
+    pub(crate) faults: u32,
+}
+
+/// The open parts from one on, in groups of so many.
+#[derive(Clone, Copy, Debug)]
+pub(crate) struct Groups {
+    pub(crate) low: usize,
+    pub(crate) size: usize,
+}
+
+// The word of one number, if it has room for it.
+pub(crate) fn one(number: u32) -> u32
+    ensures { (n : ℕ) → n < 32 → has_bit result n ≡ (n == number) }
+{
+    if number < BITS { 1 << number } else { 0 }
+}
+
+// Whether a word has a number.
+pub(crate) fn has_bit(word: u32, number: u32) -> bool
+    requires { number < 32 }
+    ensures { result ≡ has_bit word number }
+{
+    (word >> number) & 1 == 1
+}
+
+// The numbers of a word, each of them greater by so many steps as another word has below a limit.
+fn spread(left: u32, right: u32, step: u32, count: u32) -> u32
+    requires step { 0 < step }
+    requires room { step * count ≤ 32 }
+    ensures { IsSpread left right step count result }
+{
+    let mut set = 0;
+    for times in 0..count {
+        if has_bit(right, times) {
+            set |= left << (step * times);
+        }
+    }
+    set
+}
+
+// What is told of two tests together that share no variable.
+pub(crate) fn joined(left: Pair, right: Pair, step: u32, count: u32) -> Pair
+    requires step { 0 < step }
+    requires count { 0 < count }
+    requires room { step * count ≤ 32 }
+    ensures { (words costs : List ℕ) (top groups : ℕ) (group : ℕ → ℕ → Bool) (test other : Assignment → Bool) (some more : ℕ → Bool)
+        → step ≡ groups → count ≡ top + 1 → ((v : ℕ) → (some v && more v) ≡ false)
+        → Tells words costs top groups group test some left → Tells words costs top groups group other more right
+        → Tells words costs top groups group (λ a. test a && other a) (λ v. some v || more v) result }
+{
+    Pair {
+        costs: spread(left.costs, right.costs, 1, count),
+        faults: spread(left.faults, right.costs, step, count)
+            | spread(right.faults, left.costs, step, count),
+    }
+}
+
+// What is told of one of two tests.
+pub(crate) fn either(left: Pair, right: Pair) -> Pair
+    ensures { (words costs : List ℕ) (top step : ℕ) (group : ℕ → ℕ → Bool) (test other : Assignment → Bool) (some : ℕ → Bool)
+        → Tells words costs top step group test some left → Tells words costs top step group other some right
+        → Tells words costs top step group (λ a. test a || other a) some result }
+{
+    Pair {
+        costs: left.costs | right.costs,
+        faults: left.faults | right.faults,
+    }
+}

@@ -1,0 +1,101 @@
+//! Sets of numbers, as bits of words.
+ghost use Rattle.std.specs.Prelude.{◌≡◌, ℕ, ◌+◌, ◌-◌, ◌*◌, ◌/◌, ◌%◌, ◌<◌, ◌≤◌, ◌||◌, false, length, ◌==◌};
+ghost use Rattle.std.specs.Int.{bit_at};
+ghost use Rattle.level_lister.specs.inner.CostSets.{has_number, has_shifted, word_before, AreSums};
+
+/// How many numbers a word tells.
+pub(crate) const WIDTH: usize = 32;
+
+/// A set has at most so many words.
+pub const SET_LIMIT: usize = 128_001;
+
+// Whether a set has a number.
+pub(crate) fn has_number(set: &[u32], number: usize) -> bool
+    requires { number < 32 * length set.now }
+    ensures { result ≡ has_number set.now number }
+{
+    (set[number / WIDTH] >> (number % WIDTH)) & 1 == 1
+}
+
+// Makes a set empty.
+pub(crate) fn clear(set: &mut [u32])
+    ensures { (n : ℕ) → has_number set.new n ≡ false }
+{
+    set.fill(0);
+}
+
+// Makes a set of one number, if it has room for it.
+pub(crate) fn put_one(set: &mut [u32], cost: usize)
+    ensures { (n : ℕ) → n < 32 * length set.old → has_number set.new n ≡ (n == cost) }
+{
+    clear(set);
+    if cost / WIDTH < set.len() {
+        set[cost / WIDTH] = 1 << (cost % WIDTH);
+    }
+}
+
+// Adds a number to a set.
+pub(crate) fn add_one(set: &mut [u32], number: usize)
+    requires { number < 32 * length set.old }
+    ensures { (n : ℕ) → has_number set.new n ≡ (has_number set.old n || (n == number)) }
+{
+    set[number / WIDTH] |= 1 << (number % WIDTH);
+}
+
+// Adds to a set the numbers of another, each of them greater by so much.
+pub(crate) fn add_shifted(set: &mut [u32], other: &[u32], more: usize)
+    requires { length other.now ≡ length set.old }
+    ensures { (n : ℕ) → n < 32 * length set.old
+        → has_number set.new n ≡ (has_number set.old n || has_shifted other.now more n) }
+{
+    for (i, word) in set.iter_mut().enumerate() {
+        *word |= shifted_word(other, i, more);
+    }
+}
+
+// A word of a set, of which each number is greater by so much.
+fn shifted_word(set: &[u32], i: usize, more: usize) -> u32
+    requires { i < length set.now }
+    ensures { (n : ℕ) → n / 32 ≡ i → (bit_at result (n % 32) == 1) ≡ has_shifted set.now more n }
+{
+    let Some(at) = i.checked_sub(more / WIDTH) else {
+        return 0;
+    };
+    joined_word(set[at], word_before(set, at), more % WIDTH)
+}
+
+// The word before the one at a place, and 0 before the first.
+fn word_before(set: &[u32], at: usize) -> u32
+    requires { at < length set.now }
+    ensures { result ≡ word_before set.now at }
+{
+    match at.checked_sub(1) {
+        None => 0,
+        Some(before) => set[before],
+    }
+}
+
+// The bits of a word, so many places higher, and below them the highest of another.
+fn joined_word(high: u32, low: u32, more: usize) -> u32
+    requires { more < 32 }
+    ensures below { (b : ℕ) → b < more → bit_at result b ≡ bit_at low (32 - more + b) }
+    ensures above { (b : ℕ) → more ≤ b → b < 32 → bit_at result b ≡ bit_at high (b - more) }
+{
+    let both = (u64::from(high) << WIDTH) | u64::from(low);
+    ((both >> (WIDTH - more)) & 0xFFFF_FFFF) as u32
+}
+
+// Makes a set of the sums of a number of one set and a number of another.
+pub(crate) fn put_sums(set: &mut [u32], left: &[u32], right: &[u32])
+    requires few { length set.old ≤ SET_LIMIT }
+    requires left { length left.now ≡ length set.old }
+    requires right { length right.now ≡ length set.old }
+    ensures { AreSums left.now right.now (32 * length set.old) set.new }
+{
+    clear(set);
+    for cost in 0..WIDTH * right.len() {
+        if has_number(right, cost) {
+            add_shifted(set, left, cost);
+        }
+    }
+}

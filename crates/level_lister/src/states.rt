@@ -1,0 +1,107 @@
+//! States, and the words that say them.
+ghost use Rattle.std.specs.Prelude.{◌≡◌, ◌≢◌, ℕ, ◌+◌, ◌<◌, ◌≤◌, ◌++◌, drop, length, slice_index, All};
+ghost use Rattle.ranking.specs.Ranking.{cost};
+ghost use Rattle.conditioner.specs.Models.{total_cost};
+ghost use Rattle.diagnosis_lister.specs.Listing.{bits_of};
+ghost use Rattle.diagnosis_lister.specs.inner.Working.{Follows, fixed_bits};
+ghost use Rattle.minimiser.specs.inner.Held.{held_cost};
+
+use minimiser::TOTAL_LIMIT;
+
+// What a state costs.
+#[tactic(auto, using(crate::proofs::Costing::cost_steps))]
+pub(crate) fn state_cost(state: &[u32], costs: &[u32]) -> u32
+    requires long { length state.now ≡ length costs.now }
+    requires total { total_cost costs.now < TOTAL_LIMIT }
+    ensures { result ≡ cost costs.now (bits_of state.now) }
+{
+    let mut total = 0;
+    for (part, cost) in costs.iter().enumerate() {
+        if state[part] != 0 {
+            total += *cost;
+        }
+    }
+    total
+}
+
+// What the parts cost that are fixed to faulty.
+#[tactic(auto, using(minimiser::proofs::Held::held_steps))]
+pub(crate) fn fixed_cost(words: &[u32], costs: &[u32]) -> u32
+    requires words { All (λ w. w < 3) words.now }
+    requires long { length costs.now ≤ length words.now }
+    requires total { total_cost costs.now < TOTAL_LIMIT }
+    ensures { result ≡ held_cost costs.now words.now }
+{
+    let mut total = 0;
+    for (part, cost) in costs.iter().enumerate() {
+        if words[part] == 2 {
+            total += *cost;
+        }
+    }
+    total
+}
+
+// Fixes the open parts as the state has them, up to the first part that is held otherwise; how many parts these are, with that one.
+pub(crate) fn follow(words: &mut [u32], state: &[u32]) -> usize
+    requires long { length state.now ≤ length words.old }
+    requires words { All (λ w. w < 3) words.old }
+    ensures within { result ≤ length state.now }
+    ensures words { All (λ w. w < 3) words.new }
+    ensures follows { Follows words.old (bits_of state.now) words.new result }
+{
+    for (part, faulty) in state.iter().enumerate() {
+        let word = if *faulty == 0 { 1 } else { 2 };
+        if words[part] == 0 {
+            words[part] = word;
+        } else if words[part] != word {
+            return part + 1;
+        }
+    }
+    state.len()
+}
+
+// Fixes the open parts from one up to another to ok.
+pub(crate) fn fix_ok(words: &mut [u32], from: usize, to: usize)
+    requires words { All (λ w. w < 3) words.old }
+    requires to { to ≤ length words.old }
+    ensures words { All (λ w. w < 3) words.new }
+    ensures fixed { (k : ℕ) → from ≤ k → k < to → slice_index words.old k ≡ 0 → slice_index words.new k ≡ 1 }
+    ensures kept { (k : ℕ) → slice_index words.old k ≢ 0 → slice_index words.new k ≡ slice_index words.old k }
+    ensures before { (k : ℕ) → k < from → slice_index words.new k ≡ slice_index words.old k }
+    ensures behind { (k : ℕ) → to ≤ k → slice_index words.new k ≡ slice_index words.old k }
+{
+    for part in from..to {
+        if words[part] == 0 {
+            words[part] = 1;
+        }
+    }
+}
+
+// Writes what the words say of the parts into the state.
+pub(crate) fn read_state(words: &[u32], state: &mut [u32])
+    requires { length state.old ≤ length words.now }
+    ensures bits { bits_of state.new ≡ fixed_bits (length state.old) words.now }
+    ensures small { All (λ s. s < 2) state.new }
+{
+    for (part, faulty) in state.iter_mut().enumerate() {
+        *faulty = u32::from(words[part] == 2);
+    }
+}
+
+// Keeps the words of the parts.
+pub(crate) fn keep(words: &[u32], saved: &mut [u32])
+    requires { length saved.old ≤ length words.now }
+    ensures { words.now ≡ saved.new ++ drop (length saved.old) words.now }
+{
+    let (parts, _) = words.split_at(saved.len());
+    saved.copy_from_slice(parts);
+}
+
+// Puts the words of the parts back.
+pub(crate) fn put_back(words: &mut [u32], saved: &[u32])
+    requires { length saved.now ≤ length words.old }
+    ensures { words.new ≡ saved.now ++ drop (length saved.now) words.old }
+{
+    let (parts, _) = words.split_at_mut(saved.len());
+    parts.copy_from_slice(saved);
+}

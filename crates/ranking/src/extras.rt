@@ -1,0 +1,8 @@
+/// What sessions are told besides.
+#[derive(Clone, Copy, Debug, PartialEq, Eq)]
+pub struct Extras {
+    /// States by rising cost, up to this cost.
+    pub levels: Option<u32>,
+    /// The graph of the diagnoses.
+    pub least: bool,
+}

@@ -1,0 +1,103 @@
+use Rattle.std.proofs.Common.{◌≡◌, ◌∙◌, ◌<◌, ℕ, List, Bool, Bor, Option, Some, [], All, get_or, length, refl, sym, ap, subst}
+use Rattle.std.specs.Prelude.{IfSome}
+use Rattle.std.specs.Option.{option_map}
+use Rattle.ranking.specs.Levels.{levels, levels_rest}
+use Rattle.conditioner.specs.Models.{models}
+use Rattle.diagnosis_lister.specs.Listing.{bits_of}
+use Rattle.level_lister.specs.Listing.{Kept, IsFor, level_step, later_levels, point_if}
+use Rattle.session_rules.specs.GraphSystems.{Subject, system_of}
+use Rattle.session_rules.proofs.CaseWords.{models-by_words}
+use Rattle.session_core.specs.inner.Bases.{IsBasis, AreEnough, AreKnown, case_in}
+use Rattle.session_core.specs.inner.Desks.{OnDesk, agreeing, top_of, later_by_cost, later_asked}
+use Rattle.session_core.proofs.ByCost.{found_later}
+use Rattle.session_core.proofs.Holding.{written_back}
+use Rattle.session_core.proofs.Rooms.{carved_so, is_held, released_runs, released_words}
+use Rattle.session_core.proofs.Stepping.{first_any}
+use Rattle.session_core.proofs.desk.Desk.next_level.Goals as goal
+
+-- what the lister lists is what comes later of the states that agree with the case
+module _ (subject : Subject) (known : List ℕ) (basis : IsBasis subject) (are : AreKnown subject known) (kept : Kept) (told : subject.extras.levels ≡ Some kept.top) (costs : kept.costs ≡ subject.costs) where
+  states-are : models subject.graph known (length kept.costs) ≡ (system_of subject).consistent (case_in subject known)
+  states-are =
+      ap (λ (cs : List ℕ). models subject.graph known (length cs)) costs
+      ∙ (ap (models subject.graph known) basis.costs
+      ∙ models-by_words subject.parts subject.wires subject.costs subject.graph subject.graph.vars known basis.costs refl are)
+
+  later-are : (point : Option (List Bool)) → later_levels subject.graph known kept point ≡ later_by_cost subject (case_in subject known) point
+  later-are point =
+      let top : kept.top ≡ top_of subject.extras.levels = sym (ap top_of told) in
+      λ i. levels_rest (costs i) (levels (costs i) (top i) (states-are i)) point
+
+  step-is : (point : Option (List Bool)) → level_step kept.costs (models subject.graph known (length kept.costs)) (later_levels subject.graph known kept point)
+      ≡ level_step subject.costs ((system_of subject).consistent (case_in subject known)) (later_by_cost subject (case_in subject known) point)
+  step-is point = λ i. level_step (costs i) (states-are i) (later-are point i)
+
+-- what is known of what lists the states
+kept_so : (basis : Subject) (found : Option (Bor Kept)) (levels : Bor Kept) → found ≡ Some levels
+    → IfSome found (λ (levels : Bor Kept). (basis.extras.levels ≡ Some levels.now.top) × IsFor basis.graph levels.now × (levels.now.costs ≡ basis.costs))
+    → (basis.extras.levels ≡ Some levels.now.top) × IsFor basis.graph levels.now × (levels.now.costs ≡ basis.costs)
+kept_so basis found levels is =
+    subst (λ (o : Option (Bor Kept)). IfSome o (λ (levels : Bor Kept). (basis.extras.levels ≡ Some levels.now.top) × IsFor basis.graph levels.now × (levels.now.costs ≡ basis.costs))) is
+
+pub invariant_of-self : goal.invariant_of-self
+invariant_of-self g c =
+    let before = c.self.inside.room in
+    let run = c.unwrap-run.result in
+    let at = carved_so before c.carve.new.self c.level_room.result c.carve.result run c.unwrap-run.ensures c.carve.ensures.run in
+    let known = written_back c.self.inside.known.len c.next_by-step.new.words c.self.inside.known.items (sym (c.next_by-step.auto.words ∙ c.deref_mut-2.ensures.len))
+    ∙ (c.next_by-step.ensures.words ∙ c.deref_mut-2.ensures.value) in
+    let state = written_back c.self.inside.state.len c.next_by-step.new.state _ (sym (c.next_by-step.auto.state ∙ c.deref_mut-3.ensures.len)) in
+    record {
+      known = subst (AreKnown c.self.inside.basis) (sym known) c.self.invariant.known;
+      one_a_part = ap length state ∙ (c.next_by-step.auto.state ∙ (c.deref_mut-3.ensures.len ∙ (sym c.deref_mut.ensures.len ∙ (ap length c.deref_mut.ensures.value ∙ c.self.invariant.one_a_part))));
+      bits = subst (λ (xs : List ℕ). All (λ s. s < 2) xs) (sym state) c.next_by-step.ensures.state;
+      verdict_a_part = c.self.invariant.verdict_a_part;
+      two_a_wire = c.self.invariant.two_a_wire;
+      one_a_node = c.self.invariant.one_a_node;
+      enough = subst (AreEnough c.self.inside.basis) (sym (released_words before c.carve.new.self run c.self.invariant.unused at.1 c.release.new.self c.next_by-step.new.scratch c.release.ensures.words)) c.self.invariant.enough;
+      unused = released_runs before c.carve.new.self run c.self.invariant.unused at.1 c.release.new.self c.release.ensures.runs;
+      serves = c.self.invariant.serves;
+    }
+
+pub returns-clause-step : goal.returns-clause-step
+returns-clause-step g c =
+    let basis = c.self.inside.basis in
+    let known = c.self.inside.known.items in
+    let kept = c.unwrap-levels.result.now in
+    let so = kept_so basis c.levels.result c.unwrap-levels.result c.unwrap-levels.ensures c.levels.ensures.some in
+    let point = option_map (λ (old : Bor (List ℕ)). bits_of old.now) c.args.point in
+    let start = written_back c.self.inside.state.len c.start_at-pointed.new.state c.self.inside.state.items (sym (c.start_at-pointed.auto.state ∙ c.deref_mut.ensures.len)) in
+    let from = ap (λ (xs : List ℕ). point_if c.start_at-pointed.result (bits_of xs)) (c.deref_mut-3.ensures.value ∙ start) ∙ c.start_at-pointed.ensures.point in
+    c.next_by-step.ensures.step
+    ∙ ((λ i. level_step kept.costs (models (c.graph.ensures.graph i) (c.deref_mut-2.ensures.value i) (length kept.costs)) (later_levels (c.graph.ensures.graph i) (c.deref_mut-2.ensures.value i) kept (from i)))
+    ∙ (step-is basis known c.levels.ensures.basis c.self.invariant.known kept so.0 so.2 point
+    ∙ ap (λ (d : OnDesk). level_step d.subject.costs (agreeing d) (later_asked d point)) c.self.view_is))
+
+pub returns-clause-state : goal.returns-clause-state
+returns-clause-state g c = λ cost found.
+    let desk = c.args.self.now in
+    let basis = c.self.inside.basis in
+    let known = c.self.inside.known.items in
+    let kept = c.unwrap-levels.result.now in
+    let so = kept_so basis c.levels.result c.unwrap-levels.result c.unwrap-levels.ensures c.levels.ensures.some in
+    let point = option_map (λ (old : Bor (List ℕ)). bits_of old.now) c.args.point in
+    let start = written_back c.self.inside.state.len c.start_at-pointed.new.state c.self.inside.state.items (sym (c.start_at-pointed.auto.state ∙ c.deref_mut.ensures.len)) in
+    let from = ap (λ (xs : List ℕ). point_if c.start_at-pointed.result (bits_of xs)) (c.deref_mut-3.ensures.value ∙ start) ∙ c.start_at-pointed.ensures.point in
+    let state = written_back c.self.inside.state.len c.next_by-step.new.state _ (sym (c.next_by-step.auto.state ∙ c.deref_mut-3.ensures.len)) in
+    let old = bits_of c.deref_mut-3.result.now in
+    ap bits_of state
+    ∙ (c.next_by-step.ensures.next
+    ∙ ((λ i. get_or (later_levels (c.graph.ensures.graph i) (c.deref_mut-2.ensures.value i) kept (from i)) 0 old)
+    ∙ (ap (λ (xs : List (List Bool)). get_or xs 0 old) (later-are basis known c.levels.ensures.basis c.self.invariant.known kept so.0 so.2 point)
+    ∙ (ap (λ (d : OnDesk). get_or (later_asked d point) 0 old) c.self.view_is
+    ∙ first_any (later_asked desk point) old [] (found_later desk.subject.costs (agreeing desk) (later_asked desk point) cost (sym (returns-clause-step g c) ∙ found))))))
+
+pub run_mut-requires : goal.run_mut-requires
+run_mut-requires g c =
+    let at = carved_so c.self.inside.room c.carve.new.self c.level_room.result c.carve.result c.unwrap-run.result c.unwrap-run.ensures c.carve.ensures.run in
+    is_held c.self.inside.room c.carve.new.self c.unwrap-run.result c.self.invariant.unused at.1
+
+pub next_by-step-requires-clause-state_words : goal.next_by-step-requires-clause-state_words
+next_by-step-requires-clause-state_words g c =
+    let start = written_back c.self.inside.state.len c.start_at-pointed.new.state c.self.inside.state.items (sym (c.start_at-pointed.auto.state ∙ c.deref_mut.ensures.len)) in
+    subst (λ (xs : List ℕ). All (λ s. s < 2) xs) (sym (c.deref_mut-3.ensures.value ∙ start)) c.start_at-pointed.ensures.bits

@@ -1,0 +1,478 @@
+-- The lines of the nodes stand as those of a smooth graph, and each says what its node means.
+use Rattle.std.proofs.Common.{◌≡◌, ℕ, ◌+◌, ◌-◌, ◌*◌, ◌^◌, ◌<◌, ◌≤◌, Bool, true, false, not, cond, ◌&&◌, ◌||◌, ◌==◌, All, List, [], ◌∷◌, ◌++◌, map, length, get_or, Option, Some, None, refl, ap, sym, ◌∙◌, subst, arith, ⊎_elim, inl, inr, append_assoc, append-nil, length-append}
+use Rattle.std.specs.Prelude.{slice_get, slice_index, nat_lt, nat_le}
+use Rattle.std.specs.List.{list_all, list_any, filter, flat_map, enumerate_from, range_with_len, AllByRecursion}
+use Rattle.std.proofs.lemmas.Bool.{and_from, and_parts, lt-ltb, ltb-true, le-leb, leb-true, eqb-true, cases_lt}
+use Rattle.std.proofs.lemmas.List.{length-map, get_or_at}
+use Rattle.std.proofs.lemmas.List.FromFn.{length-range_with_len}
+use Rattle.std.proofs.lemmas.Option.{slice_get-get_or, same_Some}
+use Rattle.ranking.specs.Bits.{same_bit}
+use Rattle.ranking.specs.Assignments.{Assignment}
+use Rattle.ranking.specs.Values.{values}
+use Rattle.ranking.proofs.Members.{In}
+use Rattle.graph_rules.specs.declared.TheConstants.{CHILD_LIMIT}
+use Rattle.graph_rules.specs.declared.NodeKind.{NodeKind}
+use Rattle.graph_rules.specs.declared.NodeKind.TheVariants.{Literal, And, Or}
+use Rattle.graph_rules.specs.Graphs.{at_most_one, Node, Graph, true_node, truth_by, mention_by, mentions, is_true, IsGraph}
+use Rattle.graph_rules.proofs.NodeValues.{are_below, value_of}
+use Rattle.graph_rules.proofs.NodesFit.{Fits, fits-get, literal}
+use Rattle.minimiser.specs.Costs.{part_cost, known_at, cost_at, sum_costs, cheapest, node_cost}
+use Rattle.minimiser.proofs.Costs.{from_add, from_min}
+use Rattle.minimiser.proofs.Derivations.{mention-at, apart-kids, costs-at, all-below}
+use Rattle.graph_rules.proofs.BelowKids.{at_most_one-from, at_most_one-less, range-below}
+use Rattle.graph_rules.specs.StateGraphs.{all_same}
+use Rattle.smooth_nnf.specs.Layouts.{Layout, layout_of, own_line, literal_pairs, literal_line, literal_kids, filling, fillers, costs_just, cheapest_kids, lines_before, lines_to, own_lines, kid_line, or_behind, or_lines, lines_by, lines_at, node_lines, and_over, false_node}
+use Rattle.smooth_nnf.proofs.Standing.{value_of-front, value_of-there, values-behind, Stand, MayFollow, stand-behind}
+use Rattle.smooth_nnf.proofs.Meaning.{is_part, Means, NodeMeans, filled, part-means, other-means, and-means, or-means, kid-inside, cheapest-in, cheapest-is}
+use Rattle.smooth_nnf.proofs.Fillers.{map_twice, length-literal_pairs, pairs-stand, literal_line-lt, literal-value, fillers-below, fillers-mention, fillers-once, fillers-true, fillers-say}
+
+-- ---- lists
+
+pub map-in : {A B : Type 0} (f g : A → B) (xs : List A) → ((x : A) → In x xs → f x ≡ g x) → map f xs ≡ map g xs
+map-in f g [] same = refl
+map-in f g (x ∷ xs) same = λ i. same x (inl refl) i ∷ map-in f g xs (λ y m. same y (inr m)) i
+
+pub any-part : (b : Bool) (f : ℕ → Bool) (kids : List ℕ) → list_any (λ x. x) (map (λ k. b && f k) kids) ≡ (b && list_any (λ x. x) (map f kids))
+any-part true f kids = refl
+any-part false f [] = refl
+any-part false f (k ∷ kids) = any-part false f kids
+
+any-const : (b : Bool) (kids : List ℕ) → (kids ≡ [] → ⊥) → list_any (λ x. x) (map (λ k. b) kids) ≡ b
+any-const b [] some = absurd (some refl)
+any-const true (k ∷ kids) some = refl
+any-const false (k ∷ kids) some = any_false kids where
+  any_false : (kids : List ℕ) → list_any (λ x. x) (map (λ k. false) kids) ≡ false
+  any_false [] = refl
+  any_false (j ∷ kids) = any_false kids
+
+same-const : (b : Bool) (kids : List ℕ) → all_same (map (λ k. b) kids) ≡ true
+same-const b [] = refl
+same-const true (k ∷ kids) = all_true kids where
+  all_true : (kids : List ℕ) → list_all (same_bit true) (map (λ k. true) kids) ≡ true
+  all_true [] = refl
+  all_true (j ∷ kids) = all_true kids
+same-const false (k ∷ kids) = all_false kids where
+  all_false : (kids : List ℕ) → list_all (same_bit false) (map (λ k. false) kids) ≡ true
+  all_false [] = refl
+  all_false (j ∷ kids) = all_false kids
+
+pub length-filter-le : {A : Type 0} (p : A → Bool) (xs : List A) → length (filter p xs) ≤ length xs
+length-filter-le p [] = omega arith
+length-filter-le {A} p (x ∷ xs) = by_test (length-filter-le p xs) (p x) where
+  by_test : length (filter p xs) ≤ length xs → (b : Bool) → length (cond b (x ∷ filter p xs) (filter p xs)) ≤ length (x ∷ xs)
+  by_test le true = omega arith
+  by_test le false = omega arith
+
+one_alone : (b : Bool) → at_most_one (b ∷ []) ≡ true
+one_alone true = refl
+one_alone false = refl
+
+all-one : (b : Bool) → list_all (λ x. x) (b ∷ []) ≡ b
+all-one true = refl
+all-one false = refl
+
+any-one : (b : Bool) → list_any (λ x. x) (b ∷ []) ≡ b
+any-one true = refl
+any-one false = refl
+
+-- what a line has below it that is filled in
+pub below_filled : (p m o : Bool) → (m ≡ true → o ≡ true) → ((p && m) || (p && (o && not m))) ≡ (p && o)
+below_filled false m o h = refl
+below_filled true true o h = sym (h refl)
+below_filled true false true h = refl
+below_filled true false false h = refl
+
+-- a sum is there where each cost is, and the least cost is that of some kid
+each-cost : (C : ℕ → Option ℕ) (kids : List ℕ) (c : ℕ) → sum_costs (map C kids) ≡ Some c → (k : ℕ) → In k kids → (d : ℕ) × (C k ≡ Some d)
+each-cost C [] c s k m = absurd m
+each-cost C (j ∷ kids) c s k (inl e) = let sum = from_add (C j) (sum_costs (map C kids)) c s in (sum.left, ap C e ∙ sum.left_is)
+each-cost C (j ∷ kids) c s k (inr m) = let sum = from_add (C j) (sum_costs (map C kids)) c s in each-cost C kids sum.right sum.right_is k m
+
+cheapest-has : (C : ℕ → Option ℕ) (kids : List ℕ) (c : ℕ) → cheapest (map C kids) ≡ Some c → (k : ℕ) × (In k kids × (C k ≡ Some c))
+cheapest-has C [] c s = absurd (let no : None ≡ Some c = s in cc)
+cheapest-has C (j ∷ kids) c s = ⊎_elim
+    (λ here. (j, (inl refl, here)))
+    (λ later. let r = cheapest-has C kids c later in (r.0, (inr r.1.0, r.1.1)))
+    (from_min (C j) (cheapest (map C kids)) c s)
+
+module _ (graph : Graph) (words costs : List ℕ) (ok : IsGraph graph) (dear : All (λ c. 0 < c) costs) (small : length costs + 1 < 2 ^ 32) where
+  abbrev L : Layout
+  L = layout_of graph words costs
+
+  abbrev parts : ℕ
+  parts = length costs
+
+  abbrev M : ℕ → ℕ → Bool
+  M v k = mentions graph.nodes v k
+
+  abbrev least : List (Option ℕ)
+  least = values (node_cost (known_at words) (part_cost costs)) graph.nodes
+
+  abbrev Ck : ℕ → Option ℕ
+  Ck k = cost_at least k
+
+  abbrev own : ℕ → ℕ
+  own k = own_line L k
+
+  abbrev part_of : ℕ → Bool
+  part_of v = is_part graph words costs ok dear v
+
+  pub Means-same : {t : Assignment → Bool} {m : ℕ → Bool} {c : ℕ} {line other : Assignment → Bool} → ((a : Assignment) → other a ≡ line a) → Means graph words costs ok dear t m c line → Means graph words costs ok dear t m c other
+  Means-same same means = record {
+    sound = λ a b ag h few agree. same a ∙ means.sound a b ag h few agree;
+    reached = λ a h. means.reached a (sym (same a) ∙ h);
+  }
+
+  -- the line of a node is there, has the parts below it that the node has, and says what the node means
+  pub record Drawn (lines : List Node) (k c : ℕ) : Type 0 where
+    pub inside : slice_index (layout_of graph words costs).lines k < length lines
+    pub mentioned : (v : ℕ) → mentions lines v (slice_index (layout_of graph words costs).lines k) ≡ ((nat_le 1 v && nat_le v (length costs)) && mentions graph.nodes v k)
+    pub means : NodeMeans graph words costs ok dear k c (λ a. is_true lines (slice_index (layout_of graph words costs).lines k) a)
+
+  Drawn-more : (lines more : List Node) (k c : ℕ) → Drawn lines k c → Drawn (lines ++ more) k c
+  Drawn-more lines more k c d = record {
+    inside = omega (arith, d.inside, length-append lines more);
+    mentioned = λ v. value_of-front (mention_by v) lines more (own k) d.inside ∙ d.mentioned v;
+    means = Means-same (λ a. value_of-front (truth_by a) lines more (own k) d.inside) d.means;
+  }
+
+  -- the lines of the nodes before one, behind those of the literals
+  pub record Upto (i : ℕ) (more : List Node) : Type 0 where
+    pub stand : Stand (length costs) (literal_pairs (length costs) ++ more)
+    pub drawn : (k c : ℕ) → k < i → cost_at (values (node_cost (known_at words) (part_cost costs)) graph.nodes) k ≡ Some c → Drawn (literal_pairs (length costs) ++ more) k c
+
+  -- ---- a line that is filled in
+
+  module _ (more : List Node) (k c : ℕ) (cost_is : cost_at (values (node_cost (known_at words) (part_cost costs)) graph.nodes) k ≡ Some c) (drawn : Drawn (literal_pairs (length costs) ++ more) k c)
+      (o : ℕ → Bool) (wider : (v : ℕ) → mentions graph.nodes v k ≡ true → o v ≡ true) where
+    abbrev lines : List Node
+    lines = literal_pairs parts ++ more
+
+    abbrev rest : ℕ → Bool
+    rest v = o v && not (M v k)
+
+    abbrev filling_in : List ℕ
+    filling_in = fillers words parts rest
+
+    abbrev pub line_over : Node
+    line_over = and_over (slice_index (layout_of graph words costs).lines k ∷ fillers words (length costs) (λ v. o v && not (mentions graph.nodes v k)))
+
+    room : 2 * parts ≤ length lines
+    room = omega (arith, length-append (literal_pairs parts) more, length-literal_pairs parts)
+
+    few : length filling_in ≤ parts
+    few = omega (arith, length-map (filter rest (range_with_len 1 parts)) (λ p. literal_line p (filling (known_at words p))), length-filter-le rest (range_with_len 1 parts), length-range_with_len 1 parts)
+
+    pub over-mention : (v : ℕ) → list_any (λ b. b) (map (mentions (literal_pairs (length costs) ++ more) v) line_over.kids) ≡ ((nat_le 1 v && nat_le v (length costs)) && o v)
+    over-mention v = (λ i. drawn.mentioned v i || fillers-mention parts more words rest room v i) ∙ below_filled (part_of v) (M v k) (o v) (wider v)
+
+    pub over-follows : MayFollow (length costs) (literal_pairs (length costs) ++ more) line_over
+    over-follows = record {
+      below = and_from _ _ (lt-ltb (own k) (length lines) drawn.inside) (fillers-below parts more words rest room (length lines) room);
+      kind = lt-ltb (length line_over.kids) CHILD_LIMIT (omega (arith, few, small));
+      apart = λ v. at_most_one-from (mentions lines v (own k)) (map (mentions lines v) filling_in)
+          (λ any. drawn.mentioned v ∙ both_off (part_of v) (o v) (M v k) (sym (fillers-mention parts more words rest room v) ∙ any))
+          (fillers-once parts more words rest room v);
+      smooth = λ v. refl;
+    } where
+      both_off : (p x m : Bool) → (p && (x && not m)) ≡ true → (p && m) ≡ false
+      both_off true true true e = absurd (let no : false ≡ true = e in cc)
+      both_off true true false e = refl
+      both_off true false m e = absurd (let no : false ≡ true = e in cc)
+      both_off false x m e = refl
+
+    pub over-means : Means graph words costs ok dear (λ a. is_true graph.nodes k a) o c (λ a. list_all (λ b. b) (map (λ q. is_true (literal_pairs (length costs) ++ more) q a) line_over.kids))
+    over-means = filled graph words costs ok dear k c cost_is o wider (λ a. is_true lines (own k) a) (λ a. list_all (λ b. b) (map (λ q. is_true lines q a) filling_in)) drawn.means
+        (record {
+          sound = λ a h. fillers-true parts more words rest room a h;
+          reached = λ a h. fillers-say parts more words rest room a h;
+        })
+
+  -- ---- the lines of one more node
+
+  module _ (i : ℕ) (more : List Node) (upto : Upto i more) where
+    abbrev before : List Node
+    before = literal_pairs parts ++ more
+
+    enough : 2 * parts ≤ length before
+    enough = omega (arith, length-append (literal_pairs parts) more, length-literal_pairs parts)
+
+    -- lines that are added, with the node's own as the last
+    record Adds (block : List Node) : Type 0 where
+      stand : Stand (length costs) (literal_pairs (length costs) ++ (more ++ block))
+      drawn : (c : ℕ) → cost_at (values (node_cost (known_at words) (part_cost costs)) graph.nodes) i ≡ Some c → Drawn (literal_pairs (length costs) ++ (more ++ block)) i c
+
+    regroup : (block : List Node) → before ++ block ≡ literal_pairs parts ++ (more ++ block)
+    regroup block = append_assoc (literal_pairs parts) more block
+
+    -- one line is added
+    one-adds : (node : Node) → MayFollow parts before node → own i ≡ length before
+        → ((v : ℕ) (c : ℕ) → Ck i ≡ Some c → mention_by v node.what (map (mentions before v) node.kids) ≡ (part_of v && M v i))
+        → ((c : ℕ) → Ck i ≡ Some c → NodeMeans graph words costs ok dear i c (λ a. truth_by a node.what (map (λ q. is_true before q a) node.kids))) → Adds (node ∷ [])
+    one-adds node follows at mentioned means =
+        let here : (by : NodeKind → List Bool → Bool) → value_of by (before ++ node ∷ []) (own i) ≡ by node.what (map (value_of by before) node.kids) =
+        λ by. ap (value_of by (before ++ node ∷ [])) at ∙ value_of-there by before node [] in
+        let drawn : (c : ℕ) → Ck i ≡ Some c → Drawn (before ++ node ∷ []) i c = λ c e. record {
+          inside = omega (arith, at, length-append before (node ∷ []));
+          mentioned = λ v. here (mention_by v) ∙ mentioned v c e;
+          means = Means-same (λ a. here (truth_by a)) (means c e);
+        } in
+        record {
+          stand = subst (Stand parts) (regroup (node ∷ [])) (stand-behind parts before (node ∷ []) upto.stand (follows, tt));
+          drawn = λ c e. subst (λ lines. Drawn lines i c) (regroup (node ∷ [])) (drawn c e);
+        }
+
+    -- a node that is never true
+    false-adds : Ck i ≡ None → own i ≡ length before → Adds (false_node ∷ [])
+    false-adds none at = one-adds false_node (record { below = refl; kind = refl; apart = λ v. refl; smooth = λ v. refl }) at
+        (λ v c e. absurd (let no : None ≡ Some c = sym none ∙ e in cc))
+        (λ c e. absurd (let no : None ≡ Some c = sym none ∙ e in cc))
+
+    -- a literal
+    module _ (var : ℕ) (positive : Bool) (kids : List ℕ) (e : slice_get graph.nodes i ≡ Some (record { what = Literal var positive; kids = kids })) (cost : ℕ) (cost_is : Ck i ≡ Some cost) (at : own i ≡ length before) where
+      low : 1 ≤ var
+      low = (literal graph.vars var positive kids (fits-get graph.vars graph.nodes i _ ok.nodes.fit e).kind).low
+
+      high : nat_le var parts ≡ true → var ≤ parts
+      high p = leb-true var parts p
+
+      has-is : (v : ℕ) → M v i ≡ (var == v)
+      has-is v = mention-at graph words costs ok i _ e v
+
+      part_alone : (v : ℕ) → part_of var ≡ true → (var == v) ≡ (part_of v && (var == v))
+      part_alone v part = by_test (var == v) refl where
+        by_test : (b : Bool) → (var == v) ≡ b → b ≡ (part_of v && b)
+        by_test true q = sym (and_from _ _ (ap part_of (sym (eqb-true var v q)) ∙ part) refl)
+        by_test false q = none (part_of v) where
+          none : (p : Bool) → false ≡ (p && false)
+          none true = refl
+          none false = refl
+
+      other_none : (v : ℕ) → part_of var ≡ false → false ≡ (part_of v && (var == v))
+      other_none v other = by_test (var == v) refl where
+        by_test : (b : Bool) → (var == v) ≡ b → false ≡ (part_of v && b)
+        by_test true q = off (part_of v) (ap part_of (sym (eqb-true var v q)) ∙ other) where
+          off : (p : Bool) → p ≡ false → false ≡ (p && true)
+          off true r = sym r
+          off false r = refl
+        by_test false q = none (part_of v) where
+          none : (p : Bool) → false ≡ (p && false)
+          none true = refl
+          none false = refl
+
+      literal-adds : Adds (and_over (literal_kids parts var positive) ∷ [])
+      literal-adds = by_part (nat_le var parts) refl where
+        by_part : (b : Bool) → nat_le var parts ≡ b → Adds (and_over (cond b (literal_line var positive ∷ []) []) ∷ [])
+        by_part true p =
+            let part : part_of var ≡ true = and_from _ _ (le-leb 1 var low) p in
+            let inside : literal_line var positive < length before = omega (arith, enough, literal_line-lt parts var positive low (high p)) in
+            one-adds (and_over (literal_line var positive ∷ []))
+            (record { below = and_from _ _ (lt-ltb (literal_line var positive) (length before) inside) refl; kind = refl; apart = λ v. one_alone (mentions before v (literal_line var positive)); smooth = λ v. refl })
+            at
+            (λ v c q. any-one (mentions before v (literal_line var positive)) ∙ literal-value parts more (mention_by v) var positive low (high p) inside ∙ part_alone v part ∙ ap (λ b. part_of v && b) (sym (has-is v)))
+            (λ c q. Means-same (λ a. all-one (is_true before (literal_line var positive) a) ∙ literal-value parts more (truth_by a) var positive low (high p) inside) (part-means graph words costs ok dear i var positive kids e c q part))
+        by_part false p =
+            one-adds (and_over []) (record { below = refl; kind = refl; apart = λ v. refl; smooth = λ v. refl }) at
+            (λ v c q. other_none v (off (nat_le 1 var) p) ∙ ap (λ b. part_of v && b) (sym (has-is v)))
+            (λ c q. other-means graph words costs ok dear i var positive kids e c q (off (nat_le 1 var) p)) where
+              off : (x : Bool) → nat_le var parts ≡ false → (x && nat_le var parts) ≡ false
+              off true r = r
+              off false r = refl
+
+    -- an and
+    and-adds : (kids : List ℕ) → slice_get graph.nodes i ≡ Some (record { what = And; kids = kids }) → (cost : ℕ) → Ck i ≡ Some cost → own i ≡ length before → Adds (and_over (map own kids) ∷ [])
+    and-adds kids e cost cost_is at =
+        let fit = fits-get graph.vars graph.nodes i _ ok.nodes.fit e in
+        let drawn_kid : (k : ℕ) → In k kids → (d : ℕ) × Drawn before k d = λ k m.
+        let d = each-cost Ck kids cost (sym (costs-at graph words costs ok i _ e) ∙ cost_is) k m in
+        (d.0, upto.drawn k d.0 (all-below i kids k fit.below m) d.1) in
+        let mention_kids : (v : ℕ) → map (mentions before v) (map own kids) ≡ map (λ k. part_of v && M v k) kids = λ v.
+        map_twice (mentions before v) own kids ∙ map-in (λ k. mentions before v (own k)) (λ k. part_of v && M v k) kids (λ k m. (drawn_kid k m).1.mentioned v) in
+        one-adds (and_over (map own kids))
+        (record {
+          below = below_all kids (λ k m. (drawn_kid k m).1.inside);
+          kind = ap (λ n. nat_lt n CHILD_LIMIT) (length-map kids own) ∙ fit.kind;
+          apart = λ v. ap at_most_one (mention_kids v) ∙ at_most_one-less (λ k. part_of v && M v k) (M v) i kids fit.below (λ k h q. (and_parts (part_of v) (M v k) q).1) (apart-kids graph words costs ok i kids e v);
+          smooth = λ v. refl;
+        })
+        at
+        (λ v c q. ap (list_any (λ b. b)) (mention_kids v) ∙ any-part (part_of v) (M v) kids ∙ ap (λ b. part_of v && b) (sym (mention-at graph words costs ok i _ e v)))
+        (λ c q. Means-same (λ a. ap (list_all (λ b. b)) (map_twice (λ p. is_true before p a) own kids))
+        (and-means graph words costs ok dear (λ k a. is_true before (own k) a) i kids c e q (λ k d m r. (upto.drawn k d (all-below i kids k fit.below m) r).means))) where
+          below_all : (ks : List ℕ) → ((k : ℕ) → In k ks → own k < length before) → are_below (length before) (map own ks) ≡ true
+          below_all [] each = refl
+          below_all (k ∷ ks) each = and_from _ _ (lt-ltb (own k) (length before) (each k (inl refl))) (below_all ks (λ j m. each j (inr m)))
+
+    -- an or, behind a line for each of its cheapest kids
+    module _ (kids : List ℕ) (e : slice_get graph.nodes i ≡ Some (record { what = Or; kids = kids })) (cost : ℕ) (cost_is : Ck i ≡ Some cost)
+        (at : own i ≡ length before + length (cheapest_kids least cost kids)) where
+      abbrev best : List ℕ
+      best = cheapest_kids least cost kids
+
+      fit : Fits graph.vars i (record { what = Or; kids = kids })
+      fit = fits-get graph.vars graph.nodes i _ ok.nodes.fit e
+
+      wider : (k : ℕ) → In k kids → (v : ℕ) → M v k ≡ true → M v i ≡ true
+      wider k m = kid-inside graph words costs ok dear i kids cost e cost_is k m
+
+      drawn_kid : (k : ℕ) → In k kids → Ck k ≡ Some cost → Drawn before k cost
+      drawn_kid k m c = upto.drawn k cost (all-below i kids k fit.below m) c
+
+      abbrev block : List Node
+      block = map (kid_line L i) best
+
+      -- what is asked of the cheapest kids holds of each line
+      follows : (ks : List ℕ) → ((k : ℕ) → In k ks → In k best) → AllByRecursion (MayFollow parts before) (map (kid_line L i) ks)
+      follows [] are = tt
+      follows (k ∷ ks) are =
+          let m = cheapest-is least cost kids k (are k (inl refl)) in
+          (over-follows more k cost m.1 (drawn_kid k m.0 m.1) (λ v. M v i) (wider k m.0), follows ks (λ j n. are j (inr n)))
+
+      below-all : (xs : List Node) → AllByRecursion (MayFollow parts before) xs → AllByRecursion (λ (x : Node). are_below (length before) x.kids ≡ true) xs
+      below-all [] all = tt
+      below-all (x ∷ xs) all = (all.0.below, below-all xs all.1)
+
+      block-follows : AllByRecursion (MayFollow parts before) block
+      block-follows = follows best (λ k m. m)
+
+      all_kids : List Node
+      all_kids = before ++ block
+
+      kids-stand : Stand parts all_kids
+      unfolding all_kids
+      kids-stand = stand-behind parts before block upto.stand block-follows
+
+      length-block : length block ≡ length best
+      length-block = length-map best (kid_line L i)
+
+      -- what the lines of the kids are worth
+      block-values : (by : NodeKind → List Bool → Bool) → map (value_of by all_kids) (range_with_len (length before) (length best)) ≡ map (λ k. by And (map (value_of by before) (kid_line L i k).kids)) best
+      unfolding all_kids
+      block-values by =
+          let start : length before ≡ length before + 0 = omega arith in
+          (λ j. map (value_of by (before ++ sym (append-nil block) j)) (range_with_len (start j) (sym length-block j)))
+          ∙ values-behind by before [] block [] (below-all block block-follows)
+          ∙ map_twice (λ (x : Node). by x.what (map (value_of by before) x.kids)) (kid_line L i) best
+
+      block-mentions : (v : ℕ) → map (mentions all_kids v) (range_with_len (length before) (length best)) ≡ map (λ k. part_of v && M v i) best
+      block-mentions v = block-values (mention_by v) ∙ map-in (λ k. list_any (λ b. b) (map (mentions before v) (kid_line L i k).kids)) (λ k. part_of v && M v i) best (λ k m.
+          let is = cheapest-is least cost kids k m in
+          over-mention more k cost is.1 (drawn_kid k is.0 is.1) (λ u. M u i) (wider k is.0) v)
+
+      some-best : best ≡ [] → ⊥
+      some-best none =
+          let r = cheapest-has Ck kids cost (sym (costs-at graph words costs ok i _ e) ∙ cost_is) in
+          subst (In r.0) none (cheapest-in least cost kids r.0 r.1.0 r.1.1)
+
+      abbrev or_node : Node
+      or_node = or_behind (own i) (length best)
+
+      start-is : own i - length best ≡ length before
+      start-is = omega (arith, at)
+
+      or_kids : or_node.kids ≡ range_with_len (length before) (length best)
+      or_kids = ap (λ n. range_with_len n (length best)) start-is
+
+      length-all_kids : length all_kids ≡ length before + length best
+      unfolding all_kids
+      length-all_kids = omega (arith, length-append before block, length-block)
+
+      or-follows : MayFollow parts all_kids or_node
+      or-follows = record {
+        below = ap (are_below (length all_kids)) or_kids ∙ range-below (length before) (length best) (length all_kids) (omega (arith, length-all_kids));
+        kind = lt-ltb (length or_node.kids) CHILD_LIMIT (omega (arith, length-range_with_len (own i - length best) (length best), length-filter-le (λ kid. costs_just cost (cost_at least kid)) kids, ltb-true (length kids) CHILD_LIMIT fit.kind));
+        apart = λ v. refl;
+        smooth = λ v. ap (λ ks. all_same (map (mentions all_kids v) ks)) or_kids ∙ ap all_same (block-mentions v) ∙ same-const (part_of v && M v i) best;
+      }
+
+      here : (by : NodeKind → List Bool → Bool) → value_of by (all_kids ++ or_node ∷ []) (own i) ≡ by Or (map (λ k. by And (map (value_of by before) (kid_line L i k).kids)) best)
+      here by = ap (value_of by (all_kids ++ or_node ∷ [])) (at ∙ sym length-all_kids) ∙ value_of-there by all_kids or_node []
+          ∙ ap (λ ks. by Or (map (value_of by all_kids) ks)) or_kids ∙ ap (by Or) (block-values by)
+
+      or-drawn : Drawn (all_kids ++ or_node ∷ []) i cost
+      or-drawn = record {
+        inside = omega (arith, at, length-all_kids, length-append all_kids (or_node ∷ []));
+        mentioned = λ v. ap (value_of (mention_by v) (all_kids ++ or_node ∷ [])) (at ∙ sym length-all_kids) ∙ value_of-there (mention_by v) all_kids or_node []
+            ∙ ap (λ ks. list_any (λ b. b) (map (mentions all_kids v) ks)) or_kids ∙ ap (list_any (λ b. b)) (block-mentions v) ∙ any-const (part_of v && M v i) best some-best;
+        means = Means-same (λ a. here (truth_by a))
+            (or-means graph words costs ok dear i kids cost e cost_is (λ k a. list_all (λ b. b) (map (λ q. is_true before q a) (kid_line L i k).kids))
+            (λ k m c. over-means more k cost c (drawn_kid k m c) (λ v. M v i) (wider k m)));
+      }
+
+      whole : all_kids ++ or_node ∷ [] ≡ literal_pairs parts ++ (more ++ (block ++ or_node ∷ []))
+      unfolding all_kids
+      whole = append_assoc before block (or_node ∷ []) ∙ regroup (block ++ or_node ∷ [])
+
+      or-adds : Adds (or_lines L i best)
+      or-adds = record {
+        stand = subst (Stand parts) whole (stand-behind parts all_kids (or_node ∷ []) kids-stand (or-follows, tt));
+        drawn = λ c q. subst (λ lines. Drawn lines i c) whole (subst (Drawn (all_kids ++ or_node ∷ []) i) (same_Some cost c (sym cost_is ∙ q)) or-drawn);
+      }
+
+    -- the lines of a node, whatever it is
+    by_kind : (what : NodeKind) (kids : List ℕ) → slice_get graph.nodes i ≡ Some (record { what = what; kids = kids }) → (cost : ℕ) → Ck i ≡ Some cost
+        → own i ≡ length before + lines_before least cost what kids → Adds (lines_by L i cost what kids)
+    by_kind (Literal var positive) kids e cost cost_is at = literal-adds var positive kids e cost cost_is (omega (arith, at))
+    by_kind And kids e cost cost_is at = and-adds kids e cost cost_is (omega (arith, at))
+    by_kind Or kids e cost cost_is at = or-adds kids e cost cost_is at
+
+    node-adds : (node : Node) → slice_get graph.nodes i ≡ Some node → (o : Option ℕ) → Ck i ≡ o → own i ≡ length before + lines_to least node o → Adds (lines_at L i node o)
+    node-adds node e None c at = false-adds c (omega (arith, at))
+    node-adds node e (Some cost) c at = by_kind node.what node.kids e cost c at
+
+    pub one_more : (node : Node) → slice_get graph.nodes i ≡ Some node → own i ≡ length before + lines_to least node (Ck i) → Upto (i + 1) (more ++ node_lines L (i, node))
+    one_more node e at =
+        let added = node-adds node e (Ck i) refl at in
+        record {
+          stand = added.stand;
+          drawn = λ k c h q. ⊎_elim
+              (λ (lt : k < i). subst (λ lines. Drawn lines k c) (regroup (node_lines L (i, node))) (Drawn-more before (node_lines L (i, node)) k c (upto.drawn k c lt q)))
+              (λ (le : i ≤ k). let same : i ≡ k = omega arith in subst (λ j. Drawn (literal_pairs parts ++ (more ++ node_lines L (i, node))) j c) same (added.drawn c (ap Ck same ∙ q)))
+              (cases_lt k i);
+        }
+
+  -- ---- all of them
+
+  -- how many lines a node has
+  pub length-lines : (i : ℕ) (node : Node) (o : Option ℕ) → length (lines_at L i node o) ≡ lines_to least node o + 1
+  length-lines i node None = refl
+  length-lines i node (Some cost) = by_what node.what node.kids where
+    by_what : (what : NodeKind) (kids : List ℕ) → length (lines_by L i cost what kids) ≡ lines_before least cost what kids + 1
+    by_what (Literal var positive) kids = refl
+    by_what And kids = refl
+    by_what Or kids = omega (arith, length-append (map (kid_line L i) (cheapest_kids least cost kids)) (or_behind (own i) (length (cheapest_kids least cost kids)) ∷ []), length-map (cheapest_kids least cost kids) (kid_line L i))
+
+  go : (front rest : List Node) (done : List ℕ) (more : List Node) → graph.nodes ≡ front ++ rest → length done ≡ length front
+      → L.lines ≡ done ++ own_lines least (length (literal_pairs parts ++ more)) (length front) rest
+      → Upto (length front) more → Upto (length graph.nodes) (more ++ flat_map (node_lines L) (enumerate_from (length front) rest))
+  go front [] done more all long stand_at upto =
+      let end : length front ≡ length graph.nodes = omega (arith, ap length all, length-append front []) in
+      subst (λ n. Upto n (more ++ [])) end (subst (Upto (length front)) (sym (append-nil more)) upto)
+  go front (node ∷ later) done more all long stand_at upto =
+      let i = length front in
+      let before : List Node = literal_pairs parts ++ more in
+      let at : ℕ = length before + lines_to least node (Ck i) in
+      let inside : i < length graph.nodes = omega (arith, ap length all, length-append front (node ∷ later)) in
+      let there : slice_get graph.nodes i ≡ Some node = slice_get-get_or graph.nodes i true_node inside ∙ ap Some (ap (λ ns. get_or ns i true_node) all ∙ get_or_at front node later true_node i refl) in
+      let own_is : own i ≡ at = ap (λ ls. get_or ls i 0) stand_at ∙ get_or_at done at (own_lines least (at + 1) (i + 1) later) 0 i long in
+      let next = one_more i more upto node there own_is in
+      let block : List Node = node_lines L (i, node) in
+      let longer : length (front ++ node ∷ []) ≡ i + 1 = length-append front (node ∷ []) in
+      let grown : length (literal_pairs parts ++ (more ++ block)) ≡ at + 1 = omega (arith, length-append (literal_pairs parts) (more ++ block), length-append more block, length-append (literal_pairs parts) more, length-lines i node (Ck i)) in
+      subst (λ ls. Upto (length graph.nodes) ls)
+      (ap (λ n. (more ++ block) ++ flat_map (node_lines L) (enumerate_from n later)) longer ∙ append_assoc more block (flat_map (node_lines L) (enumerate_from (i + 1) later)))
+      (go (front ++ node ∷ []) later (done ++ at ∷ []) (more ++ block)
+      (all ∙ sym (append_assoc front (node ∷ []) later))
+      (omega (arith, length-append done (at ∷ []), longer, long))
+      (stand_at ∙ sym (append_assoc done (at ∷ []) (own_lines least (at + 1) (i + 1) later)) ∙ (λ j. (done ++ at ∷ []) ++ own_lines least (sym grown j) (sym longer j) later))
+      (subst (λ n. Upto n (more ++ block)) (sym longer) next))
+
+  abbrev pub body : List Node
+  body = flat_map (node_lines (layout_of graph words costs)) (enumerate_from 0 graph.nodes)
+
+  pub all-drawn : Upto (length graph.nodes) body
+  all-drawn =
+      let none : literal_pairs parts ≡ literal_pairs parts ++ [] = sym (append-nil (literal_pairs parts)) in
+      let first : 2 * parts ≡ length (literal_pairs parts ++ []) = sym (ap length (append-nil (literal_pairs parts)) ∙ length-literal_pairs parts) in
+      go [] graph.nodes [] [] refl refl (λ j. own_lines least (first j) 0 graph.nodes)
+      (record { stand = subst (Stand parts) none (pairs-stand parts); drawn = λ k c h e. absurd (omega arith) })

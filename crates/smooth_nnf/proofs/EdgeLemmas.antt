@@ -1,0 +1,101 @@
+-- How many edges lines have, and the text of all lines.
+use Rattle.std.proofs.Common.{◌≡◌, ℕ, zero, suc, ◌+◌, ◌-◌, ◌<◌, ◌≤◌, Bool, true, false, cond, List, [], ◌∷◌, ◌++◌, map, length, take, drop, get_or, Some, None, refl, sym, ap, ◌∙◌, arith, append-nil}
+use Rattle.std.specs.Prelude.{sum_by, slice_index}
+use Rattle.std.specs.List.{flat_map, enumerate_from, range_with_len}
+use Rattle.std.proofs.lemmas.List.{take_more, flat_map_more, take-append-drop}
+use Rattle.std.proofs.lemmas.List.Sums.{sum_by-cons, sum_by-append}
+use Rattle.std.proofs.lemmas.List.Concat.{flat_map-append}
+use Rattle.std.proofs.lemmas.List.FromFn.{length-range_with_len}
+use Rattle.text_rules.specs.Tokens.{spaced}
+use Rattle.graph_rules.specs.Graphs.{Node}
+use Rattle.graph_rules.specs.GraphTexts.{edges}
+use Rattle.graph_rules.specs.WrittenGraphs.{node_words, graph_text}
+use Rattle.minimiser.specs.Costs.{cost_at}
+use Rattle.minimiser.specs.Stored.{cost_in}
+use Rattle.minimiser.proofs.Sums.{cost_in-some}
+use Rattle.nnf_text.proofs.LineTexts.{header, lines, text-lines}
+use Rattle.smooth_nnf.specs.Layouts.{Layout, literal_pair, literal_pairs, costs_just, cheapest_kids, kid_line, or_behind, or_lines, node_lines, last_at, last_line, all_lines}
+use Rattle.smooth_nnf.specs.inner.Drawings.{Drawing, shown, filled_line}
+use Rattle.smooth_nnf.specs.inner.Texts.{lines_text, kid_edges}
+
+pub last-kids : (d : Drawing) (root value : ℕ) → root ≡ length d.graph.nodes - 1 → cost_in value ≡ cost_at (map cost_in d.values) root → (value ≡ 4294967295 → ⊥)
+    → length (filled_line d None root).kids ≡ length (last_line (shown d)).kids
+last-kids d root value at is some =
+    let cost : cost_at (map cost_in d.values) root ≡ Some value = sym is ∙ cost_in-some value some in
+    ap (λ o. length (last_at (shown d) root o).kids) (sym cost) ∙ ap (λ r. length (last_at (shown d) r (cost_at (map cost_in d.values) r)).kids) at
+
+kid-lines : (d : Drawing) (node cost : ℕ) (kids : List ℕ) → sum_by (kid_edges d node cost) kids
+    ≡ edges (map (kid_line (shown d) node) (cheapest_kids (map cost_in d.values) cost kids)) + length (cheapest_kids (map cost_in d.values) cost kids)
+kid-lines d node cost [] = refl
+kid-lines d node cost (k ∷ kids) = sum_by-cons (kid_edges d node cost) k kids ∙ by (kid-lines d node cost kids) (costs_just cost (cost_at (map cost_in d.values) k)) where
+  by : sum_by (kid_edges d node cost) kids ≡ edges (map (kid_line (shown d) node) (cheapest_kids (map cost_in d.values) cost kids)) + length (cheapest_kids (map cost_in d.values) cost kids) → (b : Bool)
+      → cond b (length (kid_line (shown d) node k).kids + 1) 0 + sum_by (kid_edges d node cost) kids
+      ≡ edges (map (kid_line (shown d) node) (cond b (k ∷ cheapest_kids (map cost_in d.values) cost kids) (cheapest_kids (map cost_in d.values) cost kids)))
+      + length (cond b (k ∷ cheapest_kids (map cost_in d.values) cost kids) (cheapest_kids (map cost_in d.values) cost kids))
+  by more true = omega (arith, more, sum_by-cons (λ (n : Node). length n.kids) (kid_line (shown d) node k) (map (kid_line (shown d) node) (cheapest_kids (map cost_in d.values) cost kids)))
+  by more false = omega (arith, more)
+
+pub or-edges : (d : Drawing) (node cost : ℕ) (kids : List ℕ) → sum_by (kid_edges d node cost) kids ≡ edges (or_lines (shown d) node (cheapest_kids (map cost_in d.values) cost kids))
+or-edges d node cost kids =
+    let best : List ℕ = cheapest_kids (map cost_in d.values) cost kids in
+    let own : Node = or_behind (slice_index d.lines node) (length best) in
+    omega (
+      arith,
+      kid-lines d node cost kids,
+      sum_by-append (λ (n : Node). length n.kids) (map (kid_line (shown d) node) best) (own ∷ []),
+      sum_by-cons (λ (n : Node). length n.kids) own [],
+      length-range_with_len (slice_index d.lines node - length best) (length best),
+    )
+
+-- ---- one node after the other
+
+module _ {X : Type 0} (f : X → List Node) (xs : List X) where
+  pub more-edges : (i : ℕ) (d : X) → i < length xs → edges (flat_map f (take (i + 1) xs)) ≡ edges (flat_map f (take i xs)) + edges (f (get_or xs i d))
+  more-edges i d lt = ap (λ ys. edges (flat_map f ys)) (take_more xs i d lt) ∙ ap edges (sym (flat_map_more f [] (take i xs) (get_or xs i d)))
+      ∙ sum_by-append (λ (n : Node). length n.kids) (flat_map f (take i xs)) (f (get_or xs i d))
+
+  pub part-edges : (i : ℕ) → edges (flat_map f (take i xs)) ≤ edges (flat_map f xs)
+  part-edges i = omega (
+    arith,
+    ap (λ ys. edges (flat_map f ys)) (take-append-drop i xs),
+    ap edges (flat_map-append f (take i xs) (drop i xs)),
+    sum_by-append (λ (n : Node). length n.kids) (flat_map f (take i xs)) (flat_map f (drop i xs)),
+  )
+
+no-edges : (s n : ℕ) → edges (flat_map literal_pair (range_with_len s n)) ≡ 0
+no-edges s zero = refl
+no-edges s (suc n) = omega (
+  arith,
+  sum_by-append (λ (n : Node). length n.kids) (literal_pair s) (flat_map literal_pair (range_with_len (s + 1) n)),
+  no-edges (s + 1) n,
+)
+
+pub all-edges : (L : Layout) → edges (all_lines L) ≡ edges (flat_map (node_lines L) (enumerate_from 0 L.graph.nodes)) + length (last_line L).kids
+all-edges L =
+    let body : List Node = flat_map (node_lines L) (enumerate_from 0 L.graph.nodes) in
+    omega (
+      arith,
+      sum_by-append (λ (n : Node). length n.kids) (literal_pairs L.parts) (body ++ last_line L ∷ []),
+      sum_by-append (λ (n : Node). length n.kids) body (last_line L ∷ []),
+      sum_by-cons (λ (n : Node). length n.kids) (last_line L) [],
+      no-edges 1 L.parts,
+    )
+
+-- ---- the text of all
+
+nested : {X : Type 0} (f : X → List Node) (xs : List X) → flat_map (λ x. lines_text (f x)) xs ≡ lines_text (flat_map f xs)
+nested f [] = refl
+nested f (x ∷ xs) = ap (λ t. lines_text (f x) ++ t) (nested f xs) ∙ sym (flat_map-append (λ node. spaced (node_words node)) (f x) (flat_map f xs))
+
+all-lines : (L : Layout) → flat_map (λ part. lines_text (literal_pair part)) (range_with_len 1 L.parts)
+    ++ (flat_map (λ x. lines_text (node_lines L x)) (enumerate_from 0 L.graph.nodes) ++ spaced (node_words (last_line L))) ≡ lines (all_lines L)
+all-lines L =
+    let body : List Node = flat_map (node_lines L) (enumerate_from 0 L.graph.nodes) in
+    (λ i. nested literal_pair (range_with_len 1 L.parts) i ++ (nested (node_lines L) (enumerate_from 0 L.graph.nodes) i ++ sym (append-nil (spaced (node_words (last_line L)))) i))
+    ∙ ap (λ t. lines_text (literal_pairs L.parts) ++ t) (sym (flat_map-append (λ node. spaced (node_words node)) body (last_line L ∷ [])))
+    ∙ sym (flat_map-append (λ node. spaced (node_words node)) (literal_pairs L.parts) (body ++ last_line L ∷ []))
+
+pub all-written : (L : Layout) (count kids : ℕ) → count ≡ length (all_lines L) → kids ≡ edges (all_lines L)
+    → header count kids L.parts ++ (flat_map (λ part. lines_text (literal_pair part)) (range_with_len 1 L.parts)
+    ++ (flat_map (λ x. lines_text (node_lines L x)) (enumerate_from 0 L.graph.nodes) ++ spaced (node_words (last_line L)))) ≡ graph_text (record { nodes = all_lines L; vars = L.parts })
+all-written L count kids e f = ap (λ t. header count kids L.parts ++ t) (all-lines L) ∙ text-lines count kids L.parts (all_lines L) e f

@@ -1,0 +1,94 @@
+-- The texts of lines that are filled in, word by word.
+use Rattle.std.proofs.Common.{◌≡◌, ℕ, zero, suc, ◌+◌, ◌-◌, ◌*◌, ◌<◌, Bool, true, false, cond, ◌&&◌, List, [], ◌∷◌, ◌++◌, map, length, get_or, Option, refl, sym, ap, ◌∙◌, subst, arith, append_assoc}
+use Rattle.std.specs.Prelude.{nat_le, decimal, slice_index}
+use Rattle.std.specs.List.{filter, flat_map, range_with_len}
+use Rattle.std.proofs.lemmas.List.{map-append}
+use Rattle.std.proofs.lemmas.List.Concat.{flat_map-append}
+use Rattle.std.proofs.lemmas.List.Elements.{filter-append}
+use Rattle.std.proofs.lemmas.List.FromFn.{get_or-range_with_len}
+use Rattle.diag_edge.specs.Adding.{Grown}
+use Rattle.text_rules.specs.Tokens.{spaced}
+use Rattle.graph_rules.specs.WrittenGraphs.{node_words}
+use Rattle.nnf_text.proofs.LineTexts.{and-spaced}
+use Rattle.smooth_nnf.specs.Layouts.{filler, fillers}
+use Rattle.smooth_nnf.specs.Sizes.{set_words}
+use Rattle.smooth_nnf.specs.inner.Sets.{has_bit, part_at}
+use Rattle.smooth_nnf.specs.inner.Drawings.{Drawing, missing_in, filled_line}
+use Rattle.smooth_nnf.specs.inner.Texts.{numbers_text, bit_text, word_text}
+use Rattle.nnf_text.proofs.Bits.{has_bit-zero}
+use Rattle.smooth_nnf.proofs.WordParts.{range-append, all-words, word-parts}
+
+-- ---- a word
+
+-- bit by bit, the parts of a word
+bits-text : (words : List ℕ) (word bits s d : ℕ) → flat_map (bit_text words word bits) (range_with_len s d)
+    ≡ numbers_text (map (filler words) (filter (λ part. has_bit bits (part - (32 * word + 1))) (range_with_len (32 * word + 1 + s) d)))
+bits-text words word bits s zero = refl
+bits-text words word bits s (suc d) =
+    let part : ℕ = 32 * word + 1 + s in
+    let next : 32 * word + 1 + (s + 1) ≡ part + 1 = omega arith in
+    let place : part - (32 * word + 1) ≡ s = omega arith in
+    let same : part_at word s ≡ part = omega arith in
+    let rest : List ℕ = filter (λ part. has_bit bits (part - (32 * word + 1))) (range_with_len (part + 1) d) in
+    (λ i. cond (has_bit bits s) (32 ∷ decimal (filler words (same i))) [] ++ (bits-text words word bits (s + 1) d
+    ∙ ap (λ n. numbers_text (map (filler words) (filter (λ part. has_bit bits (part - (32 * word + 1))) (range_with_len n d)))) next) i)
+    ∙ by part rest (has_bit bits s)
+    ∙ ap (λ n. numbers_text (map (filler words) (cond (has_bit bits n) (part ∷ rest) rest))) (sym place) where
+      by : (part : ℕ) (rest : List ℕ) (b : Bool) → cond b (32 ∷ decimal (filler words part)) [] ++ numbers_text (map (filler words) rest) ≡ numbers_text (map (filler words) (cond b (part ∷ rest) rest))
+      by part rest true = refl
+      by part rest false = refl
+
+pub word-text : (d : Drawing) (node : ℕ) (over : Option ℕ) (word bits : ℕ) → ((b : ℕ) → b < 32 → has_bit bits b ≡ (nat_le (part_at word b) d.parts && missing_in d over node (part_at word b)))
+    → flat_map (bit_text d.words word bits) (range_with_len 0 32) ≡ word_text d node over word
+word-text d node over word bits is =
+    let start : 32 * word + 1 + 0 ≡ 32 * word + 1 = omega arith in
+    bits-text d.words word bits 0 32
+    ∙ ap (λ n. numbers_text (map (filler d.words) (filter (λ part. has_bit bits (part - (32 * word + 1))) (range_with_len n 32)))) start
+    ∙ ap (λ ps. numbers_text (map (filler d.words) ps)) (word-parts (λ part. nat_le part d.parts && missing_in d over node part) word bits is)
+
+-- ---- all words
+
+words-text : (d : Drawing) (node : ℕ) (over : Option ℕ) (word count : ℕ) → flat_map (word_text d node over) (range_with_len word count)
+    ≡ numbers_text (map (filler d.words) (filter (λ part. nat_le part d.parts && missing_in d over node part) (range_with_len (32 * word + 1) (32 * count))))
+words-text d node over word zero = let none : 32 * 0 ≡ 0 = omega arith in ap (λ n. numbers_text (map (filler d.words) (filter (λ part. nat_le part d.parts && missing_in d over node part) (range_with_len (32 * word + 1) n)))) (sym none)
+words-text d node over word (suc count) =
+    let test : ℕ → Bool = λ part. nat_le part d.parts && missing_in d over node part in
+    let here : List ℕ = filter test (range_with_len (32 * word + 1) 32) in
+    let next : 32 * (word + 1) + 1 ≡ (32 * word + 1) + 32 = omega arith in
+    let all : 32 * suc count ≡ 32 + 32 * count = omega arith in
+    ap (λ t. word_text d node over word ++ t) (words-text d node over (word + 1) count ∙ ap (λ n. numbers_text (map (filler d.words) (filter test (range_with_len n (32 * count))))) next)
+    ∙ sym (flat_map-append (λ n. 32 ∷ decimal n) (map (filler d.words) here) (map (filler d.words) (filter test (range_with_len ((32 * word + 1) + 32) (32 * count)))))
+    ∙ ap numbers_text (sym (map-append (filler d.words) here (filter test (range_with_len ((32 * word + 1) + 32) (32 * count)))))
+    ∙ ap (λ ps. numbers_text (map (filler d.words) ps)) (sym (filter-append test (range_with_len (32 * word + 1) 32) (range_with_len ((32 * word + 1) + 32) (32 * count))) ∙ ap (filter test) (sym (range-append (32 * word + 1) 32 (32 * count))))
+    ∙ ap (λ n. numbers_text (map (filler d.words) (filter test (range_with_len (32 * word + 1) n)))) (sym all)
+
+pub fillers-text : (d : Drawing) (node : ℕ) (over : Option ℕ) → flat_map (word_text d node over) (range_with_len 0 (set_words d.parts)) ≡ numbers_text (fillers d.words d.parts (missing_in d over node))
+fillers-text d node over =
+    words-text d node over 0 (set_words d.parts)
+    ∙ ap (λ ps. numbers_text (map (filler d.words) ps)) (all-words (missing_in d over node) d.parts (32 * set_words d.parts) (omega arith))
+
+-- ---- the line
+
+pub filled-text : (d : Drawing) (node : ℕ) (over : Option ℕ) (count : ℕ) → count ≡ length (fillers d.words d.parts (missing_in d over node)) + 1
+    → 65 ∷ ((32 ∷ decimal count) ++ ((32 ∷ decimal (slice_index d.lines node)) ++ (numbers_text (fillers d.words d.parts (missing_in d over node)) ++ 10 ∷ []))) ≡ spaced (node_words (filled_line d over node))
+filled-text d node over count is =
+    let kids : List ℕ = (filled_line d over node).kids in
+    let long : count ≡ length kids = omega arith in
+    (λ i. 65 ∷ ((32 ∷ decimal (long i)) ++ sym (append_assoc (32 ∷ decimal (slice_index d.lines node)) (numbers_text (fillers d.words d.parts (missing_in d over node))) (10 ∷ [])) i)) ∙ and-spaced kids
+
+-- ---- what stands at a place
+
+pub first-numbers : (n i : ℕ) → i < n → i ≡ get_or (range_with_len 0 n) i 0
+first-numbers n i lt = omega (arith, get_or-range_with_len 0 n i 0 lt)
+
+-- a word without bits fills nothing in
+pub no-bits : (d : Drawing) (node : ℕ) (over : Option ℕ) (word bits : ℕ) → bits ≡ 0 → ((b : ℕ) → b < 32 → has_bit bits b ≡ (nat_le (part_at word b) d.parts && missing_in d over node (part_at word b))) → [] ≡ word_text d node over word
+no-bits d node over word bits none is =
+    none_there 0 32 ∙ ap (λ n. flat_map (bit_text d.words word n) (range_with_len 0 32)) (sym none) ∙ word-text d node over word bits is where
+      none_there : (s n : ℕ) → [] ≡ flat_map (bit_text d.words word 0) (range_with_len s n)
+      none_there s zero = refl
+      none_there s (suc n) = none_there (s + 1) n ∙ ap (λ b. cond b (32 ∷ decimal (filler d.words (part_at word s))) [] ++ flat_map (bit_text d.words word 0) (range_with_len (s + 1) n)) (sym (has_bit-zero s))
+
+-- the same text, said otherwise
+pub grown_same : (a b : Option (List ℕ)) (p q xs ys : List ℕ) → xs ≡ ys → Grown a b p q xs → Grown a b p q ys
+grown_same a b p q xs ys same h = subst (λ t. Grown a b p q t) same h

@@ -1,0 +1,13 @@
+mod Examples
+pub mod Standing
+pub mod Fillers
+pub mod Meaning
+pub mod DrawnLines
+pub mod WholeText
+mod Bits
+mod FillingSets
+mod LinePlaces
+mod WordParts
+mod FilledTexts
+mod LineLemmas
+mod EdgeLemmas

@@ -1,0 +1,118 @@
+-- The texts of the lines of nodes.
+use Rattle.std.proofs.Common.{◌≡◌, ℕ, zero, suc, ◌+◌, ◌-◌, ◌*◌, ◌^◌, ◌<◌, ◌≤◌, All, Bool, true, false, cond, List, [], ◌∷◌, ◌++◌, map, length, get_or, codes, Option, Some, None, refl, sym, ap, ◌∙◌, subst, arith, append-nil}
+use Rattle.std.specs.Prelude.{decimal, slice_index}
+use Rattle.std.specs.List.{list_any, flat_map, enumerate_from, range_with_len}
+use Rattle.std.proofs.lemmas.Bool.{or_left, or_right, ltb-true}
+use Rattle.std.proofs.lemmas.List.{length-map}
+use Rattle.std.proofs.lemmas.List.Concat.{flat_map-append}
+use Rattle.std.proofs.lemmas.List.Folds.{flat_map-map}
+use Rattle.std.proofs.lemmas.List.FromFn.{get_or-enumerate_from, get_or-range_with_len}
+use Rattle.text_rules.specs.Tokens.{spaced}
+use Rattle.graph_rules.specs.declared.TheConstants.{CHILD_LIMIT}
+use Rattle.graph_rules.specs.declared.NodeKind.{NodeKind}
+use Rattle.graph_rules.specs.declared.NodeKind.TheVariants.{Literal, Or}
+use Rattle.graph_rules.specs.Graphs.{Node, true_node, node_at, mention_by, mentions, kind_fits, IsGraph}
+use Rattle.graph_rules.proofs.NodeValues.{are_below, below-each, value_of-at}
+use Rattle.graph_rules.proofs.NodesFit.{Fits, fits-at, literal}
+use Rattle.graph_rules.specs.WrittenGraphs.{node_words}
+use Rattle.minimiser.specs.Costs.{cost_at}
+use Rattle.minimiser.specs.Stored.{cost_in}
+use Rattle.minimiser.proofs.Sums.{cost_in-some}
+use Rattle.nnf_text.proofs.LineTexts.{and-spaced, or-spaced}
+use Rattle.smooth_nnf.specs.Layouts.{and_over, own_line, costs_just, cheapest_kids, kid_line, or_behind, or_lines, lines_before, lines_to, own_lines, last_at, last_line}
+use Rattle.smooth_nnf.specs.inner.Drawings.{Drawing, IsDrawing, shown, filled_line}
+use Rattle.smooth_nnf.specs.inner.Texts.{numbers_text, lines_text, kid_text}
+
+pub numbered : (nodes : List Node) (i : ℕ) → i < length nodes → (i, node_at nodes i) ≡ get_or (enumerate_from 0 nodes) i (0, true_node)
+numbered nodes i lt = let e : i ≡ 0 + i = omega arith in (λ j. (e j, node_at nodes i)) ∙ sym (get_or-enumerate_from 0 nodes i (0, true_node) lt)
+
+pub from-one : (n i : ℕ) → i < n → i + 1 ≡ get_or (range_with_len 1 n) i 0
+from-one n i lt = omega (arith, get_or-range_with_len 1 n i 0 lt)
+
+-- the root's line
+pub last-text : (d : Drawing) (root value : ℕ) → root ≡ length d.graph.nodes - 1 → cost_in value ≡ cost_at (map cost_in d.values) root → (value ≡ 4294967295 → ⊥)
+    → spaced (node_words (filled_line d None root)) ≡ spaced (node_words (last_line (shown d)))
+last-text d root value at is some =
+    let cost : cost_at (map cost_in d.values) root ≡ Some value = sym is ∙ cost_in-some value some in
+    ap (λ o. spaced (node_words (last_at (shown d) root o))) (sym cost) ∙ ap (λ r. spaced (node_words (last_at (shown d) r (cost_at (map cost_in d.values) r)))) at
+
+-- that of an or
+pub or-text : (first count : ℕ) → codes "O 0" ++ ((32 ∷ decimal count) ++ (numbers_text (range_with_len first count) ++ 10 ∷ [])) ≡ spaced (node_words (or_behind (first + count) count))
+or-text first count =
+    let start : (first + count) - count ≡ first = omega arith in
+    let long : count ≡ length (range_with_len first count) = sym (length-range count first) in
+    (λ i. codes "O 0" ++ ((32 ∷ decimal (long i)) ++ (numbers_text (range_with_len first count) ++ 10 ∷ []))) ∙ or-spaced (range_with_len first count)
+    ∙ ap (λ n. spaced (node_words (record { what = Or; kids = range_with_len n count }))) (sym start) where
+      length-range : (n s : ℕ) → length (range_with_len s n) ≡ n
+      length-range zero s = refl
+      length-range (suc n) s = ap suc (length-range n (s + 1))
+
+-- and of an and
+pub and-text : (d : Drawing) (kids : List ℕ) → codes "A" ++ ((32 ∷ decimal (length kids)) ++ (flat_map (λ kid. 32 ∷ decimal (slice_index d.lines kid)) kids ++ 10 ∷ []))
+    ≡ lines_text (and_over (map (own_line (shown d)) kids) ∷ [])
+and-text d kids =
+    (λ i. codes "A" ++ ((32 ∷ decimal (sym (length-map kids (own_line (shown d))) i)) ++ (sym (flat_map-map (λ n. 32 ∷ decimal n) (own_line (shown d)) kids) i ++ 10 ∷ [])))
+    ∙ and-spaced (map (own_line (shown d)) kids) ∙ sym (append-nil (spaced (node_words (and_over (map (own_line (shown d)) kids)))))
+
+kids-text : (d : Drawing) (node cost : ℕ) (kids : List ℕ) → flat_map (kid_text d node cost) kids ≡ lines_text (map (kid_line (shown d) node) (cheapest_kids (map cost_in d.values) cost kids))
+kids-text d node cost [] = refl
+kids-text d node cost (k ∷ kids) =
+    ap (λ t. kid_text d node cost k ++ t) (kids-text d node cost kids) ∙ by (costs_just cost (cost_at (map cost_in d.values) k)) where
+      by : (b : Bool) → cond b (spaced (node_words (kid_line (shown d) node k))) [] ++ lines_text (map (kid_line (shown d) node) (cheapest_kids (map cost_in d.values) cost kids))
+          ≡ lines_text (map (kid_line (shown d) node) (cond b (k ∷ cheapest_kids (map cost_in d.values) cost kids) (cheapest_kids (map cost_in d.values) cost kids)))
+      by true = refl
+      by false = refl
+
+pub or-lines-text : (d : Drawing) (node cost : ℕ) (kids : List ℕ)
+    → flat_map (kid_text d node cost) kids ++ spaced (node_words (or_behind (slice_index d.lines node) (length (cheapest_kids (map cost_in d.values) cost kids))))
+    ≡ lines_text (or_lines (shown d) node (cheapest_kids (map cost_in d.values) cost kids))
+or-lines-text d node cost kids =
+    let best : List ℕ = cheapest_kids (map cost_in d.values) cost kids in
+    let own : Node = or_behind (slice_index d.lines node) (length best) in
+    (λ i. kids-text d node cost kids i ++ sym (append-nil (spaced (node_words own))) i)
+    ∙ sym (flat_map-append (λ n. spaced (node_words n)) (map (kid_line (shown d) node) best) (own ∷ []))
+
+-- ---- what holds of a node's kids and of its line
+
+own-at : (least : List (Option ℕ)) (line number : ℕ) (nodes : List Node) (i : ℕ) → i < length nodes
+    → lines_to least (node_at nodes i) (cost_at least (number + i)) ≤ get_or (own_lines least line number nodes) i 0
+own-at least line number [] i lt = absurd (omega arith)
+own-at least line number (node ∷ nodes) zero lt = let e : number ≡ number + 0 = omega arith in subst (λ n. lines_to least node (cost_at least n) ≤ line + lines_to least node (cost_at least number)) e (omega arith)
+own-at least line number (node ∷ nodes) (suc i) lt =
+    let e : (number + 1) + i ≡ number + suc i = omega arith in
+    subst (λ n. lines_to least (node_at nodes i) (cost_at least n) ≤ get_or (own_lines least (line + lines_to least node (cost_at least number) + 1) (number + 1) nodes) i 0) e
+    (own-at least (line + lines_to least node (cost_at least number) + 1) (number + 1) nodes i (omega arith))
+
+module _ (d : Drawing) (is : IsDrawing d) (valid : IsGraph d.graph) (node : ℕ) (lt : node < length d.graph.nodes) (what : NodeKind) (kids : List ℕ) (at : node_at d.graph.nodes node ≡ record { what = what; kids = kids }) where
+  fit : Fits d.graph.vars node (record { what = what; kids = kids })
+  fit = subst (Fits d.graph.vars node) at (fits-at d.graph.vars d.graph.nodes node valid.nodes.fit lt)
+
+  pub kids-inside : All (λ kid. kid < length d.graph.nodes) kids
+  kids-inside k default h = let below = below-each node kids fit.below k default h in omega (arith, below, lt)
+
+  pub few-kids-of : what ≡ Or → length kids < 2 ^ 32
+  few-kids-of or = ltb-true (length kids) CHILD_LIMIT (ap (λ w. kind_fits d.graph.vars w kids) (sym or) ∙ fit.kind)
+
+  pub kid-wider : what ≡ Or → (i part : ℕ) → i < length kids → mentions d.graph.nodes part (get_or kids i 0) ≡ true → mentions d.graph.nodes part node ≡ true
+  kid-wider or i part h m =
+      value_of-at (mention_by part) d.graph.nodes node lt (subst (λ (n : Node). are_below node n.kids ≡ true) (sym at) fit.below)
+      ∙ ap (λ (n : Node). mention_by part n.what (map (mentions d.graph.nodes part) n.kids)) at
+      ∙ ap (λ w. mention_by part w (map (mentions d.graph.nodes part) kids)) or
+      ∙ any-place (mentions d.graph.nodes part) kids i h m where
+        any-place : (f : ℕ → Bool) (ks : List ℕ) (i : ℕ) → i < length ks → f (get_or ks i 0) ≡ true → list_any (λ b. b) (map f ks) ≡ true
+        any-place f [] i h m = absurd (omega arith)
+        any-place f (k ∷ ks) zero h m = or_left _ _ m
+        any-place f (k ∷ ks) (suc i) h m = or_right _ _ (any-place f ks i (omega arith) m)
+
+  pub line-room : what ≡ Or → (cost : ℕ) → cost_at (map cost_in d.values) node ≡ Some cost → length (cheapest_kids (map cost_in d.values) cost kids) ≤ slice_index d.lines node
+  line-room or cost e =
+      let least = map cost_in d.values in
+      let first : 0 + node ≡ node = omega arith in
+      let low : lines_to least (node_at d.graph.nodes node) (cost_at least (0 + node)) ≤ get_or d.lines node 0 =
+      subst (λ ls. lines_to least (node_at d.graph.nodes node) (cost_at least (0 + node)) ≤ get_or ls node 0) (sym is.placed) (own-at least (2 * d.parts) 0 d.graph.nodes node lt) in
+      let same : lines_to least (node_at d.graph.nodes node) (cost_at least (0 + node)) ≡ length (cheapest_kids least cost kids) =
+      (λ j. lines_to least (at j) (cost_at least (first j))) ∙ ap (lines_to least (record { what = what; kids = kids })) e ∙ ap (λ w. lines_before least cost w kids) or in
+      omega arith
+
+  pub literal-low : (var : ℕ) (positive : Bool) → what ≡ Literal var positive → 1 ≤ var
+  literal-low var positive e = (literal d.graph.vars var positive kids (ap (λ w. kind_fits d.graph.vars w kids) (sym e) ∙ fit.kind)).low

@@ -1,0 +1,105 @@
+-- Where the lines of nodes stand, node by node.
+use Rattle.std.proofs.Common.{◌≡◌, ℕ, zero, suc, ◌+◌, ◌<◌, ◌≤◌, Bool, cond, ◌==◌, List, [], ◌∷◌, ◌++◌, map, length, take, get_or, set, Option, Some, None, refl, sym, ap, ◌∙◌, arith, inl, inr}
+use Rattle.std.specs.Prelude.{◌⊎◌}
+use Rattle.std.proofs.lemmas.Bool.{cond-true, eq-eqb, ne_eqb, cases_eq}
+use Rattle.std.proofs.lemmas.List.Filters.{length-filter_more}
+use Rattle.std.proofs.lemmas.List.Sums.{sum_by-cons}
+use Rattle.graph_rules.specs.declared.NodeKind.{NodeKind}
+use Rattle.graph_rules.specs.declared.NodeKind.TheVariants.{Literal, And, Or}
+use Rattle.graph_rules.specs.Graphs.{Node, node_at}
+use Rattle.graph_rules.specs.GraphTexts.{edges}
+use Rattle.minimiser.specs.Costs.{cost_at}
+use Rattle.minimiser.specs.Stored.{cost_in}
+use Rattle.minimiser.proofs.Sums.{cost_at-map, cost_in-some}
+use Rattle.smooth_nnf.specs.Layouts.{costs_just, cheapest_kids, lines_before, lines_to, own_lines}
+use Rattle.smooth_nnf.specs.inner.Drawings.{lines_after}
+use Rattle.smooth_nnf.proofs.DrawnLines.{length-filter-le}
+
+-- ---- kids of a cost
+
+pub just-stored : (cost n : ℕ) → (cost ≡ 4294967295 → ⊥) → costs_just cost (cost_in n) ≡ (n == cost)
+just-stored cost n some = by (cases_eq n 4294967295) where
+  by : (n ≡ 4294967295) ⊎ (n ≡ 4294967295 → ⊥) → costs_just cost (cost_in n) ≡ (n == cost)
+  by (inl none) = ap (costs_just cost) (cond-true _ _ _ (eq-eqb n 4294967295 none)) ∙ sym (ne_eqb n cost (λ e. some (sym e ∙ none)))
+  by (inr is) = ap (costs_just cost) (cost_in-some n is)
+
+cheapest-more : (values kids : List ℕ) (cost i count : ℕ) → i < length kids → get_or kids i 0 < length values → (cost ≡ 4294967295 → ⊥) → count ≡ length (cheapest_kids (map cost_in values) cost (take i kids))
+    → count + cond (get_or values (get_or kids i 0) 0 == cost) 1 0 ≡ length (cheapest_kids (map cost_in values) cost (take (i + 1) kids))
+cheapest-more values kids cost i count lt inside some is =
+    let test : ℕ → Bool = λ kid. costs_just cost (cost_at (map cost_in values) kid) in
+    let here : test (get_or kids i 0) ≡ (get_or values (get_or kids i 0) 0 == cost) = ap (costs_just cost) (cost_at-map values (get_or kids i 0) inside) ∙ just-stored cost (get_or values (get_or kids i 0) 0) some in
+    (λ j. is j + cond (sym here j) 1 0) ∙ sym (length-filter_more test kids i 0 lt)
+
+module _ (values kids : List ℕ) (cost i count : ℕ) (lt : i < length kids) (inside : get_or kids i 0 < length values) (some : cost ≡ 4294967295 → ⊥) (is : count ≡ length (cheapest_kids (map cost_in values) cost (take i kids))) where
+  pub one-cheapest : get_or values (get_or kids i 0) 0 ≡ cost → count + 1 ≡ length (cheapest_kids (map cost_in values) cost (take (i + 1) kids))
+  one-cheapest hit = ap (λ b. count + cond b 1 0) (sym (eq-eqb (get_or values (get_or kids i 0) 0) cost hit)) ∙ cheapest-more values kids cost i count lt inside some is
+
+  pub none-cheapest : (get_or values (get_or kids i 0) 0 ≡ cost → ⊥) → count ≡ length (cheapest_kids (map cost_in values) cost (take (i + 1) kids))
+  none-cheapest miss =
+      let same : count ≡ count + 0 = omega arith in
+      same ∙ ap (λ b. count + cond b 1 0) (sym (ne_eqb (get_or values (get_or kids i 0) 0) cost miss)) ∙ cheapest-more values kids cost i count lt inside some is
+
+-- ---- lines
+
+pub lines_to-le : (least : List (Option ℕ)) (node : Node) (o : Option ℕ) → lines_to least node o ≤ length node.kids
+lines_to-le least node None = omega arith
+lines_to-le least node (Some cost) = before-le node.what node.kids where
+  before-le : (what : NodeKind) (kids : List ℕ) → lines_before least cost what kids ≤ length kids
+  before-le (Literal var positive) kids = omega arith
+  before-le And kids = omega arith
+  before-le Or kids = length-filter-le _ kids
+
+module _ (least : List (Option ℕ)) where
+  own_lines-next : (line number : ℕ) (nodes : List Node) (i : ℕ) → i < length nodes
+      → own_lines least line number (take (suc i) nodes) ≡ own_lines least line number (take i nodes) ++ (lines_after least line number (take i nodes) + lines_to least (node_at nodes i) (cost_at least (number + i))) ∷ []
+  own_lines-next line number [] i lt = absurd (omega arith)
+  own_lines-next line number (node ∷ nodes) zero lt = let e : number ≡ number + 0 = omega arith in ap (λ n. (line + lines_to least node (cost_at least n)) ∷ []) e
+  own_lines-next line number (node ∷ nodes) (suc i) lt =
+      let own : ℕ = line + lines_to least node (cost_at least number) in
+      let e : (number + 1) + i ≡ number + suc i = omega arith in
+      ap (λ ls. own ∷ ls) (own_lines-next (own + 1) (number + 1) nodes i (omega arith)
+      ∙ ap (λ n. own_lines least (own + 1) (number + 1) (take i nodes) ++ (lines_after least (own + 1) (number + 1) (take i nodes) + lines_to least (node_at nodes i) (cost_at least n)) ∷ []) e)
+
+  lines_after-next : (line number : ℕ) (nodes : List Node) (i : ℕ) → i < length nodes
+      → lines_after least line number (take (suc i) nodes) ≡ lines_after least line number (take i nodes) + lines_to least (node_at nodes i) (cost_at least (number + i)) + 1
+  lines_after-next line number [] i lt = absurd (omega arith)
+  lines_after-next line number (node ∷ nodes) zero lt = let e : number ≡ number + 0 = omega arith in ap (λ n. line + lines_to least node (cost_at least n) + 1) e
+  lines_after-next line number (node ∷ nodes) (suc i) lt =
+      let own : ℕ = line + lines_to least node (cost_at least number) in
+      let e : (number + 1) + i ≡ number + suc i = omega arith in
+      lines_after-next (own + 1) (number + 1) nodes i (omega arith)
+      ∙ ap (λ n. lines_after least (own + 1) (number + 1) (take i nodes) + lines_to least (node_at nodes i) (cost_at least n) + 1) e
+
+  -- one more node, of the first ones
+  module _ (line : ℕ) (nodes : List Node) (i : ℕ) (lt : i < length nodes) where
+    next : i + 1 ≡ suc i
+    next = omega arith
+
+    first : 0 + i ≡ i
+    first = omega arith
+
+    pub own_lines-more : own_lines least line 0 (take (i + 1) nodes) ≡ own_lines least line 0 (take i nodes) ++ (lines_after least line 0 (take i nodes) + lines_to least (node_at nodes i) (cost_at least i)) ∷ []
+    own_lines-more = ap (λ n. own_lines least line 0 (take n nodes)) next ∙ own_lines-next line 0 nodes i lt
+        ∙ ap (λ n. own_lines least line 0 (take i nodes) ++ (lines_after least line 0 (take i nodes) + lines_to least (node_at nodes i) (cost_at least n)) ∷ []) first
+
+    pub lines_after-more : lines_after least line 0 (take (i + 1) nodes) ≡ lines_after least line 0 (take i nodes) + lines_to least (node_at nodes i) (cost_at least i) + 1
+    lines_after-more = ap (λ n. lines_after least line 0 (take n nodes)) next ∙ lines_after-next line 0 nodes i lt
+        ∙ ap (λ n. lines_after least line 0 (take i nodes) + lines_to least (node_at nodes i) (cost_at least n) + 1) first
+
+  -- lines fit
+  pub lines_after-le : (line number : ℕ) (nodes : List Node) (i : ℕ) → lines_after least line number (take i nodes) ≤ line + length nodes + edges nodes
+  lines_after-le line number nodes zero = omega arith
+  lines_after-le line number [] (suc i) = omega arith
+  lines_after-le line number (node ∷ nodes) (suc i) = omega (
+    arith,
+    lines_after-le (line + lines_to least node (cost_at least number) + 1) (number + 1) nodes i,
+    lines_to-le least node (cost_at least number),
+    sum_by-cons (λ (n : Node). length n.kids) node nodes,
+  )
+
+pub take-written : (xs : List ℕ) (i v : ℕ) → i < length xs → take (i + 1) (set xs i v) ≡ take i xs ++ v ∷ []
+take-written xs i v h = let e : i + 1 ≡ suc i = omega arith in ap (λ n. take n (set xs i v)) e ∙ go xs i h where
+  go : (xs : List ℕ) (i : ℕ) → i < length xs → take (suc i) (set xs i v) ≡ take i xs ++ v ∷ []
+  go [] i h = absurd (omega arith)
+  go (x ∷ xs) zero h = refl
+  go (x ∷ xs) (suc i) h = λ j. x ∷ go xs i (omega arith) j

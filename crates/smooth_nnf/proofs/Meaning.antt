@@ -1,0 +1,307 @@
+-- What lines say that are drawn for nodes: one is true where its node can be, at its least cost, with the same bits of the parts below it.
+use Rattle.std.proofs.Common.{◌≡◌, ℕ, zero, suc, ◌<◌, ◌≤◌, Bool, true, false, not, cond, ◌&&◌, ◌||◌, All, List, [], ◌∷◌, map, length, Option, Some, None, refl, ap, sym, ◌∙◌, subst, arith, ⊎_elim, inl, inr}
+use Rattle.std.specs.Prelude.{slice_get, nat_le}
+use Rattle.std.specs.List.{list_all, list_any}
+use Rattle.std.proofs.lemmas.Bool.{and_from, and_parts, or_cases, or_left, or_right, eqb-true, eq-eqb, leb-true}
+use Rattle.ranking.specs.Bits.{same_bit}
+use Rattle.ranking.specs.Cases.{agrees_at}
+use Rattle.ranking.specs.Assignments.{Assignment}
+use Rattle.ranking.specs.Values.{values}
+use Rattle.ranking.proofs.Bits.{same_bit-equal, same_bit-refl}
+use Rattle.ranking.proofs.Members.{In, In-filter, In-filtered, AtMost}
+use Rattle.graph_rules.specs.declared.NodeKind.TheVariants.{Literal, And, Or}
+use Rattle.graph_rules.specs.Graphs.{at_most_one, Graph, truth, mention, mentions, is_true, IsGraph}
+use Rattle.graph_rules.proofs.Kids.{at_most_one-tail, not_both}
+use Rattle.minimiser.specs.Costs.{part_cost, known_at, cost_at, sum_costs, node_cost}
+use Rattle.minimiser.proofs.Totals.{add-le-total}
+use Rattle.minimiser.proofs.Costs.{fault, Agrees, faults_in, faults_in-le, all_faults, apart_sum, joins, from_add}
+use Rattle.minimiser.proofs.Nodes.{kids_and}
+use Rattle.minimiser.proofs.Whole.{part_cost-none}
+use Rattle.minimiser.proofs.Derivations.{is_cost, true-at, mention-at, apart-kids, costs-at, any-kid, kid-with, cheapest-kid, faults-lt}
+use Rattle.smooth_nnf.specs.Layouts.{filling, costs_just, cheapest_kids}
+
+-- ---- costs of kids
+
+costs_just-is : (c : ℕ) (o : Option ℕ) → costs_just c o ≡ true → o ≡ Some c
+costs_just-is c None e = absurd (let no : false ≡ true = e in cc)
+costs_just-is c (Some d) e = ap Some (eqb-true d c e)
+
+costs_just-of : (c : ℕ) (o : Option ℕ) → o ≡ Some c → costs_just c o ≡ true
+costs_just-of c o e = ap (costs_just c) e ∙ eq-eqb c c refl
+
+-- a kid of least cost
+pub cheapest-in : (least : List (Option ℕ)) (c : ℕ) (kids : List ℕ) (k : ℕ) → In k kids → cost_at least k ≡ Some c → In k (cheapest_kids least c kids)
+cheapest-in least c kids k m e = In-filtered (λ j. costs_just c (cost_at least j)) k kids m (costs_just-of c (cost_at least k) e)
+
+pub cheapest-is : (least : List (Option ℕ)) (c : ℕ) (kids : List ℕ) (k : ℕ) → In k (cheapest_kids least c kids) → In k kids × (cost_at least k ≡ Some c)
+cheapest-is least c kids k m = let r = In-filter (λ j. costs_just c (cost_at least j)) k kids m in (r.0, costs_just-is c (cost_at least k) r.1)
+
+-- a bit that agrees and costs nothing is that which fills in
+filled_bit : (k : Option Bool) (b : Bool) (w : ℕ) → 0 < w → agrees_at k b ≡ true → (fault k w b ≡ 0) → b ≡ filling k
+filled_bit None true w dear ag free = refl
+filled_bit None false w dear ag free = absurd (omega arith)
+filled_bit (Some x) b w dear ag free = sym (same_bit-equal x b ag)
+
+only_fault : (k : Option Bool) (b : Bool) (w : ℕ) → (fault k w b ≡ 0 → ⊥) → b ≡ false
+only_fault None true w h = absurd (h refl)
+only_fault None false w h = refl
+only_fault (Some x) b w h = absurd (h refl)
+
+zero_or : (n : ℕ) → (n ≡ 0 → ⊥) → 0 < n
+zero_or zero h = absurd (h refl)
+zero_or (suc n) h = omega arith
+
+module _ (graph : Graph) (words costs : List ℕ) (ok : IsGraph graph) (dear : All (λ c. 0 < c) costs) where
+  abbrev kn : ℕ → Option Bool
+  kn v = known_at words v
+
+  abbrev price : ℕ → ℕ
+  price v = part_cost costs v
+
+  abbrev n : ℕ
+  n = length costs
+
+  abbrev T : Assignment → ℕ → Bool
+  T a k = is_true graph.nodes k a
+
+  abbrev M : ℕ → ℕ → Bool
+  M v k = mentions graph.nodes v k
+
+  abbrev Ck : ℕ → Option ℕ
+  Ck k = cost_at (values (node_cost kn price) graph.nodes) k
+
+  -- a variable that is a part's
+  abbrev pub is_part : ℕ → Bool
+  is_part v = nat_le 1 v && nat_le v (length costs)
+
+  price-some : (v : ℕ) → 1 ≤ v → v ≤ length costs → 0 < part_cost costs v
+  price-some zero low high = absurd (omega arith)
+  price-some (suc i) low high = dear i 0 (omega arith)
+
+  -- an assignment that agrees and passes a test at no more than a cost, with the same bits of some parts
+  pub record Gives (t : Assignment → Bool) (m : ℕ → Bool) (c : ℕ) (a : Assignment) : Type 0 where
+    pub by : Assignment
+    pub agrees : Agrees (known_at words) (part_cost costs) (length costs) by
+    pub holds : t by ≡ true
+    pub cheap : all_faults (known_at words) (part_cost costs) (length costs) by ≤ c
+    pub same : (v : ℕ) → is_part v ≡ true → m v ≡ true → a v ≡ by v
+
+  -- A line is true where its test can be passed at no more than a cost, with the same bits of the parts that the test is about.
+  pub record Means (t : Assignment → Bool) (m : ℕ → Bool) (c : ℕ) (line : Assignment → Bool) : Type 0 where
+    pub sound : (a b : Assignment) → Agrees (known_at words) (part_cost costs) (length costs) b → t b ≡ true → faults_in (known_at words) (part_cost costs) (length costs) m b ≤ c
+        → ((v : ℕ) → is_part v ≡ true → m v ≡ true → a v ≡ b v) → line a ≡ true
+    pub reached : (a : Assignment) → line a ≡ true → Gives t m c a
+
+  -- that of a node
+  abbrev pub NodeMeans : ℕ → ℕ → (Assignment → Bool) → Type 0
+  NodeMeans k c line = Means (λ a. is_true graph.nodes k a) (λ v. mentions graph.nodes v k) c line
+
+  -- ---- a part that is not below a node
+
+  -- where a node is true at its least cost, parts that are not below it have the bits that fill them in
+  outside : (k c : ℕ) → Ck k ≡ Some c → (o : ℕ → Bool) → ((v : ℕ) → M v k ≡ true → o v ≡ true) → (b : Assignment) → Agrees kn price n b → T b k ≡ true → faults_in kn price n o b ≤ c
+      → (v : ℕ) → is_part v ≡ true → o v ≡ true → M v k ≡ false → b v ≡ filling (kn v)
+  outside k c e o wider b ag h few v part in_o not_below =
+      let range = and_parts (nat_le 1 v) (nat_le v n) part in
+      let low : 1 ≤ v = leb-true 1 v range.0 in
+      let high : v ≤ n = leb-true v n range.1 in
+      filled_bit (kn v) (b v) (price v) (price-some v low high) (ag v) (by_test (fault (kn v) (price v) (b v)) refl low high) where
+        by_test : (w : ℕ) → fault (kn v) (price v) (b v) ≡ w → 1 ≤ v → v ≤ n → fault (kn v) (price v) (b v) ≡ 0
+        by_test zero q low high = q
+        by_test (suc w) q low high =
+            let costly : 0 < fault (kn v) (price v) (b v) = omega arith in
+            let most : c ≤ faults_in kn price n (λ u. M u k) b = subst (λ d. AtMost d (faults_in kn price n (λ u. M u k) b)) e ((is_cost graph words costs ok k).bound b ag h) in
+            let less : faults_in kn price n (λ u. M u k) b < faults_in kn price n o b =
+            faults-lt graph words costs ok b ag v low (omega arith) (only_fault (kn v) (b v) (price v) (λ z. omega arith)) costly (λ u. M u k) o wider not_below in_o in
+            absurd (omega arith)
+
+  -- ---- parts that are filled in
+
+  -- bits of some parts are those that fill them in
+  abbrev pub AreFilled : (ℕ → Bool) → Assignment → Type 0
+  AreFilled missing a = (v : ℕ) → is_part v ≡ true → missing v ≡ true → a v ≡ filling (known_at words v)
+
+  pub record Fills (missing : ℕ → Bool) (line : Assignment → Bool) : Type 0 where
+    pub sound : (a : Assignment) → AreFilled missing a → line a ≡ true
+    pub reached : (a : Assignment) → line a ≡ true → AreFilled missing a
+
+  -- a node's line with the parts of a greater set that are not below the node
+  pub filled : (k c : ℕ) → Ck k ≡ Some c → (o : ℕ → Bool) → ((v : ℕ) → M v k ≡ true → o v ≡ true) → (line fill : Assignment → Bool) → NodeMeans k c line
+      → Fills (λ v. o v && not (M v k)) fill → Means (λ a. T a k) o c (λ a. line a && fill a)
+  filled k c e o wider line fill means fills = record {
+    sound = λ a b ag h few same. and_from _ _
+        (means.sound a b ag h (omega (arith, few, faults_in-le kn price n (λ v. M v k) o b wider)) (λ v p q. same v p (wider v q)))
+        (fills.sound a (λ v p q. let both = and_parts (o v) (not (M v k)) q in same v p both.0 ∙ outside k c e o wider b ag h few v p both.0 (is_off (M v k) both.1)));
+    reached = λ a h.
+        let both = and_parts (line a) (fill a) h in
+        let g = means.reached a both.0 in
+        record {
+          by = g.by;
+          agrees = g.agrees;
+          holds = g.holds;
+          cheap = g.cheap;
+          same = λ v p q. by_test a both.1 g v p q (M v k) refl;
+        };
+  } where
+    is_off : (x : Bool) → not x ≡ true → x ≡ false
+    is_off true h = absurd (let no : false ≡ true = h in cc)
+    is_off false h = refl
+
+    by_test : (a : Assignment) → fill a ≡ true → (g : Gives (λ b. T b k) (λ v. M v k) c a) → (v : ℕ) → is_part v ≡ true → o v ≡ true → (x : Bool) → M v k ≡ x → a v ≡ g.by v
+    by_test a f g v p q true m = g.same v p m
+    by_test a f g v p q false m =
+        fills.reached a f v p (and_from _ _ q (ap not m))
+        ∙ sym (outside k c e (λ u. true) (λ u r. refl) g.by g.agrees g.holds g.cheap v p refl m)
+
+  -- ---- a literal
+
+  module _ (k var : ℕ) (positive : Bool) (kids : List ℕ) (e : slice_get graph.nodes k ≡ Some (record { what = Literal var positive; kids = kids })) (c : ℕ) (cost_is : Ck k ≡ Some c) where
+    of_var : (v : ℕ) → M v k ≡ true → var ≡ v
+    of_var v m = eqb-true var v (sym (mention-at graph words costs ok k _ e v) ∙ m)
+
+    has_var : M var k ≡ true
+    has_var = mention-at graph words costs ok k _ e var ∙ eq-eqb var var refl
+
+    says : (a : Assignment) → T a k ≡ true → a var ≡ positive
+    says a h = sym (same_bit-equal positive (a var) (sym (true-at graph words costs ok k _ e a) ∙ h))
+
+    -- of a part
+    pub part-means : is_part var ≡ true → NodeMeans k c (λ a. same_bit positive (a var))
+    part-means part = record {
+      sound = λ a b ag h few same. ap (same_bit positive) (same var part has_var ∙ says b h) ∙ same_bit-refl positive;
+      reached = λ a h.
+          let r = (is_cost graph words costs ok k).reached c cost_is in
+          record {
+            by = r.by;
+            agrees = r.agrees;
+            holds = r.holds;
+            cheap = r.cheap;
+            same = λ v p m. subst (λ u. a u ≡ r.by u) (of_var v m) (sym (same_bit-equal positive (a var) h) ∙ sym (says r.by r.holds));
+          };
+    }
+
+    -- of any other variable
+    pub other-means : is_part var ≡ false → NodeMeans k c (λ a. true)
+    other-means other = record {
+      sound = λ a b ag h few same. refl;
+      reached = λ a h.
+          let r = (is_cost graph words costs ok k).reached c cost_is in
+          record {
+            by = r.by;
+            agrees = r.agrees;
+            holds = r.holds;
+            cheap = r.cheap;
+            same = λ v p m. absurd (let no : true ≡ false = sym p ∙ ap is_part (sym (of_var v m)) ∙ other in cc);
+          };
+    }
+
+  -- ---- an and
+
+  module _ (line : ℕ → Assignment → Bool) where
+    all_lines : (kids : List ℕ) → ((v : ℕ) → at_most_one (map (M v) kids) ≡ true) → ((k c : ℕ) → In k kids → Ck k ≡ Some c → NodeMeans k c (line k))
+        → (c : ℕ) → sum_costs (map Ck kids) ≡ Some c
+        → Means (λ a. list_all (λ b. b) (map (T a) kids)) (λ v. list_any (λ b. b) (map (M v) kids)) c (λ a. list_all (λ b. b) (map (λ k. line k a) kids))
+    all_lines [] apart are c s = record {
+      sound = λ a b ag h few same. refl;
+      reached = λ a h.
+          let r = (kids_and kn price n (part_cost-none costs) (λ a. values (truth a) graph.nodes) (λ v. values (mention v) graph.nodes) (values (node_cost kn price) graph.nodes) (is_cost graph words costs ok) [] apart).reached c s in
+          record { by = r.by; agrees = r.agrees; holds = r.holds; cheap = r.cheap; same = λ v p m. absurd (let no : false ≡ true = m in cc) };
+    }
+    all_lines (j ∷ kids) apart are c s =
+        let sum = from_add (Ck j) (sum_costs (map Ck kids)) c s in
+        let later : (v : ℕ) → at_most_one (map (M v) kids) ≡ true = λ v. at_most_one-tail (M v j) (map (M v) kids) (apart v) in
+        let both : (v : ℕ) → (M v j && list_any (λ b. b) (map (M v) kids)) ≡ false = λ v. not_both (M v j) (map (M v) kids) (apart v) in
+        let j_is = is_cost graph words costs ok j in
+        let kids_are = kids_and kn price n (part_cost-none costs) (λ a. values (truth a) graph.nodes) (λ v. values (mention v) graph.nodes) (values (node_cost kn price) graph.nodes) (is_cost graph words costs ok) kids later in
+        let first = are j sum.left (inl refl) sum.left_is in
+        let rest = all_lines kids later (λ k d m. are k d (inr m)) sum.right sum.right_is in
+        record {
+          sound = λ a b ag h few same.
+              let parts = and_parts (T b j) (list_all (λ x. x) (map (T b) kids)) h in
+              let low_here : sum.left ≤ faults_in kn price n (λ v. M v j) b = subst (λ o. AtMost o (faults_in kn price n (λ v. M v j) b)) sum.left_is (j_is.bound b ag parts.0) in
+              let low_there : sum.right ≤ faults_in kn price n (λ v. list_any (λ x. x) (map (M v) kids)) b =
+              subst (λ o. AtMost o (faults_in kn price n (λ v. list_any (λ x. x) (map (M v) kids)) b)) sum.right_is (kids_are.bound b ag parts.1) in
+              let all = add-le-total (λ v. cond (M v j) (fault (kn v) (price v) (b v)) 0) (λ v. cond (list_any (λ x. x) (map (M v) kids)) (fault (kn v) (price v) (b v)) 0)
+              (λ v. cond (M v j || list_any (λ x. x) (map (M v) kids)) (fault (kn v) (price v) (b v)) 0) (λ v. apart_sum (M v j) (list_any (λ x. x) (map (M v) kids)) (fault (kn v) (price v) (b v)) (both v)) 1 n in
+              and_from _ _
+              (first.sound a b ag parts.0 (omega (arith, all, low_there, sum.sum_is, few)) (λ v p q. same v p (or_left _ _ q)))
+              (rest.sound a b ag parts.1 (omega (arith, all, low_here, sum.sum_is, few)) (λ v p q. same v p (or_right _ _ q)));
+          reached = λ a h.
+              let parts = and_parts (line j a) (list_all (λ b. b) (map (λ k. line k a) kids)) h in
+              let g = first.reached a parts.0 in
+              let r = rest.reached a parts.1 in
+              let x = joins kn price n (λ b. T b j) (λ b. list_all (λ y. y) (map (T b) kids)) (λ v. M v j) (λ v. list_any (λ y. y) (map (M v) kids)) (Ck j) (sum_costs (map Ck kids)) j_is kids_are both
+              g.by r.by g.agrees r.agrees g.holds r.holds in
+              record {
+                by = x.by;
+                agrees = x.agrees;
+                holds = and_from _ _ x.left x.right;
+                cheap = omega (arith, x.cheap, g.cheap, r.cheap, sum.sum_is);
+                same = λ v p q. ⊎_elim
+                    (λ m. g.same v p m ∙ sym (x.as_left v m))
+                    (λ m. r.same v p m ∙ sym (x.as_right v m))
+                    (or_cases (M v j) (list_any (λ y. y) (map (M v) kids)) q);
+              };
+        }
+
+    -- all lines of the kids of an and
+    pub and-means : (i : ℕ) (kids : List ℕ) (c : ℕ) → slice_get graph.nodes i ≡ Some (record { what = And; kids = kids }) → Ck i ≡ Some c
+        → ((k d : ℕ) → In k kids → Ck k ≡ Some d → NodeMeans k d (line k)) → NodeMeans i c (λ a. list_all (λ b. b) (map (λ k. line k a) kids))
+    and-means i kids c e is are =
+        let m = all_lines kids (apart-kids graph words costs ok i kids e) are c (sym (costs-at graph words costs ok i _ e) ∙ is) in
+        record {
+          sound = λ a b ag h few same. m.sound a b ag (sym (true-at graph words costs ok i _ e b) ∙ h)
+              (omega (arith, few, faults_in-le kn price n (λ v. list_any (λ y. y) (map (M v) kids)) (λ v. M v i) b (λ v q. mention-at graph words costs ok i _ e v ∙ q)))
+              (λ v p q. same v p (mention-at graph words costs ok i _ e v ∙ q));
+          reached = λ a h.
+              let g = m.reached a h in
+              record {
+                by = g.by;
+                agrees = g.agrees;
+                holds = true-at graph words costs ok i _ e g.by ∙ g.holds;
+                cheap = g.cheap;
+                same = λ v p q. g.same v p (sym (mention-at graph words costs ok i _ e v) ∙ q);
+              };
+        }
+
+  -- ---- an or
+
+  module _ (i : ℕ) (kids : List ℕ) (c : ℕ) (e : slice_get graph.nodes i ≡ Some (record { what = Or; kids = kids })) (is : Ck i ≡ Some c) where
+    -- what is below a kid is below the or
+    pub kid-inside : (k : ℕ) → In k kids → (v : ℕ) → M v k ≡ true → M v i ≡ true
+    kid-inside k m v h = mention-at graph words costs ok i _ e v ∙ any-kid (M v) kids k m h
+
+    -- a kid that is true at the or's cost has it
+    kid-cost : (b : Assignment) → Agrees kn price n b → faults_in kn price n (λ v. M v i) b ≤ c → (k : ℕ) → In k kids → T b k ≡ true → Ck k ≡ Some c
+    kid-cost b ag few k m h = by_cost (Ck k) refl ((is_cost graph words costs ok k).bound b ag h) where
+      by_cost : (o : Option ℕ) → Ck k ≡ o → AtMost o (faults_in kn price n (λ v. M v k) b) → Ck k ≡ Some c
+      by_cost None q low = absurd low
+      by_cost (Some d) q low =
+          let most : c ≤ d = subst (λ o. AtMost o d) (sym (costs-at graph words costs ok i _ e) ∙ is) (cheapest-kid Ck kids k d m q) in
+          q ∙ ap Some (omega (arith, low, few, most, faults_in-le kn price n (λ v. M v k) (λ v. M v i) b (kid-inside k m)))
+
+    abbrev cheapest : List ℕ
+    cheapest = cheapest_kids (values (node_cost kn price) graph.nodes) c kids
+
+    -- the lines of its cheapest kids, each filled in
+    pub or-means : (line : ℕ → Assignment → Bool)
+        → ((k : ℕ) → In k kids → Ck k ≡ Some c → Means (λ a. is_true graph.nodes k a) (λ v. mentions graph.nodes v i) c (line k))
+        → NodeMeans i c (λ a. list_any (λ b. b) (map (λ k. line k a) (cheapest_kids (values (node_cost (known_at words) (part_cost costs)) graph.nodes) c kids)))
+    or-means line are = record {
+      sound = λ a b ag h few same.
+          let j = kid-with (T b) kids (sym (true-at graph words costs ok i _ e b) ∙ h) in
+          let cost_is = kid-cost b ag few j.item j.is_in j.passes in
+          any-kid (λ k. line k a) cheapest j.item (cheapest-in (values (node_cost kn price) graph.nodes) c kids j.item j.is_in cost_is)
+          ((are j.item j.is_in cost_is).sound a b ag j.passes few same);
+      reached = λ a h.
+          let j = kid-with (λ k. line k a) cheapest h in
+          let m = cheapest-is (values (node_cost kn price) graph.nodes) c kids j.item j.is_in in
+          let g = (are j.item m.0 m.1).reached a j.passes in
+          record {
+            by = g.by;
+            agrees = g.agrees;
+            holds = true-at graph words costs ok i _ e g.by ∙ any-kid (T g.by) kids j.item m.0 g.holds;
+            cheap = g.cheap;
+            same = g.same;
+          };
+    }

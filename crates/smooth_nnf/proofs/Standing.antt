@@ -1,0 +1,109 @@
+-- Lines that stand behind others: what their nodes are worth, and that all of them are still nodes of a smooth graph.
+use Rattle.std.proofs.Common.{◌≡◌, ℕ, ◌+◌, ◌<◌, ◌≤◌, Bool, true, false, List, [], ◌∷◌, ◌++◌, map, length, refl, ap, sym, ◌∙◌, subst, arith, append_assoc, append-nil, length-append}
+use Rattle.std.specs.List.{range_with_len, AllByRecursion}
+use Rattle.std.proofs.lemmas.Bool.{and_parts, and_from}
+use Rattle.ranking.specs.Bits.{bit_in}
+use Rattle.ranking.specs.Values.{values}
+use Rattle.ranking.proofs.Lists.{AllByRecursion-append}
+use Rattle.ranking.proofs.Values.{length-values_after, values_after-append, values_after-keeps}
+use Rattle.graph_rules.specs.declared.NodeKind.{NodeKind}
+use Rattle.graph_rules.specs.declared.NodeKind.TheVariants.{Literal, And, Or}
+use Rattle.graph_rules.specs.Graphs.{Node, mention_by, mentions, apart_at, kind_fits, node_fits, nodes_fit, AreNodes}
+use Rattle.graph_rules.proofs.NodeValues.{are_below, are_below-from, below-each, map-below, value, value_of, value_of-last}
+use Rattle.graph_rules.proofs.NodesFit.{fits, apart_at-below, AreNodes-push}
+use Rattle.graph_rules.specs.StateGraphs.{all_same, smooth_at, Smooth}
+
+-- ---- what nodes are worth
+
+module _ (by : NodeKind → List Bool → Bool) where
+  -- what stands before others is worth the same
+  pub value_of-front : (front back : List Node) (k : ℕ) → k < length front → value_of by (front ++ back) k ≡ value_of by front k
+  value_of-front front back k lt =
+      ap (λ vs. bit_in vs k) (values_after-append (value by) [] front back)
+      ∙ values_after-keeps (value by) (values (value by) front) back k false (omega (arith, length-values_after (value by) [] front))
+
+  -- and what stands behind is worth what its kind makes of its kids
+  pub value_of-there : (front : List Node) (node : Node) (back : List Node) → value_of by (front ++ (node ∷ back)) (length front) ≡ by node.what (map (value_of by front) node.kids)
+  value_of-there front node back =
+      ap (λ ns. value_of by ns (length front)) (sym (append_assoc front (node ∷ []) back))
+      ∙ value_of-front (front ++ node ∷ []) back (length front) (omega (arith, length-append front (node ∷ [])))
+      ∙ value_of-last by front node
+
+  -- nodes one behind the other whose kids stand before all of them
+  pub values-behind : (base seen middle back : List Node) → AllByRecursion (λ (x : Node). are_below (length base) x.kids ≡ true) middle
+      → map (value_of by (base ++ (seen ++ (middle ++ back)))) (range_with_len (length base + length seen) (length middle)) ≡ map (λ x. by x.what (map (value_of by base) x.kids)) middle
+  values-behind base seen [] back below = refl
+  values-behind base seen (x ∷ middle) back below =
+      let all : List Node = base ++ (seen ++ (x ∷ (middle ++ back))) in
+      let joined : (base ++ seen) ++ (x ∷ (middle ++ back)) ≡ base ++ (seen ++ (x ∷ (middle ++ back))) = append_assoc base seen (x ∷ (middle ++ back)) in
+      let longer : length (base ++ seen) ≡ length base + length seen = length-append base seen in
+      let here : value_of by all (length base + length seen) ≡ by x.what (map (value_of by base) x.kids) =
+      (λ i. value_of by (sym joined i) (sym longer i)) ∙ value_of-there (base ++ seen) x (middle ++ back)
+      ∙ ap (by x.what) (map-below (value_of by (base ++ seen)) (value_of by base) (length base) x.kids below.0 (λ k h. value_of-front base seen k h)) in
+      let next : base ++ ((seen ++ x ∷ []) ++ (middle ++ back)) ≡ all = ap (λ t. base ++ t) (append_assoc seen (x ∷ []) (middle ++ back)) in
+      let one_more : length base + length (seen ++ x ∷ []) ≡ (length base + length seen) + 1 = omega (arith, length-append seen (x ∷ [])) in
+      (λ i. here i ∷ map (value_of by (sym next i)) (range_with_len (sym one_more i) (length middle)))
+      ∙ ap (λ bs. by x.what (map (value_of by base) x.kids) ∷ bs) (values-behind base (seen ++ x ∷ []) middle back below.1)
+
+-- ---- smooth nodes
+
+smooth_at-below : (f g : ℕ → Bool) (own : ℕ) (kind : NodeKind) (kids : List ℕ) → are_below own kids ≡ true → ((k : ℕ) → k < own → f k ≡ g k) → smooth_at f kind kids ≡ smooth_at g kind kids
+smooth_at-below f g own (Literal var positive) kids below same = refl
+smooth_at-below f g own And kids below same = refl
+smooth_at-below f g own Or kids below same = ap all_same (map-below f g own kids below same)
+
+smooth-same : (vars own bound : ℕ) (f g : ℕ → Bool) → ((k : ℕ) → k < bound → f k ≡ g k) → (nodes : List Node) → own + length nodes ≤ bound → nodes_fit vars own nodes ≡ true
+    → AllByRecursion (λ (n : Node). smooth_at f n.what n.kids ≡ true) nodes → AllByRecursion (λ (n : Node). smooth_at g n.what n.kids ≡ true) nodes
+smooth-same vars own bound f g same [] few all h = tt
+smooth-same vars own bound f g same (m ∷ nodes) few all h =
+    let parts = and_parts (node_fits vars own m) (nodes_fit vars (own + 1) nodes) all in (
+      sym (smooth_at-below f g own m.what m.kids (fits vars own m parts.0).below (λ k lt. same k (omega arith))) ∙ h.0,
+      smooth-same vars (own + 1) bound f g same nodes (omega arith) parts.1 h.1,
+    )
+
+-- lines that are nodes of a graph, and smooth
+pub record Stand (vars : ℕ) (lines : List Node) : Type 0 where
+  pub nodes : AreNodes vars lines
+  pub smooth : Smooth lines
+
+-- a node that may stand behind them
+pub record MayFollow (vars : ℕ) (base : List Node) (node : Node) : Type 0 where
+  pub below : are_below (length base) node.kids ≡ true
+  pub kind : kind_fits vars node.what node.kids ≡ true
+  pub apart : (v : ℕ) → apart_at (mentions base v) node.what node.kids ≡ true
+  pub smooth : (v : ℕ) → smooth_at (mentions base v) node.what node.kids ≡ true
+
+pub are_below-more : (m n : ℕ) (kids : List ℕ) → m ≤ n → are_below m kids ≡ true → are_below n kids ≡ true
+are_below-more m n kids le below = are_below-from n kids (λ k d h. omega (arith, below-each m kids below k d h))
+
+-- it may follow later too
+may_follow-later : (vars : ℕ) (base seen : List Node) (node : Node) → MayFollow vars base node → MayFollow vars (base ++ seen) node
+may_follow-later vars base seen node f = record {
+  below = are_below-more (length base) (length (base ++ seen)) node.kids (omega (arith, length-append base seen)) f.below;
+  kind = f.kind;
+  apart = λ v. apart_at-below (mentions (base ++ seen) v) (mentions base v) (length base) node.what node.kids f.below (λ k h. value_of-front (mention_by v) base seen k h) ∙ f.apart v;
+  smooth = λ v. smooth_at-below (mentions (base ++ seen) v) (mentions base v) (length base) node.what node.kids f.below (λ k h. value_of-front (mention_by v) base seen k h) ∙ f.smooth v;
+}
+
+stand-push : (vars : ℕ) (lines : List Node) (node : Node) → Stand vars lines → MayFollow vars lines node → Stand vars (lines ++ node ∷ [])
+stand-push vars lines node s f = record {
+  nodes = AreNodes-push vars lines node s.nodes (and_from _ _ f.below f.kind) f.apart;
+  smooth = λ v.
+      let same : (k : ℕ) → k < length lines → mentions lines v k ≡ mentions (lines ++ node ∷ []) v k = λ k h. sym (value_of-front (mention_by v) lines (node ∷ []) k h) in
+      AllByRecursion-append (λ (n : Node). smooth_at (mentions (lines ++ node ∷ []) v) n.what n.kids ≡ true) lines (node ∷ [])
+      (smooth-same vars 0 (length lines) (mentions lines v) (mentions (lines ++ node ∷ []) v) same lines (omega arith) s.nodes.fit (s.smooth v))
+      (sym (smooth_at-below (mentions lines v) (mentions (lines ++ node ∷ []) v) (length lines) node.what node.kids f.below same) ∙ f.smooth v, tt);
+}
+
+stand-more : (vars : ℕ) (base seen middle : List Node) → Stand vars (base ++ seen) → AllByRecursion (MayFollow vars base) middle → Stand vars (base ++ (seen ++ middle))
+stand-more vars base seen [] s h = subst (λ t. Stand vars (base ++ t)) (sym (append-nil seen)) s
+stand-more vars base seen (x ∷ middle) s h =
+    subst (λ t. Stand vars (base ++ t)) (append_assoc seen (x ∷ []) middle)
+    (stand-more vars base (seen ++ x ∷ []) middle (subst (Stand vars) (append_assoc base seen (x ∷ [])) (stand-push vars (base ++ seen) x s (may_follow-later vars base seen x h.0))) h.1)
+
+-- nodes that may each follow stand one behind the other
+pub stand-behind : (vars : ℕ) (base middle : List Node) → Stand vars base → AllByRecursion (MayFollow vars base) middle → Stand vars (base ++ middle)
+stand-behind vars base middle s h = stand-more vars base [] middle (subst (Stand vars) (sym (append-nil base)) s) h
+
+pub stand-none : (vars : ℕ) → Stand vars []
+stand-none vars = record { nodes = record { fit = refl; apart = λ v. tt }; smooth = λ v. tt }

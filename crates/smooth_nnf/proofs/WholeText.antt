@@ -1,0 +1,250 @@
+-- The text of the diagnoses is read as a smooth graph over the parts, decomposable, and true for the diagnoses alone.
+use Rattle.std.proofs.Common.{◌≡◌, ℕ, ◌+◌, ◌-◌, ◌*◌, ◌^◌, ◌<◌, ◌≤◌, Bool, true, false, ◌&&◌, All, List, [], ◌∷◌, ◌++◌, map, length, Option, Some, None, refl, ap, sym, ◌∙◌, subst, arith, append_assoc, length-append, inl}
+use Rattle.std.specs.Prelude.{nat_le}
+use Rattle.std.specs.List.{list_any, flat_map, enumerate_from}
+use Rattle.std.specs.Cmp.{both_ways}
+use Rattle.std.specs.Cmp.Lexicographic.{pointwise}
+use Rattle.std.proofs.Math.Bool.{and-true}
+use Rattle.std.proofs.lemmas.Bool.{and_from, and_parts, le-leb, leb-true, false≢true}
+use Rattle.std.proofs.lemmas.List.{ext_get_or}
+use Rattle.std.proofs.lemmas.List.Sums.{sum_by-cons}
+use Rattle.text_rules.specs.Tokens.{is_neat}
+use Rattle.ranking.specs.Bits.{bit_in, same_bit}
+use Rattle.ranking.specs.Assignments.{Assignment, assignment}
+use Rattle.ranking.specs.Ranking.{cost, is_at_most}
+use Rattle.ranking.specs.Values.{values}
+use Rattle.ranking.proofs.Bits.{pointwise-refl, pointwise-equal}
+use Rattle.ranking.proofs.Members.{In, In-filter, any_from, any_in}
+use Rattle.graph_rules.specs.declared.NodeKind.{NodeKind}
+use Rattle.graph_rules.specs.declared.NodeKind.TheVariants.{Literal, And, Or}
+use Rattle.graph_rules.specs.Graphs.{Node, Graph, truth_by, mention_by, mentions, is_true, holds, IsGraph}
+use Rattle.graph_rules.specs.GraphTexts.{edges, parsed}
+use Rattle.graph_rules.proofs.NodeValues.{value_of}
+use Rattle.conditioner.specs.Models.{models, least_under, diagnoses_under}
+use Rattle.minimiser.specs.Costs.{part_cost, known_at, cost_at, node_cost}
+use Rattle.minimiser.specs.inner.Held.{held_cost}
+use Rattle.minimiser.proofs.Whole.{AddHeld, least_is, state_of, assignment_of}
+use Rattle.minimiser.proofs.Models.{diagnosis-in, diagnosis-out}
+use Rattle.nnf_text.proofs.ReadingBack.{IsList, edges-le, graph_text-read, graph_text-is_neat}
+use Rattle.graph_rules.specs.StateGraphs.{IsSmoothGraphOfStates}
+use Rattle.smooth_nnf.specs.Layouts.{Layout, own_lines, layout_of, literal_pairs, lines_before, lines_to, node_lines, last_at, last_line, all_lines, least_graph, least_text}
+use Rattle.minimiser.specs.Stored.{cost_in, costs_to, AreLeastCosts}
+use Rattle.std.proofs.Math.Seq.{take-length}
+use Rattle.smooth_nnf.specs.inner.Drawings.{lines_after}
+use Rattle.smooth_nnf.proofs.LinePlaces.{lines_after-le}
+use Rattle.smooth_nnf.proofs.Standing.{value_of-there, Stand, MayFollow, stand-behind}
+use Rattle.smooth_nnf.proofs.Meaning.{Means}
+use Rattle.smooth_nnf.proofs.Fillers.{length-literal_pairs}
+use Rattle.smooth_nnf.proofs.DrawnLines.{length-filter-le, Means-same, Drawn, over-mention, over-follows, over-means, length-lines, body, all-drawn}
+
+module _ (graph : Graph) (words costs : List ℕ) (ok : IsGraph graph) (long : length words ≡ graph.vars) (within : length costs ≤ graph.vars) (dear : All (λ c. 0 < c) costs)
+    (small : length graph.nodes + edges graph.nodes + 2 * length costs + 1 < 2 ^ 32) where
+  abbrev L : Layout
+  L = layout_of graph words costs
+
+  abbrev parts : ℕ
+  parts = length costs
+
+  abbrev root : ℕ
+  root = length graph.nodes - 1
+
+  abbrev Ck : ℕ → Option ℕ
+  Ck k = cost_at (values (node_cost (known_at words) (part_cost costs)) graph.nodes) k
+
+  few : parts + 1 < 2 ^ 32
+  few = omega arith
+
+  abbrev lines : List Node
+  lines = body graph words costs ok dear few
+
+  abbrev front : List Node
+  front = literal_pairs parts ++ lines
+
+  abbrev last : Node
+  last = last_line L
+
+  abbrev all : List Node
+  all = all_lines L
+
+  all-is : all ≡ front ++ last ∷ []
+  all-is = sym (append_assoc (literal_pairs parts) lines (last ∷ []))
+
+  drawn-root : (c : ℕ) → Ck root ≡ Some c → Drawn graph words costs ok dear few front root c
+  drawn-root c e = (all-drawn graph words costs ok dear few).drawn root c (omega (arith, ok.some)) e
+
+  -- ---- the last line
+
+  last-follows : (o : Option ℕ) → Ck root ≡ o → MayFollow parts front (last_at L root o)
+  last-follows None e = record { below = refl; kind = refl; apart = λ v. refl; smooth = λ v. refl }
+  last-follows (Some c) e = over-follows graph words costs ok dear few lines root c e (drawn-root c e) (λ v. true) (λ v h. refl)
+
+  stand : Stand parts all
+  stand = subst (Stand parts) (sym all-is) (stand-behind parts front (last ∷ []) (all-drawn graph words costs ok dear few).stand (last-follows (Ck root) refl, tt))
+
+  length-all : length all ≡ length front + 1
+  length-all = ap length all-is ∙ length-append front (last ∷ [])
+
+  last-value : (by : NodeKind → List Bool → Bool) → value_of by all (length all - 1) ≡ by last.what (map (value_of by front) last.kids)
+  last-value by =
+      let place : length all - 1 ≡ length front = omega (arith, length-all) in
+      (λ j. value_of by (all-is j) (place j)) ∙ value_of-there by front last []
+
+  -- the parts are below it
+  last-mentions : (c : ℕ) → Ck root ≡ Some c → (v : ℕ) → mentions all v (length all - 1) ≡ (nat_le 1 v && nat_le v parts)
+  last-mentions c e v =
+      last-value (mention_by v) ∙ ap (λ o. mention_by v (last_at L root o).what (map (mentions front v) (last_at L root o).kids)) e
+      ∙ over-mention graph words costs ok dear few lines root c e (drawn-root c e) (λ u. true) (λ u h. refl) v ∙ and-true (nat_le 1 v && nat_le v parts)
+
+  last-false : Ck root ≡ None → (a : Assignment) → is_true all (length all - 1) a ≡ false
+  last-false e a = last-value (truth_by a) ∙ ap (λ o. truth_by a (last_at L root o).what (map (λ k. is_true front k a) (last_at L root o).kids)) e
+
+  last-means : (c : ℕ) → Ck root ≡ Some c → Means graph words costs ok dear (λ a. is_true graph.nodes root a) (λ v. true) c (λ a. is_true all (length all - 1) a)
+  last-means c e = Means-same graph words costs ok dear few
+      (λ a. last-value (truth_by a) ∙ ap (λ o. truth_by a (last_at L root o).what (map (λ k. is_true front k a) (last_at L root o).kids)) e)
+      (over-means graph words costs ok dear few lines root c e (drawn-root c e) (λ v. true) (λ v h. refl))
+
+  -- ---- states and diagnoses
+
+  abbrev ds : List (List Bool)
+  ds = diagnoses_under graph words costs
+
+  abbrev held : ℕ
+  held = held_cost costs words
+
+  least-under : (o : Option ℕ) → Ck root ≡ o → least_under graph words costs ≡ AddHeld held o
+  least-under o e = least_is graph words costs ok long within ∙ ap (AddHeld held) e
+
+  -- there is a least cost where there is a diagnosis
+  has-cost : (d : List Bool) → In d ds → (c : ℕ) × (Ck root ≡ Some c)
+  has-cost d m = by_cost (Ck root) refl where
+    by_cost : (o : Option ℕ) → Ck root ≡ o → (c : ℕ) × (Ck root ≡ Some c)
+    by_cost (Some c) e = (c, e)
+    by_cost None e =
+        let low = In-filter (λ h. is_at_most (cost costs h) (least_under graph words costs)) d (models graph words parts) m in
+        absurd (false≢true (sym (ap (is_at_most (cost costs d)) (least-under None e)) ∙ low.1))
+
+  module _ (h : List Bool) (as_long : length h ≡ parts) where
+    is_diagnosis : is_true all (length all - 1) (assignment h) ≡ true → list_any (pointwise same_bit h) ds ≡ true
+    is_diagnosis t = by_cost (Ck root) refl where
+      by_cost : (o : Option ℕ) → Ck root ≡ o → list_any (pointwise same_bit h) ds ≡ true
+      by_cost None e = absurd (false≢true (sym (last-false e (assignment h)) ∙ t))
+      by_cost (Some c) e =
+          let g = (last-means c e).reached (assignment h) t in
+          let s = state_of graph words costs ok long within g.by g.agrees g.holds in
+          let same : h ≡ s.state = ext_get_or false h s.state (as_long ∙ sym s.long_state) (λ i lt.
+          let place : (1 + i) - 1 ≡ i = omega arith in
+          ap (bit_in h) (sym place) ∙ g.same (1 + i) (and_from _ _ (le-leb 1 (1 + i) (omega arith)) (le-leb (1 + i) parts (omega arith))) refl ∙ sym (s.bits i (omega arith))) in
+          any_in (pointwise same_bit h) s.state ds
+          (diagnosis-in graph words costs (held + c) (least-under (Some c) e) s.state (record { long = s.long_state; model = s.model; cheap = omega (arith, s.cost_is, g.cheap) }))
+          (subst (λ k. pointwise same_bit h k ≡ true) same (pointwise-refl h))
+
+    is_shown : list_any (pointwise same_bit h) ds ≡ true → is_true all (length all - 1) (assignment h) ≡ true
+    is_shown any =
+        let r = any_from (pointwise same_bit h) ds any in
+        let same = pointwise-equal h r.item r.passes in
+        let known = has-cost r.item r.is_in in
+        let c = known.0 in
+        let p = diagnosis-out graph words costs (held + c) (least-under (Some c) known.1) r.item r.is_in in
+        let x = assignment_of graph words costs ok long within r.item p.long p.model in
+        (last-means c known.1).sound (assignment h) x.by x.agrees x.holds (omega (arith, x.cost_is, p.cheap)) (λ v part m.
+        let range = and_parts (nat_le 1 v) (nat_le v parts) part in
+        let low = leb-true 1 v range.0 in
+        let high = leb-true v parts range.1 in
+        let place : 1 + (v - 1) ≡ v = omega arith in
+        ap (λ k. bit_in k (v - 1)) same ∙ x.bits (v - 1) (omega arith) ∙ ap x.by place)
+
+    pub least-holds : holds (least_graph graph words costs) h ≡ list_any (pointwise same_bit h) (diagnoses_under graph words costs)
+    least-holds = both_ways _ _ is_diagnosis is_shown
+
+  -- ---- its text
+
+  lines-le : (i : ℕ) (nodes : List Node) → length (flat_map (node_lines L) (enumerate_from i nodes)) ≤ length nodes + edges nodes
+  lines-le i [] = omega arith
+  lines-le i (node ∷ nodes) = omega (
+    arith,
+    length-append (node_lines L (i, node)) (flat_map (node_lines L) (enumerate_from (i + 1) nodes)),
+    length-lines graph words costs ok dear few i node (Ck i),
+    to-le (Ck i),
+    sum_by-cons (λ (n : Node). length n.kids) node nodes,
+    lines-le (i + 1) nodes,
+  ) where
+    before-le : (cost : ℕ) (what : NodeKind) (kids : List ℕ) → lines_before L.least cost what kids ≤ length kids
+    before-le cost (Literal var positive) kids = omega arith
+    before-le cost And kids = omega arith
+    before-le cost Or kids = length-filter-le _ kids
+
+    to-le : (o : Option ℕ) → lines_to L.least node o ≤ length node.kids
+    to-le None = omega arith
+    to-le (Some cost) = before-le cost node.what node.kids
+
+  -- at most a line for each node and each kid, two for each part, and one more
+  pub all-le : length all ≤ length graph.nodes + edges graph.nodes + 2 * length costs + 1
+  all-le = omega (arith, length-all, length-append (literal_pairs parts) lines, length-literal_pairs parts, lines-le 0 graph.nodes)
+
+  pub all-are_list : IsList (length costs) all
+  all-are_list = record {
+    some = omega (arith, length-all);
+    few = omega (arith, all-le);
+    vars_fit = omega arith;
+    fit = stand.nodes.fit;
+  }
+
+  -- the text has no blank line
+  pub least_text-is_neat : is_neat (least_text graph words costs) ≡ true
+  least_text-is_neat = graph_text-is_neat parts all all-are_list
+
+  below-last : 0 < length ds → (part : ℕ) → 1 ≤ part → part ≤ parts → mentions all part (length all - 1) ≡ true
+  below-last some part low high =
+      let d = first ds some in
+      let known = has-cost d.0 d.1 in
+      last-mentions known.0 known.1 part ∙ and_from _ _ (le-leb 1 part low) (le-leb part parts high) where
+        first : (xs : List (List Bool)) → 0 < length xs → (x : List Bool) × In x xs
+        first [] some = absurd (omega arith)
+        first (x ∷ xs) some = (x, inl refl)
+
+  -- and is read as a smooth graph
+  pub least_text-means : IsSmoothGraphOfStates (length costs) (diagnoses_under graph words costs) (parsed (least_text graph words costs))
+  least_text-means = subst (IsSmoothGraphOfStates parts ds) (sym (graph_text-read parts all all-are_list))
+      ((refl, stand.nodes.apart, (λ h as_long. least-holds h as_long)), stand.smooth, below-last)
+
+  -- ---- as it is made
+
+  costs-all : costs_to graph words costs (length graph.nodes) ≡ values (node_cost (known_at words) (part_cost costs)) graph.nodes
+  unfolding costs_to
+  costs-all = ap (values (node_cost (known_at words) (part_cost costs))) (take-length graph.nodes)
+
+  -- with the least costs and the places of the lines, a layout is that of the graph
+  pub laid : (xs ls : List ℕ) → AreLeastCosts graph words costs xs → ls ≡ own_lines (map cost_in xs) (2 * length costs) 0 graph.nodes
+      → record { graph = graph; words = words; parts = length costs; least = map cost_in xs; lines = ls } ≡ layout_of graph words costs
+  laid xs ls is at =
+      let same : map cost_in xs ≡ values (node_cost (known_at words) (part_cost costs)) graph.nodes = is ∙ costs-all in
+      λ i. record { graph = graph; words = words; parts = length costs; least = same i; lines = (at ∙ ap (λ cs. own_lines cs (2 * length costs) 0 graph.nodes) same) i }
+
+  body-length : (line i : ℕ) (nodes : List Node) → line + length (flat_map (node_lines L) (enumerate_from i nodes)) ≡ lines_after L.least line i nodes
+  body-length line i [] = omega arith
+  body-length line i (node ∷ nodes) = omega (
+    arith,
+    length-append (node_lines L (i, node)) (flat_map (node_lines L) (enumerate_from (i + 1) nodes)),
+    length-lines graph words costs ok dear few i node (Ck i),
+    body-length (line + lines_to L.least node (Ck i) + 1) (i + 1) nodes,
+  )
+
+  pub counted : (xs ls : List ℕ) (count : ℕ) → AreLeastCosts graph words costs xs → ls ≡ own_lines (map cost_in xs) (2 * length costs) 0 graph.nodes → count ≡ lines_after (map cost_in xs) (2 * length costs) 0 graph.nodes
+      → count + 1 ≡ length (all_lines (record { graph = graph; words = words; parts = length costs; least = map cost_in xs; lines = ls }))
+  counted xs ls count is at n = omega (
+    arith,
+    n,
+    ap (λ cs. lines_after cs (2 * length costs) 0 graph.nodes) (is ∙ costs-all),
+    ap (λ l. length (all_lines l)) (laid xs ls is at),
+    length-all,
+    length-append (literal_pairs parts) lines,
+    length-literal_pairs parts,
+    body-length (2 * length costs) 0 graph.nodes,
+  )
+
+  pub edges-fit : (xs ls : List ℕ) → AreLeastCosts graph words costs xs → ls ≡ own_lines (map cost_in xs) (2 * length costs) 0 graph.nodes
+      → edges (all_lines (record { graph = graph; words = words; parts = length costs; least = map cost_in xs; lines = ls })) < 2 ^ 64
+  edges-fit xs ls is at = omega (arith, ap (λ l. edges (all_lines l)) (laid xs ls is at), edges-le parts 0 all stand.nodes.fit, all-le)
+
+pub count-fits : (graph : Graph) (costs : List ℕ) (least : List (Option ℕ)) → length graph.nodes + edges graph.nodes + 2 * length costs + 1 < 2 ^ 32 → lines_after least (2 * length costs) 0 graph.nodes + 1 < 2 ^ 32
+count-fits graph costs least small = omega (arith, small, ap (lines_after least (2 * length costs) 0) (take-length graph.nodes), lines_after-le least (2 * length costs) 0 graph.nodes (length graph.nodes))

@@ -1,0 +1,197 @@
+-- The parts of the bits of words.
+use Rattle.std.proofs.Common.{◌≡◌, ℕ, zero, suc, ◌+◌, ◌-◌, ◌*◌, ◌/◌, ◌%◌, ◌^◌, ◌<◌, ◌≤◌, Bool, true, false, not, cond, ◌&&◌, ◌==◌, List, [], ◌∷◌, ◌++◌, length, take, drop, get_or, refl, sym, ap, ◌∙◌, arith, inl, inr, append_assoc, append-nil, length-append}
+use Rattle.std.specs.Prelude.{◌⊎◌, nat_le, bit_and, count_ones}
+use Rattle.std.specs.Int.{bit_at, w32}
+use Rattle.std.specs.List.{filter, range_with_len}
+use Rattle.std.proofs.lemmas.Bool.{cases_lt, le-leb, leb-true, false_from_ne_true}
+use Rattle.std.proofs.lemmas.Nat.{pow_below, ones-le}
+use Rattle.std.proofs.lemmas.Nat.Bits.{bit_at-suc, bit_at-lt, bit_at_lowest, bit_at_not, bit_at_ones, bit_at_ones_above}
+use Rattle.std.proofs.lemmas.List.{length-take-le, length-drop, get_or-take, get_or-drop}
+use Rattle.std.proofs.lemmas.List.FromFn.{length-range_with_len}
+use Rattle.std.proofs.lemmas.List.Elements.{filter-append}
+use lib.Count.{ones_step}
+use Rattle.graph_rules.specs.Graphs.{mentions}
+use Rattle.scratch_pool.proofs.Counted.{block-below}
+use Rattle.ranking.proofs.Members.{filter_same}
+use Rattle.nnf_text.proofs.Bits.{has_bit-and}
+use Rattle.smooth_nnf.specs.Sizes.{set_words}
+use Rattle.smooth_nnf.specs.inner.Sets.{has_bit, part_at}
+use Rattle.smooth_nnf.specs.inner.Drawings.{Drawing, IsDrawing, word_parts, set_parts, part_count}
+use Rattle.smooth_nnf.proofs.Fillers.{in_range}
+use Rattle.smooth_nnf.proofs.DrawnLines.{length-filter-le}
+
+-- ---- words of which some bits are set
+
+pub full_bits : (parts word b : ℕ) → 32 ≤ parts - 32 * word → b < 32 → has_bit 4294967295 b ≡ nat_le (part_at word b) parts
+full_bits parts word b full s = ap (λ n. n == 1) (bit_at_ones 32 b s) ∙ sym (le-leb (part_at word b) parts (omega arith))
+
+pub last_bits : (parts word b : ℕ) → parts - 32 * word < 32 → 32 * word < parts → b < 32 → has_bit (1 * 2 ^ (parts - 32 * word) % 4294967296 - 1) b ≡ nat_le (part_at word b) parts
+last_bits parts word b short some s =
+    let rest = parts - 32 * word in
+    let fits : 2 ^ rest < 2 ^ 32 = pow_below rest 32 short in
+    let same : 1 * 2 ^ rest % 4294967296 - 1 ≡ 2 ^ rest - 1 = omega arith in
+    ap (λ n. has_bit n b) same ∙ by (cases_lt b rest) where
+      by : (b < parts - 32 * word) ⊎ (parts - 32 * word ≤ b) → has_bit (2 ^ (parts - 32 * word) - 1) b ≡ nat_le (part_at word b) parts
+      by (inl inside) = ap (λ n. n == 1) (bit_at_ones (parts - 32 * word) b inside) ∙ sym (le-leb (part_at word b) parts (omega arith))
+      by (inr past) = ap (λ n. n == 1) (bit_at_ones_above (parts - 32 * word) b past) ∙ sym (false_from_ne_true _ (λ e. let le = leb-true (part_at word b) parts e in absurd (omega arith)))
+
+off-bit : (n : ℕ) → n < 2 → ((1 - n) == 1) ≡ not (n == 1)
+off-bit zero h = refl
+off-bit (suc zero) h = refl
+off-bit (suc (suc n)) h = absurd (omega arith)
+
+pub mask_bits : (p o m : Bool) → ((p && o) && not (p && m)) ≡ (p && (o && not m))
+mask_bits true o m = refl
+mask_bits false o m = refl
+
+-- bits of one word that are not set in another
+pub masked : (x y b : ℕ) → y < 2 ^ 32 → b < 32 → has_bit (bit_and x (4294967295 - y)) b ≡ (has_bit x b && not (has_bit y b))
+masked x y b fits s = has_bit-and x (4294967295 - y) b ∙ ap (λ z. has_bit x b && z) (ap (λ n. n == 1) (bit_at_not w32 y b fits s) ∙ off-bit (bit_at y b) (bit_at-lt y b))
+
+-- ---- how many there are
+
+filter-later : (n s d : ℕ) → filter (λ p. has_bit (n / 2) (p - (s + 1))) (range_with_len (s + 1) d) ≡ filter (λ p. has_bit n (p - s)) (range_with_len (s + 1) d)
+filter-later n s d = filter_same (λ p. has_bit (n / 2) (p - (s + 1))) (λ p. has_bit n (p - s)) (range_with_len (s + 1) d) (λ p m.
+    let range = in_range (s + 1) d p m in
+    let e : p - s ≡ suc (p - (s + 1)) = omega (arith, range.0) in
+    ap (λ k. k == 1) (sym (bit_at-suc n (p - (s + 1)))) ∙ ap (has_bit n) (sym e))
+
+low-bit : (n : ℕ) (xs : List ℕ) (x : ℕ) → length (cond (n % 2 == 1) (x ∷ xs) xs) ≡ n % 2 + length xs
+low-bit n xs x = by (n % 2) (omega arith) where
+  by : (m : ℕ) → m < 2 → length (cond (m == 1) (x ∷ xs) xs) ≡ m + length xs
+  by zero h = omega arith
+  by (suc zero) h = omega arith
+  by (suc (suc m)) h = absurd (omega arith)
+
+ones-from : (d n s : ℕ) → n < 2 ^ d → count_ones n ≡ length (filter (λ p. has_bit n (p - s)) (range_with_len s d))
+ones-from zero n s h = omega (arith, ones-le 0 n h)
+ones-from (suc d) n s h =
+    let here : s - s ≡ 0 = omega arith in
+    let bit : has_bit n (s - s) ≡ (n % 2 == 1) = ap (has_bit n) here ∙ ap (λ k. k == 1) (bit_at_lowest n) in
+    let rest : List ℕ = filter (λ p. has_bit n (p - s)) (range_with_len (s + 1) d) in
+    let half : n / 2 < 2 ^ d = half_below n d h in
+    ones_step n ∙ ap (λ k. n % 2 + k) (ones-from d (n / 2) (s + 1) half ∙ ap length (filter-later n s d))
+    ∙ sym (low-bit n rest s) ∙ ap (λ b. length (cond b (s ∷ rest) rest)) (sym bit) where
+      half_below : (n d : ℕ) → n < 2 ^ suc d → n / 2 < 2 ^ d
+      half_below n d h = let e : 2 ^ suc d ≡ 2 * 2 ^ d = grind arith in omega arith
+
+pub ones-parts : (word bits : ℕ) → bits < 2 ^ 32 → count_ones bits ≡ length (word_parts word bits)
+ones-parts word bits h = ones-from 32 bits (32 * word + 1) h
+
+-- ---- words one after the other
+
+pub range-append : (s m n : ℕ) → range_with_len s (m + n) ≡ range_with_len s m ++ range_with_len (s + m) n
+range-append s zero n = let e : s ≡ s + 0 = omega arith in let f : 0 + n ≡ n = omega arith in ap (range_with_len s) f ∙ ap (λ k. range_with_len k n) e
+range-append s (suc m) n =
+    let e : (s + 1) + m ≡ s + suc m = omega arith in
+    let f : suc m + n ≡ suc (m + n) = omega arith in
+    ap (range_with_len s) f ∙ ap (λ xs. s ∷ xs) (range-append (s + 1) m n ∙ ap (λ k. range_with_len (s + 1) m ++ range_with_len k n) e)
+
+pub word-parts : (test : ℕ → Bool) (word bits : ℕ) → ((b : ℕ) → b < 32 → has_bit bits b ≡ test (part_at word b)) → word_parts word bits ≡ filter test (range_with_len (32 * word + 1) 32)
+word-parts test word bits is = filter_same (λ part. has_bit bits (part - (32 * word + 1))) test (range_with_len (32 * word + 1) 32) (λ p m.
+    let range = in_range (32 * word + 1) 32 p m in
+    let e : part_at word (p - (32 * word + 1)) ≡ p = omega (arith, range.0) in
+    is (p - (32 * word + 1)) (omega (arith, range.0, range.1)) ∙ ap test e)
+
+pub words-more : (test : ℕ → Bool) (word bits : ℕ) → ((b : ℕ) → b < 32 → has_bit bits b ≡ test (part_at word b))
+    → filter test (range_with_len 1 (32 * (word + 1))) ≡ filter test (range_with_len 1 (32 * word)) ++ word_parts word bits
+words-more test word bits is =
+    let all : 32 * (word + 1) ≡ 32 * word + 32 = omega arith in
+    let start : 1 + 32 * word ≡ 32 * word + 1 = omega arith in
+    ap (λ n. filter test (range_with_len 1 n)) all ∙ ap (filter test) (range-append 1 (32 * word) 32)
+    ∙ filter-append test (range_with_len 1 (32 * word)) (range_with_len (1 + 32 * word) 32)
+    ∙ (λ i. filter test (range_with_len 1 (32 * word)) ++ (ap (λ s. filter test (range_with_len s 32)) start ∙ sym (word-parts test word bits is)) i)
+
+-- behind the last part there is none
+pub all-words : (test : ℕ → Bool) (parts n : ℕ) → parts ≤ n → filter (λ p. nat_le p parts && test p) (range_with_len 1 n) ≡ filter test (range_with_len 1 parts)
+all-words test parts n le =
+    let all : n ≡ parts + (n - parts) = omega arith in
+    ap (λ k. filter (λ p. nat_le p parts && test p) (range_with_len 1 k)) all ∙ ap (filter (λ p. nat_le p parts && test p)) (range-append 1 parts (n - parts))
+    ∙ filter-append (λ p. nat_le p parts && test p) (range_with_len 1 parts) (range_with_len (1 + parts) (n - parts))
+    ∙ (λ i. first i ++ (none (1 + parts) (n - parts) (omega arith)) i) ∙ append-nil (filter test (range_with_len 1 parts)) where
+      first : filter (λ p. nat_le p parts && test p) (range_with_len 1 parts) ≡ filter test (range_with_len 1 parts)
+      first = filter_same (λ p. nat_le p parts && test p) test (range_with_len 1 parts) (λ p m.
+          let range = in_range 1 parts p m in ap (λ b. b && test p) (le-leb p parts (omega (arith, range.1))))
+
+      none : (s d : ℕ) → parts < s → filter (λ p. nat_le p parts && test p) (range_with_len s d) ≡ []
+      none s d lt = filter_same (λ p. nat_le p parts && test p) (λ p. false) (range_with_len s d) (λ p m.
+          let range = in_range s d p m in
+          ap (λ b. b && test p) (false_from_ne_true (nat_le p parts) (λ e. let le = leb-true p parts e in absurd (omega (arith, range.0))))) ∙ never (range_with_len s d) where
+            never : (xs : List ℕ) → filter (λ p. false) xs ≡ []
+            never [] = refl
+            never (x ∷ xs) = never xs
+
+-- what passes one test and not another that passes no more
+pub left-over : (o m : ℕ → Bool) → ((p : ℕ) → m p ≡ true → o p ≡ true) → (xs : List ℕ) → length (filter (λ p. o p && not (m p)) xs) + length (filter m xs) ≡ length (filter o xs)
+left-over o m wider [] = refl
+left-over o m wider (x ∷ xs) = by (left-over o m wider xs) (o x) (m x) refl refl where
+  by : length (filter (λ p. o p && not (m p)) xs) + length (filter m xs) ≡ length (filter o xs) → (a b : Bool) → o x ≡ a → m x ≡ b
+      → length (cond (a && not b) (x ∷ filter (λ p. o p && not (m p)) xs) (filter (λ p. o p && not (m p)) xs)) + length (cond b (x ∷ filter m xs) (filter m xs)) ≡ length (cond a (x ∷ filter o xs) (filter o xs))
+  by more true true e f = omega arith
+  by more true false e f = omega arith
+  by more false true e f = absurd (let no : false ≡ true = sym e ∙ wider x f in cc)
+  by more false false e f = more
+
+pub all-count : (n : ℕ) → length (filter (λ p. true) (range_with_len 1 n)) ≡ n
+all-count n = ap length (keep (range_with_len 1 n)) ∙ length-range_with_len 1 n where
+  keep : (xs : List ℕ) → filter (λ p. true) xs ≡ xs
+  keep [] = refl
+  keep (x ∷ xs) = ap (λ ys. x ∷ ys) (keep xs)
+
+-- ---- the parts of a set
+
+length-word_parts : (word bits : ℕ) → length (word_parts word bits) ≤ 32
+length-word_parts word bits = omega (arith, length-filter-le (λ part. has_bit bits (part - (32 * word + 1))) (range_with_len (32 * word + 1) 32), length-range_with_len (32 * word + 1) 32)
+
+set_parts-next : (word i : ℕ) (words : List ℕ) → i < length words → set_parts word (take (suc i) words) ≡ set_parts word (take i words) ++ word_parts (word + i) (get_or words i 0)
+set_parts-next word i [] lt = absurd (omega arith)
+set_parts-next word zero (w ∷ words) lt = let e : word ≡ word + 0 = omega arith in append-nil (word_parts word w) ∙ ap (λ n. word_parts n w) e
+set_parts-next word (suc i) (w ∷ words) lt =
+    let e : (word + 1) + i ≡ word + suc i = omega arith in
+    ap (λ ps. word_parts word w ++ ps) (set_parts-next (word + 1) i words (omega arith) ∙ ap (λ n. set_parts (word + 1) (take i words) ++ word_parts n (get_or words i 0)) e)
+    ∙ sym (append_assoc (word_parts word w) (set_parts (word + 1) (take i words)) (word_parts (word + suc i) (get_or words i 0)))
+
+-- one more word is counted
+pub count-more : (words : List ℕ) (i count : ℕ) → i < length words → get_or words i 0 < 2 ^ 32 → count ≡ length (set_parts 0 (take i words)) → count + count_ones (get_or words i 0) ≡ length (set_parts 0 (take (i + 1) words))
+count-more words i count lt fits is =
+    let e : i + 1 ≡ suc i = omega arith in
+    let first : 0 + i ≡ i = omega arith in
+    (λ j. is j + (ones-parts i (get_or words i 0) fits) j)
+    ∙ sym (ap (λ n. length (set_parts 0 (take n words))) e ∙ ap length (set_parts-next 0 i words lt) ∙ length-append (set_parts 0 (take i words)) (word_parts (0 + i) (get_or words i 0))
+    ∙ ap (λ n. length (set_parts 0 (take i words)) + length (word_parts n (get_or words i 0))) first)
+
+pub count-le : (word : ℕ) (words : List ℕ) → length (set_parts word words) ≤ 32 * length words
+count-le word [] = omega arith
+count-le word (w ∷ words) = omega (arith, length-append (word_parts word w) (set_parts (word + 1) words), length-word_parts word w, count-le (word + 1) words)
+
+pub set_parts-are : (test : ℕ → Bool) (word : ℕ) (words : List ℕ) → ((i b : ℕ) → i < length words → b < 32 → has_bit (get_or words i 0) b ≡ test (part_at (word + i) b))
+    → set_parts word words ≡ filter test (range_with_len (32 * word + 1) (32 * length words))
+set_parts-are test word [] is = let e : 32 * 0 ≡ 0 = omega arith in ap (λ n. filter test (range_with_len (32 * word + 1) n)) (sym e)
+set_parts-are test word (w ∷ words) is =
+    let here : word + 0 ≡ word = omega arith in
+    let all : 32 * length (w ∷ words) ≡ 32 + 32 * length words = omega arith in
+    let start : 32 * (word + 1) + 1 ≡ (32 * word + 1) + 32 = omega arith in
+    (λ j. word-parts test word w (λ b s. is 0 b (omega arith) s ∙ ap (λ n. test (part_at n b)) here) j
+    ++ (set_parts-are test (word + 1) words (λ i b lt s. let e : word + suc i ≡ (word + 1) + i = omega arith in is (suc i) b (omega arith) s ∙ ap (λ n. test (part_at n b)) e)
+    ∙ ap (λ n. filter test (range_with_len n (32 * length words))) start) j)
+    ∙ sym (filter-append test (range_with_len (32 * word + 1) 32) (range_with_len ((32 * word + 1) + 32) (32 * length words)))
+    ∙ ap (filter test) (sym (range-append (32 * word + 1) 32 (32 * length words)))
+    ∙ ap (λ n. filter test (range_with_len (32 * word + 1) n)) (sym all)
+
+-- the set of parts of a drawing's node
+pub node_parts : (d : Drawing) → IsDrawing d → (node : ℕ) → node < length d.graph.nodes → (set : List ℕ) → set ≡ take (set_words d.parts) (drop (node * set_words d.parts) d.sets)
+    → length (set_parts 0 set) ≡ part_count d node
+node_parts d is node lt set at =
+    let width : ℕ = set_words d.parts in
+    let room = block-below width node (length d.graph.nodes) lt in
+    let enough : width ≤ length (drop (node * width) d.sets) = omega (arith, length-drop (node * width) d.sets, is.room, room) in
+    let long : length set ≡ width = ap length at ∙ length-take-le width (drop (node * width) d.sets) enough in
+    let few : d.parts ≤ 32 * length set = omega (arith, long) in
+    ap length (set_parts-are (λ p. nat_le p d.parts && mentions d.graph.nodes p node) 0 set (λ i b inside s.
+    let first : 0 + i ≡ i = omega arith in
+    ap (λ xs. has_bit (get_or xs i 0) b) at ∙ ap (λ n. has_bit n b) (get_or-take width (drop (node * width) d.sets) i 0 (omega (arith, long)) ∙ get_or-drop (node * width) d.sets i 0)
+    ∙ is.below node i b lt (omega (arith, long)) s ∙ ap (λ n. nat_le (part_at n b) d.parts && mentions d.graph.nodes (part_at n b) node) (sym first)))
+    ∙ ap length (all-words (λ p. mentions d.graph.nodes p node) d.parts (32 * length set) few)
+
+pub part_count-le : (d : Drawing) (node : ℕ) → part_count d node ≤ d.parts
+part_count-le d node = omega (arith, length-filter-le (λ part. mentions d.graph.nodes part node) (range_with_len 1 d.parts), length-range_with_len 1 d.parts)

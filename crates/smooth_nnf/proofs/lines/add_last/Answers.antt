@@ -1,0 +1,12 @@
+use Rattle.std.proofs.Common.{◌-◌, length, ap, ◌∙◌}
+use Rattle.graph_rules.specs.Graphs.{Graph}
+use Rattle.diag_edge.proofs.Added.{adds_same}
+use Rattle.smooth_nnf.proofs.LineLemmas.{last-text}
+use Rattle.smooth_nnf.proofs.lines.add_last.Goals as goal
+
+pub returns-clause-bytes : goal.returns-clause-bytes
+returns-clause-bytes g c =
+    let d = c.args.drawing.now in
+    adds_same _ _ _ _ _ _ _
+    (last-text d (c.len-root.result - 1) c.value.result (ap (λ n. n - 1) (c.len-root.ensures.len ∙ ap (λ (gr : Graph). length gr.nodes) c.graph.ensures.graph)) c.value.ensures.cost c.if-value.false)
+    c.add_filled.ensures.bytes

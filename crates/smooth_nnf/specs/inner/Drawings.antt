@@ -1,0 +1,79 @@
+-- What a text is drawn from, as it is kept.
+use Rattle.std.specs.Prelude.{◌≡◌, ℕ, ◌*◌, ◌+◌, ◌-◌, ◌^◌, ◌<◌, ◌≤◌, Bool, true, not, ◌&&◌, List, [], ◌∷◌, ◌++◌, map, length, slice_index, Option, Some, None, All}
+use Rattle.std.specs.List.{filter, range_with_len}
+use Rattle.graph_rules.specs.Graphs.{Node, Graph, mentions}
+use Rattle.graph_rules.specs.GraphTexts.{edges}
+use Rattle.minimiser.specs.Costs.{cost_at}
+use Rattle.minimiser.specs.Stored.{cost_in}
+use Rattle.smooth_nnf.specs.Layouts.{Layout, and_over, fillers, lines_to, own_lines}
+use Rattle.smooth_nnf.specs.Sizes.{set_words}
+use Rattle.smooth_nnf.specs.inner.Sets.{has_bit, AreSets}
+
+-- a layout, with its costs as numbers and the sets of the parts below each node
+pub record Drawing : Type 0 where
+  pub graph : Graph
+  pub words : List ℕ
+  pub parts : ℕ
+  pub values : List ℕ
+  pub lines : List ℕ
+  pub sets : List ℕ
+
+abbrev pub shown : Drawing → Layout
+shown drawing = record {
+  graph = drawing.graph;
+  words = drawing.words;
+  parts = drawing.parts;
+  least = map cost_in drawing.values;
+  lines = drawing.lines;
+}
+
+-- each node has a cost, a line and a set
+pub record IsDrawing (drawing : Drawing) : Type 0 where
+  pub long : length drawing.words ≡ drawing.graph.vars
+  pub known : All (λ w. w < 3) drawing.words
+  pub within : drawing.parts ≤ drawing.graph.vars
+  pub few : 2 * drawing.parts + 1 < 2 ^ 32
+  pub costs : length drawing.values ≡ length drawing.graph.nodes
+  pub places : length drawing.lines ≡ length drawing.graph.nodes
+  pub placed : drawing.lines ≡ own_lines (map cost_in drawing.values) (2 * drawing.parts) 0 drawing.graph.nodes
+  pub count : length drawing.graph.nodes + edges drawing.graph.nodes + 2 * drawing.parts + 1 < 2 ^ 32
+  pub room : length drawing.sets ≡ length drawing.graph.nodes * set_words drawing.parts
+  pub below : AreSets drawing.parts drawing.graph.nodes drawing.sets (length drawing.graph.nodes)
+
+-- how many lines there are up to the last one of these nodes, where the first one has this number and its lines begin at this line
+abbrev pub lines_after : List (Option ℕ) → ℕ → ℕ → List Node → ℕ
+lines_after least line number [] = line
+lines_after least line number (node ∷ nodes) =
+    lines_after least (line + lines_to least node (cost_at least number) + 1) (number + 1) nodes
+
+-- the parts that a line is to have below it: those of a node, or all
+abbrev pub is_over : List Node → Option ℕ → ℕ → Bool
+is_over nodes None part = true
+is_over nodes (Some node) part = mentions nodes part node
+
+-- of these, those that are not below a node
+abbrev pub missing_in : Drawing → Option ℕ → ℕ → ℕ → Bool
+missing_in drawing over node part = is_over drawing.graph.nodes over part && not (mentions drawing.graph.nodes part node)
+
+-- the line of a node, with the parts that are missing filled in
+abbrev pub filled_line : Drawing → Option ℕ → ℕ → Node
+filled_line drawing over node =
+    and_over (slice_index drawing.lines node ∷ fillers drawing.words drawing.parts (missing_in drawing over node))
+
+-- such a node is one of the graph's
+abbrev pub IsNodeOf : Drawing → Option ℕ → Type 0
+IsNodeOf drawing None = Unit {0}
+IsNodeOf drawing (Some node) = node < length drawing.graph.nodes
+
+-- the parts of the bits of a word
+abbrev pub word_parts : ℕ → ℕ → List ℕ
+word_parts word bits = filter (λ part. has_bit bits (part - (32 * word + 1))) (range_with_len (32 * word + 1) 32)
+
+-- how many parts a node has below it
+abbrev pub part_count : Drawing → ℕ → ℕ
+part_count drawing node = length (filter (λ part. mentions drawing.graph.nodes part node) (range_with_len 1 drawing.parts))
+
+-- and of some words, of which the first has this number
+abbrev pub set_parts : ℕ → List ℕ → List ℕ
+set_parts word [] = []
+set_parts word (bits ∷ words) = word_parts word bits ++ set_parts (word + 1) words

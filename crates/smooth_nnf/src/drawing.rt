@@ -1,0 +1,195 @@
+//! What a text is drawn from.
+ghost use Rattle.std.specs.Prelude.{◌≡◌, ℕ, ◌*◌, ◌^◌, ◌<◌, ◌≤◌, ◌&&◌, true, not, nat_le, map, length, slice_index};
+ghost use Rattle.graph_rules.specs.Graphs.{mentions};
+ghost use Rattle.minimiser.specs.Costs.{cost_at};
+ghost use Rattle.minimiser.specs.Stored.{cost_in};
+ghost use Rattle.smooth_nnf.specs.Layouts.{fillers, filler, literal_line};
+ghost use Rattle.std.specs.List.{filter, range_with_len};
+ghost use Rattle.smooth_nnf.specs.Sizes.{set_words};
+ghost use Rattle.smooth_nnf.specs.inner.Sets.{has_bit, part_at};
+ghost use Rattle.smooth_nnf.specs.inner.Drawings.{IsDrawing, IsNodeOf, is_over, missing_in, part_count, set_parts};
+
+use crate::sets::set_words;
+use node_store::Graph;
+use std::marker::Model;
+
+/// A graph under words, the number of its parts, and the least cost, the own line and the set of parts of each node.
+#[derive(Drop)]
+pub(crate) struct Drawing<'a> {
+    pub(crate) graph: &'a Graph,
+    pub(crate) words: &'a [u32],
+    pub(crate) parts: u32,
+    pub(crate) values: &'a [u32],
+    pub(crate) lines: &'a [u32],
+    pub(crate) sets: &'a [u32],
+}
+
+impl<'a> Model for Drawing<'a> {
+    ghost use Rattle.smooth_nnf.specs.inner.Drawings.{Drawing as Kept, IsDrawing};
+
+    ghost Value = { Kept };
+
+    ghost view = { λ d. record { graph = d.graph.now; words = d.words.now; parts = d.parts; values = d.values.now; lines = d.lines.now; sets = d.sets.now } };
+
+    ghost invariant = { λ d. IsDrawing (record { graph = d.graph.now; words = d.words.now; parts = d.parts; values = d.values.now; lines = d.lines.now; sets = d.sets.now }) };
+}
+
+impl<'a> Drawing<'a> {
+    // The graph.
+    pub(crate) fn graph(&self) -> &Graph
+        ensures graph { result.now ≡ self.now.graph }
+        ensures whole { IsDrawing self.now }
+    {
+        self.graph
+    }
+
+    // The number of parts.
+    pub(crate) fn parts(&self) -> u32
+        ensures parts { result ≡ self.now.parts }
+        ensures whole { IsDrawing self.now }
+    {
+        self.parts
+    }
+
+    // The own line of a node.
+    pub(crate) fn line(&self, node: u32) -> u32
+        requires { node < length self.now.graph.nodes }
+        ensures { result ≡ slice_index self.now.lines node }
+    {
+        self.lines[node as usize]
+    }
+
+    // The least cost at a node, or what stands for none.
+    pub(crate) fn value(&self, node: u32) -> u32
+        requires { node < length self.now.graph.nodes }
+        ensures value { result ≡ slice_index self.now.values node }
+        ensures cost { cost_in result ≡ cost_at (map cost_in self.now.values) node }
+    {
+        self.values[node as usize]
+    }
+
+    // The least costs.
+    pub(crate) fn values(&self) -> &[u32]
+        ensures { result.now ≡ self.now.values }
+    {
+        self.values
+    }
+
+    // How many words a set has.
+    pub(crate) fn width(&self) -> usize
+        ensures { result ≡ set_words self.now.parts }
+    {
+        set_words(self.parts)
+    }
+
+    // How many parts a node has below it.
+    pub(crate) fn part_count(&self, node: u32) -> u32
+        requires { node < length self.now.graph.nodes }
+        ensures count { result ≡ part_count self.now node }
+        ensures most { result ≤ self.now.parts }
+    {
+        let width = set_words(self.parts);
+        let start = node as usize * width;
+        count_parts(&self.sets[start..start + width])
+    }
+
+    // How many parts a line is to have below it.
+    fn over_count(&self, over: Option<u32>) -> u32
+        requires { IsNodeOf self.now over }
+        ensures count { result ≡ length (filter (is_over self.now.graph.nodes over) (range_with_len 1 self.now.parts)) }
+        ensures most { result ≤ self.now.parts }
+    {
+        match over {
+            Some(over) => self.part_count(over),
+            None => self.parts,
+        }
+    }
+
+    // How many parts are missing below a node.
+    pub(crate) fn missing_count(&self, over: Option<u32>, node: u32) -> u32
+        requires node { node < length self.now.graph.nodes }
+        requires over { IsNodeOf self.now over }
+        requires wider { (part : ℕ) → mentions self.now.graph.nodes part node ≡ true → is_over self.now.graph.nodes over part ≡ true }
+        ensures count { result ≡ length (fillers self.now.words self.now.parts (missing_in self.now over node)) }
+        ensures most { result ≤ self.now.parts }
+    {
+        self.over_count(over) - self.part_count(node)
+    }
+
+    // The parts of a word that a line is to have below it.
+    fn over_word(&self, over: Option<u32>, word: usize) -> u32
+        requires over { IsNodeOf self.now over }
+        requires word { word < set_words self.now.parts }
+        ensures { (b : ℕ) → b < 32 → has_bit result b
+            ≡ (nat_le (part_at word b) self.now.parts && is_over self.now.graph.nodes over (part_at word b)) }
+    {
+        match over {
+            Some(over) => self.sets[over as usize * set_words(self.parts) + word],
+            None => parts_in(self.parts, word),
+        }
+    }
+
+    // The parts of a word that are missing below a node.
+    pub(crate) fn missing_word(&self, over: Option<u32>, node: u32, word: usize) -> u32
+        requires node { node < length self.now.graph.nodes }
+        requires over { IsNodeOf self.now over }
+        requires word { word < set_words self.now.parts }
+        ensures { (b : ℕ) → b < 32 → has_bit result b
+            ≡ (nat_le (part_at word b) self.now.parts && missing_in self.now over node (part_at word b)) }
+    {
+        let all = self.over_word(over, word);
+        without(all, self.sets[node as usize * set_words(self.parts) + word])
+    }
+
+    // The line that fills in a part.
+    pub(crate) fn filler(&self, part: u32) -> u32
+        requires { (1 ≤ part) × (part ≤ self.now.parts) }
+        ensures { result ≡ filler self.now.words part }
+    {
+        literal_line(part, self.words[part as usize - 1] != 2)
+    }
+}
+
+// How many parts a set has.
+fn count_parts(set: &[u32]) -> u32
+    requires { length set.now < 2 ^ 27 }
+    ensures { result ≡ length (set_parts 0 set.now) }
+{
+    let mut count = 0;
+    for word in set {
+        count += word.count_ones();
+    }
+    count
+}
+
+// The bits of a word that another does not have.
+fn without(all: u32, others: u32) -> u32
+    ensures { (b : ℕ) → b < 32 → has_bit result b ≡ (has_bit all b && not (has_bit others b)) }
+{
+    all & !others
+}
+
+// The parts of a word.
+fn parts_in(parts: u32, word: usize) -> u32
+    requires { word < set_words parts }
+    ensures { (b : ℕ) → b < 32 → has_bit result b ≡ nat_le (part_at word b) parts }
+{
+    let rest = parts as usize - 32 * word;
+    if rest >= 32 {
+        u32::MAX
+    } else {
+        (1 << rest) - 1
+    }
+}
+
+// The line of a part's literal.
+pub(crate) fn literal_line(part: u32, ok: bool) -> u32
+    requires { (1 ≤ part) × (2 * part < 2 ^ 32) }
+    ensures { result ≡ literal_line part ok }
+{
+    if ok {
+        2 * (part - 1)
+    } else {
+        2 * (part - 1) + 1
+    }
+}

@@ -1,0 +1,100 @@
+//! How many edges the lines have.
+ghost use Rattle.std.specs.Prelude.{◌≡◌, ◌≢◌, ℕ, ◌+◌, ◌*◌, ◌^◌, ◌<◌, ◌≤◌, true, Some, map, length, slice_index, sum_by, All};
+ghost use Rattle.graph_rules.specs.Graphs.{node_at, mentions, IsGraph};
+ghost use Rattle.graph_rules.specs.GraphTexts.{edges};
+ghost use Rattle.minimiser.specs.Costs.{cost_at};
+ghost use Rattle.minimiser.specs.Stored.{cost_in};
+ghost use Rattle.smooth_nnf.specs.Layouts.{all_lines, last_line, lines_by, node_lines};
+ghost use Rattle.smooth_nnf.specs.inner.Drawings.{shown};
+ghost use Rattle.smooth_nnf.specs.inner.Texts.{kid_edges};
+
+use crate::drawing::Drawing;
+use graph_rules::NodeKind;
+use minimiser::NONE;
+
+// The number of children of all lines.
+pub(crate) fn edge_count(drawing: &Drawing<'_>) -> u64
+    requires { edges (all_lines (shown drawing.now)) < 2 ^ 64 }
+    ensures { result ≡ edges (all_lines (shown drawing.now)) }
+{
+    let mut total = last_edges(drawing);
+    for node in 0..drawing.graph().len() {
+        total += node_edges(drawing, node);
+    }
+    total
+}
+
+// That of the last line.
+fn last_edges(drawing: &Drawing<'_>) -> u64
+    ensures { result ≡ length (last_line (shown drawing.now)).kids }
+{
+    let _parts = drawing.parts();
+    let root = drawing.graph().len() - 1;
+    if drawing.value(root) == NONE {
+        return 0;
+    }
+    u64::from(drawing.missing_count(None, root) + 1)
+}
+
+// That of the lines of a node.
+fn node_edges(drawing: &Drawing<'_>, node: u32) -> u64
+    requires { node < length drawing.now.graph.nodes }
+    ensures { result ≡ edges (node_lines (shown drawing.now) (node, node_at drawing.now.graph.nodes node)) }
+{
+    let graph = drawing.graph();
+    let _nodes = graph.len();
+    let cost = drawing.value(node);
+    if cost == NONE {
+        return 0;
+    }
+    edges_by(drawing, node, graph.what(node), graph.kids(node), cost)
+}
+
+// That of the lines of a node that can be true.
+fn edges_by(drawing: &Drawing<'_>, node: u32, what: NodeKind, kids: &[u32], cost: u32) -> u64
+    requires node { node < length drawing.now.graph.nodes }
+    requires is { node_at drawing.now.graph.nodes node ≡ record { what = what; kids = kids.now } }
+    requires valid { IsGraph drawing.now.graph }
+    requires cost { cost ≢ NONE }
+    ensures { result ≡ edges (lines_by (shown drawing.now) node cost what kids.now) }
+{
+    let parts = drawing.parts();
+    match what {
+        NodeKind::Literal { var, .. } => { if var <= parts { 1 } else { 0 } }
+        NodeKind::And => kids.len() as u64,
+        NodeKind::Or => or_edges(drawing, node, kids, cost),
+    }
+}
+
+// That of the lines of an or: each of its cheapest kids has one, and is one of its own.
+fn or_edges(drawing: &Drawing<'_>, node: u32, kids: &[u32], cost: u32) -> u64
+    requires node { node < length drawing.now.graph.nodes }
+    requires kids { All (λ kid. kid < length drawing.now.graph.nodes) kids.now }
+    requires few { length kids.now < 2 ^ 32 }
+    requires cost { cost ≢ NONE }
+    requires wider { (i part : ℕ) → i < length kids.now
+        → mentions drawing.now.graph.nodes part (slice_index kids.now i) ≡ true → mentions drawing.now.graph.nodes part node ≡ true }
+    ensures { result ≡ sum_by (kid_edges drawing.now node cost) kids.now }
+{
+    let mut total = 0;
+    for kid in kids {
+        total += kid_edges(drawing, node, *kid, cost);
+    }
+    total
+}
+
+// That of a kid's line, and one more, where it has the cost.
+fn kid_edges(drawing: &Drawing<'_>, node: u32, kid: u32, cost: u32) -> u64
+    requires node { node < length drawing.now.graph.nodes }
+    requires kid { kid < length drawing.now.graph.nodes }
+    requires cost { cost ≢ NONE }
+    requires wider { (part : ℕ) → mentions drawing.now.graph.nodes part kid ≡ true → mentions drawing.now.graph.nodes part node ≡ true }
+    ensures count { result ≡ kid_edges drawing.now node cost kid }
+    ensures most { result ≤ 2 ^ 31 + 2 }
+{
+    let _parts = drawing.parts();
+    if drawing.value(kid) != cost {
+        return 0;
+    }
+    u64::from(drawing.missing_count(Some(node), kid) + 2)
+}

@@ -1,0 +1,13 @@
+//! The graph of the diagnoses that a graph allows under words, as `.nnf` text: smooth, decomposable, and true for these alone.
+#![tactic(auto)]
+
+mod drawing;
+mod edges;
+mod filling;
+mod lines;
+mod places;
+mod sets;
+mod writing;
+
+pub use sets::set_words;
+pub use writing::write_least;

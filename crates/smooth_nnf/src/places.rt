@@ -1,0 +1,58 @@
+ghost use Rattle.std.specs.Prelude.{◌≡◌, ◌≢◌, ◌+◌, ◌*◌, ◌^◌, ◌<◌, ◌≤◌, map, length, All};
+ghost use Rattle.graph_rules.specs.GraphTexts.{edges};
+ghost use Rattle.minimiser.specs.Stored.{cost_in};
+ghost use Rattle.smooth_nnf.specs.Layouts.{cheapest_kids, lines_to, own_lines};
+ghost use Rattle.smooth_nnf.specs.inner.Drawings.{lines_after};
+
+use graph_rules::NodeKind;
+use minimiser::NONE;
+use node_store::Graph;
+
+// The own line of each node, and how many lines there are up to the last of them.
+pub(crate) fn place_lines(graph: &Graph, parts: u32, values: &[u32], lines: &mut [u32]) -> u32
+    requires values { length values.now ≡ length graph.now.nodes }
+    requires room { length lines.old ≡ length graph.now.nodes }
+    requires few { length graph.now.nodes + edges graph.now.nodes + 2 * parts + 1 < 2 ^ 32 }
+    ensures places { lines.new ≡ own_lines (map cost_in values.now) (2 * parts) 0 graph.now.nodes }
+    ensures count { result ≡ lines_after (map cost_in values.now) (2 * parts) 0 graph.now.nodes }
+{
+    let mut line = 2 * parts;
+    for at in 0..graph.len() {
+        line += lines_to(graph.what(at), graph.kids(at), values, values[at as usize]);
+        lines[at as usize] = line;
+        line += 1;
+    }
+    line
+}
+
+// How many lines a node has before its own.
+fn lines_to(what: NodeKind, kids: &[u32], values: &[u32], cost: u32) -> u32
+    requires kids { All (λ kid. kid < length values.now) kids.now }
+    requires few { length kids.now < 2 ^ 32 }
+    ensures { result ≡ lines_to (map cost_in values.now) (record { what = what; kids = kids.now }) (cost_in cost) }
+{
+    if cost == NONE {
+        return 0;
+    }
+    match what {
+        NodeKind::Or => cheapest_count(kids, values, cost),
+        NodeKind::Literal { .. } | NodeKind::And => 0,
+    }
+}
+
+// How many kids have a cost.
+pub(crate) fn cheapest_count(kids: &[u32], values: &[u32], cost: u32) -> u32
+    requires kids { All (λ kid. kid < length values.now) kids.now }
+    requires few { length kids.now < 2 ^ 32 }
+    requires cost { cost ≢ NONE }
+    ensures count { result ≡ length (cheapest_kids (map cost_in values.now) cost kids.now) }
+    ensures most { result ≤ length kids.now }
+{
+    let mut count = 0;
+    for kid in kids {
+        if values[*kid as usize] == cost {
+            count += 1;
+        }
+    }
+    count
+}

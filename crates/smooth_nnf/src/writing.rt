@@ -1,0 +1,119 @@
+ghost use Rattle.std.specs.Prelude.{◌≡◌, ◌+◌, ◌*◌, ◌^◌, ◌<◌, ◌≤◌, [], length, All, true};
+ghost use Rattle.diag_edge.specs.Edge.{HasCause, Puts};
+ghost use Rattle.text_rules.specs.Tokens.{is_neat};
+ghost use Rattle.graph_rules.specs.Graphs.{IsGraph};
+ghost use Rattle.graph_rules.specs.GraphTexts.{edges, parsed};
+ghost use Rattle.graph_rules.specs.WrittenGraphs.{graph_text};
+ghost use Rattle.conditioner.specs.Models.{diagnoses_under, total_cost};
+ghost use Rattle.scratch_pool.specs.Regions.{free_words};
+ghost use Rattle.graph_rules.specs.StateGraphs.{IsSmoothGraphOfStates};
+ghost use Rattle.smooth_nnf.specs.Layouts.{all_lines, least_text};
+ghost use Rattle.smooth_nnf.specs.inner.Drawings.{shown};
+ghost use Rattle.smooth_nnf.specs.Sizes.{drawing_words};
+
+use crate::drawing::Drawing;
+use crate::edges::edge_count;
+use crate::lines::{add_last, add_literals, add_nodes};
+use crate::places::place_lines;
+use crate::sets::{fill_sets, set_words};
+use diag_edge::{Chunk, Sink, WriteFailed};
+use minimiser::{TOTAL_LIMIT, least_cost};
+use nnf_text::add_header;
+use node_store::Graph;
+use scratch_pool::Region;
+
+/// Writes the graph of the diagnoses that a graph allows under words, one word a variable: 0 where it is open, 1 where it is true,
+/// 2 where it is false. The parts are the first variables, and each has a cost.
+///
+/// The text is smooth and decomposable, and has at most a line for each node of the graph and each of its edges, two for each part,
+/// and one more. The region lends 2 words for each node, and one more for each 32 parts. No memory is taken.
+pub fn write_least<O: Sink>(
+    graph: &Graph,
+    words: &[u32],
+    costs: &[u32],
+    region: &mut Region,
+    out: &mut O,
+) -> Result<(), WriteFailed>
+    requires words { length words.now ≡ graph.now.vars }
+    requires small { All (λ w. w < 3) words.now }
+    requires parts { length costs.now ≤ graph.now.vars }
+    requires dear { All (λ c. 0 < c) costs.now }
+    requires total { total_cost costs.now < TOTAL_LIMIT }
+    requires few { length graph.now.nodes + edges graph.now.nodes + 2 * length costs.now + 1 < 2 ^ 32 }
+    requires idle { region.old.runs ≡ [] }
+    requires room { drawing_words (length graph.now.nodes) (length costs.now) ≤ free_words region.old }
+
+    ensures bytes { Puts (O.got out.old) (O.got out.new) result
+        (least_text graph.now words.now costs.now) }
+    ensures cause { HasCause (O.faults out.old) (O.faults out.new) result }
+    ensures idle { region.new.runs ≡ [] }
+    ensures free { length region.new.words ≡ length region.old.words }
+
+    // The text has no blank line, and is read as a smooth and decomposable graph over the parts that is true for the diagnoses alone.
+    ensures neat { is_neat (least_text graph.now words.now costs.now) ≡ true }
+    ensures diagnoses { IsSmoothGraphOfStates (length costs.now) (diagnoses_under graph.now words.now costs.now)
+        (parsed (least_text graph.now words.now costs.now)) }
+{
+    let parts = costs.len() as u32;
+    let run = region
+        .carve(graph.len() as usize * (2 + set_words(parts)))
+        .unwrap();
+    let written = write_in(graph, words, costs, region.run_mut(&run), out);
+    region.release(run);
+    written
+}
+
+// Writes it in scratch of which all words are 0.
+fn write_in<O: Sink>(
+    graph: &Graph,
+    words: &[u32],
+    costs: &[u32],
+    scratch: &mut [u32],
+    out: &mut O,
+) -> Result<(), WriteFailed>
+    requires words { length words.now ≡ graph.now.vars }
+    requires small { All (λ w. w < 3) words.now }
+    requires parts { length costs.now ≤ graph.now.vars }
+    requires dear { All (λ c. 0 < c) costs.now }
+    requires total { total_cost costs.now < TOTAL_LIMIT }
+    requires few { length graph.now.nodes + edges graph.now.nodes + 2 * length costs.now + 1 < 2 ^ 32 }
+    requires room { length scratch.old ≡ drawing_words (length graph.now.nodes) (length costs.now) }
+    requires zeros { All (λ w. w ≡ 0) scratch.old }
+    ensures bytes { Puts (O.got out.old) (O.got out.new) result
+        (least_text graph.now words.now costs.now) }
+    ensures cause { HasCause (O.faults out.old) (O.faults out.new) result }
+    ensures valid { IsGraph graph.now }
+{
+    let parts = costs.len() as u32;
+    let nodes = graph.len() as usize;
+    let (values, rest) = scratch.split_at_mut(nodes);
+    let (lines, sets) = rest.split_at_mut(nodes);
+    least_cost(graph, words, costs, values);
+    let count = place_lines(graph, parts, values, lines);
+    fill_sets(graph, parts, sets);
+    let drawing = Drawing {
+        graph,
+        words,
+        parts,
+        values,
+        lines,
+        sets,
+    };
+    put_lines(&drawing, count + 1, out)
+}
+
+// Puts all lines.
+fn put_lines<O: Sink>(drawing: &Drawing<'_>, count: u32, out: &mut O) -> Result<(), WriteFailed>
+    requires count { count ≡ length (all_lines (shown drawing.now)) }
+    requires edges { edges (all_lines (shown drawing.now)) < 2 ^ 64 }
+    ensures bytes { Puts (O.got out.old) (O.got out.new) result
+        (graph_text (record { nodes = all_lines (shown drawing.now); vars = drawing.now.parts })) }
+    ensures cause { HasCause (O.faults out.old) (O.faults out.new) result }
+{
+    let mut chunk = Chunk::new();
+    add_header(&mut chunk, out, count, edge_count(drawing), drawing.parts())?;
+    add_literals(&mut chunk, out, drawing.parts())?;
+    add_nodes(&mut chunk, out, drawing)?;
+    add_last(&mut chunk, out, drawing)?;
+    chunk.put(out)
+}

@@ -1,6 +1,6 @@
 -- What is told besides, where it takes few bits.
-use Rattle.std.proofs.Common.{◌≡◌, ◌∙◌, ◌+◌, ◌*◌, ◌/◌, ◌^◌, ◌<◌, ◌≤◌, ℕ, Bool, true, false, not, ◌&&◌, List, length, Option, Some, None, IfSome, inl, inr, refl, ap, sym, arith, nat_lt, if◌then◌else◌}
-use Rattle.std.specs.Prelude.{Result, Ok, Err, IfOk, is_none}
+use Rattle.std.proofs.Common.{◌≡◌, ◌∙◌, ◌+◌, ◌*◌, ◌/◌, ◌^◌, ◌<◌, ◌≤◌, ℕ, Bool, true, false, not, length, Option, Some, None, IfSome, inl, inr, refl, ap, sym, arith, nat_lt, if◌then◌else◌}
+use Rattle.std.specs.Prelude.{Result, Ok, Err, IfOk}
 use Rattle.std.proofs.Math.Nat.{mul-le-mul_right, le_trans}
 use Rattle.std.proofs.lemmas.Bool.{lt-ltb, ltb-true, cases_lt}
 use Rattle.text_rules.specs.Expected.{IsExpectedFault, Fulfils}
@@ -12,7 +12,7 @@ use Rattle.branch_states.specs.Branches.{sum_of}
 use Rattle.branch_states.specs.declared.measuring.TheConstants.{BUDGET_LIMIT}
 use Rattle.dnnf_compiler.specs.declared.compiling.Compiled.{Compiled}
 use Rattle.dnnf_compiler.specs.Compiled.{IsCompiled}
-use Rattle.level_lister.specs.Listing.{set_words}
+use Rattle.level_lister.specs.Listing.{cost_words}
 use Rattle.level_lister.specs.declared.levels.TheConstants.{TOP_LIMIT, PART_LIMIT}
 use Rattle.session_core.specs.declared.limits.TheConstants.{SERVED_BITS}
 use Rattle.session_core.specs.Services.{CanList, CanDraw}
@@ -29,7 +29,7 @@ module _ (graph : Graph) (parts sum vars : ℕ) (few : length graph.nodes ≤ 3 
   can_list None top bits = tt
   can_list (Some top) top_is bits = record {
     top_is = top_is;
-    few = le_trans (mul-le-mul_right (parts + 32 * set_words top) few) bits;
+    few = le_trans (mul-le-mul_right (parts + 32 * cost_words top) few) bits;
   }
 
   can_draw : edges graph.nodes ≤ 6 * (sum + 1) → sum ≤ BUDGET_LIMIT → vars < 2 ^ 20 → parts ≤ PART_LIMIT → (least : Bool) → least_bits sum vars parts least ≤ SERVED_BITS → least ≡ true → CanDraw graph parts
@@ -61,9 +61,6 @@ few_pass bits other few = by (nat_lt SERVED_BITS bits) refl
     by false is = refl
     by true is = absurd (let less = ltb-true SERVED_BITS bits is in omega (arith, less, few))
 
-pub many_fail : (bits : ℕ) (other : Result ClauseList Output) → SERVED_BITS < bits → if_few bits other ≡ Err (says (bits_line bits) 1)
-many_fail bits other many = ap (λ b. if b then Err (says (bits_line bits) 1) else other) (lt-ltb SERVED_BITS bits many)
-
 -- where they are not refused they are few
 passed : (bits : ℕ) (other : Result ClauseList Output) (cnf : ClauseList) → if_few bits other ≡ Ok cnf → (bits ≤ SERVED_BITS) × (other ≡ Ok cnf)
 passed bits other cnf is = by (nat_lt SERVED_BITS bits) refl is
@@ -71,16 +68,6 @@ passed bits other cnf is = by (nat_lt SERVED_BITS bits) refl is
     by : (b : Bool) → nat_lt SERVED_BITS bits ≡ b → (if b then Err (says (bits_line bits) 1) else other) ≡ Ok cnf → (bits ≤ SERVED_BITS) × (other ≡ Ok cnf)
     by true test is = absurd (let no : ⊥ = cc in no)
     by false test is = (not_many bits test, is)
-
--- nothing takes no bits
-pub nothing_is_few : (extras : Extras) (parts : ℕ) (cnf : ClauseList) → (is_none extras.levels && not extras.least) ≡ true → in_few_bits extras parts (Ok cnf) ≡ Ok cnf
-nothing_is_few extras parts cnf none = by extras.levels extras.least none
-  where
-    by : (levels : Option ℕ) (least : Bool) → (is_none levels && not least) ≡ true
-        → if_few (levels_bits (sum_of cnf.clauses) cnf.vars parts levels) (if_few (least_bits (sum_of cnf.clauses) cnf.vars parts least) (Ok cnf)) ≡ Ok cnf
-    by None false none = refl
-    by None true none = absurd (let no : ⊥ = cc in no)
-    by (Some top) least none = absurd (let no : ⊥ = cc in no)
 
 -- what fits takes few bits
 few_of_all : (extras : Extras) (parts : ℕ) (cnf : ClauseList) → in_few_bits extras parts (Ok cnf) ≡ Ok cnf

@@ -1,10 +1,11 @@
 -- What is told besides, and how many bits it may take.
-use Rattle.std.specs.Prelude.{ℕ, ◌+◌, ◌*◌, ◌/◌, Bool, true, false, List, Option, Some, None, Result, Ok, Err, codes, nat_lt, if◌then◌else◌}
+use Rattle.std.specs.Prelude.{ℕ, ◌+◌, ◌*◌, Bool, true, false, List, Option, Some, None, Result, Ok, Err, codes, nat_lt, if◌then◌else◌}
 use Rattle.ranking.specs.declared.extras.Extras.{Extras}
 use Rattle.diag_edge.specs.ErrorLines.{above_line}
 use Rattle.clause_encoder.specs.Clauses.{ClauseList}
 use Rattle.branch_states.specs.Branches.{sum_of}
 use Rattle.level_lister.specs.Bits.{level_bits}
+use Rattle.smooth_nnf.specs.Sizes.{drawing_bits}
 use Rattle.session_core.specs.declared.limits.TheConstants.{SERVED_BITS}
 use Rattle.diag_cli.specs.Output.{Output, says}
 
@@ -13,10 +14,10 @@ abbrev pub levels_bits : (sum vars parts : ℕ) → Option ℕ → ℕ
 levels_bits sum vars parts None = 0
 levels_bits sum vars parts (Some top) = level_bits sum vars parts top
 
--- and those of the graph of the diagnoses: for each node two words, and one for each 32 parts
+-- and those with which the graph of the diagnoses is drawn
 abbrev pub least_bits : (sum vars parts : ℕ) → Bool → ℕ
 least_bits sum vars parts false = 0
-least_bits sum vars parts true = (3 * sum + 2 * vars + 2) * (32 * (2 + (parts + 31) / 32))
+least_bits sum vars parts true = drawing_bits (3 * sum + 2 * vars + 2) parts
 
 abbrev pub bits_line : ℕ → List ℕ
 bits_line bits = above_line (codes "bits") bits SERVED_BITS

@@ -1,7 +1,7 @@
 -- How known bytes grow by one text and then another, and how they are consumed.
-use Rattle.std.proofs.Common.{subst, take, ◌≡◌, ℕ, List, [], ◌++◌, Option, Some, None, Result, Ok, Err, refl, sym, ◌∙◌, ap, append_assoc, IsErr, append-nil}
+use Rattle.std.proofs.Common.{subst, take, ◌≡◌, ℕ, List, [], ◌++◌, Option, Some, None, refl, sym, ◌∙◌, ap, append_assoc, append-nil}
 use Rattle.std.specs.Io.KnownBytes.{Appends, Consumes}
-use Rattle.diag_edge.specs.Edge.{AppendsPrefix, Puts}
+use Rattle.diag_edge.specs.Edge.{AppendsPrefix}
 
 -- nothing was put
 pub grows_none : (a : Option (List ℕ)) → Appends a a []
@@ -24,16 +24,6 @@ begins_more a b c xs ys h (part, rest, is, grown) =
 pub begins_first : (a b : Option (List ℕ)) (xs ys : List ℕ) → AppendsPrefix a b xs → AppendsPrefix a b (xs ++ ys)
 begins_first a b xs ys (part, rest, is, grown) =
     (part, rest ++ ys, ap (λ zs. zs ++ ys) is ∙ append_assoc part rest ys, grown)
-
--- the first text failed, and no more was put
-pub puts_first : {T E : Type 0} (a b : Option (List ℕ)) (r : Result T E) (xs ys : List ℕ) → IsErr r → AppendsPrefix a b xs → Puts a b r (xs ++ ys)
-puts_first a b (Ok v) xs ys is h = absurd (let no : ⊥ = cc in no)
-puts_first a b (Err e) xs ys is h = begins_first a b xs ys h
-
--- the first text was put, and the second was put or failed
-pub puts_second : {T E : Type 0} (a b c : Option (List ℕ)) (r : Result T E) (xs ys : List ℕ) → Appends a b xs → Puts b c r ys → Puts a c r (xs ++ ys)
-puts_second a b c (Ok v) xs ys h k = grows_more a b c xs ys h k
-puts_second a b c (Err e) xs ys h k = begins_more a b c xs ys h k
 
 -- known bytes were taken, and then more
 pub consumes_more : (a b c : Option (List ℕ)) (xs ys : List ℕ) → Consumes a b xs → Consumes b c ys → Consumes a c (xs ++ ys)

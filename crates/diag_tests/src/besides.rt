@@ -1,4 +1,4 @@
-//! What sessions are told besides: states by rising cost.
+//! What sessions are told besides: states by rising cost, and the graph of the diagnoses.
 use crate::rows::{BY_KIND, EITHER_FAULTY, Row, answer_rows};
 use crate::running::{CHAIN, FREE, File};
 use std::test::Fail;

@@ -78,6 +78,7 @@ fn add(
     ensures { IfOk result (λ place. Adds nodes.old
         (kept_node values.now places.now (slice_index values.now at) (node_at graph.now.nodes at)) nodes.new place) }
 {
+    // Its contract says that this is a graph.
     let _vars = graph.vars();
     gather(row, graph.kids(at), values, places, values[at as usize])?;
     if let [only] = row.as_slice() {

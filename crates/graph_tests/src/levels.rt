@@ -1,6 +1,6 @@
 ghost use Rattle.std.specs.Prelude.{◌≡◌, ◌+◌, ◌*◌, ◌≤◌, ◌<◌, [], length, All};
 ghost use Rattle.scratch_pool.specs.Regions.{free_words};
-ghost use Rattle.level_lister.specs.Listing.{IsFor, set_words};
+ghost use Rattle.level_lister.specs.Listing.{IsFor, cost_words};
 
 use crate::listing::either_is_faulty;
 use level_lister::{LevelStep, Levels, level_bits};
@@ -91,7 +91,7 @@ fn steps_through(
     requires long { graph.now.vars ≡ 3 }
     requires words { All (λ w. w < 3) fixed.now }
     requires runs { region.old.runs ≡ [] }
-    requires room { (length graph.now.nodes + 2) * (set_words levels.now.top + 1) + 3 ≤ free_words region.old }
+    requires room { (length graph.now.nodes + 2) * (cost_words levels.now.top + 1) + 3 ≤ free_words region.old }
 {
     let mut words = *fixed;
     let mut state = [0; 3];

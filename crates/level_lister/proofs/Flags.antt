@@ -4,8 +4,7 @@ use Rattle.std.proofs.lemmas.Bool.{cases_lt, lt-ltb}
 use Rattle.std.proofs.lemmas.List.{get_or-set_same, get_or-set_other}
 use Rattle.graph_rules.specs.declared.NodeKind.TheVariants.{Or}
 use Rattle.graph_rules.specs.Graphs.{Graph, node_at}
-use Rattle.level_lister.specs.inner.CostSets.{has_number}
-use Rattle.level_lister.specs.inner.NodeSets.{ArePartsOf, SameBelow}
+use Rattle.level_lister.specs.PartSets.{has_number, ArePartsOf, SameBelow}
 
 same_bits : (x y : Bool) → (x ≡ true → y ≡ true) → (y && not x) ≡ false → x ≡ y
 same_bits true y h e = sym (h refl)

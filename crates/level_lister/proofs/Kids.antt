@@ -14,7 +14,8 @@ use Rattle.conditioner.specs.declared.leaves.Leaf.{Leaf}
 use Rattle.conditioner.specs.declared.leaves.Leaf.TheVariants.{True, False, Open}
 use Rattle.conditioner.specs.Words.{leaf_of}
 use Rattle.minimiser.specs.Costs.{known_at, part_cost}
-use Rattle.level_lister.specs.inner.CostSets.{has_number, has_shifted, AreSums, IsCostSet}
+use Rattle.level_lister.specs.PartSets.{has_number}
+use Rattle.level_lister.specs.inner.CostSets.{has_shifted, AreSums, IsCostSet}
 use Rattle.level_lister.specs.inner.NodeSets.{IsNodeSet}
 use Rattle.level_lister.proofs.Reaching.{same_is, false_literal_is, literal_is, and_is, or_is}
 

@@ -5,7 +5,7 @@ use Rattle.std.specs.Int.{bit_at, bit_not, trailing_zeros}
 use Rattle.std.proofs.lemmas.Bool.{cases_lt}
 use Rattle.std.proofs.lemmas.Nat.{shr-shr, shr_le, and_le_l}
 use Rattle.std.proofs.lemmas.Nat.Bits.{bit_at-zero, bit_at_and, bit_at_not, bit_at-lt, bit_at_above, bit_at-trailing_zeros}
-use Rattle.level_lister.specs.inner.CostSets.{has_number}
+use Rattle.level_lister.specs.PartSets.{has_number}
 
 -- what is missing, from a place of a word on
 abbrev pub gap_of : ℕ → ℕ → ℕ → ℕ

@@ -139,13 +139,3 @@ range_small low span count g le few some more = by_size ((span + count) / (count
 
     less : (s : ℕ) → g * s ≤ count * s
     less s = grind (arith, le)
-
-pub group_small : (span count g : ℕ) → g ≤ count → g * ((span + count) / (count + 1)) ≤ span + count
-group_small span count g le = by_size ((span + count) / (count + 1)) (size_most span count) where
-  by_size : (s : ℕ) → s * (count + 1) ≤ span + count → g * s ≤ span + count
-  by_size s e = omega (arith, e, product s, less s) where
-    product : (s : ℕ) → s * (count + 1) ≡ count * s + s
-    product s = grind arith
-
-    less : (s : ℕ) → g * s ≤ count * s
-    less s = grind (arith, le)

@@ -3,6 +3,7 @@ use Rattle.std.proofs.Common.{◌≡◌, ℕ, zero, suc, ◌+◌, ◌-◌, ◌*�
 use Rattle.std.specs.Prelude.{◌⊎◌, ◌==◌, nat_le}
 use Rattle.std.proofs.Math.ListN.{length-set}
 use Rattle.std.specs.List.{list_all, list_any}
+use Rattle.std.proofs.Math.Bool.{and_comm, or_comm}
 use Rattle.std.proofs.lemmas.Bool.{cases_lt, cases_eq, cases_order, and_parts, and_from, leb-true, le-leb, eqb-true, eq-eqb, ne_eqb}
 use Rattle.std.proofs.lemmas.List.{map_more, take_all, get_or-set_same, get_or-set_other}
 use Rattle.ranking.specs.Assignments.{Assignment}
@@ -17,7 +18,7 @@ use Rattle.conditioner.specs.Words.{known_of, word_of, leaf_of}
 use Rattle.minimiser.specs.Costs.{known_at}
 use Rattle.level_lister.specs.declared.pairs.Pair.{Pair}
 use Rattle.level_lister.specs.declared.pairs.Groups.{Groups}
-use Rattle.level_lister.specs.inner.NodeSets.{SameBelow}
+use Rattle.level_lister.specs.PartSets.{SameBelow}
 use Rattle.level_lister.specs.inner.CostSets.{Follows}
 use Rattle.level_lister.specs.inner.Pairs.{Tells, TellsNode, TellNodes, TellsWhole, pair_at, group_in, group_count}
 use Rattle.level_lister.proofs.Kids.{all_push, any_push, apart_from, truth-is, mention-is, kid-mentions}
@@ -70,17 +71,17 @@ module _ (graph : Graph) (at : ℕ) (kids : List ℕ) (ok : IsGraph graph) (insi
   abbrev pub AndTold : ℕ → Pair → Type 0
   AndTold j pair = Tells words costs top (group_count top) (group_in words (length costs) groups) (λ a. list_all (λ b. b) (map (λ k. is_true graph.nodes k a) (take j kids))) (λ v. list_any (λ b. b) (map (mentions graph.nodes v) (take j kids))) pair
 
-  pub and_apart : (j : ℕ) → (node_at graph.nodes at).what ≡ And → j < length kids → (v : ℕ) → (list_any (λ b. b) (map (mentions graph.nodes v) (take j kids)) && mentions graph.nodes v (get_or kids j 0)) ≡ false
-  and_apart j what lt v = apart_from (mentions graph.nodes v) kids j apart lt where
+  pub and_apart : (j : ℕ) → (node_at graph.nodes at).what ≡ And → j < length kids → (v : ℕ) → (mentions graph.nodes v (get_or kids j 0) && list_any (λ b. b) (map (mentions graph.nodes v) (take j kids))) ≡ false
+  and_apart j what lt v = and_comm (mentions graph.nodes v (get_or kids j 0)) (list_any (λ b. b) (map (mentions graph.nodes v) (take j kids))) ∙ apart_from (mentions graph.nodes v) kids j apart lt where
     apart : at_most_one (map (mentions graph.nodes v) kids) ≡ true
     apart = (λ i. apart_at (mentions graph.nodes v) (sym what i) (are i)) ∙ apart-at (mentions graph.nodes v) graph.nodes at (ok.nodes.apart v) inside
 
   pub and_next : (j : ℕ) (pair : Pair) → j < length kids
-      → Told (λ a. list_all (λ b. b) (map (λ k. is_true graph.nodes k a) (take j kids)) && is_true graph.nodes (get_or kids j 0) a) (λ v. list_any (λ b. b) (map (mentions graph.nodes v) (take j kids)) || mentions graph.nodes v (get_or kids j 0)) pair
+      → Told (λ a. is_true graph.nodes (get_or kids j 0) a && list_all (λ b. b) (map (λ k. is_true graph.nodes k a) (take j kids))) (λ v. mentions graph.nodes v (get_or kids j 0) || list_any (λ b. b) (map (mentions graph.nodes v) (take j kids))) pair
       → AndTold (j + 1) pair
   and_next j pair lt is = same _ _ _ _ pair
-      (λ a. sym (ap (list_all (λ b. b)) (map_more (λ k. is_true graph.nodes k a) kids j 0 lt) ∙ all_push (map (λ k. is_true graph.nodes k a) (take j kids)) (is_true graph.nodes (get_or kids j 0) a)))
-      (λ v. sym (ap (list_any (λ b. b)) (map_more (mentions graph.nodes v) kids j 0 lt) ∙ any_push (map (mentions graph.nodes v) (take j kids)) (mentions graph.nodes v (get_or kids j 0)))) is
+      (λ a. and_comm (is_true graph.nodes (get_or kids j 0) a) (list_all (λ b. b) (map (λ k. is_true graph.nodes k a) (take j kids))) ∙ sym (ap (list_all (λ b. b)) (map_more (λ k. is_true graph.nodes k a) kids j 0 lt) ∙ all_push (map (λ k. is_true graph.nodes k a) (take j kids)) (is_true graph.nodes (get_or kids j 0) a)))
+      (λ v. or_comm (mentions graph.nodes v (get_or kids j 0)) (list_any (λ b. b) (map (mentions graph.nodes v) (take j kids))) ∙ sym (ap (list_any (λ b. b)) (map_more (mentions graph.nodes v) kids j 0 lt) ∙ any_push (map (mentions graph.nodes v) (take j kids)) (mentions graph.nodes v (get_or kids j 0)))) is
 
   pub and_end : (j : ℕ) (pair : Pair) → (node_at graph.nodes at).what ≡ And → length kids ≤ j → AndTold j pair → TellsNode graph words costs top groups at pair
   and_end j pair what le is = same _ _ _ _ pair
@@ -179,13 +180,6 @@ module _ (graph : Graph) (words costs : List ℕ) (top : ℕ) (groups : Groups) 
 
 -- ---- words of a part
 
-pub allowed_open : (words : List ℕ) (part : ℕ) (word : ℕ) → get_or words part 0 ≡ word → word < 3 → (word ≡ 1 → ⊥) → agrees_at (known_at words (part + 1)) false ≡ true
-allowed_open words part word e lt ne = ap (λ k. agrees_at (known_of (get_or words k 0)) false) (let b : part + 1 - 1 ≡ part = omega arith in b) ∙ ap (λ w. agrees_at (known_of w) false) e ∙ by_word word lt ne where
-  by_word : (w : ℕ) → w < 3 → (w ≡ 1 → ⊥) → agrees_at (known_of w) false ≡ true
-  by_word zero l n = refl
-  by_word (suc zero) l n = absurd (n refl)
-  by_word (suc (suc w)) l n = refl
-
 pub allowed_ok : (words : List ℕ) (part : ℕ) (word : ℕ) → get_or words part 0 ≡ word → word < 2 → agrees_at (known_at words (part + 1)) true ≡ true
 allowed_ok words part word e lt = ap (λ k. agrees_at (known_of (get_or words k 0)) true) (let b : part + 1 - 1 ≡ part = omega arith in b) ∙ ap (λ w. agrees_at (known_of w) true) e ∙ by_word word lt where
   by_word : (w : ℕ) → w < 2 → agrees_at (known_of w) true ≡ true
@@ -208,12 +202,3 @@ leaf_allows (Some true) true leaf e ne = refl
 leaf_allows (Some true) false leaf e ne = absurd (ne e)
 leaf_allows (Some false) true leaf e ne = absurd (ne e)
 leaf_allows (Some false) false leaf e ne = refl
-
-pub leaf_rules_out : (known : Option Bool) (positive x : Bool) (leaf : Leaf) → leaf ≡ leaf_of positive known → leaf ≡ False → agrees_at known x ≡ true → same_bit positive x ≡ true → ⊥
-leaf_rules_out None positive x leaf e f g h = absurd (cc)
-leaf_rules_out (Some true) true x leaf e f g h = absurd (cc)
-leaf_rules_out (Some false) false x leaf e f g h = absurd (cc)
-leaf_rules_out (Some true) false true leaf e f g h = absurd (cc)
-leaf_rules_out (Some true) false false leaf e f g h = absurd (cc)
-leaf_rules_out (Some false) true true leaf e f g h = absurd (cc)
-leaf_rules_out (Some false) true false leaf e f g h = absurd (cc)

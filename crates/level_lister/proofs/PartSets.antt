@@ -1,5 +1,5 @@
 -- The parts below a node, from those below its kids.
-use Rattle.std.proofs.Common.{◌≡◌, ℕ, suc, ◌+◌, ◌-◌, ◌*◌, ◌/◌, ◌%◌, ◌^◌, ◌<◌, ◌≤◌, Bool, true, false, ◌&&◌, ◌||◌, List, [], ◌∷◌, ◌++◌, map, take, length, get_or, set, refl, ap, sym, ◌∙◌, subst, arith, ⊎_elim, bit_or}
+use Rattle.std.proofs.Common.{◌≡◌, ℕ, suc, ◌+◌, ◌*◌, ◌/◌, ◌%◌, ◌^◌, ◌<◌, ◌≤◌, Bool, true, false, ◌&&◌, ◌||◌, List, [], ◌∷◌, ◌++◌, map, take, length, get_or, set, refl, ap, sym, ◌∙◌, subst, arith, ⊎_elim, bit_or}
 use Rattle.std.specs.Prelude.{◌==◌, nat_lt}
 use Rattle.std.specs.List.{list_any}
 use Rattle.std.specs.Int.{bit_at}
@@ -9,8 +9,8 @@ use Rattle.std.proofs.lemmas.Nat.Bits.{bit_at-pow_same, bit_at-pow_other}
 use Rattle.std.proofs.lemmas.List.{take_more, get_or-set_same, get_or-set_other}
 use Rattle.graph_rules.specs.declared.NodeKind.TheVariants.{Literal}
 use Rattle.graph_rules.specs.Graphs.{Graph, node_at, mention_by, mentions, IsGraph}
-use Rattle.level_lister.specs.inner.CostSets.{has_number, has_shifted}
-use Rattle.level_lister.specs.inner.NodeSets.{size_of, set_at, ArePartsOf, ArePartsBelow}
+use Rattle.level_lister.specs.PartSets.{has_number, size_of, set_at, ArePartsOf, ArePartsBelow}
+use Rattle.level_lister.specs.inner.CostSets.{has_shifted}
 use Rattle.level_lister.proofs.SetBits.{has-within, or-bit}
 use Rattle.level_lister.proofs.Kids.{room_for, kid-below, mention-is, shifted_none}
 use Rattle.level_lister.proofs.Stacks.{set_at-front, set_at-here}
@@ -90,24 +90,6 @@ past parts set some n long h = not_there (has_number set n) refl ∙ sym (ap (λ
 
 pub parts_from : (parts : ℕ) (set : List ℕ) (some : ℕ → Bool) → length set ≡ size_of parts → ((n : ℕ) → n < 32 * length set → has_number set n ≡ (nat_lt n parts && some (n + 1))) → ArePartsOf parts some set
 parts_from parts set some long are n = ⊎_elim (λ p. are n p) (λ p. past parts set some n long p) (cases_lt n (32 * length set))
-
-pub variable_in : (parts var n : ℕ) → 1 ≤ var → var ≤ parts → (n == var - 1) ≡ (nat_lt n parts && (var == n + 1))
-variable_in parts var n low high = ⊎_elim
-    (λ e. eq-eqb n (var - 1) e ∙ sym ((λ i. lt-ltb n parts (omega arith) i && eq-eqb var (n + 1) (omega arith) i)))
-    (λ ne. ne_eqb n (var - 1) ne ∙ sym (none (nat_lt n parts) (var == n + 1) (ne_eqb var (n + 1) (λ q. ne (omega arith)))))
-    (cases_eq n (var - 1)) where
-      none : (x y : Bool) → y ≡ false → (x && y) ≡ false
-      none true y e = e
-      none false y e = refl
-
-pub variable_out : (parts var n : ℕ) → parts < var → false ≡ (nat_lt n parts && (var == n + 1))
-variable_out parts var n high = ⊎_elim
-    (λ (p : n < parts). sym (none (nat_lt n parts) (var == n + 1) (ne_eqb var (n + 1) (λ q. absurd (omega arith)))))
-    (λ (p : parts ≤ n). ap (λ b. b && (var == n + 1)) (sym (le-ltb n parts p)))
-    (cases_lt n parts) where
-      none : (x y : Bool) → y ≡ false → (x && y) ≡ false
-      none true y e = e
-      none false y e = refl
 
 -- what is below one of the kids
 any_below : (graph : Graph) (parts at n : ℕ) (sets kids : List ℕ) → ArePartsBelow graph parts sets at → ((j : ℕ) → j < length kids → get_or kids j 0 < at)

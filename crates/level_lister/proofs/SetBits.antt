@@ -6,7 +6,8 @@ use Rattle.std.proofs.lemmas.Nat.{or_shifted, shl_whole, one_shl, shr-shr}
 use Rattle.std.proofs.lemmas.Nat.Bits.{bit_at-zero, bit_at_and, bit_at_or, bit_at_ones, bit_at-lt, bit_at-pow_same, bit_at-pow_other, bit_at_cat_low, bit_at_cat_high}
 use Rattle.std.proofs.lemmas.Bool.{cases_eq, cases_lt, lt-ltb, le-ltb, le-leb, lt-leb, eq-eqb, ne_eqb, false≢true}
 use Rattle.std.proofs.lemmas.List.{get_or-set_same, get_or-set_other, get_or_past}
-use Rattle.level_lister.specs.inner.CostSets.{has_number, has_shifted, word_before}
+use Rattle.level_lister.specs.PartSets.{has_number}
+use Rattle.level_lister.specs.inner.CostSets.{has_shifted, word_before}
 
 -- ---- one word
 

@@ -3,7 +3,8 @@ use Rattle.std.proofs.Common.{◌≡◌, ℕ, ◌+◌, ◌*◌, ◌<◌, ◌≤�
 use Rattle.std.proofs.lemmas.List.{take-append-le, drop-append-le, drop_at, take_at, length-drop}
 use Rattle.std.proofs.lemmas.Bool.{cases_lt}
 use Rattle.graph_rules.specs.Graphs.{Graph}
-use Rattle.level_lister.specs.inner.NodeSets.{set_at, IsNodeSet, AreNodeSets}
+use Rattle.level_lister.specs.PartSets.{set_at}
+use Rattle.level_lister.specs.inner.NodeSets.{IsNodeSet, AreNodeSets}
 use Rattle.level_lister.proofs.Kids.{room_for}
 
 pub set_at-front : (front back : List ℕ) (k size : ℕ) → k * size + size ≤ length front → set_at (front ++ back) k size ≡ set_at front k size

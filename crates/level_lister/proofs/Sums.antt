@@ -2,14 +2,9 @@
 use Rattle.std.proofs.Common.{◌≡◌, ℕ, ◌+◌, ◌-◌, ◌*◌, ◌<◌, ◌≤◌, true, false, ◌||◌, List, length, ap, sym, ◌∙◌, arith, ⊎_elim}
 use Rattle.std.specs.Prelude.{nat_le}
 use Rattle.std.proofs.lemmas.Bool.{cases_lt, and_parts, and_from, or_cases, or_left, or_right, le-leb, leb-true, false≢true}
-use Rattle.level_lister.specs.inner.CostSets.{has_number, has_shifted, SumOf, AreSums}
+use Rattle.level_lister.specs.PartSets.{has_number}
+use Rattle.level_lister.specs.inner.CostSets.{has_shifted, SumOf, AreSums}
 use Rattle.level_lister.proofs.SetBits.{has-within}
-
-pub sums_none : (left right set : List ℕ) → ((n : ℕ) → has_number set n ≡ false) → AreSums left right 0 set
-sums_none left right set none = record {
-  sound = λ n e. absurd (false≢true (sym (none n) ∙ e));
-  whole = λ j k e f lt h. absurd (omega arith);
-}
 
 -- no sum is added where the right set has not the cost
 pub sums_skip : (left right set : List ℕ) (cost : ℕ) → AreSums left right cost set → has_number right cost ≡ false → AreSums left right (cost + 1) set

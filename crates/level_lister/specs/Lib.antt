@@ -1,3 +1,4 @@
+pub mod PartSets
 pub mod Listing
 pub mod Bits
 pub mod inner

@@ -8,7 +8,7 @@ use Rattle.ranking.specs.Levels.{levels, levels_rest}
 use Rattle.level_lister.specs.declared.levels.LevelStep.{LevelStep}
 use Rattle.level_lister.specs.declared.levels.LevelStep.TheVariants.{Found, End, Inconsistent}
 use Rattle.level_lister.specs.declared.levels.TheConstants.{TOP_LIMIT, PART_LIMIT}
-use Rattle.level_lister.specs.inner.NodeSets.{AreBelow, AreLacking}
+use Rattle.level_lister.specs.PartSets.{AreBelow, AreLacking}
 
 -- the costs of the parts, the greatest cost that is listed, and for each node of a graph the parts below it and whether a kid lacks
 -- one of them
@@ -28,8 +28,8 @@ pub record IsFor (graph : Graph) (kept : Kept) : Type 0 where
   pub lacking : AreLacking graph (length kept.costs) kept.lacking
 
 -- how many words of 32 bits a set of the costs has that are listed
-abbrev pub set_words : ℕ → ℕ
-set_words top = top / 32 + 1
+abbrev pub cost_words : ℕ → ℕ
+cost_words top = top / 32 + 1
 
 -- a state is a point or it is none
 abbrev pub point_if : Bool → List Bool → Option (List Bool)

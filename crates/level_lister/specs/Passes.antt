@@ -1,14 +1,17 @@
 -- How many passes over the graph a call makes.
-use Rattle.std.specs.Prelude.{ℕ, ◌+◌, ◌*◌, ◌/◌, Bool, List, Option, Some, None, nat_lt, if◌then◌else◌}
+use Rattle.std.specs.Prelude.{ℕ, ◌+◌, ◌*◌, ◌/◌, ◌^◌, ◌<◌, Bool, List, Option, Some, None, nat_lt, if◌then◌else◌}
 use Rattle.diagnosis_lister.specs.Listing.{fault_count}
 
 -- where only costs up to one below 32 are listed, a pass tells in which of so many groups of parts the first fault is, or behind them
 abbrev pub group_count : ℕ → ℕ
 group_count top = 32 / (top + 1)
 
--- What it takes to fix the parts as a state has them. Where only costs below 32 are listed, each fault is searched, and at last that
--- there is no other; `search` passes find one of fewer parts than the power of group_count top + 1 that `search` says. Else each part
--- takes one at most.
+-- so many passes find a fault among the parts, where they are searched by groups
+abbrev pub AreEnough : ℕ → ℕ → ℕ → Type 0
+AreEnough parts top search = top < 32 → parts < (group_count top + 1) ^ search
+
+-- What it takes to fix the parts as a state has them, where `search` passes are enough to find a fault. Where only costs below 32 are
+-- listed, each fault is searched, and at last that there is no other. Else each part takes one at most.
 abbrev pub fixing_passes : ℕ → ℕ → ℕ → List Bool → ℕ
 fixing_passes parts top search state = if nat_lt top 32 then (fault_count state + 1) * search else parts
 

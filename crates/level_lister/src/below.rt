@@ -2,9 +2,9 @@
 ghost use Rattle.std.specs.Prelude.{◌≡◌, ℕ, ◌+◌, ◌*◌, ◌<◌, ◌≤◌, ◌==◌, length, true, IfOk, slice_index};
 ghost use Rattle.std.specs.List.{list_any};
 ghost use Rattle.graph_rules.specs.Graphs.{mentions};
-ghost use Rattle.level_lister.specs.inner.CostSets.{has_number};
-ghost use Rattle.level_lister.specs.inner.NodeSets.{size_of, set_at, ArePartsOf, ArePartsBelow, AreBelow};
+ghost use Rattle.level_lister.specs.PartSets.{has_number, size_of, set_at, ArePartsOf, ArePartsBelow, AreBelow};
 
+use crate::levels::PART_LIMIT;
 use crate::pass::{set_at, size_of};
 use crate::sets::{add_one, add_shifted, clear, put_one};
 use graph_rules::NodeKind;
@@ -17,7 +17,7 @@ pub(crate) fn parts_below(
     graph: &Graph,
     parts: usize,
 ) -> Result<Vec<u32>, AllocError>
-    requires { parts ≤ 4096 }
+    requires { parts ≤ PART_LIMIT }
     ensures { IfOk result (λ below. AreBelow graph.now parts below.items) }
 {
     let size = size_of(parts);
@@ -27,7 +27,7 @@ pub(crate) fn parts_below(
 }
 
 fn put_all(graph: &Graph, parts: usize, below: &mut [u32])
-    requires parts { parts ≤ 4096 }
+    requires parts { parts ≤ PART_LIMIT }
     requires long { length below.old ≡ (length graph.now.nodes + 1) * size_of parts }
     ensures { AreBelow graph.now parts below.new }
 {
@@ -38,7 +38,7 @@ fn put_all(graph: &Graph, parts: usize, below: &mut [u32])
 }
 
 fn put_nodes(graph: &Graph, parts: usize, below: &mut [u32])
-    requires parts { parts ≤ 4096 }
+    requires parts { parts ≤ PART_LIMIT }
     requires long { length below.old ≡ length graph.now.nodes * size_of parts }
     ensures { ArePartsBelow graph.now parts below.new (length graph.now.nodes) }
 {
@@ -52,13 +52,14 @@ fn put_nodes(graph: &Graph, parts: usize, below: &mut [u32])
 
 // The parts below a node, from those below the nodes before it.
 fn put_node(graph: &Graph, parts: usize, earlier: &[u32], at: u32, set: &mut [u32])
-    requires parts { parts ≤ 4096 }
+    requires parts { parts ≤ PART_LIMIT }
     requires at { at < length graph.now.nodes }
     requires long { length set.old ≡ size_of parts }
     requires sets { length earlier.now ≡ at * size_of parts }
     requires earlier { ArePartsBelow graph.now parts earlier.now at }
     ensures { ArePartsOf parts (λ v. mentions graph.now.nodes v at) set.new }
 {
+    // Its contract says that this is a graph.
     let _vars = graph.vars();
     let kids = graph.kids(at);
     match graph.what(at) {

@@ -1,9 +1,10 @@
 //! Parts that are free to be ok or faulty, since a kid of a node does not mention them.
 ghost use Rattle.std.specs.Prelude.{◌≡◌, ◌≢◌, ℕ, ◌+◌, ◌*◌, ◌<◌, ◌≤◌, Bool, true, false, not, ◌&&◌, ◌||◌, length, All, ◌==◌};
 ghost use Rattle.ranking.specs.Assignments.{Assignment};
-ghost use Rattle.level_lister.specs.inner.CostSets.{has_number, has_shifted, IsCostSet};
-ghost use Rattle.level_lister.specs.inner.NodeSets.{size_of, ArePartsOf};
+ghost use Rattle.level_lister.specs.PartSets.{has_number, size_of, ArePartsOf};
+ghost use Rattle.level_lister.specs.inner.CostSets.{has_shifted, IsCostSet};
 
+use crate::levels::PART_LIMIT;
 use crate::sets::{WIDTH, add_shifted, clear};
 
 // Lets each part be free that is below a node and not below a kid of it: the set of the kid's costs becomes one of the costs of all
@@ -18,7 +19,7 @@ pub(crate) fn widen(
 )
     requires words { All (λ w. w < 3) words.now }
     requires parts { length costs.now ≤ length words.now }
-    requires few { length costs.now ≤ 4096 }
+    requires few { length costs.now ≤ PART_LIMIT }
     requires outer { length outer.now ≡ size_of (length costs.now) }
     requires inner { length inner.now ≡ size_of (length costs.now) }
     requires spare { length spare.old ≡ length set.old }

@@ -2,10 +2,10 @@
 ghost use Rattle.std.specs.Prelude.{◌≡◌, ℕ, ◌+◌, ◌*◌, ◌<◌, ◌≤◌, false, not, ◌&&◌, length, IfOk};
 ghost use Rattle.graph_rules.specs.declared.NodeKind.TheVariants.{Or};
 ghost use Rattle.graph_rules.specs.Graphs.{node_at};
-ghost use Rattle.level_lister.specs.inner.CostSets.{has_number};
-ghost use Rattle.level_lister.specs.inner.NodeSets.{size_of, set_at, AreBelow, SameBelow, AreLacking};
+ghost use Rattle.level_lister.specs.PartSets.{has_number, size_of, set_at, AreBelow, SameBelow, AreLacking};
 
 use crate::choices::next_missing;
+use crate::levels::PART_LIMIT;
 use crate::pass::{set_at, size_of};
 use graph_rules::NodeKind;
 use node_store::Graph;
@@ -18,7 +18,7 @@ pub(crate) fn nodes_lacking(
     below: &[u32],
     parts: usize,
 ) -> Result<Vec<u32>, AllocError>
-    requires parts { parts ≤ 4096 }
+    requires parts { parts ≤ PART_LIMIT }
     requires below { AreBelow graph.now parts below.now }
     ensures { IfOk result (λ lacking. AreLacking graph.now parts lacking.items) }
 {
@@ -28,7 +28,7 @@ pub(crate) fn nodes_lacking(
 }
 
 fn put_lacking(graph: &Graph, below: &[u32], parts: usize, lacking: &mut [u32])
-    requires parts { parts ≤ 4096 }
+    requires parts { parts ≤ PART_LIMIT }
     requires below { AreBelow graph.now parts below.now }
     requires long { length lacking.old ≡ length graph.now.nodes + 1 }
     ensures { AreLacking graph.now parts lacking.new }
@@ -50,7 +50,7 @@ fn flag(lacks: bool) -> u32
 
 // Whether a node is an Or of which a kid lacks a part.
 fn kid_lacks(graph: &Graph, below: &[u32], parts: usize, at: u32) -> bool
-    requires parts { parts ≤ 4096 }
+    requires parts { parts ≤ PART_LIMIT }
     requires below { AreBelow graph.now parts below.now }
     requires at { at < length graph.now.nodes }
     ensures { result ≡ false → (node_at graph.now.nodes at).what ≡ Or → SameBelow graph.now parts at }
@@ -62,12 +62,13 @@ fn kid_lacks(graph: &Graph, below: &[u32], parts: usize, at: u32) -> bool
 }
 
 fn one_lacks(graph: &Graph, below: &[u32], parts: usize, at: u32) -> bool
-    requires parts { parts ≤ 4096 }
+    requires parts { parts ≤ PART_LIMIT }
     requires below { AreBelow graph.now parts below.now }
     requires at { at < length graph.now.nodes }
     requires what { (node_at graph.now.nodes at).what ≡ Or }
     ensures { result ≡ false → SameBelow graph.now parts at }
 {
+    // Its contract says that this is a graph.
     let _vars = graph.vars();
     for kid in graph.kids(at) {
         if lacks(below, parts, at as usize, *kid as usize) {
@@ -79,7 +80,7 @@ fn one_lacks(graph: &Graph, below: &[u32], parts: usize, at: u32) -> bool
 
 // Whether a set has a part that another has not.
 fn lacks(below: &[u32], parts: usize, outer: usize, inner: usize) -> bool
-    requires parts { parts ≤ 4096 }
+    requires parts { parts ≤ PART_LIMIT }
     requires outer { outer * size_of parts + size_of parts ≤ length below.now }
     requires inner { inner * size_of parts + size_of parts ≤ length below.now }
     ensures { result ≡ false → (p : ℕ) → p < parts

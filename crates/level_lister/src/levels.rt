@@ -1,16 +1,15 @@
-ghost use Rattle.std.specs.Prelude.{◌≡◌, ◌≢◌, ℕ, ◌+◌, ◌*◌, ◌^◌, ◌<◌, ◌≤◌, [], length, true, false, IfOk, All, Some, MatchOption, slice_index, slice_index_or};
+ghost use Rattle.std.specs.Prelude.{◌≡◌, ◌≢◌, ℕ, ◌+◌, ◌*◌, ◌<◌, ◌≤◌, [], length, true, false, IfOk, All, Some, MatchOption, slice_index, slice_index_or};
 ghost use Rattle.conditioner.specs.Models.{models, total_cost};
-ghost use Rattle.diagnosis_lister.specs.Listing.{bits_of, fault_count};
-ghost use Rattle.diagnosis_lister.specs.inner.Working.{fixed_bits};
+ghost use Rattle.diagnosis_lister.specs.Listing.{bits_of};
 ghost use Rattle.scratch_pool.specs.Regions.{free_words};
-ghost use Rattle.level_lister.specs.Listing.{IsFor, set_words, point_if, later_levels, level_step};
-ghost use Rattle.level_lister.specs.Passes.{group_count, fixing_passes, point_faults, most_passes};
-ghost use Rattle.level_lister.specs.inner.Searching.{FindsFirst, FindsNext};
+ghost use Rattle.level_lister.specs.Listing.{IsFor, cost_words, point_if, later_levels, level_step};
+ghost use Rattle.level_lister.specs.Passes.{AreEnough, most_passes};
 
 use crate::below::parts_below;
 use crate::lacking::nodes_lacking;
-use crate::states::{keep, put_back, read_state, state_cost};
-use minimiser::{Steps, TOTAL_LIMIT, least};
+use crate::search::Search;
+use crate::states::{keep, put_back, read_state};
+use minimiser::{Steps, TOTAL_LIMIT};
 use node_store::Graph;
 use scratch_pool::Region;
 use std::alloc::{AllocError, Global};
@@ -41,7 +40,7 @@ pub struct Levels {
     top: u32,
     // for each node the parts below it, and behind them all parts
     below: Vec<u32>,
-    // for each node 0 where no kid lacks one of these, and behind them whether the last node lacks one
+    // for each node a word that is 0 only where no kid lacks one of these, and behind them one that is 0 where the last node lacks none
     lacking: Vec<u32>,
 }
 
@@ -93,7 +92,7 @@ impl Levels {
         requires state { length state.old ≡ length self.now.costs }
         requires state_words { All (λ s. s < 2) state.old }
         requires runs { region.old.runs ≡ [] }
-        requires room { (length graph.now.nodes + 2) * (set_words self.now.top + 1) + length self.now.costs ≤ free_words region.old }
+        requires room { (length graph.now.nodes + 2) * (cost_words self.now.top + 1) + length self.now.costs ≤ free_words region.old }
 
         ensures step { result ≡ level_step self.now.costs (models graph.now words.old (length self.now.costs))
             (later_levels graph.now words.old self.now (point_if pointed (bits_of state.old))) }
@@ -120,7 +119,7 @@ impl Levels {
 
     // How many words a set has.
     pub(crate) fn size(&self) -> usize
-        ensures { result ≡ set_words self.now.top }
+        ensures { result ≡ cost_words self.now.top }
     {
         (self.top / 32) as usize + 1
     }
@@ -152,7 +151,7 @@ impl Levels {
     /// How many words one step needs.
     pub fn room(&self, graph: &Graph) -> usize
         requires graph { IsFor graph.now self.now }
-        ensures { result ≡ length self.now.costs + (length graph.now.nodes + 2) * (set_words self.now.top + 1) }
+        ensures { result ≡ length self.now.costs + (length graph.now.nodes + 2) * (cost_words self.now.top + 1) }
     {
         self.costs.len() + (graph.len() as usize + 2) * (self.size() + 1)
     }
@@ -174,7 +173,7 @@ impl Levels {
         requires words { All (λ w. w < 3) words.old }
         requires state { length state.old ≡ length self.now.costs }
         requires state_words { All (λ s. s < 2) state.old }
-        requires room { length scratch.old ≡ length self.now.costs + (length graph.now.nodes + 2) * (set_words self.now.top + 1) }
+        requires room { length scratch.old ≡ length self.now.costs + (length graph.now.nodes + 2) * (cost_words self.now.top + 1) }
         ensures step { result ≡ level_step self.now.costs (models graph.now words.old (length self.now.costs))
             (later_levels graph.now words.old self.now (point_if pointed (bits_of state.old))) }
         ensures next { bits_of state.new ≡ slice_index_or
@@ -201,7 +200,7 @@ impl Levels {
         requires words { All (λ w. w < 3) words.old }
         requires state { length state.old ≡ length self.now.costs }
         requires state_words { All (λ s. s < 2) state.old }
-        requires room { length scratch.old ≡ length self.now.costs + (length graph.now.nodes + 2) * (set_words self.now.top + 1) }
+        requires room { length scratch.old ≡ length self.now.costs + (length graph.now.nodes + 2) * (cost_words self.now.top + 1) }
         ensures step { result ≡ level_step self.now.costs (models graph.now words.old (length self.now.costs))
             (later_levels graph.now words.old self.now (point_if pointed (bits_of state.old))) }
         ensures next { bits_of state.new ≡ slice_index_or
@@ -210,133 +209,24 @@ impl Levels {
         ensures words { words.new ≡ words.old }
 
         // How many passes are made at most.
-        ensures steps { (search : ℕ) → length self.now.costs < (group_count self.now.top + 1) ^ search → steps.new ≤ steps.old
+        ensures steps { (search : ℕ) → AreEnough (length self.now.costs) self.now.top search → steps.new ≤ steps.old
             + most_passes (length self.now.costs) self.now.top search (point_if pointed (bits_of state.old)) (bits_of state.new) }
     {
+        let search = Search {
+            levels: self,
+            graph,
+        };
         let (saved, work) = scratch.split_at_mut(self.costs().len());
-        if !self.has_state(graph, words, work, steps) {
+        if !search.has_state(words, work, steps) {
             return LevelStep::Inconsistent;
         }
         keep(words, saved);
-        match self.find(graph, words, saved, work, state, pointed, steps) {
+        match search.find(words, saved, work, state, pointed, steps) {
             None => LevelStep::End,
             Some(cost) => {
                 read_state(words, state);
                 put_back(words, saved);
                 LevelStep::Found(cost)
-            }
-        }
-    }
-
-    // Whether some state agrees with the words.
-    fn has_state<L: Ledger>(
-        &self,
-        graph: &Graph,
-        words: &[u32],
-        work: &mut [u32],
-        steps: &mut Steps<L>,
-    ) -> bool
-        requires graph { IsFor graph.now self.now }
-        requires long { length words.now ≡ graph.now.vars }
-        requires words { All (λ w. w < 3) words.now }
-        requires work { length work.old ≡ (length graph.now.nodes + 2) * (set_words self.now.top + 1) }
-        ensures none { result ≡ false → models graph.now words.now (length self.now.costs) ≡ [] }
-        ensures some { result ≡ true → models graph.now words.now (length self.now.costs) ≢ [] }
-        ensures steps { steps.new ≡ steps.old + 1 }
-    {
-        let (values, _) = work.split_at_mut(graph.len() as usize);
-        least(graph, words, self.costs(), values, steps).is_some()
-    }
-
-    // Fixes the parts as the next state has them, if there is one; what it costs.
-    fn find<L: Ledger>(
-        &self,
-        graph: &Graph,
-        words: &mut [u32],
-        saved: &[u32],
-        work: &mut [u32],
-        state: &[u32],
-        pointed: bool,
-        steps: &mut Steps<L>,
-    ) -> Option<u32>
-        requires graph { IsFor graph.now self.now }
-        requires long { length words.old ≡ graph.now.vars }
-        requires words { All (λ w. w < 3) words.old }
-        requires saved { length saved.now ≡ length self.now.costs }
-        requires same { (k : ℕ) → k < length self.now.costs → slice_index saved.now k ≡ slice_index words.old k }
-        requires work { length work.old ≡ (length graph.now.nodes + 2) * (set_words self.now.top + 1) }
-        requires state { length state.now ≡ length self.now.costs }
-        ensures found { FindsNext graph.now words.old self.now (point_if pointed (bits_of state.now)) words.new result }
-        ensures steps { MatchOption result (steps.new ≤ steps.old + (point_faults (point_if pointed (bits_of state.now)) + 1))
-            (λ _. (search : ℕ) → length self.now.costs < (group_count self.now.top + 1) ^ search → steps.new ≤ steps.old
-            + (point_faults (point_if pointed (bits_of state.now)) + 1 + fixing_passes (length self.now.costs) self.now.top search (fixed_bits (length self.now.costs) words.new))) }
-    {
-        if pointed {
-            self.find_after(graph, words, saved, work, state, steps)
-        } else {
-            self.find_from(graph, words, work, 0, steps)
-        }
-    }
-
-    // The first state after another.
-    fn find_after<L: Ledger>(
-        &self,
-        graph: &Graph,
-        words: &mut [u32],
-        saved: &[u32],
-        work: &mut [u32],
-        state: &[u32],
-        steps: &mut Steps<L>,
-    ) -> Option<u32>
-        requires graph { IsFor graph.now self.now }
-        requires long { length words.old ≡ graph.now.vars }
-        requires words { All (λ w. w < 3) words.old }
-        requires saved { length saved.now ≡ length self.now.costs }
-        requires same { (k : ℕ) → k < length self.now.costs → slice_index saved.now k ≡ slice_index words.old k }
-        requires work { length work.old ≡ (length graph.now.nodes + 2) * (set_words self.now.top + 1) }
-        requires state { length state.now ≡ length self.now.costs }
-        ensures found { FindsNext graph.now words.old self.now (Some (bits_of state.now)) words.new result }
-        ensures steps { MatchOption result (steps.new ≤ steps.old + (fault_count (bits_of state.now) + 1))
-            (λ _. (search : ℕ) → length self.now.costs < (group_count self.now.top + 1) ^ search → steps.new ≤ steps.old
-            + (fault_count (bits_of state.now) + 1 + fixing_passes (length self.now.costs) self.now.top search (fixed_bits (length self.now.costs) words.new))) }
-    {
-        let own = state_cost(state, self.costs());
-        let top = self.top();
-        if own > top {
-            return None;
-        }
-        match self.leave(graph, words, saved, work, state, own, steps) {
-            Some(part) => {
-                self.settle(graph, words, work, own, part + 1, steps);
-                Some(own)
-            }
-            None => self.find_from(graph, words, work, own + 1, steps),
-        }
-    }
-
-    // The first of the states whose cost is at least so much.
-    fn find_from<L: Ledger>(
-        &self,
-        graph: &Graph,
-        words: &mut [u32],
-        work: &mut [u32],
-        from: u32,
-        steps: &mut Steps<L>,
-    ) -> Option<u32>
-        requires graph { IsFor graph.now self.now }
-        requires long { length words.old ≡ graph.now.vars }
-        requires words { All (λ w. w < 3) words.old }
-        requires work { length work.old ≡ (length graph.now.nodes + 2) * (set_words self.now.top + 1) }
-        ensures found { FindsFirst graph.now words.old self.now from words.new result }
-        ensures steps { MatchOption result (steps.new ≤ steps.old + (1))
-            (λ _. (search : ℕ) → length self.now.costs < (group_count self.now.top + 1) ^ search → steps.new ≤ steps.old
-            + (1 + fixing_passes (length self.now.costs) self.now.top search (fixed_bits (length self.now.costs) words.new))) }
-    {
-        match self.next_cost(graph, words, work, from, steps) {
-            None => None,
-            Some(cost) => {
-                self.settle(graph, words, work, cost, 0, steps);
-                Some(cost)
             }
         }
     }

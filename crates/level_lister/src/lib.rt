@@ -9,6 +9,7 @@ mod levels;
 mod pair_pass;
 mod pairs;
 mod pass;
+mod search;
 mod searching;
 mod sets;
 mod settling;

@@ -6,18 +6,17 @@ ghost use Rattle.ranking.specs.Cases.{agrees_at};
 ghost use Rattle.graph_rules.specs.declared.NodeKind.TheVariants.{And, Or};
 ghost use Rattle.graph_rules.specs.Graphs.{node_at};
 ghost use Rattle.minimiser.specs.Costs.{known_at};
-ghost use Rattle.level_lister.specs.Listing.{IsFor};
 ghost use Rattle.level_lister.specs.Passes.{group_count};
-ghost use Rattle.level_lister.specs.inner.NodeSets.{size_of, set_at, ArePartsOf, SameBelow};
+ghost use Rattle.level_lister.specs.PartSets.{size_of, set_at, ArePartsOf, SameBelow};
 ghost use Rattle.level_lister.specs.inner.Pairs.{has_bit, Tells, TellsNode, TellNodes, TellsWhole, group_in, pair_at};
 
 use crate::choices::next_missing;
-use crate::levels::Levels;
+use crate::levels::{Levels, PART_LIMIT};
 use crate::pairs::{Groups, Pair, either, joined, one};
 use crate::pass::{set_at, size_of};
+use crate::search::Search;
 use conditioner::{Leaf, leaf};
 use graph_rules::NodeKind;
-use node_store::Graph;
 
 // What costs nothing, and has no faulty part.
 const FREE: Pair = Pair {
@@ -51,68 +50,6 @@ impl Levels {
         ensures room { result * (self.now.top + 1) ≤ 32 }
     {
         32 / (self.top() + 1)
-    }
-
-    // Puts the two words of each node, and brings those of all parts.
-    pub(crate) fn put_pairs(
-        &self,
-        graph: &Graph,
-        words: &[u32],
-        groups: Groups,
-        values: &mut [u32],
-    ) -> Pair
-        requires graph { IsFor graph.now self.now }
-        requires long { length words.now ≡ graph.now.vars }
-        requires words { All (λ w. w < 3) words.now }
-        requires top { self.now.top < 32 }
-        requires size { 0 < groups.size }
-        requires room { 2 * length graph.now.nodes ≤ length values.old }
-        ensures { TellsWhole graph.now words.now self.now.costs self.now.top groups result }
-    {
-        for at in 0..graph.len() {
-            let pair = self.node_pair(graph, words, groups, values, at);
-            values[2 * at as usize] = pair.costs;
-            values[2 * at as usize + 1] = pair.faults;
-        }
-        let root = graph.len() as usize - 1;
-        let pair = pair_at(values, root);
-        if self.lacking()[root + 1] == 0 {
-            return pair;
-        }
-        self.widened(words, groups, pair, root, root + 1)
-    }
-
-    // The two words of a node, from those of the nodes before it.
-    fn node_pair(
-        &self,
-        graph: &Graph,
-        words: &[u32],
-        groups: Groups,
-        values: &[u32],
-        at: u32,
-    ) -> Pair
-        requires graph { IsFor graph.now self.now }
-        requires long { length words.now ≡ graph.now.vars }
-        requires words { All (λ w. w < 3) words.now }
-        requires top { self.now.top < 32 }
-        requires size { 0 < groups.size }
-        requires at { at < length graph.now.nodes }
-        requires room { 2 * length graph.now.nodes ≤ length values.now }
-        requires earlier { TellNodes graph.now words.now self.now.costs self.now.top groups values.now at }
-        ensures { TellsNode graph.now words.now self.now.costs self.now.top groups at result }
-    {
-        let _vars = graph.vars();
-        match graph.what(at) {
-            NodeKind::Literal { var, positive } => self.literal_pair(words, groups, var, positive),
-            NodeKind::And => self.and_pair(graph, values, at),
-            NodeKind::Or => {
-                if self.lacking()[at as usize] == 0 {
-                    self.full_pair(graph, values, at)
-                } else {
-                    self.or_pair(graph, words, groups, values, at)
-                }
-            }
-        }
     }
 
     fn literal_pair(&self, words: &[u32], groups: Groups, var: u32, positive: bool) -> Pair
@@ -200,7 +137,7 @@ impl Levels {
     fn widened(&self, words: &[u32], groups: Groups, pair: Pair, inner: usize, outer: usize) -> Pair
         requires parts { length self.now.costs ≤ length words.now }
         requires words { All (λ w. w < 3) words.now }
-        requires few { length self.now.costs ≤ 4096 }
+        requires few { length self.now.costs ≤ PART_LIMIT }
         requires top { self.now.top < 32 }
         requires size { 0 < groups.size }
         requires inner { inner * size_of (length self.now.costs) + size_of (length self.now.costs) ≤ length self.now.below }
@@ -224,65 +161,123 @@ impl Levels {
         }
         pair
     }
+}
 
-    fn and_pair(&self, graph: &Graph, values: &[u32], at: u32) -> Pair
-        requires top { self.now.top < 32 }
-        requires at { at < length graph.now.nodes }
-        requires what { (node_at graph.now.nodes at).what ≡ And }
-        requires room { 2 * length graph.now.nodes ≤ length values.now }
-        ensures { (words : List ℕ) (groups : Groups) → TellNodes graph.now words self.now.costs self.now.top groups values.now at
-            → TellsNode graph.now words self.now.costs self.now.top groups at result }
+impl Search<'_> {
+    // Puts the two words of each node, and brings those of all parts.
+    pub(crate) fn put_pairs(&self, words: &[u32], groups: Groups, values: &mut [u32]) -> Pair
+        requires long { length words.now ≡ self.now.graph.now.vars }
+        requires words { All (λ w. w < 3) words.now }
+        requires top { self.now.levels.now.top < 32 }
+        requires size { 0 < groups.size }
+        requires room { 2 * length self.now.graph.now.nodes ≤ length values.old }
+        ensures { TellsWhole self.now.graph.now words.now self.now.levels.now.costs self.now.levels.now.top groups result }
     {
-        let _vars = graph.vars();
+        for at in 0..self.graph.len() {
+            let pair = self.node_pair(words, groups, values, at);
+            values[2 * at as usize] = pair.costs;
+            values[2 * at as usize + 1] = pair.faults;
+        }
+        let root = self.graph.len() as usize - 1;
+        let pair = pair_at(values, root);
+        if self.levels.lacking()[root + 1] == 0 {
+            return pair;
+        }
+        self.levels.widened(words, groups, pair, root, root + 1)
+    }
+
+    // The two words of a node, from those of the nodes before it.
+    fn node_pair(&self, words: &[u32], groups: Groups, values: &[u32], at: u32) -> Pair
+        requires long { length words.now ≡ self.now.graph.now.vars }
+        requires words { All (λ w. w < 3) words.now }
+        requires top { self.now.levels.now.top < 32 }
+        requires size { 0 < groups.size }
+        requires at { at < length self.now.graph.now.nodes }
+        requires room { 2 * length self.now.graph.now.nodes ≤ length values.now }
+        requires earlier { TellNodes self.now.graph.now words.now self.now.levels.now.costs self.now.levels.now.top groups values.now at }
+        ensures { TellsNode self.now.graph.now words.now self.now.levels.now.costs self.now.levels.now.top groups at result }
+    {
+        // Its contract says that this is a graph.
+        let _vars = self.graph.vars();
+        match self.graph.what(at) {
+            NodeKind::Literal { var, positive } => self
+                .levels
+                .literal_pair(words, groups, var, positive),
+            NodeKind::And => self.and_pair(values, at),
+            NodeKind::Or => {
+                if self.levels.lacking()[at as usize] == 0 {
+                    self.full_pair(values, at)
+                } else {
+                    self.or_pair(words, groups, values, at)
+                }
+            }
+        }
+    }
+
+    fn and_pair(&self, values: &[u32], at: u32) -> Pair
+        requires top { self.now.levels.now.top < 32 }
+        requires at { at < length self.now.graph.now.nodes }
+        requires what { (node_at self.now.graph.now.nodes at).what ≡ And }
+        requires room { 2 * length self.now.graph.now.nodes ≤ length values.now }
+        ensures { (words : List ℕ) (groups : Groups)
+            → TellNodes self.now.graph.now words self.now.levels.now.costs self.now.levels.now.top groups values.now at
+            → TellsNode self.now.graph.now words self.now.levels.now.costs self.now.levels.now.top groups at result }
+    {
+        // Its contract says that this is a graph.
+        let _vars = self.graph.vars();
         let mut pair = FREE;
-        for kid in graph.kids(at) {
+        for kid in self.graph.kids(at) {
+            // The second one is to have few costs: what was joined so far is of literals, mostly.
             pair = joined(
-                pair,
                 pair_at(values, *kid as usize),
-                self.group_count(),
-                self.top() + 1,
+                pair,
+                self.levels.group_count(),
+                self.levels.top() + 1,
             );
         }
         pair
     }
 
     // The words of an Or whose kids lack no part.
-    fn full_pair(&self, graph: &Graph, values: &[u32], at: u32) -> Pair
-        requires at { at < length graph.now.nodes }
-        requires what { (node_at graph.now.nodes at).what ≡ Or }
-        requires same { SameBelow graph.now (length self.now.costs) at }
-        requires room { 2 * length graph.now.nodes ≤ length values.now }
-        ensures { (words : List ℕ) (groups : Groups) → TellNodes graph.now words self.now.costs self.now.top groups values.now at
-            → TellsNode graph.now words self.now.costs self.now.top groups at result }
+    fn full_pair(&self, values: &[u32], at: u32) -> Pair
+        requires at { at < length self.now.graph.now.nodes }
+        requires what { (node_at self.now.graph.now.nodes at).what ≡ Or }
+        requires same { SameBelow self.now.graph.now (length self.now.levels.now.costs) at }
+        requires room { 2 * length self.now.graph.now.nodes ≤ length values.now }
+        ensures { (words : List ℕ) (groups : Groups)
+            → TellNodes self.now.graph.now words self.now.levels.now.costs self.now.levels.now.top groups values.now at
+            → TellsNode self.now.graph.now words self.now.levels.now.costs self.now.levels.now.top groups at result }
     {
-        let _vars = graph.vars();
+        // Its contract says that this is a graph.
+        let _vars = self.graph.vars();
         let mut pair = NEVER;
-        for kid in graph.kids(at) {
+        for kid in self.graph.kids(at) {
             pair = either(pair, pair_at(values, *kid as usize));
         }
         pair
     }
 
     // The words of an Or: parts that a kid does not mention are free where it is true.
-    fn or_pair(&self, graph: &Graph, words: &[u32], groups: Groups, values: &[u32], at: u32) -> Pair
-        requires graph { IsFor graph.now self.now }
-        requires long { length words.now ≡ graph.now.vars }
+    fn or_pair(&self, words: &[u32], groups: Groups, values: &[u32], at: u32) -> Pair
+        requires long { length words.now ≡ self.now.graph.now.vars }
         requires words { All (λ w. w < 3) words.now }
-        requires top { self.now.top < 32 }
+        requires top { self.now.levels.now.top < 32 }
         requires size { 0 < groups.size }
-        requires at { at < length graph.now.nodes }
-        requires what { (node_at graph.now.nodes at).what ≡ Or }
-        requires room { 2 * length graph.now.nodes ≤ length values.now }
-        requires earlier { TellNodes graph.now words.now self.now.costs self.now.top groups values.now at }
-        ensures { TellsNode graph.now words.now self.now.costs self.now.top groups at result }
+        requires at { at < length self.now.graph.now.nodes }
+        requires what { (node_at self.now.graph.now.nodes at).what ≡ Or }
+        requires room { 2 * length self.now.graph.now.nodes ≤ length values.now }
+        requires earlier { TellNodes self.now.graph.now words.now self.now.levels.now.costs self.now.levels.now.top groups values.now at }
+        ensures { TellsNode self.now.graph.now words.now self.now.levels.now.costs self.now.levels.now.top groups at result }
     {
-        let _vars = graph.vars();
+        // Its contract says that this is a graph.
+        let _vars = self.graph.vars();
         let mut pair = NEVER;
-        for kid in graph.kids(at) {
+        for kid in self.graph.kids(at) {
             let own = pair_at(values, *kid as usize);
             pair = either(
                 pair,
-                self.widened(words, groups, own, *kid as usize, at as usize),
+                self.levels
+                    .widened(words, groups, own, *kid as usize, at as usize),
             );
         }
         pair

@@ -42,7 +42,14 @@ fn spread(left: u32, right: u32, step: u32, count: u32) -> u32
     ensures { IsSpread left right step count result }
 {
     let mut set = 0;
+    if left == 0 {
+        return set;
+    }
     for times in 0..count {
+        // Most words have low bits alone.
+        if right >> times == 0 {
+            return set;
+        }
         if has_bit(right, times) {
             set |= left << (step * times);
         }

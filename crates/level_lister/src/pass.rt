@@ -1,55 +1,169 @@
 //! One pass over the nodes, which brings the set of the costs of each.
 ghost use Rattle.std.specs.Prelude.{◌≡◌, ◌≢◌, ℕ, ◌+◌, ◌*◌, ◌<◌, ◌≤◌, false, List, length, All, ◌==◌, if◌then◌else◌};
 ghost use Rattle.conditioner.specs.declared.leaves.Leaf.{Leaf};
-ghost use Rattle.level_lister.specs.inner.CostSets.{has_number};
+ghost use Rattle.level_lister.specs.PartSets.{has_number, size_of, set_at};
 ghost use Rattle.graph_rules.specs.declared.NodeKind.TheVariants.{And, Or};
 ghost use Rattle.graph_rules.specs.Graphs.{node_at};
 ghost use Rattle.minimiser.specs.Costs.{part_cost};
-ghost use Rattle.level_lister.specs.inner.NodeSets.{size_of, set_at, AreBelow, IsNodeSet, AreNodeSets, IsWholeSet};
+ghost use Rattle.level_lister.specs.inner.NodeSets.{IsNodeSet, AreNodeSets, IsWholeSet};
 
 use crate::choices::widen;
+use crate::levels::PART_LIMIT;
+use crate::search::Search;
 use crate::sets::{SET_LIMIT, add_shifted, clear, put_one, put_sums};
 use conditioner::{Leaf, leaf};
 use graph_rules::NodeKind;
-use node_store::Graph;
 
-// Brings the set of the costs of each node, and that of the costs of all parts at which the last node can be true.
-pub(crate) fn put_whole(
-    graph: &Graph,
-    below: &[u32],
-    words: &[u32],
-    costs: &[u32],
-    sets: &mut [u32],
-    whole: &mut [u32],
-    spare: &mut [u32],
-)
-    requires long { length words.now ≡ graph.now.vars }
-    requires words { All (λ w. w < 3) words.now }
-    requires parts { length costs.now ≤ graph.now.vars }
-    requires few { length costs.now ≤ 4096 }
-    requires below { AreBelow graph.now (length costs.now) below.now }
-    requires room { length whole.old ≤ SET_LIMIT }
-    requires sets { length sets.old ≡ length graph.now.nodes * length whole.old }
-    requires spare { length spare.old ≡ length whole.old }
-    ensures { IsWholeSet graph.now words.now costs.now whole.new }
-{
-    put_sets(graph, below, words, costs, sets, whole, spare);
-    let root = graph.len() as usize - 1;
-    whole.copy_from_slice(set_at(sets, root, whole.len()));
-    let size = size_of(costs.len());
-    widen(
-        set_at(below, root + 1, size),
-        set_at(below, root, size),
-        words,
-        costs,
-        whole,
-        spare,
-    );
+impl Search<'_> {
+    // Brings the set of the costs of each node, and that of the costs of all parts at which the last node can be true.
+    pub(crate) fn put_whole(
+        &self,
+        words: &[u32],
+        sets: &mut [u32],
+        whole: &mut [u32],
+        spare: &mut [u32],
+    )
+        requires long { length words.now ≡ self.now.graph.now.vars }
+        requires words { All (λ w. w < 3) words.now }
+        requires room { length whole.old ≤ SET_LIMIT }
+        requires sets { length sets.old ≡ length self.now.graph.now.nodes * length whole.old }
+        requires spare { length spare.old ≡ length whole.old }
+        ensures { IsWholeSet self.now.graph.now words.now self.now.levels.now.costs whole.new }
+    {
+        self.put_sets(words, sets, whole, spare);
+        let root = self.graph.len() as usize - 1;
+        whole.copy_from_slice(set_at(sets, root, whole.len()));
+        let costs = self.levels.costs();
+        let below = self.levels.below();
+        let size = size_of(costs.len());
+        widen(
+            set_at(below, root + 1, size),
+            set_at(below, root, size),
+            words,
+            costs,
+            whole,
+            spare,
+        );
+    }
+
+    fn put_sets(&self, words: &[u32], sets: &mut [u32], spare: &mut [u32], other: &mut [u32])
+        requires long { length words.now ≡ self.now.graph.now.vars }
+        requires words { All (λ w. w < 3) words.now }
+        requires room { length spare.old ≤ SET_LIMIT }
+        requires sets { length sets.old ≡ length self.now.graph.now.nodes * length spare.old }
+        requires other { length other.old ≡ length spare.old }
+        ensures { AreNodeSets self.now.graph.now words.now self.now.levels.now.costs (length spare.old) sets.new (length self.now.graph.now.nodes) }
+    {
+        let size = spare.len();
+        for at in 0..self.graph.len() {
+            let (earlier, rest) = sets.split_at_mut(at as usize * size);
+            let (set, _) = rest.split_at_mut(size);
+            self.put_set(words, earlier, at, set, spare, other);
+        }
+    }
+
+    // The set of a node, from those of the nodes before it.
+    fn put_set(
+        &self,
+        words: &[u32],
+        sets: &[u32],
+        at: u32,
+        set: &mut [u32],
+        spare: &mut [u32],
+        other: &mut [u32],
+    )
+        requires long { length words.now ≡ self.now.graph.now.vars }
+        requires words { All (λ w. w < 3) words.now }
+        requires room { length set.old ≤ SET_LIMIT }
+        requires at { at < length self.now.graph.now.nodes }
+        requires sets { length sets.now ≡ at * length set.old }
+        requires earlier { AreNodeSets self.now.graph.now words.now self.now.levels.now.costs (length set.old) sets.now at }
+        requires spare { length spare.old ≡ length set.old }
+        requires other { length other.old ≡ length set.old }
+        ensures { IsNodeSet self.now.graph.now words.now self.now.levels.now.costs at set.new }
+    {
+        // Its contract says that this is a graph.
+        let _vars = self.graph.vars();
+        match self.graph.what(at) {
+            NodeKind::Literal { var, positive } => {
+                put_literal(
+                    leaf(words, var, positive),
+                    positive,
+                    part_cost(var, self.levels.costs()),
+                    set,
+                )
+            }
+            NodeKind::And => self.put_and(sets, at, set, spare),
+            NodeKind::Or => self.put_or(words, sets, at, set, spare, other),
+        }
+    }
+
+    // The set of an And: its kids share no variable.
+    fn put_and(&self, sets: &[u32], at: u32, set: &mut [u32], spare: &mut [u32])
+        requires room { length set.old ≤ SET_LIMIT }
+        requires at { at < length self.now.graph.now.nodes }
+        requires what { (node_at self.now.graph.now.nodes at).what ≡ And }
+        requires sets { length sets.now ≡ at * length set.old }
+        requires spare { length spare.old ≡ length set.old }
+        ensures { (words costs : List ℕ) → AreNodeSets self.now.graph.now words costs (length set.old) sets.now at
+            → IsNodeSet self.now.graph.now words costs at set.new }
+    {
+        // Its contract says that this is a graph.
+        let _vars = self.graph.vars();
+        let size = set.len();
+        put_one(set, 0);
+        for kid in self.graph.kids(at) {
+            spare.copy_from_slice(set);
+            put_sums(set, spare, set_at(sets, *kid as usize, size));
+        }
+    }
+
+    // The set of an Or: parts that a kid does not mention are free where it is true.
+    fn put_or(
+        &self,
+        words: &[u32],
+        sets: &[u32],
+        at: u32,
+        set: &mut [u32],
+        spare: &mut [u32],
+        other: &mut [u32],
+    )
+        requires long { length words.now ≡ self.now.graph.now.vars }
+        requires words { All (λ w. w < 3) words.now }
+        requires at { at < length self.now.graph.now.nodes }
+        requires what { (node_at self.now.graph.now.nodes at).what ≡ Or }
+        requires sets { length sets.now ≡ at * length set.old }
+        requires earlier { AreNodeSets self.now.graph.now words.now self.now.levels.now.costs (length set.old) sets.now at }
+        requires spare { length spare.old ≡ length set.old }
+        requires other { length other.old ≡ length set.old }
+        ensures { IsNodeSet self.now.graph.now words.now self.now.levels.now.costs at set.new }
+    {
+        // Its contract says that this is a graph.
+        let _vars = self.graph.vars();
+        let size = set.len();
+        let costs = self.levels.costs();
+        let below = self.levels.below();
+        let parts = size_of(costs.len());
+        let own = set_at(below, at as usize, parts);
+        clear(set);
+        for kid in self.graph.kids(at) {
+            spare.copy_from_slice(set_at(sets, *kid as usize, size));
+            widen(
+                own,
+                set_at(below, *kid as usize, parts),
+                words,
+                costs,
+                spare,
+                other,
+            );
+            add_shifted(set, spare, 0);
+        }
+    }
 }
 
 // How many words the set of so many numbers has.
 pub(crate) fn size_of(count: usize) -> usize
-    requires { count ≤ 4096 }
+    requires { count ≤ PART_LIMIT }
     ensures { result ≡ size_of count }
 {
     count.div_ceil(32)
@@ -63,73 +177,6 @@ pub(crate) fn set_at(sets: &[u32], k: usize, size: usize) -> &[u32]
 {
     let start = k * size;
     &sets[start..start + size]
-}
-
-fn put_sets(
-    graph: &Graph,
-    below: &[u32],
-    words: &[u32],
-    costs: &[u32],
-    sets: &mut [u32],
-    spare: &mut [u32],
-    other: &mut [u32],
-)
-    requires long { length words.now ≡ graph.now.vars }
-    requires words { All (λ w. w < 3) words.now }
-    requires parts { length costs.now ≤ graph.now.vars }
-    requires few { length costs.now ≤ 4096 }
-    requires below { AreBelow graph.now (length costs.now) below.now }
-    requires room { length spare.old ≤ SET_LIMIT }
-    requires sets { length sets.old ≡ length graph.now.nodes * length spare.old }
-    requires other { length other.old ≡ length spare.old }
-    ensures { AreNodeSets graph.now words.now costs.now (length spare.old) sets.new (length graph.now.nodes) }
-{
-    let size = spare.len();
-    for at in 0..graph.len() {
-        let (earlier, rest) = sets.split_at_mut(at as usize * size);
-        let (set, _) = rest.split_at_mut(size);
-        put_set(graph, below, words, costs, earlier, at, set, spare, other);
-    }
-}
-
-// The set of a node, from those of the nodes before it.
-fn put_set(
-    graph: &Graph,
-    below: &[u32],
-    words: &[u32],
-    costs: &[u32],
-    sets: &[u32],
-    at: u32,
-    set: &mut [u32],
-    spare: &mut [u32],
-    other: &mut [u32],
-)
-    requires long { length words.now ≡ graph.now.vars }
-    requires words { All (λ w. w < 3) words.now }
-    requires parts { length costs.now ≤ graph.now.vars }
-    requires few { length costs.now ≤ 4096 }
-    requires below { AreBelow graph.now (length costs.now) below.now }
-    requires room { length set.old ≤ SET_LIMIT }
-    requires at { at < length graph.now.nodes }
-    requires sets { length sets.now ≡ at * length set.old }
-    requires earlier { AreNodeSets graph.now words.now costs.now (length set.old) sets.now at }
-    requires spare { length spare.old ≡ length set.old }
-    requires other { length other.old ≡ length set.old }
-    ensures { IsNodeSet graph.now words.now costs.now at set.new }
-{
-    let _vars = graph.vars();
-    match graph.what(at) {
-        NodeKind::Literal { var, positive } => {
-            put_literal(
-                leaf(words, var, positive),
-                positive,
-                part_cost(var, costs),
-                set,
-            )
-        }
-        NodeKind::And => put_and(graph, sets, at, set, spare),
-        NodeKind::Or => put_or(graph, below, words, costs, sets, at, set, spare, other),
-    }
 }
 
 // What the failure of a variable's part costs, and 0 for one that is no part's.
@@ -152,67 +199,5 @@ fn put_literal(leaf: Leaf, positive: bool, cost: u32, set: &mut [u32])
     match leaf {
         Leaf::False => clear(set),
         Leaf::True | Leaf::Open => put_one(set, if positive { 0 } else { cost as usize }),
-    }
-}
-
-// The set of an And: its kids share no variable.
-fn put_and(graph: &Graph, sets: &[u32], at: u32, set: &mut [u32], spare: &mut [u32])
-    requires room { length set.old ≤ SET_LIMIT }
-    requires at { at < length graph.now.nodes }
-    requires what { (node_at graph.now.nodes at).what ≡ And }
-    requires sets { length sets.now ≡ at * length set.old }
-    requires spare { length spare.old ≡ length set.old }
-    ensures { (words costs : List ℕ) → AreNodeSets graph.now words costs (length set.old) sets.now at
-        → IsNodeSet graph.now words costs at set.new }
-{
-    let _vars = graph.vars();
-    let size = set.len();
-    put_one(set, 0);
-    for kid in graph.kids(at) {
-        spare.copy_from_slice(set);
-        put_sums(set, spare, set_at(sets, *kid as usize, size));
-    }
-}
-
-// The set of an Or: parts that a kid does not mention are free where it is true.
-fn put_or(
-    graph: &Graph,
-    below: &[u32],
-    words: &[u32],
-    costs: &[u32],
-    sets: &[u32],
-    at: u32,
-    set: &mut [u32],
-    spare: &mut [u32],
-    other: &mut [u32],
-)
-    requires words { All (λ w. w < 3) words.now }
-    requires parts { length costs.now ≤ length words.now }
-    requires few { length costs.now ≤ 4096 }
-    requires below { AreBelow graph.now (length costs.now) below.now }
-    requires at { at < length graph.now.nodes }
-    requires what { (node_at graph.now.nodes at).what ≡ Or }
-    requires sets { length sets.now ≡ at * length set.old }
-    requires earlier { AreNodeSets graph.now words.now costs.now (length set.old) sets.now at }
-    requires spare { length spare.old ≡ length set.old }
-    requires other { length other.old ≡ length set.old }
-    ensures { IsNodeSet graph.now words.now costs.now at set.new }
-{
-    let _vars = graph.vars();
-    let size = set.len();
-    let parts = size_of(costs.len());
-    let own = set_at(below, at as usize, parts);
-    clear(set);
-    for kid in graph.kids(at) {
-        spare.copy_from_slice(set_at(sets, *kid as usize, size));
-        widen(
-            own,
-            set_at(below, *kid as usize, parts),
-            words,
-            costs,
-            spare,
-            other,
-        );
-        add_shifted(set, spare, 0);
     }
 }

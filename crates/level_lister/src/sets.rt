@@ -1,12 +1,13 @@
 //! Sets of numbers, as bits of words.
 ghost use Rattle.std.specs.Prelude.{◌≡◌, ℕ, ◌+◌, ◌-◌, ◌*◌, ◌/◌, ◌%◌, ◌<◌, ◌≤◌, ◌||◌, false, length, ◌==◌};
 ghost use Rattle.std.specs.Int.{bit_at};
-ghost use Rattle.level_lister.specs.inner.CostSets.{has_number, has_shifted, word_before, AreSums};
+ghost use Rattle.level_lister.specs.PartSets.{has_number};
+ghost use Rattle.level_lister.specs.inner.CostSets.{has_shifted, word_before, AreSums};
 
 /// How many numbers a word tells.
 pub(crate) const WIDTH: usize = 32;
 
-/// A set has at most so many words.
+/// A set has at most so many words: those for the costs up to the greatest that is listed.
 pub const SET_LIMIT: usize = 128_001;
 
 // Whether a set has a number.

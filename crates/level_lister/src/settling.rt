@@ -3,17 +3,15 @@ ghost use Rattle.std.specs.Prelude.{◌≡◌, ◌≢◌, ◌↔◌, ℕ, ◌+�
 ghost use Rattle.diagnosis_lister.specs.Listing.{bits_of, fault_count};
 ghost use Rattle.diagnosis_lister.specs.inner.Working.{IsFirst, fixed_bits};
 ghost use Rattle.minimiser.specs.inner.Held.{held_cost};
-ghost use Rattle.level_lister.specs.Listing.{IsFor, set_words};
-ghost use Rattle.level_lister.specs.Passes.{group_count, fixing_passes};
+ghost use Rattle.level_lister.specs.Listing.{cost_words};
+ghost use Rattle.level_lister.specs.Passes.{AreEnough, group_count, fixing_passes};
 ghost use Rattle.level_lister.specs.inner.Searching.{OfCost, HasCost, Settled, NoneAfter, Leaves};
 
-use crate::levels::Levels;
 use crate::pairs::{Groups, has_bit};
-use crate::pass::put_whole;
+use crate::search::Search;
 use crate::sets::has_number;
 use crate::states::{fix_ok, fixed_cost, follow};
 use minimiser::Steps;
-use node_store::Graph;
 use std::sync::ledger::Ledger;
 
 // No part is in any group.
@@ -22,109 +20,98 @@ const NO_GROUPS: Groups = Groups {
     size: 1,
 };
 
-impl Levels {
+impl Search<'_> {
     // Whether some state that agrees with the words has this cost. It takes one pass.
     pub(crate) fn reaches<L: Ledger>(
         &self,
-        graph: &Graph,
         words: &[u32],
         work: &mut [u32],
         cost: u32,
         steps: &mut Steps<L>,
     ) -> bool
-        requires graph { IsFor graph.now self.now }
-        requires long { length words.now ≡ graph.now.vars }
+        requires long { length words.now ≡ self.now.graph.now.vars }
         requires words { All (λ w. w < 3) words.now }
-        requires work { length work.old ≡ (length graph.now.nodes + 2) * (set_words self.now.top + 1) }
-        requires cost { cost ≤ self.now.top }
-        ensures reached { IsTrue result ↔ HasCost graph.now words.now self.now.costs cost }
+        requires work { length work.old ≡ (length self.now.graph.now.nodes + 2) * (cost_words self.now.levels.now.top + 1) }
+        requires cost { cost ≤ self.now.levels.now.top }
+        ensures reached { IsTrue result ↔ HasCost self.now.graph.now words.now self.now.levels.now.costs cost }
         ensures steps { steps.new ≡ steps.old + 1 }
     {
         steps.tick();
-        if self.top() < 32 {
-            self.reaches_by_pairs(graph, words, work, cost)
+        if self.levels.top() < 32 {
+            self.reaches_by_pairs(words, work, cost)
         } else {
-            self.reaches_by_sets(graph, words, work, cost)
+            self.reaches_by_sets(words, work, cost)
         }
     }
 
-    fn reaches_by_pairs(&self, graph: &Graph, words: &[u32], work: &mut [u32], cost: u32) -> bool
-        requires graph { IsFor graph.now self.now }
-        requires long { length words.now ≡ graph.now.vars }
+    fn reaches_by_pairs(&self, words: &[u32], work: &mut [u32], cost: u32) -> bool
+        requires long { length words.now ≡ self.now.graph.now.vars }
         requires words { All (λ w. w < 3) words.now }
-        requires top { self.now.top < 32 }
-        requires work { 2 * length graph.now.nodes ≤ length work.old }
-        requires cost { cost ≤ self.now.top }
-        ensures { IsTrue result ↔ HasCost graph.now words.now self.now.costs cost }
+        requires top { self.now.levels.now.top < 32 }
+        requires work { 2 * length self.now.graph.now.nodes ≤ length work.old }
+        requires cost { cost ≤ self.now.levels.now.top }
+        ensures { IsTrue result ↔ HasCost self.now.graph.now words.now self.now.levels.now.costs cost }
     {
-        let _vars = graph.vars();
-        let pair = self.put_pairs(graph, words, NO_GROUPS, work);
+        // Its contract says that this is a graph.
+        let _vars = self.graph.vars();
+        let pair = self.put_pairs(words, NO_GROUPS, work);
         has_bit(pair.costs, cost)
     }
 
-    fn reaches_by_sets(&self, graph: &Graph, words: &[u32], work: &mut [u32], cost: u32) -> bool
-        requires graph { IsFor graph.now self.now }
-        requires long { length words.now ≡ graph.now.vars }
+    fn reaches_by_sets(&self, words: &[u32], work: &mut [u32], cost: u32) -> bool
+        requires long { length words.now ≡ self.now.graph.now.vars }
         requires words { All (λ w. w < 3) words.now }
-        requires work { (length graph.now.nodes + 2) * set_words self.now.top ≤ length work.old }
-        requires cost { cost ≤ self.now.top }
-        ensures { IsTrue result ↔ HasCost graph.now words.now self.now.costs cost }
+        requires work { (length self.now.graph.now.nodes + 2) * cost_words self.now.levels.now.top ≤ length work.old }
+        requires cost { cost ≤ self.now.levels.now.top }
+        ensures { IsTrue result ↔ HasCost self.now.graph.now words.now self.now.levels.now.costs cost }
     {
-        let size = self.size();
-        let (sets, rest) = work.split_at_mut(graph.len() as usize * size);
+        let size = self.levels.size();
+        let (sets, rest) = work.split_at_mut(self.graph.len() as usize * size);
         let (whole, rest) = rest.split_at_mut(size);
         let (spare, _) = rest.split_at_mut(size);
-        put_whole(graph, self.below(), words, self.costs(), sets, whole, spare);
+        self.put_whole(words, sets, whole, spare);
         has_number(whole, cost as usize)
     }
 
     // The least cost from one on up to the greatest that some state has which agrees with the words. It takes one pass.
     pub(crate) fn next_cost<L: Ledger>(
         &self,
-        graph: &Graph,
         words: &[u32],
         work: &mut [u32],
         from: u32,
         steps: &mut Steps<L>,
     ) -> Option<u32>
-        requires graph { IsFor graph.now self.now }
-        requires long { length words.now ≡ graph.now.vars }
+        requires long { length words.now ≡ self.now.graph.now.vars }
         requires words { All (λ w. w < 3) words.now }
-        requires work { length work.old ≡ (length graph.now.nodes + 2) * (set_words self.now.top + 1) }
+        requires work { length work.old ≡ (length self.now.graph.now.nodes + 2) * (cost_words self.now.levels.now.top + 1) }
         ensures next { MatchOption result
-            ((c : ℕ) → from ≤ c → c ≤ self.now.top → HasCost graph.now words.now self.now.costs c → ⊥)
-            (λ cost. (from ≤ cost) × (cost ≤ self.now.top) × HasCost graph.now words.now self.now.costs cost
-            × ((c : ℕ) → from ≤ c → c < cost → HasCost graph.now words.now self.now.costs c → ⊥)) }
+            ((c : ℕ) → from ≤ c → c ≤ self.now.levels.now.top → HasCost self.now.graph.now words.now self.now.levels.now.costs c → ⊥)
+            (λ cost. (from ≤ cost) × (cost ≤ self.now.levels.now.top) × HasCost self.now.graph.now words.now self.now.levels.now.costs cost
+            × ((c : ℕ) → from ≤ c → c < cost → HasCost self.now.graph.now words.now self.now.levels.now.costs c → ⊥)) }
         ensures steps { steps.new ≡ steps.old + 1 }
     {
         steps.tick();
-        if self.top() < 32 {
-            self.next_by_pairs(graph, words, work, from)
+        if self.levels.top() < 32 {
+            self.next_by_pairs(words, work, from)
         } else {
-            self.next_by_sets(graph, words, work, from)
+            self.next_by_sets(words, work, from)
         }
     }
 
-    fn next_by_pairs(
-        &self,
-        graph: &Graph,
-        words: &[u32],
-        work: &mut [u32],
-        from: u32,
-    ) -> Option<u32>
-        requires graph { IsFor graph.now self.now }
-        requires long { length words.now ≡ graph.now.vars }
+    fn next_by_pairs(&self, words: &[u32], work: &mut [u32], from: u32) -> Option<u32>
+        requires long { length words.now ≡ self.now.graph.now.vars }
         requires words { All (λ w. w < 3) words.now }
-        requires top { self.now.top < 32 }
-        requires work { 2 * length graph.now.nodes ≤ length work.old }
+        requires top { self.now.levels.now.top < 32 }
+        requires work { 2 * length self.now.graph.now.nodes ≤ length work.old }
         ensures { MatchOption result
-            ((c : ℕ) → from ≤ c → c ≤ self.now.top → HasCost graph.now words.now self.now.costs c → ⊥)
-            (λ cost. (from ≤ cost) × (cost ≤ self.now.top) × HasCost graph.now words.now self.now.costs cost
-            × ((c : ℕ) → from ≤ c → c < cost → HasCost graph.now words.now self.now.costs c → ⊥)) }
+            ((c : ℕ) → from ≤ c → c ≤ self.now.levels.now.top → HasCost self.now.graph.now words.now self.now.levels.now.costs c → ⊥)
+            (λ cost. (from ≤ cost) × (cost ≤ self.now.levels.now.top) × HasCost self.now.graph.now words.now self.now.levels.now.costs cost
+            × ((c : ℕ) → from ≤ c → c < cost → HasCost self.now.graph.now words.now self.now.levels.now.costs c → ⊥)) }
     {
-        let _vars = graph.vars();
-        let pair = self.put_pairs(graph, words, NO_GROUPS, work);
-        for cost in from..self.top() + 1 {
+        // Its contract says that this is a graph.
+        let _vars = self.graph.vars();
+        let pair = self.put_pairs(words, NO_GROUPS, work);
+        for cost in from..self.levels.top() + 1 {
             if has_bit(pair.costs, cost) {
                 return Some(cost);
             }
@@ -132,22 +119,21 @@ impl Levels {
         None
     }
 
-    fn next_by_sets(&self, graph: &Graph, words: &[u32], work: &mut [u32], from: u32) -> Option<u32>
-        requires graph { IsFor graph.now self.now }
-        requires long { length words.now ≡ graph.now.vars }
+    fn next_by_sets(&self, words: &[u32], work: &mut [u32], from: u32) -> Option<u32>
+        requires long { length words.now ≡ self.now.graph.now.vars }
         requires words { All (λ w. w < 3) words.now }
-        requires work { (length graph.now.nodes + 2) * set_words self.now.top ≤ length work.old }
+        requires work { (length self.now.graph.now.nodes + 2) * cost_words self.now.levels.now.top ≤ length work.old }
         ensures { MatchOption result
-            ((c : ℕ) → from ≤ c → c ≤ self.now.top → HasCost graph.now words.now self.now.costs c → ⊥)
-            (λ cost. (from ≤ cost) × (cost ≤ self.now.top) × HasCost graph.now words.now self.now.costs cost
-            × ((c : ℕ) → from ≤ c → c < cost → HasCost graph.now words.now self.now.costs c → ⊥)) }
+            ((c : ℕ) → from ≤ c → c ≤ self.now.levels.now.top → HasCost self.now.graph.now words.now self.now.levels.now.costs c → ⊥)
+            (λ cost. (from ≤ cost) × (cost ≤ self.now.levels.now.top) × HasCost self.now.graph.now words.now self.now.levels.now.costs cost
+            × ((c : ℕ) → from ≤ c → c < cost → HasCost self.now.graph.now words.now self.now.levels.now.costs c → ⊥)) }
     {
-        let size = self.size();
-        let (sets, rest) = work.split_at_mut(graph.len() as usize * size);
+        let size = self.levels.size();
+        let (sets, rest) = work.split_at_mut(self.graph.len() as usize * size);
         let (whole, rest) = rest.split_at_mut(size);
         let (spare, _) = rest.split_at_mut(size);
-        put_whole(graph, self.below(), words, self.costs(), sets, whole, spare);
-        for cost in from..self.top() + 1 {
+        self.put_whole(words, sets, whole, spare);
+        for cost in from..self.levels.top() + 1 {
             if has_number(whole, cost as usize) {
                 return Some(cost);
             }
@@ -159,7 +145,6 @@ impl Levels {
     // the parts cost then that are fixed to faulty.
     fn settle_part<L: Ledger>(
         &self,
-        graph: &Graph,
         words: &mut [u32],
         work: &mut [u32],
         cost: u32,
@@ -167,17 +152,16 @@ impl Levels {
         spent: u32,
         steps: &mut Steps<L>,
     ) -> u32
-        requires graph { IsFor graph.now self.now }
-        requires long { length words.old ≡ graph.now.vars }
+        requires long { length words.old ≡ self.now.graph.now.vars }
         requires words { All (λ w. w < 3) words.old }
-        requires work { length work.old ≡ (length graph.now.nodes + 2) * (set_words self.now.top + 1) }
-        requires cost { cost ≤ self.now.top }
-        requires part { part < length self.now.costs }
-        requires spent { spent ≡ held_cost self.now.costs words.old }
+        requires work { length work.old ≡ (length self.now.graph.now.nodes + 2) * (cost_words self.now.levels.now.top + 1) }
+        requires cost { cost ≤ self.now.levels.now.top }
+        requires part { part < length self.now.levels.now.costs }
+        requires spent { spent ≡ held_cost self.now.levels.now.costs words.old }
         requires few { spent ≤ cost }
-        ensures settled { Settled graph.now self.now.costs cost words.old words.new part }
+        ensures settled { Settled self.now.graph.now self.now.levels.now.costs cost words.old words.new part }
         ensures words { All (λ w. w < 3) words.new }
-        ensures spent { result ≡ held_cost self.now.costs words.new }
+        ensures spent { result ≡ held_cost self.now.levels.now.costs words.new }
         ensures few { result ≤ cost }
         ensures steps { steps.new ≤ steps.old + 1 }
     {
@@ -185,8 +169,8 @@ impl Levels {
             return spent;
         }
         words[part] = 2;
-        let more = spent + self.costs()[part];
-        if more <= cost && self.reaches(graph, words, work, cost, steps) {
+        let more = spent + self.levels.costs()[part];
+        if more <= cost && self.reaches(words, work, cost, steps) {
             return more;
         }
         words[part] = 1;
@@ -197,97 +181,91 @@ impl Levels {
     // where that can be.
     pub(crate) fn settle<L: Ledger>(
         &self,
-        graph: &Graph,
         words: &mut [u32],
         work: &mut [u32],
         cost: u32,
         from: usize,
         steps: &mut Steps<L>,
     )
-        requires graph { IsFor graph.now self.now }
-        requires long { length words.old ≡ graph.now.vars }
+        requires long { length words.old ≡ self.now.graph.now.vars }
         requires words { All (λ w. w < 3) words.old }
-        requires work { length work.old ≡ (length graph.now.nodes + 2) * (set_words self.now.top + 1) }
-        requires cost { cost ≤ self.now.top }
-        requires from { from ≤ length self.now.costs }
+        requires work { length work.old ≡ (length self.now.graph.now.nodes + 2) * (cost_words self.now.levels.now.top + 1) }
+        requires cost { cost ≤ self.now.levels.now.top }
+        requires from { from ≤ length self.now.levels.now.costs }
         requires front { (k : ℕ) → k < from → slice_index words.old k ≢ 0 }
-        requires some { HasCost graph.now words.old self.now.costs cost }
-        ensures others { (k : ℕ) → length self.now.costs ≤ k → slice_index words.new k ≡ slice_index words.old k }
+        requires some { HasCost self.now.graph.now words.old self.now.levels.now.costs cost }
+        ensures others { (k : ℕ) → length self.now.levels.now.costs ≤ k → slice_index words.new k ≡ slice_index words.old k }
         ensures words { All (λ w. w < 3) words.new }
-        ensures first { IsFirst (OfCost graph.now words.old self.now.costs cost)
-            (fixed_bits (length self.now.costs) words.new) }
-        ensures steps { (search : ℕ) → length self.now.costs < (group_count self.now.top + 1) ^ search → steps.new ≤ steps.old
-            + fixing_passes (length self.now.costs) self.now.top search (fixed_bits (length self.now.costs) words.new) }
+        ensures first { IsFirst (OfCost self.now.graph.now words.old self.now.levels.now.costs cost)
+            (fixed_bits (length self.now.levels.now.costs) words.new) }
+        ensures steps { (search : ℕ) → AreEnough (length self.now.levels.now.costs) self.now.levels.now.top search → steps.new ≤ steps.old
+            + fixing_passes (length self.now.levels.now.costs) self.now.levels.now.top search (fixed_bits (length self.now.levels.now.costs) words.new) }
     {
-        if self.top() < 32 {
-            self.settle_by_groups(graph, words, work, cost, from, steps);
+        if self.levels.top() < 32 {
+            self.settle_by_groups(words, work, cost, from, steps);
         } else {
-            self.settle_each(graph, words, work, cost, from, steps);
+            self.settle_each(words, work, cost, from, steps);
         }
     }
 
     // The same, where only costs below 32 are listed: the next part that can be faulty is searched, and those before it are ok.
     fn settle_by_groups<L: Ledger>(
         &self,
-        graph: &Graph,
         words: &mut [u32],
         work: &mut [u32],
         cost: u32,
         from: usize,
         steps: &mut Steps<L>,
     )
-        requires graph { IsFor graph.now self.now }
-        requires long { length words.old ≡ graph.now.vars }
+        requires long { length words.old ≡ self.now.graph.now.vars }
         requires words { All (λ w. w < 3) words.old }
-        requires top { self.now.top < 32 }
-        requires work { 2 * length graph.now.nodes ≤ length work.old }
-        requires cost { cost ≤ self.now.top }
-        requires from { from ≤ length self.now.costs }
+        requires top { self.now.levels.now.top < 32 }
+        requires work { 2 * length self.now.graph.now.nodes ≤ length work.old }
+        requires cost { cost ≤ self.now.levels.now.top }
+        requires from { from ≤ length self.now.levels.now.costs }
         requires front { (k : ℕ) → k < from → slice_index words.old k ≢ 0 }
-        requires some { HasCost graph.now words.old self.now.costs cost }
-        ensures others { (k : ℕ) → length self.now.costs ≤ k → slice_index words.new k ≡ slice_index words.old k }
+        requires some { HasCost self.now.graph.now words.old self.now.levels.now.costs cost }
+        ensures others { (k : ℕ) → length self.now.levels.now.costs ≤ k → slice_index words.new k ≡ slice_index words.old k }
         ensures words { All (λ w. w < 3) words.new }
-        ensures first { IsFirst (OfCost graph.now words.old self.now.costs cost)
-            (fixed_bits (length self.now.costs) words.new) }
-        ensures steps { (search : ℕ) → length self.now.costs < (group_count self.now.top + 1) ^ search → steps.new ≤ steps.old
-            + (fault_count (fixed_bits (length self.now.costs) words.new) + 1) * search }
+        ensures first { IsFirst (OfCost self.now.graph.now words.old self.now.levels.now.costs cost)
+            (fixed_bits (length self.now.levels.now.costs) words.new) }
+        ensures steps { (search : ℕ) → length self.now.levels.now.costs < (group_count self.now.levels.now.top + 1) ^ search → steps.new ≤ steps.old
+            + (fault_count (fixed_bits (length self.now.levels.now.costs) words.new) + 1) * search }
     {
         let mut from = from;
-        while let Some(part) = self.first_faulty(graph, words, work, cost, from, steps) {
+        while let Some(part) = self.first_faulty(words, work, cost, from, steps) {
             fix_ok(words, from, part);
             words[part] = 2;
             from = part + 1;
         }
-        fix_ok(words, from, self.costs().len());
+        fix_ok(words, from, self.levels.costs().len());
     }
 
     // The same by a pass for each open part at most, and none for those that would cost too much.
     fn settle_each<L: Ledger>(
         &self,
-        graph: &Graph,
         words: &mut [u32],
         work: &mut [u32],
         cost: u32,
         from: usize,
         steps: &mut Steps<L>,
     )
-        requires graph { IsFor graph.now self.now }
-        requires long { length words.old ≡ graph.now.vars }
+        requires long { length words.old ≡ self.now.graph.now.vars }
         requires words { All (λ w. w < 3) words.old }
-        requires work { length work.old ≡ (length graph.now.nodes + 2) * (set_words self.now.top + 1) }
-        requires cost { cost ≤ self.now.top }
-        requires from { from ≤ length self.now.costs }
+        requires work { length work.old ≡ (length self.now.graph.now.nodes + 2) * (cost_words self.now.levels.now.top + 1) }
+        requires cost { cost ≤ self.now.levels.now.top }
+        requires from { from ≤ length self.now.levels.now.costs }
         requires front { (k : ℕ) → k < from → slice_index words.old k ≢ 0 }
-        requires some { HasCost graph.now words.old self.now.costs cost }
-        ensures others { (k : ℕ) → length self.now.costs ≤ k → slice_index words.new k ≡ slice_index words.old k }
+        requires some { HasCost self.now.graph.now words.old self.now.levels.now.costs cost }
+        ensures others { (k : ℕ) → length self.now.levels.now.costs ≤ k → slice_index words.new k ≡ slice_index words.old k }
         ensures words { All (λ w. w < 3) words.new }
-        ensures first { IsFirst (OfCost graph.now words.old self.now.costs cost)
-            (fixed_bits (length self.now.costs) words.new) }
-        ensures steps { steps.new ≤ steps.old + length self.now.costs }
+        ensures first { IsFirst (OfCost self.now.graph.now words.old self.now.levels.now.costs cost)
+            (fixed_bits (length self.now.levels.now.costs) words.new) }
+        ensures steps { steps.new ≤ steps.old + length self.now.levels.now.costs }
     {
-        let mut spent = fixed_cost(words, self.costs());
-        for part in from..self.costs().len() {
-            spent = self.settle_part(graph, words, work, cost, part, spent, steps);
+        let mut spent = fixed_cost(words, self.levels.costs());
+        for part in from..self.levels.costs().len() {
+            spent = self.settle_part(words, work, cost, part, spent, steps);
         }
     }
 
@@ -295,7 +273,6 @@ impl Levels {
     // words are then fixed so far. It takes a pass for each part that is faulty in the state, at most.
     pub(crate) fn leave<L: Ledger>(
         &self,
-        graph: &Graph,
         words: &mut [u32],
         saved: &[u32],
         work: &mut [u32],
@@ -303,18 +280,17 @@ impl Levels {
         cost: u32,
         steps: &mut Steps<L>,
     ) -> Option<usize>
-        requires graph { IsFor graph.now self.now }
-        requires long { length words.old ≡ graph.now.vars }
+        requires long { length words.old ≡ self.now.graph.now.vars }
         requires words { All (λ w. w < 3) words.old }
-        requires saved { length saved.now ≡ length self.now.costs }
-        requires same { (k : ℕ) → k < length self.now.costs → slice_index saved.now k ≡ slice_index words.old k }
-        requires work { length work.old ≡ (length graph.now.nodes + 2) * (set_words self.now.top + 1) }
-        requires state { length state.now ≡ length self.now.costs }
-        requires cost { cost ≤ self.now.top }
+        requires saved { length saved.now ≡ length self.now.levels.now.costs }
+        requires same { (k : ℕ) → k < length self.now.levels.now.costs → slice_index saved.now k ≡ slice_index words.old k }
+        requires work { length work.old ≡ (length self.now.graph.now.nodes + 2) * (cost_words self.now.levels.now.top + 1) }
+        requires state { length state.now ≡ length self.now.levels.now.costs }
+        requires cost { cost ≤ self.now.levels.now.top }
         ensures words { All (λ w. w < 3) words.new }
         ensures left { MatchOption result
-            ((words.new ≡ words.old) × NoneAfter graph.now words.old self.now.costs cost (bits_of state.now) 0)
-            (λ part. Leaves graph.now words.old self.now.costs cost (bits_of state.now) words.new part) }
+            ((words.new ≡ words.old) × NoneAfter self.now.graph.now words.old self.now.levels.now.costs cost (bits_of state.now) 0)
+            (λ part. Leaves self.now.graph.now words.old self.now.levels.now.costs cost (bits_of state.now) words.new part) }
         ensures steps { steps.new ≤ steps.old + fault_count (bits_of state.now) }
     {
         let end = follow(words, state);
@@ -322,7 +298,7 @@ impl Levels {
             let word = saved[part];
             if state[part] != 0 && word != 2 {
                 words[part] = 1;
-                if self.reaches(graph, words, work, cost, steps) {
+                if self.reaches(words, work, cost, steps) {
                     return Some(part);
                 }
             }

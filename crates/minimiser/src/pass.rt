@@ -43,8 +43,8 @@ pub fn least<L: Ledger>(
     least_cost(graph, words, costs, values)
 }
 
-/// The same as [`least`], for what counts no passes.
-pub fn least_cost(graph: &Graph, words: &[u32], costs: &[u32], values: &mut [u32]) -> Option<u32>
+// The same, where the pass is counted already.
+fn least_cost(graph: &Graph, words: &[u32], costs: &[u32], values: &mut [u32]) -> Option<u32>
     requires long { length words.now ≡ graph.now.vars }
     requires words { All (λ w. w < 3) words.now }
     requires parts { length costs.now ≤ graph.now.vars }
@@ -76,6 +76,7 @@ fn node_value(graph: &Graph, words: &[u32], costs: &[u32], values: &[u32], at: u
     requires earlier { map cost_in values.now ≡ costs_to graph.now words.now costs.now at }
     ensures { map cost_in values.now ++ cost_in result ∷ [] ≡ costs_to graph.now words.now costs.now (at + 1) }
 {
+    // Its contract says that this is a graph.
     let _vars = graph.vars();
     let kids = graph.kids(at);
     match graph.what(at) {

@@ -26,6 +26,7 @@ pub fn first_suspect(graph: &Graph, words: &[u32], costs: &[u32], values: &mut [
     ensures { MatchOption result (OkBelow graph.now words.now costs.now (length costs.now))
         (λ part. Suspect graph.now words.now costs.now part × OkBelow graph.now words.now costs.now part) }
 {
+    // Its contract says that this is a graph.
     let _vars = graph.vars();
     let parts = costs.len() as u32;
     sweep(graph, values);
@@ -60,6 +61,7 @@ pub fn find_suspects(
     ensures suspects { (part : ℕ) → part < length costs.now
         → (slice_index state.new part ≡ 1) ↔ Suspect graph.now words.now costs.now part }
 {
+    // Its contract says that this is a graph.
     let _vars = graph.vars();
     let parts = costs.len() as u32;
     sweep(graph, values);
@@ -116,6 +118,7 @@ fn suspect_at(graph: &Graph, words: &[u32], parts: u32, values: &[u32], at: u32)
     ensures suspect { result ≡ suspect_at graph.now.nodes words.now parts values.now at }
     ensures within { IfSome result (λ part. part < parts) }
 {
+    // Its contract says that this is a graph.
     let _vars = graph.vars();
     if !has_mark(values[at as usize]) {
         return None;

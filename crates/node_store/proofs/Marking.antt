@@ -1,8 +1,7 @@
 -- Marks of the nodes below a root.
-use Rattle.std.proofs.Common.{◌≡◌, ℕ, zero, suc, ◌+◌, ◌<◌, ◌≤◌, Bool, true, false, List, [], ◌∷◌, ◌++◌, map, length, take, drop, get_or, set, replicate, Some, All, refl, ap, sym, ◌∙◌, subst, arith, inl, inr}
+use Rattle.std.proofs.Common.{◌≡◌, ℕ, zero, suc, ◌+◌, ◌<◌, ◌≤◌, Bool, true, false, List, [], ◌∷◌, ◌++◌, map, length, take, drop, get_or, replicate, Some, All, refl, ap, sym, ◌∙◌, subst, arith, inl, inr}
 use Rattle.std.specs.Prelude.{slice_get, Contains, ◌⊎◌}
-use Rattle.std.proofs.lemmas.Bool.{cases_eq}
-use Rattle.std.proofs.lemmas.List.{take_all, append-nil, get_or-set_other}
+use Rattle.std.proofs.lemmas.List.{take_all, append-nil}
 use Rattle.std.proofs.Math.ListN.{drop_of_length-le, length-map}
 use Rattle.ranking.specs.Bits.{bit_in}
 use Rattle.graph_rules.specs.Graphs.{Node}
@@ -51,13 +50,6 @@ only_more nodes old new at root kids node there same marks only i m = by (marks.
   by : (bit_in old i ≡ true) ⊎ ((bit_in old at ≡ true) × Contains kids i) → (i ≡ root) ⊎ IsKidOfMarked nodes new i
   by (inl was) = keep (only i was)
   by (inr (marked, has)) = inr (at, node, marks.kept at marked, there, subst (λ ks. Contains ks i) same has)
-
--- one bit was written
-pub one_marked : (marks : List Bool) (at i : ℕ) → bit_in (set marks at true) i ≡ true → (i ≡ at) ⊎ (bit_in marks i ≡ true)
-one_marked marks at i m = elim (cases_eq i at) [
-  | inl same ↦ inl same
-  | inr other ↦ inr (sym (get_or-set_other marks at i true false other) ∙ m)
-]
 
 pub none_marked : (n i : ℕ) → bit_in (replicate n false) i ≡ true → ⊥
 none_marked zero i m = cc

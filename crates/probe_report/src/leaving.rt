@@ -71,6 +71,7 @@ fn lower_block(
     requires start { start < length list.old }
     ensures { LowersBlock start (λ i. Without graph.now.nodes values.now outers.now (parts + i + 1)) list.old list.new }
 {
+    // Its contract says that this is a graph.
     let _vars = graph.vars();
     let count = graph.len();
     let first = parts + start as u32 + 1;
@@ -102,6 +103,7 @@ fn lower_node(
     requires start { start < length list.old }
     ensures { LowersBlock start (λ i. LeftNode graph.now.nodes values.now outers.now marks.now at start i) list.old list.new }
 {
+    // Its contract says that this is a graph.
     let _vars = graph.vars();
     let outer = outers[at as usize];
     if outer >= TOTAL_LIMIT {

@@ -33,6 +33,7 @@ fn lower_kids(graph: &Graph, values: &[u32], at: u32, outer: u32, outers: &mut [
         ≡ lowered (is_kid (node_at graph.now.nodes at).kids j)
         (outside_kid values.now (node_at graph.now.nodes at).what (node_at graph.now.nodes at).kids outer j) (slice_index outers.old j) }
 {
+    // Its contract says that this is a graph.
     let _vars = graph.vars();
     let kids = graph.kids(at);
     match graph.what(at) {

@@ -92,6 +92,7 @@ fn probe_wires<L: Ledger>(
         → cost_in (slice_index ones.new wire) ≡ least_with graph.now words.now costs.now (length costs.now + wire + 1) true }
     ensures steps { steps.new ≤ steps.old + 4 + (length zeros.old + 63) / 64 }
 {
+    // Its contract says that this is a graph.
     let _vars = graph.vars();
     zeros.fill(u32::MAX);
     ones.fill(u32::MAX);
@@ -118,6 +119,7 @@ fn lower_with(graph: &Graph, outers: &[u32], parts: u32, bit: bool, list: &mut [
     ensures { (i : ℕ) → i < length list.old
         → IsLowered (With graph.now.nodes outers.now (parts + i + 1) bit) (slice_index list.old i) (slice_index list.new i) }
 {
+    // Its contract says that this is a graph.
     let _vars = graph.vars();
     for at in 0..graph.len() {
         if let NodeKind::Literal { var, positive } = graph.what(at) {

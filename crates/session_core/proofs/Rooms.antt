@@ -1,24 +1,12 @@
 -- Room that is carved whole, and released.
-use Rattle.std.proofs.Common.{◌≡◌, ◌∙◌, ◌∷◌, ◌++◌, [], ◌<◌, ◌≤◌, ◌-◌, ℕ, List, Option, Some, None, IsNone, IsSome, length, replicate, refl, ap, sym, subst, arith, length-append}
+use Rattle.std.proofs.Common.{◌≡◌, ◌∙◌, ◌∷◌, ◌++◌, [], ◌-◌, ℕ, List, Option, Some, length, replicate, ap, sym, subst, arith, length-append}
 use Rattle.std.specs.Prelude.{Contains, IfSome}
 use Rattle.std.proofs.lemmas.List.{nil_from_length}
 use Rattle.scratch_pool.specs.declared.region.Span.{Span}
 use Rattle.scratch_pool.specs.Words.{written}
-use Rattle.scratch_pool.specs.Regions.{Carved, IsLast, carved, words_used, free_words}
+use Rattle.scratch_pool.specs.Regions.{Carved, IsLast, carved, words_used}
 use Rattle.scratch_pool.proofs.Laws.{carved-held}
 use Rattle.scratch_pool.proofs.Written.{length-written}
-
--- where no run is out all words are free
-pub all_free : (room : Carved) → room.runs ≡ [] → free_words room ≡ length room.words
-all_free room empty = ap (λ (rs : List Span). length room.words - words_used rs) empty ∙ minus_none (length room.words)
-  where
-    minus_none : (m : ℕ) → m - words_used [] ≡ m
-    minus_none m = omega arith
-
-pub carve_some : {R : Type 0} (room : Carved) (n : ℕ) (run : Option R) → room.runs ≡ [] → n ≤ length room.words → (IsNone run → free_words room < n) → IsSome run
-carve_some room n (Some run) empty long none = refl
-carve_some {R} room n None empty long none =
-    absurd (let there : IsNone {T = R} None = refl in let less = none there in omega (arith, less, all_free room empty, long))
 
 -- what is known of a run that was found
 pub carved_so : (old new : Carved) (n : ℕ) (found : Option Span) (run : Span) → found ≡ Some run

@@ -1,13 +1,14 @@
 -- What contracts see of a service.
-use Rattle.std.specs.Prelude.{◌≡◌, ◌+◌, ◌*◌, ◌/◌, ◌^◌, ◌<◌, ◌≤◌, ℕ, true, List, [], ◌∷◌, length, Option, Some, None, codes, if◌then◌else◌}
+use Rattle.std.specs.Prelude.{◌≡◌, ◌+◌, ◌*◌, ◌^◌, ◌<◌, ◌≤◌, ℕ, true, List, [], ◌∷◌, length, Option, Some, None, codes, if◌then◌else◌}
 use Rattle.text_rules.specs.Names.{Name}
 use Rattle.ranking.specs.Cases.{Case}
 use Rattle.graph_rules.specs.Graphs.{Graph, IsGraph}
 use Rattle.graph_rules.specs.GraphTexts.{edges}
-use Rattle.level_lister.specs.Listing.{set_words}
+use Rattle.level_lister.specs.Listing.{cost_words}
 use Rattle.level_lister.specs.declared.levels.TheConstants.{TOP_LIMIT}
 use Rattle.projector.specs.Projecting.{projected_text}
 use Rattle.smooth_nnf.specs.Layouts.{least_text}
+use Rattle.smooth_nnf.specs.Sizes.{drawing_bits}
 use Rattle.script_lang.specs.Script.{Line, Blank, Refused, Ask, Dnnf, LeastNnf, line_of}
 use Rattle.session_rules.specs.declared.refusal.Refusal.{Refusal}
 use Rattle.session_rules.specs.Items.{Plain, line}
@@ -20,13 +21,12 @@ use Rattle.session_core.specs.declared.limits.TheConstants.{SERVED_BITS}
 -- States are listed up to this cost. The sets of the nodes have few bits: for each node one for each part, and those of its costs.
 pub record CanList (graph : Graph) (parts top : ℕ) : Type 0 where
   pub top_is : top ≤ TOP_LIMIT
-  pub few : length graph.nodes * (parts + 32 * set_words top) ≤ SERVED_BITS
+  pub few : length graph.nodes * (parts + 32 * cost_words top) ≤ SERVED_BITS
 
--- The graph of the diagnoses is told. Its lines can be numbered, and it is drawn with few bits: two words for each node, and one for
--- each 32 parts.
+-- The graph of the diagnoses is told. Its lines can be numbered, and it is drawn with few bits.
 pub record CanDraw (graph : Graph) (parts : ℕ) : Type 0 where
   pub lines : length graph.nodes + edges graph.nodes + 2 * parts + 1 < 2 ^ 32
-  pub few : length graph.nodes * (32 * (2 + (parts + 31) / 32)) ≤ SERVED_BITS
+  pub few : drawing_bits (length graph.nodes) parts ≤ SERVED_BITS
 
 -- what is asked over, how many sessions may be open, and those that are
 pub record Shown : Type 0 where
@@ -42,7 +42,7 @@ pub record IsSound (shown : Shown) : Type 0 where
   pub room : length shown.subject.parts + length shown.subject.wires ≤ shown.subject.graph.vars
   -- The text of a graph over the parts has numbers of 32 bits.
   pub few : length shown.subject.graph.nodes + length shown.subject.parts + 1 < 2 ^ 32
-  -- Where the graph of the diagnoses is told, so has that one.
+  -- Where the graph of the diagnoses is told, each part has a cost above 0, and the lines of that graph can be numbered.
   pub least : shown.subject.extras.least ≡ true → HasLeastTexts shown.subject
   -- Each open session knows something, or nothing, of each wire and each part.
   pub cases : HasCasesOf (system_of shown.subject) shown.table

@@ -17,7 +17,7 @@ use level_lister::Levels;
 use node_store::Graph;
 use ranking::Extras;
 use scratch_pool::REGION_LIMIT;
-use smooth_nnf::set_words;
+use smooth_nnf::part_words;
 use std::alloc::{AllocError, Global};
 use std::marker::Model;
 
@@ -206,7 +206,7 @@ impl Basis {
         if !self.tells_least() {
             return 0;
         }
-        self.nodes() * (2 + set_words(self.parts().len() as u32))
+        self.nodes() * (2 + part_words(self.parts().len() as u32))
     }
 
     /// How many variables the graph has.

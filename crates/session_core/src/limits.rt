@@ -11,6 +11,6 @@ pub const SERVED_VARIABLES: u32 = 110_000;
 /// budget has fewer than 26,000,000.
 pub const SERVED_NODES: u32 = 536_870_912;
 
-/// What a service keeps and works with besides, for states by rising cost and for the graph of the diagnoses, has at most so many
-/// bits each.
+/// Where states are listed by rising cost, the sets of the nodes have at most so many bits; where the graph of the diagnoses is told,
+/// so have the words that it is drawn with.
 pub const SERVED_BITS: u64 = 2_147_483_648;

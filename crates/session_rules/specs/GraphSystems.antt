@@ -38,7 +38,7 @@ pub record Subject : Type 0 where
   pub graph : Graph
   pub extras : Extras
 
--- The graph of the diagnoses has fewer lines than a text can number, under the words of every case.
+-- Each part has a cost above 0, and the graph of the diagnoses has fewer lines than a text can number, whatever is known.
 pub record HasLeastTexts (subject : Subject) : Type 0 where
   pub costs : length subject.costs ≡ length subject.parts
   pub dear : All (λ c. 0 < c) subject.costs

@@ -11,7 +11,7 @@ use Rattle.text_rules.specs.Tokens.{spaced}
 use Rattle.graph_rules.specs.WrittenGraphs.{node_words}
 use Rattle.nnf_text.proofs.LineTexts.{and-spaced}
 use Rattle.smooth_nnf.specs.Layouts.{filler, fillers}
-use Rattle.smooth_nnf.specs.Sizes.{set_words}
+use Rattle.smooth_nnf.specs.Sizes.{part_words}
 use Rattle.smooth_nnf.specs.inner.Sets.{has_bit, part_at}
 use Rattle.smooth_nnf.specs.inner.Drawings.{Drawing, missing_in, filled_line}
 use Rattle.smooth_nnf.specs.inner.Texts.{numbers_text, bit_text, word_text}
@@ -62,10 +62,10 @@ words-text d node over word (suc count) =
     ∙ ap (λ ps. numbers_text (map (filler d.words) ps)) (sym (filter-append test (range_with_len (32 * word + 1) 32) (range_with_len ((32 * word + 1) + 32) (32 * count))) ∙ ap (filter test) (sym (range-append (32 * word + 1) 32 (32 * count))))
     ∙ ap (λ n. numbers_text (map (filler d.words) (filter test (range_with_len (32 * word + 1) n)))) (sym all)
 
-pub fillers-text : (d : Drawing) (node : ℕ) (over : Option ℕ) → flat_map (word_text d node over) (range_with_len 0 (set_words d.parts)) ≡ numbers_text (fillers d.words d.parts (missing_in d over node))
+pub fillers-text : (d : Drawing) (node : ℕ) (over : Option ℕ) → flat_map (word_text d node over) (range_with_len 0 (part_words d.parts)) ≡ numbers_text (fillers d.words d.parts (missing_in d over node))
 fillers-text d node over =
-    words-text d node over 0 (set_words d.parts)
-    ∙ ap (λ ps. numbers_text (map (filler d.words) ps)) (all-words (missing_in d over node) d.parts (32 * set_words d.parts) (omega arith))
+    words-text d node over 0 (part_words d.parts)
+    ∙ ap (λ ps. numbers_text (map (filler d.words) ps)) (all-words (missing_in d over node) d.parts (32 * part_words d.parts) (omega arith))
 
 -- ---- the line
 

@@ -47,10 +47,6 @@ only_fault None true w h = absurd (h refl)
 only_fault None false w h = refl
 only_fault (Some x) b w h = absurd (h refl)
 
-zero_or : (n : ℕ) → (n ≡ 0 → ⊥) → 0 < n
-zero_or zero h = absurd (h refl)
-zero_or (suc n) h = omega arith
-
 module _ (graph : Graph) (words costs : List ℕ) (ok : IsGraph graph) (dear : All (λ c. 0 < c) costs) where
   abbrev kn : ℕ → Option Bool
   kn v = known_at words v

@@ -14,7 +14,7 @@ use Rattle.graph_rules.specs.Graphs.{mentions}
 use Rattle.scratch_pool.proofs.Counted.{block-below}
 use Rattle.ranking.proofs.Members.{filter_same}
 use Rattle.nnf_text.proofs.Bits.{has_bit-and}
-use Rattle.smooth_nnf.specs.Sizes.{set_words}
+use Rattle.smooth_nnf.specs.Sizes.{part_words}
 use Rattle.smooth_nnf.specs.inner.Sets.{has_bit, part_at}
 use Rattle.smooth_nnf.specs.inner.Drawings.{Drawing, IsDrawing, word_parts, set_parts, part_count}
 use Rattle.smooth_nnf.proofs.Fillers.{in_range}
@@ -93,15 +93,6 @@ word-parts test word bits is = filter_same (λ part. has_bit bits (part - (32 * 
     let e : part_at word (p - (32 * word + 1)) ≡ p = omega (arith, range.0) in
     is (p - (32 * word + 1)) (omega (arith, range.0, range.1)) ∙ ap test e)
 
-pub words-more : (test : ℕ → Bool) (word bits : ℕ) → ((b : ℕ) → b < 32 → has_bit bits b ≡ test (part_at word b))
-    → filter test (range_with_len 1 (32 * (word + 1))) ≡ filter test (range_with_len 1 (32 * word)) ++ word_parts word bits
-words-more test word bits is =
-    let all : 32 * (word + 1) ≡ 32 * word + 32 = omega arith in
-    let start : 1 + 32 * word ≡ 32 * word + 1 = omega arith in
-    ap (λ n. filter test (range_with_len 1 n)) all ∙ ap (filter test) (range-append 1 (32 * word) 32)
-    ∙ filter-append test (range_with_len 1 (32 * word)) (range_with_len (1 + 32 * word) 32)
-    ∙ (λ i. filter test (range_with_len 1 (32 * word)) ++ (ap (λ s. filter test (range_with_len s 32)) start ∙ sym (word-parts test word bits is)) i)
-
 -- behind the last part there is none
 pub all-words : (test : ℕ → Bool) (parts n : ℕ) → parts ≤ n → filter (λ p. nat_le p parts && test p) (range_with_len 1 n) ≡ filter test (range_with_len 1 parts)
 all-words test parts n le =
@@ -179,10 +170,10 @@ set_parts-are test word (w ∷ words) is =
     ∙ ap (λ n. filter test (range_with_len (32 * word + 1) n)) (sym all)
 
 -- the set of parts of a drawing's node
-pub node_parts : (d : Drawing) → IsDrawing d → (node : ℕ) → node < length d.graph.nodes → (set : List ℕ) → set ≡ take (set_words d.parts) (drop (node * set_words d.parts) d.sets)
+pub node_parts : (d : Drawing) → IsDrawing d → (node : ℕ) → node < length d.graph.nodes → (set : List ℕ) → set ≡ take (part_words d.parts) (drop (node * part_words d.parts) d.sets)
     → length (set_parts 0 set) ≡ part_count d node
 node_parts d is node lt set at =
-    let width : ℕ = set_words d.parts in
+    let width : ℕ = part_words d.parts in
     let room = block-below width node (length d.graph.nodes) lt in
     let enough : width ≤ length (drop (node * width) d.sets) = omega (arith, length-drop (node * width) d.sets, is.room, room) in
     let long : length set ≡ width = ap length at ∙ length-take-le width (drop (node * width) d.sets) enough in

@@ -5,11 +5,11 @@ ghost use Rattle.minimiser.specs.Costs.{cost_at};
 ghost use Rattle.minimiser.specs.Stored.{cost_in};
 ghost use Rattle.smooth_nnf.specs.Layouts.{fillers, filler, literal_line};
 ghost use Rattle.std.specs.List.{filter, range_with_len};
-ghost use Rattle.smooth_nnf.specs.Sizes.{set_words};
+ghost use Rattle.smooth_nnf.specs.Sizes.{part_words};
 ghost use Rattle.smooth_nnf.specs.inner.Sets.{has_bit, part_at};
 ghost use Rattle.smooth_nnf.specs.inner.Drawings.{IsDrawing, IsNodeOf, is_over, missing_in, part_count, set_parts};
 
-use crate::sets::set_words;
+use crate::sets::part_words;
 use node_store::Graph;
 use std::marker::Model;
 
@@ -77,9 +77,9 @@ impl<'a> Drawing<'a> {
 
     // How many words a set has.
     pub(crate) fn width(&self) -> usize
-        ensures { result ≡ set_words self.now.parts }
+        ensures { result ≡ part_words self.now.parts }
     {
-        set_words(self.parts)
+        part_words(self.parts)
     }
 
     // How many parts a node has below it.
@@ -88,7 +88,7 @@ impl<'a> Drawing<'a> {
         ensures count { result ≡ part_count self.now node }
         ensures most { result ≤ self.now.parts }
     {
-        let width = set_words(self.parts);
+        let width = part_words(self.parts);
         let start = node as usize * width;
         count_parts(&self.sets[start..start + width])
     }
@@ -119,12 +119,12 @@ impl<'a> Drawing<'a> {
     // The parts of a word that a line is to have below it.
     fn over_word(&self, over: Option<u32>, word: usize) -> u32
         requires over { IsNodeOf self.now over }
-        requires word { word < set_words self.now.parts }
+        requires word { word < part_words self.now.parts }
         ensures { (b : ℕ) → b < 32 → has_bit result b
             ≡ (nat_le (part_at word b) self.now.parts && is_over self.now.graph.nodes over (part_at word b)) }
     {
         match over {
-            Some(over) => self.sets[over as usize * set_words(self.parts) + word],
+            Some(over) => self.sets[over as usize * part_words(self.parts) + word],
             None => parts_in(self.parts, word),
         }
     }
@@ -133,12 +133,15 @@ impl<'a> Drawing<'a> {
     pub(crate) fn missing_word(&self, over: Option<u32>, node: u32, word: usize) -> u32
         requires node { node < length self.now.graph.nodes }
         requires over { IsNodeOf self.now over }
-        requires word { word < set_words self.now.parts }
+        requires word { word < part_words self.now.parts }
         ensures { (b : ℕ) → b < 32 → has_bit result b
             ≡ (nat_le (part_at word b) self.now.parts && missing_in self.now over node (part_at word b)) }
     {
         let all = self.over_word(over, word);
-        without(all, self.sets[node as usize * set_words(self.parts) + word])
+        without(
+            all,
+            self.sets[node as usize * part_words(self.parts) + word],
+        )
     }
 
     // The line that fills in a part.
@@ -171,7 +174,7 @@ fn without(all: u32, others: u32) -> u32
 
 // The parts of a word.
 fn parts_in(parts: u32, word: usize) -> u32
-    requires { word < set_words parts }
+    requires { word < part_words parts }
     ensures { (b : ℕ) → b < 32 → has_bit result b ≡ nat_le (part_at word b) parts }
 {
     let rest = parts as usize - 32 * word;

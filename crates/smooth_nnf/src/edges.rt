@@ -28,6 +28,7 @@ pub(crate) fn edge_count(drawing: &Drawing<'_>) -> u64
 fn last_edges(drawing: &Drawing<'_>) -> u64
     ensures { result ≡ length (last_line (shown drawing.now)).kids }
 {
+    // Its contract says that this is a drawing.
     let _parts = drawing.parts();
     let root = drawing.graph().len() - 1;
     if drawing.value(root) == NONE {
@@ -42,6 +43,7 @@ fn node_edges(drawing: &Drawing<'_>, node: u32) -> u64
     ensures { result ≡ edges (node_lines (shown drawing.now) (node, node_at drawing.now.graph.nodes node)) }
 {
     let graph = drawing.graph();
+    // Its contract says that this is a graph.
     let _nodes = graph.len();
     let cost = drawing.value(node);
     if cost == NONE {
@@ -92,6 +94,7 @@ fn kid_edges(drawing: &Drawing<'_>, node: u32, kid: u32, cost: u32) -> u64
     ensures count { result ≡ kid_edges drawing.now node cost kid }
     ensures most { result ≤ 2 ^ 31 + 2 }
 {
+    // Its contract says that this is a drawing.
     let _parts = drawing.parts();
     if drawing.value(kid) != cost {
         return 0;

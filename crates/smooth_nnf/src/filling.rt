@@ -7,7 +7,7 @@ ghost use Rattle.text_rules.specs.Tokens.{spaced};
 ghost use Rattle.graph_rules.specs.Graphs.{mentions};
 ghost use Rattle.graph_rules.specs.WrittenGraphs.{node_words};
 ghost use Rattle.smooth_nnf.specs.Layouts.{fillers};
-ghost use Rattle.smooth_nnf.specs.Sizes.{set_words};
+ghost use Rattle.smooth_nnf.specs.Sizes.{part_words};
 ghost use Rattle.smooth_nnf.specs.inner.Sets.{has_bit, part_at};
 ghost use Rattle.smooth_nnf.specs.inner.Drawings.{IsNodeOf, is_over, missing_in, filled_line};
 ghost use Rattle.smooth_nnf.specs.inner.Texts.{numbers_text, bit_text, word_text};
@@ -30,6 +30,7 @@ pub(crate) fn add_filled<O: Sink>(
         (spaced (node_words (filled_line drawing.now over node))) }
     ensures cause { HasCause (O.faults out.old) (O.faults out.new) result }
 {
+    // Its contract says that this is a drawing.
     let _parts = drawing.parts();
     let count = drawing.missing_count(over, node) + 1;
     add_over(chunk, out, drawing, over, node, count)
@@ -141,7 +142,7 @@ fn add_word_fillers<O: Sink>(
 ) -> Result<(), WriteFailed>
     requires node { node < length drawing.now.graph.nodes }
     requires over { IsNodeOf drawing.now over }
-    requires word { word < set_words drawing.now.parts }
+    requires word { word < part_words drawing.now.parts }
     ensures bytes { Adds (O.got out.old) (O.got out.new) chunk.old chunk.new result
         (word_text drawing.now node over word) }
     ensures cause { HasCause (O.faults out.old) (O.faults out.new) result }
@@ -190,6 +191,7 @@ fn add_bit<O: Sink>(
     if (bits >> b) & 1 != 1 {
         return Ok(());
     }
+    // Its contract says that this is a drawing.
     let _parts = drawing.parts();
     chunk.add_count(out, drawing.filler(32 * word as u32 + b + 1))
 }

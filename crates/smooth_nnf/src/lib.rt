@@ -9,5 +9,5 @@ mod places;
 mod sets;
 mod writing;
 
-pub use sets::set_words;
+pub use sets::part_words;
 pub use writing::write_least;

@@ -107,21 +107,11 @@ fn add_node_lines<O: Sink>(
         (lines_text (node_lines (shown drawing.now) (node, node_at drawing.now.graph.nodes node))) }
     ensures cause { HasCause (O.faults out.old) (O.faults out.new) result }
 {
-    let graph = drawing.graph();
-    let _nodes = graph.len();
     let cost = drawing.value(node);
     if cost == NONE {
         return add_node(chunk, out, NodeKind::Or, &[]);
     }
-    add_lines_by(
-        chunk,
-        out,
-        drawing,
-        node,
-        graph.what(node),
-        graph.kids(node),
-        cost,
-    )
+    add_lines_by(chunk, out, drawing, node, drawing.graph().kids(node), cost)
 }
 
 // Adds the lines of a node that can be true, by what it is and its kids.
@@ -130,21 +120,22 @@ fn add_lines_by<O: Sink>(
     out: &mut O,
     drawing: &Drawing<'_>,
     node: u32,
-    what: NodeKind,
     kids: &[u32],
     cost: u32,
 ) -> Result<(), WriteFailed>
     requires node { node < length drawing.now.graph.nodes }
-    requires is { node_at drawing.now.graph.nodes node ≡ record { what = what; kids = kids.now } }
-    requires valid { IsGraph drawing.now.graph }
+    requires kids { kids.now ≡ (node_at drawing.now.graph.nodes node).kids }
     requires known { cost_at (map cost_in drawing.now.values) node ≡ Some cost }
     requires cost { cost ≢ NONE }
     ensures bytes { Adds (O.got out.old) (O.got out.new) chunk.old chunk.new result
-        (lines_text (lines_by (shown drawing.now) node cost what kids.now)) }
+        (lines_text (lines_by (shown drawing.now) node cost (node_at drawing.now.graph.nodes node).what kids.now)) }
     ensures cause { HasCause (O.faults out.old) (O.faults out.new) result }
 {
+    let graph = drawing.graph();
+    // Its contract says that this is a graph.
+    let _nodes = graph.len();
     let parts = drawing.parts();
-    match what {
+    match graph.what(node) {
         NodeKind::Literal { var, positive } => add_literal(chunk, out, parts, var, positive),
         NodeKind::And => add_and(chunk, out, drawing, kids),
         NodeKind::Or => add_or(chunk, out, drawing, node, kids, cost),
@@ -260,6 +251,7 @@ fn add_or<O: Sink>(
         (or_behind (slice_index drawing.now.lines node) (length (cheapest_kids (map cost_in drawing.now.values) cost kids.now))))) }
     ensures cause { HasCause (O.faults out.old) (O.faults out.new) result }
 {
+    // Its contract says that this is a drawing.
     let _parts = drawing.parts();
     let count = cheapest_count(kids, drawing.values(), cost);
     let first = drawing.line(node) - count;

@@ -1,7 +1,7 @@
 ghost use Rattle.std.specs.Prelude.{◌≡◌, ◌⊎◌, ◌+◌, ◌*◌, ◌^◌, ◌<◌, ◌≤◌, ℕ, [], map, length, All, slice_index, bit_or, true};
 ghost use Rattle.std.specs.List.{list_any};
 ghost use Rattle.graph_rules.specs.Graphs.{kind_fits};
-ghost use Rattle.smooth_nnf.specs.Sizes.{set_words};
+ghost use Rattle.smooth_nnf.specs.Sizes.{part_words};
 ghost use Rattle.smooth_nnf.specs.inner.Sets.{has_bit, part_at, part_by, AreSets};
 
 use graph_rules::NodeKind;
@@ -11,8 +11,8 @@ use node_store::Graph;
 const WIDTH: usize = 32;
 
 /// How many words a set of so many parts has.
-pub fn set_words(parts: u32) -> usize
-    ensures { result ≡ set_words parts }
+pub fn part_words(parts: u32) -> usize
+    ensures { result ≡ part_words parts }
 {
     (parts as usize).div_ceil(WIDTH)
 }
@@ -20,10 +20,10 @@ pub fn set_words(parts: u32) -> usize
 // Gives each node the set of the parts below it. All words are 0 before.
 pub(crate) fn fill_sets(graph: &Graph, parts: u32, sets: &mut [u32])
     requires zeros { All (λ w. w ≡ 0) sets.old }
-    requires room { length sets.old ≡ length graph.now.nodes * set_words parts }
+    requires room { length sets.old ≡ length graph.now.nodes * part_words parts }
     ensures sets { AreSets parts graph.now.nodes sets.new (length graph.now.nodes) }
 {
-    let width = set_words(parts);
+    let width = part_words(parts);
     for at in 0..graph.len() {
         fill_set(
             sets,
@@ -38,7 +38,7 @@ pub(crate) fn fill_sets(graph: &Graph, parts: u32, sets: &mut [u32])
 
 // The set of one node, from those of its kids, at a place where all words are 0.
 fn fill_set(sets: &mut [u32], start: usize, width: usize, what: NodeKind, kids: &[u32], parts: u32)
-    requires width { width ≡ set_words parts }
+    requires width { width ≡ part_words parts }
     requires room { start + width ≤ length sets.old }
     requires zeros { (i : ℕ) → start ≤ i → i < length sets.old → slice_index sets.old i ≡ 0 }
     requires kids { All (λ kid. kid * width + width ≤ start) kids.now }
@@ -56,10 +56,10 @@ fn fill_set(sets: &mut [u32], start: usize, width: usize, what: NodeKind, kids: 
 // The set of a literal's variable, if it is a part's.
 fn set_part(sets: &mut [u32], start: usize, parts: u32, var: u32)
     requires var { 1 ≤ var }
-    requires room { start + set_words parts ≤ length sets.old }
+    requires room { start + part_words parts ≤ length sets.old }
     requires zeros { (i : ℕ) → start ≤ i → i < length sets.old → slice_index sets.old i ≡ 0 }
-    ensures others { (i : ℕ) → (i < start) ⊎ (start + set_words parts ≤ i) → slice_index sets.new i ≡ slice_index sets.old i }
-    ensures set { (word b : ℕ) → word < set_words parts → b < 32 → has_bit (slice_index sets.new (start + word)) b
+    ensures others { (i : ℕ) → (i < start) ⊎ (start + part_words parts ≤ i) → slice_index sets.new i ≡ slice_index sets.old i }
+    ensures set { (word b : ℕ) → word < part_words parts → b < 32 → has_bit (slice_index sets.new (start + word)) b
         ≡ part_by parts (part_at word b) (NodeKind.Literal var true) [] }
 {
     if var <= parts {

@@ -15,12 +15,14 @@ use crate::drawing::Drawing;
 use crate::edges::edge_count;
 use crate::lines::{add_last, add_literals, add_nodes};
 use crate::places::place_lines;
-use crate::sets::{fill_sets, set_words};
+use crate::sets::{fill_sets, part_words};
 use diag_edge::{Chunk, Sink, WriteFailed};
-use minimiser::{TOTAL_LIMIT, least_cost};
+use minimiser::{Steps, TOTAL_LIMIT, least};
 use nnf_text::add_header;
 use node_store::Graph;
 use scratch_pool::Region;
+use std::marker::Brand;
+use std::sync::ledger::{Blank, Ledger};
 
 /// Writes the graph of the diagnoses that a graph allows under words, one word a variable: 0 where it is open, 1 where it is true,
 /// 2 where it is false. The parts are the first variables, and each has a cost.
@@ -56,21 +58,32 @@ pub fn write_least<O: Sink>(
 {
     let parts = costs.len() as u32;
     let run = region
-        .carve(graph.len() as usize * (2 + set_words(parts)))
+        .carve(graph.len() as usize * (2 + part_words(parts)))
         .unwrap();
-    let written = write_in(graph, words, costs, region.run_mut(&run), out);
+    let written = write_in::<O, Brand>(
+        Blank::new(1),
+        graph,
+        words,
+        costs,
+        region.run_mut(&run),
+        out,
+    );
     region.release(run);
     written
 }
 
 // Writes it in scratch of which all words are 0.
-fn write_in<O: Sink>(
+fn write_in<O: Sink, L: Ledger>(
+    blank: Blank,
     graph: &Graph,
     words: &[u32],
     costs: &[u32],
     scratch: &mut [u32],
     out: &mut O,
 ) -> Result<(), WriteFailed>
+    requires name { blank.name ≡ L.name }
+    requires shares { blank.parts ≡ L.parts }
+    requires some { 0 < blank.parts }
     requires words { length words.now ≡ graph.now.vars }
     requires small { All (λ w. w < 3) words.now }
     requires parts { length costs.now ≤ graph.now.vars }
@@ -88,7 +101,7 @@ fn write_in<O: Sink>(
     let nodes = graph.len() as usize;
     let (values, rest) = scratch.split_at_mut(nodes);
     let (lines, sets) = rest.split_at_mut(nodes);
-    least_cost(graph, words, costs, values);
+    least(graph, words, costs, values, &mut Steps::<L>::new(blank));
     let count = place_lines(graph, parts, values, lines);
     fill_sets(graph, parts, sets);
     let drawing = Drawing {

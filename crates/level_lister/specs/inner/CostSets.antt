@@ -1,13 +1,9 @@
 -- Sets of costs, and what the set of a node says.
-use Rattle.std.specs.Prelude.{◌≡◌, ℕ, zero, suc, ◌+◌, ◌-◌, ◌*◌, ◌/◌, ◌%◌, ◌<◌, Bool, true, not, ◌&&◌, List, [], ◌∷◌, length, slice_index, nat_le, ◌==◌, if◌then◌else◌}
-use Rattle.std.specs.Int.{bit_at}
+use Rattle.std.specs.Prelude.{◌≡◌, ℕ, zero, suc, ◌+◌, ◌-◌, ◌*◌, ◌<◌, Bool, true, not, ◌&&◌, List, [], ◌∷◌, length, slice_index, nat_le, if◌then◌else◌}
 use Rattle.ranking.specs.Assignments.{Assignment}
 use Rattle.ranking.specs.Cases.{agrees_at}
 use Rattle.minimiser.specs.Costs.{known_at}
-
--- A set has a number where the bit of this place in its words is 1.
-abbrev pub has_number : List ℕ → ℕ → Bool
-has_number set n = bit_at (slice_index set (n / 32)) (n % 32) == 1
+use Rattle.level_lister.specs.PartSets.{has_number}
 
 -- the word before the one at a place, and 0 before the first
 abbrev pub word_before : List ℕ → ℕ → ℕ

@@ -7,7 +7,7 @@ use Rattle.device_model.specs.declared.limits.TheConstants.{PART_LIMIT, WIRE_LIM
 use Rattle.graph_rules.specs.Graphs.{Graph, IsGraph}
 use Rattle.conditioner.specs.Models.{total_cost}
 use Rattle.minimiser.specs.declared.pass.TheConstants.{TOTAL_LIMIT}
-use Rattle.level_lister.specs.Listing.{Kept, IsFor, set_words}
+use Rattle.level_lister.specs.Listing.{Kept, IsFor, cost_words}
 use Rattle.smooth_nnf.specs.Sizes.{drawing_words}
 use Rattle.session_rules.specs.GraphSystems.{Subject}
 use Rattle.session_rules.specs.CaseWords.{case_of_words, AreWords}
@@ -45,7 +45,7 @@ ListsLevels subject levels = IfSome levels (λ kept. IsFor subject.graph kept ×
 
 -- how many words a step by rising cost works with
 abbrev pub level_room : Subject → ℕ → ℕ
-level_room subject top = length subject.costs + (length subject.graph.nodes + 2) * (set_words top + 1)
+level_room subject top = length subject.costs + (length subject.graph.nodes + 2) * (cost_words top + 1)
 
 -- and how many the graph of the diagnoses is drawn with
 abbrev pub least_room : Subject → ℕ

@@ -6,7 +6,7 @@ use Rattle.graph_rules.specs.GraphTexts.{edges}
 use Rattle.minimiser.specs.Costs.{cost_at}
 use Rattle.minimiser.specs.Stored.{cost_in}
 use Rattle.smooth_nnf.specs.Layouts.{Layout, and_over, fillers, lines_to, own_lines}
-use Rattle.smooth_nnf.specs.Sizes.{set_words}
+use Rattle.smooth_nnf.specs.Sizes.{part_words}
 use Rattle.smooth_nnf.specs.inner.Sets.{has_bit, AreSets}
 
 -- a layout, with its costs as numbers and the sets of the parts below each node
@@ -37,7 +37,7 @@ pub record IsDrawing (drawing : Drawing) : Type 0 where
   pub places : length drawing.lines ≡ length drawing.graph.nodes
   pub placed : drawing.lines ≡ own_lines (map cost_in drawing.values) (2 * drawing.parts) 0 drawing.graph.nodes
   pub count : length drawing.graph.nodes + edges drawing.graph.nodes + 2 * drawing.parts + 1 < 2 ^ 32
-  pub room : length drawing.sets ≡ length drawing.graph.nodes * set_words drawing.parts
+  pub room : length drawing.sets ≡ length drawing.graph.nodes * part_words drawing.parts
   pub below : AreSets drawing.parts drawing.graph.nodes drawing.sets (length drawing.graph.nodes)
 
 -- how many lines there are up to the last one of these nodes, where the first one has this number and its lines begin at this line

@@ -5,7 +5,7 @@ use Rattle.std.specs.List.{list_any}
 use Rattle.graph_rules.specs.declared.NodeKind.{NodeKind}
 use Rattle.graph_rules.specs.declared.NodeKind.TheVariants.{Literal, And, Or}
 use Rattle.graph_rules.specs.Graphs.{Node, mentions}
-use Rattle.smooth_nnf.specs.Sizes.{set_words}
+use Rattle.smooth_nnf.specs.Sizes.{part_words}
 
 abbrev pub has_bit : ℕ → ℕ → Bool
 has_bit word b = bit_at word b == 1
@@ -23,10 +23,5 @@ part_by parts part Or kids = list_any (λ b. b) kids
 -- the sets of the first nodes, one behind the other, are those of the parts below them
 abbrev pub AreSets : ℕ → List Node → List ℕ → ℕ → Type 0
 AreSets parts nodes sets count =
-    (node word b : ℕ) → node < count → word < set_words parts → b < 32
-    → has_bit (slice_index sets (node * set_words parts + word)) b ≡ (nat_le (part_at word b) parts && mentions nodes (part_at word b) node)
-
--- words are the set of the parts that pass
-abbrev pub IsSetOf : ℕ → (ℕ → Bool) → List ℕ → Type 0
-IsSetOf parts test words =
-    (word b : ℕ) → word < set_words parts → b < 32 → has_bit (slice_index words word) b ≡ (nat_le (part_at word b) parts && test (part_at word b))
+    (node word b : ℕ) → node < count → word < part_words parts → b < 32
+    → has_bit (slice_index sets (node * part_words parts + word)) b ≡ (nat_le (part_at word b) parts && mentions nodes (part_at word b) node)

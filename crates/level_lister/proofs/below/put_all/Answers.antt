@@ -1,7 +1,7 @@
 use Rattle.std.proofs.Common.{◌≡◌, ◌*◌, ◌++◌, ◌∙◌, [], true, length, sym, ap, subst, arith, length-append}
 use Rattle.graph_rules.specs.Graphs.{mentions}
 use Rattle.std.proofs.lemmas.List.{append-nil}
-use Rattle.level_lister.specs.inner.NodeSets.{size_of, set_at, ArePartsOf}
+use Rattle.level_lister.specs.PartSets.{size_of, set_at, ArePartsOf}
 use Rattle.level_lister.proofs.Kids.{room_for}
 use Rattle.level_lister.proofs.Stacks.{set_at-front, set_at-here}
 use Rattle.level_lister.proofs.below.put_all.Goals as goal

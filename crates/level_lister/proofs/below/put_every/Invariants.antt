@@ -1,6 +1,6 @@
 use Rattle.std.proofs.Common.{◌≡◌, ℕ}
 use Rattle.std.specs.Prelude.{nat_lt}
-use Rattle.level_lister.specs.inner.CostSets.{has_number}
+use Rattle.level_lister.specs.PartSets.{has_number}
 use Rattle.level_lister.proofs.below.put_every.Given as goal
 
 -- each number before this one is there, and no other

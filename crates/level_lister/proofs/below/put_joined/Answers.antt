@@ -1,6 +1,6 @@
 use Rattle.std.proofs.Common.{◌≡◌, length, get_or, ◌||◌, ◌∙◌, ap, arith}
-use Rattle.level_lister.specs.inner.CostSets.{has_number, has_shifted}
-use Rattle.level_lister.specs.inner.NodeSets.{set_at}
+use Rattle.level_lister.specs.PartSets.{has_number, set_at}
+use Rattle.level_lister.specs.inner.CostSets.{has_shifted}
 use Rattle.level_lister.proofs.PartSets.{joined_more}
 use Rattle.level_lister.proofs.below.put_joined.Goals as goal
 

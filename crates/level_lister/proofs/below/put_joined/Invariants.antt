@@ -1,7 +1,6 @@
 use Rattle.std.proofs.Common.{◌≡◌, ℕ, ◌*◌, ◌<◌, take, length}
 use Rattle.std.specs.List.{list_any}
-use Rattle.level_lister.specs.inner.CostSets.{has_number}
-use Rattle.level_lister.specs.inner.NodeSets.{set_at}
+use Rattle.level_lister.specs.PartSets.{has_number, set_at}
 use Rattle.level_lister.proofs.below.put_joined.Given as goal
 
 -- the numbers of the sets before the place

@@ -1,5 +1,5 @@
 use Rattle.std.proofs.Common.{◌≡◌, length}
-use Rattle.level_lister.specs.inner.NodeSets.{ArePartsBelow}
+use Rattle.level_lister.specs.PartSets.{ArePartsBelow}
 use Rattle.level_lister.proofs.below.put_nodes.Given as goal
 
 -- the sets of the nodes before this one are there

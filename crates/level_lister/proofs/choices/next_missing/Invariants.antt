@@ -1,5 +1,5 @@
 use Rattle.std.proofs.Common.{◌≡◌, ℕ, ◌-◌, ◌*◌, ◌<◌, ◌≤◌, false, not, ◌&&◌, length}
-use Rattle.level_lister.specs.inner.CostSets.{has_number}
+use Rattle.level_lister.specs.PartSets.{has_number}
 use Rattle.level_lister.proofs.choices.next_missing.Given as goal
 
 -- none of those before the place is missing

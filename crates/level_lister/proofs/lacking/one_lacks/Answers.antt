@@ -1,7 +1,7 @@
 use Rattle.std.proofs.Common.{◌≡◌, ◌+◌, ◌<◌, ◌≤◌, ℕ, List, [], length, get_or, ap, sym, ◌∙◌, subst, arith, ⊎_elim}
 use Rattle.std.proofs.lemmas.Bool.{cases_lt}
 use Rattle.graph_rules.specs.Graphs.{mentions}
-use Rattle.level_lister.specs.inner.NodeSets.{size_of, set_at}
+use Rattle.level_lister.specs.PartSets.{size_of, set_at}
 use Rattle.level_lister.proofs.Kids.{kid-below, kid-mentions, room_for}
 use Rattle.level_lister.proofs.Flags.{same_parts}
 use Rattle.level_lister.proofs.lacking.one_lacks.Goals as goal

@@ -2,8 +2,7 @@ use Rattle.std.proofs.Common.{◌≡◌, ℕ, ◌+◌, ◌-◌, ◌<◌, true, f
 use Rattle.std.proofs.Math.ListN.{length-set}
 use Rattle.std.proofs.lemmas.List.{get_or-set_same, get_or-set_other}
 use Rattle.graph_rules.specs.Graphs.{mentions}
-use Rattle.level_lister.specs.inner.CostSets.{has_number}
-use Rattle.level_lister.specs.inner.NodeSets.{size_of, set_at}
+use Rattle.level_lister.specs.PartSets.{has_number, size_of, set_at}
 use Rattle.level_lister.proofs.Kids.{room_for}
 use Rattle.level_lister.proofs.Flags.{same_parts, flags_more}
 use Rattle.level_lister.proofs.lacking.put_lacking.Goals as goal

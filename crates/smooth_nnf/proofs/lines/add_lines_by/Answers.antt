@@ -1,4 +1,6 @@
-use Rattle.std.proofs.Common.{sym, ap, ◌∙◌}
+use Rattle.std.proofs.Common.{◌≡◌, ℕ, List, sym, ap, ◌∙◌, subst}
+use Rattle.graph_rules.specs.declared.NodeKind.{NodeKind}
+use Rattle.graph_rules.specs.Graphs.{Graph, Node, node_at, IsGraph}
 use Rattle.smooth_nnf.specs.Layouts.{lines_by}
 use Rattle.smooth_nnf.specs.inner.Drawings.{shown}
 use Rattle.smooth_nnf.specs.inner.Texts.{lines_text}
@@ -6,30 +8,64 @@ use Rattle.diag_edge.proofs.Added.{adds_same}
 use Rattle.smooth_nnf.proofs.LineLemmas.{kids-inside, few-kids-of, kid-wider, line-room, literal-low, and-text, or-lines-text}
 use Rattle.smooth_nnf.proofs.lines.add_lines_by.Goals as goal
 
+-- a node is what it is, over its kids
+both : (nodes : List Node) (node : ℕ) (what : NodeKind) (kids : List ℕ) → what ≡ (node_at nodes node).what → kids ≡ (node_at nodes node).kids
+    → node_at nodes node ≡ record { what = what; kids = kids }
+both nodes node what kids same_what same_kids = λ i. record { what = sym same_what i; kids = sym same_kids i }
+
+what-of : (found graph : Graph) (node : ℕ) (what : NodeKind) → what ≡ (node_at found.nodes node).what → found ≡ graph → what ≡ (node_at graph.nodes node).what
+what-of found graph node what is same = is ∙ ap (λ (x : Graph). (node_at x.nodes node).what) same
+
 pub add_literal-requires-clause-var : goal.add_literal-requires-clause-var
-add_literal-requires-clause-var g c = literal-low c.args.drawing.now c.parts-parts.ensures.whole c.requires.valid c.args.node c.requires.node c.args.what c.args.kids.now c.requires.is c.in-Literal.var c.in-Literal.positive c.in-Literal.is
+add_literal-requires-clause-var g c =
+    let d = c.args.drawing.now in
+    let valid : IsGraph d.graph = subst IsGraph c.graph-graph.ensures.graph c.len-nodes.ensures.valid in
+    let is = both d.graph.nodes c.args.node c.what.result c.args.kids.now (what-of _ d.graph c.args.node c.what.result c.what.ensures c.graph-graph.ensures.graph) c.requires.kids in
+    literal-low d c.parts-parts.ensures.whole valid c.args.node c.requires.node c.what.result c.args.kids.now is c.in-Literal.var c.in-Literal.positive c.in-Literal.is
 
 pub add_and-requires : goal.add_and-requires
-add_and-requires g c = kids-inside c.args.drawing.now c.parts-parts.ensures.whole c.requires.valid c.args.node c.requires.node c.args.what c.args.kids.now c.requires.is
+add_and-requires g c =
+    let d = c.args.drawing.now in
+    let valid : IsGraph d.graph = subst IsGraph c.graph-graph.ensures.graph c.len-nodes.ensures.valid in
+    let is = both d.graph.nodes c.args.node c.what.result c.args.kids.now (what-of _ d.graph c.args.node c.what.result c.what.ensures c.graph-graph.ensures.graph) c.requires.kids in
+    kids-inside d c.parts-parts.ensures.whole valid c.args.node c.requires.node c.what.result c.args.kids.now is
 
 pub add_or-requires-clause-kids : goal.add_or-requires-clause-kids
-add_or-requires-clause-kids g c = kids-inside c.args.drawing.now c.parts-parts.ensures.whole c.requires.valid c.args.node c.requires.node c.args.what c.args.kids.now c.requires.is
+add_or-requires-clause-kids g c =
+    let d = c.args.drawing.now in
+    let valid : IsGraph d.graph = subst IsGraph c.graph-graph.ensures.graph c.len-nodes.ensures.valid in
+    let is = both d.graph.nodes c.args.node c.what.result c.args.kids.now (what-of _ d.graph c.args.node c.what.result c.what.ensures c.graph-graph.ensures.graph) c.requires.kids in
+    kids-inside d c.parts-parts.ensures.whole valid c.args.node c.requires.node c.what.result c.args.kids.now is
 
 pub add_or-requires-clause-few : goal.add_or-requires-clause-few
-add_or-requires-clause-few g c = few-kids-of c.args.drawing.now c.parts-parts.ensures.whole c.requires.valid c.args.node c.requires.node c.args.what c.args.kids.now c.requires.is c.in-Or.is
+add_or-requires-clause-few g c =
+    let d = c.args.drawing.now in
+    let valid : IsGraph d.graph = subst IsGraph c.graph-graph.ensures.graph c.len-nodes.ensures.valid in
+    let is = both d.graph.nodes c.args.node c.what.result c.args.kids.now (what-of _ d.graph c.args.node c.what.result c.what.ensures c.graph-graph.ensures.graph) c.requires.kids in
+    few-kids-of d c.parts-parts.ensures.whole valid c.args.node c.requires.node c.what.result c.args.kids.now is c.in-Or.is
 
 pub add_or-requires-clause-wider : goal.add_or-requires-clause-wider
-add_or-requires-clause-wider g c = kid-wider c.args.drawing.now c.parts-parts.ensures.whole c.requires.valid c.args.node c.requires.node c.args.what c.args.kids.now c.requires.is c.in-Or.is
+add_or-requires-clause-wider g c =
+    let d = c.args.drawing.now in
+    let valid : IsGraph d.graph = subst IsGraph c.graph-graph.ensures.graph c.len-nodes.ensures.valid in
+    let is = both d.graph.nodes c.args.node c.what.result c.args.kids.now (what-of _ d.graph c.args.node c.what.result c.what.ensures c.graph-graph.ensures.graph) c.requires.kids in
+    kid-wider d c.parts-parts.ensures.whole valid c.args.node c.requires.node c.what.result c.args.kids.now is c.in-Or.is
 
 pub add_or-requires-clause-room : goal.add_or-requires-clause-room
-add_or-requires-clause-room g c = line-room c.args.drawing.now c.parts-parts.ensures.whole c.requires.valid c.args.node c.requires.node c.args.what c.args.kids.now c.requires.is c.in-Or.is c.args.cost c.requires.known
+add_or-requires-clause-room g c =
+    let d = c.args.drawing.now in
+    let valid : IsGraph d.graph = subst IsGraph c.graph-graph.ensures.graph c.len-nodes.ensures.valid in
+    let is = both d.graph.nodes c.args.node c.what.result c.args.kids.now (what-of _ d.graph c.args.node c.what.result c.what.ensures c.graph-graph.ensures.graph) c.requires.kids in
+    line-room d c.parts-parts.ensures.whole valid c.args.node c.requires.node c.what.result c.args.kids.now is c.in-Or.is c.args.cost c.requires.known
 
 pub returns-in-And-clause-bytes : goal.returns-in-And-clause-bytes
 returns-in-And-clause-bytes g c =
     let d = c.args.drawing.now in
-    adds_same _ _ _ _ _ _ _ (and-text d c.args.kids.now ∙ ap (λ w. lines_text (lines_by (shown d) c.args.node c.args.cost w c.args.kids.now)) (sym c.in-And.is)) c.add_and.ensures.bytes
+    let what = what-of _ d.graph c.args.node c.what.result c.what.ensures c.graph-graph.ensures.graph in
+    adds_same _ _ _ _ _ _ _ (and-text d c.args.kids.now ∙ ap (λ w. lines_text (lines_by (shown d) c.args.node c.args.cost w c.args.kids.now)) (sym c.in-And.is ∙ what)) c.add_and.ensures.bytes
 
 pub returns-in-Or-clause-bytes : goal.returns-in-Or-clause-bytes
 returns-in-Or-clause-bytes g c =
     let d = c.args.drawing.now in
-    adds_same _ _ _ _ _ _ _ (or-lines-text d c.args.node c.args.cost c.args.kids.now ∙ ap (λ w. lines_text (lines_by (shown d) c.args.node c.args.cost w c.args.kids.now)) (sym c.in-Or.is)) c.add_or.ensures.bytes
+    let what = what-of _ d.graph c.args.node c.what.result c.what.ensures c.graph-graph.ensures.graph in
+    adds_same _ _ _ _ _ _ _ (or-lines-text d c.args.node c.args.cost c.args.kids.now ∙ ap (λ w. lines_text (lines_by (shown d) c.args.node c.args.cost w c.args.kids.now)) (sym c.in-Or.is ∙ what)) c.add_or.ensures.bytes

@@ -4,7 +4,7 @@ use Rattle.graph_rules.specs.Graphs.{node_at, kind_fits}
 use Rattle.graph_rules.proofs.NodeValues.{below-each}
 use Rattle.graph_rules.proofs.NodesFit.{fits-at}
 use Rattle.scratch_pool.proofs.Counted.{block-below}
-use Rattle.smooth_nnf.specs.Sizes.{set_words}
+use Rattle.smooth_nnf.specs.Sizes.{part_words}
 use Rattle.smooth_nnf.specs.inner.Sets.{has_bit, part_at, part_by}
 use Rattle.smooth_nnf.proofs.FillingSets.{sets_more}
 use Rattle.smooth_nnf.proofs.sets.fill_sets.Goals as goal
@@ -14,7 +14,7 @@ fill_set-requires-clause-kids c k d h =
     let graph = c.args.graph.now in
     let at = c.loop-at.at in
     let is = fits-at graph.vars graph.nodes at c.len-at-end.ensures.valid.nodes.fit (omega (arith, c.len-at-end.ensures.len, c.loop-at-test.true)) in
-    block-below c.set_words-width.result (get_or c.kids.result.now k d) at (subst (λ ks. get_or ks k d < at) (sym c.kids.ensures) (below-each at (node_at graph.nodes at).kids is.below k d (subst (λ ks. k < length ks) c.kids.ensures h)))
+    block-below c.part_words-width.result (get_or c.kids.result.now k d) at (subst (λ ks. get_or ks k d < at) (sym c.kids.ensures) (below-each at (node_at graph.nodes at).kids is.below k d (subst (λ ks. k < length ks) c.kids.ensures h)))
 
 pub fill_set-requires-clause-fits : goal.fill_set-requires-clause-fits
 fill_set-requires-clause-fits c =
@@ -26,9 +26,9 @@ pub loop-at-preserved : goal.loop-at-preserved
 loop-at-preserved c =
     let graph = c.args.graph.now in
     let at = c.loop-at.at in
-    let width = set_words c.args.parts in
+    let width = part_words c.args.parts in
     let more : (at + 1) * width ≡ at * width + width = one_more at width in
-    let wide : c.set_words-width.result ≡ width = c.set_words-width.ensures in
+    let wide : c.part_words-width.result ≡ width = c.part_words-width.ensures in
     record {
       long = omega (arith, c.fill_set.auto.sets, c.loop-at.invariant.long);
       below = sets_more graph.vars c.args.parts graph.nodes c.loop-at.sets c.fill_set.new.sets at c.len-at-end.ensures.valid.nodes.fit (omega (arith, c.len-at-end.ensures.len, c.loop-at-test.true)) c.loop-at.invariant.below

@@ -1,5 +1,5 @@
 use Rattle.std.proofs.Common.{◌≡◌, ◌+◌, ◌<◌, length, sym, ap, subst, arith, ◌∙◌}
-use Rattle.level_lister.specs.inner.NodeSets.{size_of, set_at, ArePartsOf}
+use Rattle.level_lister.specs.PartSets.{size_of, set_at, ArePartsOf}
 use Rattle.level_lister.specs.inner.Pairs.{group_count, group_in}
 use Rattle.level_lister.proofs.Growing.{pair_none, pair_all, pair_skip, pair_apart, pair_more}
 use Rattle.level_lister.proofs.PairNodes.{on_parts}

@@ -1,7 +1,7 @@
 use Rattle.std.proofs.Common.{◌≡◌, ◌+◌, ◌*◌, ◌&&◌, not, get_or, ap, ◌∙◌, subst}
 use Rattle.std.specs.Prelude.{nat_le}
 use Rattle.graph_rules.specs.Graphs.{mentions}
-use Rattle.smooth_nnf.specs.Sizes.{set_words}
+use Rattle.smooth_nnf.specs.Sizes.{part_words}
 use Rattle.smooth_nnf.specs.inner.Sets.{has_bit, part_at}
 use Rattle.smooth_nnf.specs.inner.Drawings.{Drawing, IsDrawing, is_over}
 use Rattle.smooth_nnf.proofs.WordParts.{mask_bits}
@@ -12,7 +12,7 @@ returns c b s =
     let d = c.args.self.now in
     let part = part_at c.args.word b in
     let is : IsDrawing d = subst IsDrawing c.self.view_is c.self.invariant in
-    let wide : c.set_words.result ≡ set_words d.parts = c.set_words.ensures ∙ ap (λ (s : Drawing). set_words s.parts) c.self.view_is in
+    let wide : c.part_words.result ≡ part_words d.parts = c.part_words.ensures ∙ ap (λ (s : Drawing). part_words s.parts) c.self.view_is in
     let sets = ap (λ (s : Drawing). s.sets) c.self.view_is in
     c.without.ensures b s
     ∙ (λ i. c.over_word-all.ensures b s i && not (has_bit (get_or (sets i) (c.args.node * wide i + c.args.word) 0) b))

@@ -1,0 +1,64 @@
+use Rattle.std.specs.Prelude.{MatchOption}
+use Rattle.std.proofs.Common.{◌≡◌, ◌+◌, ℕ, Option, Some, None, true, length, refl, ◌∙◌, ap, subst, arith}
+use Rattle.ranking.specs.Ranking.{cost, is_before}
+use Rattle.diagnosis_lister.specs.Listing.{bits_of}
+use Rattle.diagnosis_lister.specs.inner.Working.{IsFirst, fixed_bits}
+use Rattle.diagnosis_lister.proofs.Marking.{length-bits}
+use Rattle.level_lister.specs.inner.Searching.{OfCost, NoneAfter, FindsFirst, IsListed}
+use Rattle.level_lister.proofs.Leaving.{leaves-first}
+use Rattle.level_lister.proofs.Finding.{Later, first-same, later-dearer, dearer-later, none-too_dear, finds-alike}
+use Rattle.level_lister.proofs.search.Search.find_after.Goals as goal
+
+pub returns-then-own-top-clause-found : goal.returns-then-own-top-clause-found
+returns-then-own-top-clause-found g c =
+    let costs = c.args.self.now.levels.now.costs in
+    let point = bits_of c.args.state.now in
+    let own_is : c.state_cost-own.result ≡ cost costs point = c.state_cost-own.ensures ∙ ap (λ cs. cost cs point) c.costs.ensures in
+    (refl, λ h l. none-too_dear c.args.self.now.graph.now c.args.words.now costs c.args.self.now.levels.now.top point h (omega (arith, own_is, c.if-own-top.true, c.top-top.ensures)) l)
+
+pub returns-in-Some-clause-found : goal.returns-in-Some-clause-found
+returns-in-Some-clause-found g c =
+    let graph = c.args.self.now.graph.now in
+    let costs = c.args.self.now.levels.now.costs in
+    let words = c.args.words.now in
+    let point = bits_of c.args.state.now in
+    let own = c.state_cost-own.result in
+    let leaves = c.in-Some.ensures.left in
+    let h = fixed_bits (length costs) c.settle.new.words in
+    let own_is : c.state_cost-own.result ≡ cost costs point = c.state_cost-own.ensures ∙ ap (λ cs. cost cs point) c.costs.ensures in
+    let first : IsFirst (λ k. OfCost graph words costs (cost costs point) k × (is_before point k ≡ true)) h =
+    subst (λ (n : ℕ). IsFirst (λ k. OfCost graph words costs n k × (is_before point k ≡ true)) h) own_is
+    (leaves-first graph costs c.args.self.now.for_graph.parts own words point c.requires.long (length-bits c.args.state.now ∙ c.requires.state) c.leave.new.words c.in-Some.part h c.leave.auto.words leaves c.settle.ensures.first) in record {
+      others = λ k g. c.settle.ensures.others k g ∙ leaves.behind k (omega (arith, leaves.within));
+      first = first-same graph words costs c.args.self.now.levels.now.top point h (omega (arith, own_is, c.if-own-top.false, c.top-top.ensures)) first;
+      cost_is = c.settle.ensures.first.meets.cost_is;
+    }
+
+pub returns-in-None-clause-found : goal.returns-in-None-clause-found
+returns-in-None-clause-found g c =
+    let graph = c.args.self.now.graph.now in
+    let kept = c.args.self.now.levels.now in
+    let costs = kept.costs in
+    let words = c.args.words.now in
+    let point = bits_of c.args.state.now in
+    let own_is : c.state_cost-own.result ≡ cost costs point = c.state_cost-own.ensures ∙ ap (λ cs. cost cs point) c.costs.ensures in
+    let left = c.in-None.ensures.left in
+    let none : NoneAfter graph words costs (cost costs point) point 0 = subst (λ n. NoneAfter graph words costs n point 0) own_is left.1 in
+    let found : FindsFirst graph words kept (cost costs point + 1) c.find_from.new.words c.find_from.result =
+    subst (λ n. FindsFirst graph words kept (n + 1) c.find_from.new.words c.find_from.result) own_is
+    (subst (λ ws. FindsFirst graph ws kept (c.state_cost-own.result + 1) c.find_from.new.words c.find_from.result) left.0 c.find_from.ensures.found) in
+    finds-alike words costs (IsListed graph words costs (cost costs point + 1) kept.top) (Later graph words costs kept.top point) c.find_from.new.words c.find_from.result
+    (dearer-later graph words costs kept.top point) (later-dearer graph words costs kept.top point none) found
+
+more : (o : Option ℕ) (P Q : Type 0) (R S : ℕ → Type 0) → (P → Q) → ((n : ℕ) → R n → S n) → MatchOption o P R → MatchOption o Q S
+more None P Q R S to over m = to m
+more (Some n) P Q R S to over m = over n m
+
+pub returns-then-own-top-clause-steps : goal.returns-then-own-top-clause-steps
+returns-then-own-top-clause-steps g c = omega arith
+
+pub returns-in-Some-clause-steps : goal.returns-in-Some-clause-steps
+returns-in-Some-clause-steps g c search h = omega (arith, c.in-Some.ensures.steps, c.settle.ensures.steps search h)
+
+pub returns-in-None-clause-steps : goal.returns-in-None-clause-steps
+returns-in-None-clause-steps g c = more c.find_from.result _ _ _ _ (λ s. omega (arith, c.in-None.ensures.steps, s)) (λ n s search h. omega (arith, c.in-None.ensures.steps, s search h)) c.find_from.ensures.steps

@@ -1,0 +1,16 @@
+use Rattle.std.proofs.Common.{ℕ, ◌+◌, ◌*◌, ◌^◌, ◌<◌, ◌≤◌, length}
+use Rattle.level_lister.specs.Passes.{group_count}
+use Rattle.level_lister.proofs.Narrowing.{IsRange, PassesLeft}
+use Rattle.level_lister.proofs.search.Search.first_faulty.Given as goal
+
+-- the first fault is in the range, and enough passes are left
+abbrev pub invariant-loop-span : goal.invariant-loop-span
+invariant-loop-span g l = record {
+  range : IsRange l.self.graph.now l.words l.self.levels.now.costs l.cost l.from l.low l.span;
+  some : 0 < l.span;
+  small : l.low + 33 * l.span ≤ 34 * (length l.self.levels.now.costs + 1);
+  passes : (k : ℕ) → length l.self.levels.now.costs < (group_count l.self.levels.now.top + 1) ^ k → PassesLeft (group_count l.self.levels.now.top) l.span l.steps (l.fn.steps + k);
+}
+
+abbrev pub decreases-loop-span : goal.decreases-loop-span
+decreases-loop-span g l = l.span

@@ -1,0 +1,22 @@
+use Rattle.std.proofs.Common.{get_or, refl, ap, sym, ◌∙◌, arith}
+use Rattle.level_lister.proofs.Kids.{literal-fits}
+use Rattle.level_lister.proofs.PairNodes.{literal_told}
+use Rattle.level_lister.proofs.search.Search.node_pair.Goals as goal
+
+pub literal_pair-requires-clause-var : goal.literal_pair-requires-clause-var
+literal_pair-requires-clause-var c =
+    let fits = literal-fits c.args.self.now.graph.now c.args.at _ c.vars-vars.ensures.valid c.requires.at refl c.in-Literal.var c.in-Literal.positive c.in-Literal.ensures in
+    (fits.0, omega (arith, fits.1, c.requires.long))
+
+pub returns-in-Literal : goal.returns-in-Literal
+returns-in-Literal c = literal_told c.args.self.now.graph.now c.args.at _ c.vars-vars.ensures.valid c.requires.at refl c.args.words.now c.args.self.now.levels.now.costs c.args.self.now.levels.now.top c.args.groups c.in-Literal.var c.in-Literal.positive c.literal_pair.result
+    c.in-Literal.ensures c.literal_pair.ensures
+
+pub returns-in-And : goal.returns-in-And
+returns-in-And c = c.and_pair.ensures c.args.words.now c.args.groups c.requires.earlier
+
+pub full_pair-requires-clause-same : goal.full_pair-requires-clause-same
+full_pair-requires-clause-same c = c.args.self.now.for_graph.lacking.ors c.args.at c.requires.at (sym c.in-Or.ensures) (sym (ap (λ xs. get_or xs c.args.at 0) c.lacking.ensures) ∙ c.if-lacking-at-eq0.true)
+
+pub returns-then-lacking-at-eq0 : goal.returns-then-lacking-at-eq0
+returns-then-lacking-at-eq0 c = c.full_pair.ensures c.args.words.now c.args.groups c.requires.earlier

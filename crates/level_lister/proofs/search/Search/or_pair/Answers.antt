@@ -1,0 +1,59 @@
+use Rattle.std.proofs.Common.{◌+◌, ◌<◌, length, get_or, sym, refl, subst, arith}
+use Rattle.std.proofs.lemmas.Bool.{false≢true}
+use Rattle.graph_rules.specs.Graphs.{is_true, mentions}
+use Rattle.level_lister.specs.PartSets.{size_of}
+use Rattle.level_lister.specs.inner.Pairs.{TellsNode, group_count, group_in}
+use Rattle.level_lister.proofs.Kids.{kid-below, kid-mentions, room_for}
+use Rattle.level_lister.proofs.Telling.{tells_none}
+use Rattle.level_lister.proofs.PairNodes.{or_next, or_end}
+use Rattle.level_lister.proofs.search.Search.or_pair.Goals as goal
+
+pub loop-kid-init : goal.loop-kid-init
+loop-kid-init c = tells_none c.args.words.now c.args.self.now.levels.now.costs c.args.self.now.levels.now.top (group_count c.args.self.now.levels.now.top) (group_in c.args.words.now (length c.args.self.now.levels.now.costs) c.args.groups) _ _ (λ a f e. false≢true e) (λ a b h. refl)
+
+pub pair_at-own-requires : goal.pair_at-own-requires
+pair_at-own-requires c =
+    let kids = c.kids-kid-items.result.now in
+    omega (arith, c.requires.room, c.requires.at, kid-below c.args.self.now.graph.now c.args.at kids c.vars-vars.ensures.valid c.requires.at c.kids-kid-items.ensures c.loop-kid.kid-index c.loop-kid-test.true)
+
+pub widened-requires-clause-inner : goal.widened-requires-clause-inner
+widened-requires-clause-inner c =
+    let kids = c.kids-kid-items.result.now in
+    let size = size_of (length c.args.self.now.levels.now.costs) in
+    omega (
+      arith,
+      c.args.self.now.for_graph.below.long,
+      room_for (get_or kids c.loop-kid.kid-index 0) (length c.args.self.now.graph.now.nodes + 1) size
+          (omega (arith, c.requires.at, kid-below c.args.self.now.graph.now c.args.at kids c.vars-vars.ensures.valid c.requires.at c.kids-kid-items.ensures c.loop-kid.kid-index c.loop-kid-test.true)),
+    )
+
+pub widened-requires-clause-outer : goal.widened-requires-clause-outer
+widened-requires-clause-outer c =
+    let size = size_of (length c.args.self.now.levels.now.costs) in
+    omega (arith, c.args.self.now.for_graph.below.long, room_for c.args.at (length c.args.self.now.graph.now.nodes + 1) size (omega (arith, c.requires.at)))
+
+pub loop-kid-preserved : goal.loop-kid-preserved
+loop-kid-preserved c =
+    let graph = c.args.self.now.graph.now in
+    let at = c.args.at in
+    let words = c.args.words.now in
+    let groups = c.args.groups in
+    let kids = c.kids-kid-items.result.now in
+    let costs = c.args.self.now.levels.now.costs in
+    let top = c.args.self.now.levels.now.top in
+    let j = c.loop-kid.kid-index in
+    let ok = c.vars-vars.ensures.valid in
+    let lt = c.loop-kid-test.true in
+    let below = kid-below graph at kids ok c.requires.at c.kids-kid-items.ensures j lt in
+    let inside : get_or kids j 0 < length graph.nodes = omega (arith, below, c.requires.at) in
+    let kid = subst (TellsNode graph words costs top groups (get_or kids j 0)) (sym c.pair_at-own.ensures) (c.requires.earlier (get_or kids j 0) below) in
+    or_next graph at kids ok c.requires.at c.kids-kid-items.ensures words costs top groups j c.either-pair.result lt
+    (c.either-pair.ensures words costs top (group_count top) (group_in words (length costs) groups) _ _ _ c.loop-kid.invariant
+    (c.widened.ensures (λ a. is_true graph.nodes (get_or kids j 0) a) (λ v. mentions graph.nodes v (get_or kids j 0)) (λ v. mentions graph.nodes v at)
+    (c.args.self.now.for_graph.below.nodes (get_or kids j 0) inside) (c.args.self.now.for_graph.below.nodes at c.requires.at)
+    (kid-mentions graph at kids ok c.requires.at c.kids-kid-items.ensures words costs j c.requires.what lt) kid))
+
+pub returns : goal.returns
+returns c =
+    or_end c.args.self.now.graph.now c.args.at c.kids-kid-items.result.now c.vars-vars.ensures.valid c.requires.at c.kids-kid-items.ensures c.args.words.now c.args.self.now.levels.now.costs c.args.self.now.levels.now.top c.args.groups c.loop-kid.kid-index c.loop-kid.pair c.requires.what (omega arith)
+    c.loop-kid.invariant

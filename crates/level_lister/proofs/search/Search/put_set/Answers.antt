@@ -1,0 +1,16 @@
+use Rattle.std.proofs.Common.{refl, ◌∙◌, ap, arith}
+use Rattle.minimiser.specs.Costs.{part_cost}
+use Rattle.level_lister.proofs.Kids.{literal-fits, literal_set}
+use Rattle.level_lister.proofs.search.Search.put_set.Goals as goal
+
+pub leaf-requires-clause-var : goal.leaf-requires-clause-var
+leaf-requires-clause-var c =
+    let fits = literal-fits c.args.self.now.graph.now c.args.at _ c.vars-vars.ensures.valid c.requires.at refl c.in-Literal.var c.in-Literal.positive c.in-Literal.ensures in
+    (fits.0, omega (arith, fits.1, c.requires.long))
+
+pub part_cost-requires : goal.part_cost-requires
+part_cost-requires c = (literal-fits c.args.self.now.graph.now c.args.at _ c.vars-vars.ensures.valid c.requires.at refl c.in-Literal.var c.in-Literal.positive c.in-Literal.ensures).0
+
+pub returns-in-Literal : goal.returns-in-Literal
+returns-in-Literal c = literal_set c.args.self.now.graph.now c.args.at _ c.vars-vars.ensures.valid c.requires.at refl c.args.words.now c.args.self.now.levels.now.costs c.in-Literal.var c.part_cost.result c.in-Literal.positive c.leaf.result c.put_literal.new.set
+    c.in-Literal.ensures c.leaf.ensures (c.part_cost.ensures ∙ ap (λ cs. part_cost cs c.in-Literal.var) c.costs.ensures) c.put_literal.ensures.ruled_out (λ p n h. c.put_literal.ensures.allowed p n (omega arith))

@@ -1,0 +1,31 @@
+use Rattle.std.proofs.Common.{◌≡◌, ◌+◌, ◌-◌, ◌<◌, List, ℕ, true, length, ap, sym, ◌∙◌, refl, subst, arith}
+use Rattle.graph_rules.specs.Graphs.{is_true, mentions}
+use Rattle.level_lister.specs.inner.CostSets.{IsCostSet}
+use Rattle.level_lister.specs.inner.NodeSets.{IsNodeSet, IsWholeSet}
+use Rattle.level_lister.specs.PartSets.{size_of, set_at, ArePartsOf}
+use Rattle.level_lister.proofs.search.Search.put_whole.Goals as goal
+
+pub returns : goal.returns
+returns c =
+    let graph = c.args.self.now.graph.now in
+    let kept = c.args.self.now.levels.now in
+    let words = c.args.words.now in
+    let root = length graph.nodes - 1 in
+    let inside : length graph.nodes - 1 < length graph.nodes = omega (arith, c.len.ensures.valid.some) in
+    let place : c.len.result - 1 ≡ length graph.nodes - 1 = omega (arith, c.len.ensures.len) in
+    let next : c.len.result - 1 + 1 ≡ length graph.nodes = omega (arith, c.len.ensures.len, c.len.ensures.valid.some) in
+    let many : length kept.costs ≡ length c.costs-costs.result.now = sym (ap length c.costs-costs.ensures) in
+    let size : c.size_of-size.result ≡ size_of (length kept.costs) = c.size_of-size.ensures ∙ ap size_of (sym many) in
+    let long : length c.put_sets.new.spare ≡ length c.args.whole.now = omega arith in
+    let on_outer : ArePartsOf (length kept.costs) (λ v. true) c.set_at-2.result.now =
+    subst (ArePartsOf (length kept.costs) (λ v. true)) (sym (c.set_at-2.ensures.set ∙ (λ i. set_at (c.below-below.ensures i) (next i) (size i)))) c.args.self.now.for_graph.below.all in
+    let on_inner : ArePartsOf (length kept.costs) (λ v. mentions graph.nodes v (length graph.nodes - 1)) c.set_at-3.result.now =
+    subst (ArePartsOf (length kept.costs) (λ v. mentions graph.nodes v (length graph.nodes - 1))) (sym (c.set_at-3.ensures.set ∙ (λ i. set_at (c.below-below.ensures i) (place i) (size i)))) (c.args.self.now.for_graph.below.nodes (length graph.nodes - 1) inside) in
+    let is = subst (λ (cs : List ℕ). IsNodeSet graph words cs (length graph.nodes - 1) (set_at c.put_sets.new.sets (length graph.nodes - 1) (length c.args.whole.now))) (sym c.costs-costs.ensures) (c.put_sets.ensures (length graph.nodes - 1) inside) in
+    subst (λ (cs : List ℕ). IsWholeSet graph words cs c.widen.new.set) c.costs-costs.ensures
+    (c.widen.ensures (λ a. is_true graph.nodes (length graph.nodes - 1) a) (λ v. mentions graph.nodes v (length graph.nodes - 1)) (λ v. true)
+    (subst (λ n. ArePartsOf n (λ v. mentions graph.nodes v (length graph.nodes - 1)) c.set_at-3.result.now) many on_inner)
+    (subst (λ n. ArePartsOf n (λ v. true) c.set_at-2.result.now) many on_outer)
+    (λ v e. refl)
+    (subst (IsCostSet words c.costs-costs.result.now (λ a. is_true graph.nodes (length graph.nodes - 1) a) (λ v. mentions graph.nodes v (length graph.nodes - 1)))
+    (sym (c.copy_from_slice.ensures.after ∙ c.set_at.ensures.set ∙ (λ i. set_at c.put_sets.new.sets (place i) (long i)))) is))

@@ -1,0 +1,131 @@
+//! The search for the next state.
+ghost use Rattle.std.specs.Prelude.{◌≡◌, ◌≢◌, ℕ, ◌+◌, ◌*◌, ◌<◌, ◌≤◌, [], length, true, false, All, Some, MatchOption, slice_index};
+ghost use Rattle.conditioner.specs.Models.{models};
+ghost use Rattle.diagnosis_lister.specs.Listing.{bits_of, fault_count};
+ghost use Rattle.diagnosis_lister.specs.inner.Working.{fixed_bits};
+ghost use Rattle.level_lister.specs.Listing.{IsFor, cost_words, point_if};
+ghost use Rattle.level_lister.specs.Passes.{AreEnough, fixing_passes, point_faults};
+ghost use Rattle.level_lister.specs.inner.Searching.{FindsFirst, FindsNext};
+
+use crate::levels::Levels;
+use crate::states::state_cost;
+use minimiser::{Steps, least};
+use node_store::Graph;
+use std::sync::ledger::Ledger;
+
+// What is searched: a graph, and what is kept of it.
+#[derive(Drop)]
+pub(crate) struct Search<'a> {
+    pub(crate) levels: &'a Levels,
+    pub(crate) graph: &'a Graph,
+    ghost for_graph: { IsFor graph.now levels.now },
+}
+
+impl Search<'_> {
+    // Whether some state agrees with the words.
+    pub(crate) fn has_state<L: Ledger>(
+        &self,
+        words: &[u32],
+        work: &mut [u32],
+        steps: &mut Steps<L>,
+    ) -> bool
+        requires long { length words.now ≡ self.now.graph.now.vars }
+        requires words { All (λ w. w < 3) words.now }
+        requires work { length work.old ≡ (length self.now.graph.now.nodes + 2) * (cost_words self.now.levels.now.top + 1) }
+        ensures none { result ≡ false → models self.now.graph.now words.now (length self.now.levels.now.costs) ≡ [] }
+        ensures some { result ≡ true → models self.now.graph.now words.now (length self.now.levels.now.costs) ≢ [] }
+        ensures steps { steps.new ≡ steps.old + 1 }
+    {
+        let (values, _) = work.split_at_mut(self.graph.len() as usize);
+        least(self.graph, words, self.levels.costs(), values, steps).is_some()
+    }
+
+    // Fixes the parts as the next state has them, if there is one; what it costs.
+    pub(crate) fn find<L: Ledger>(
+        &self,
+        words: &mut [u32],
+        saved: &[u32],
+        work: &mut [u32],
+        state: &[u32],
+        pointed: bool,
+        steps: &mut Steps<L>,
+    ) -> Option<u32>
+        requires long { length words.old ≡ self.now.graph.now.vars }
+        requires words { All (λ w. w < 3) words.old }
+        requires saved { length saved.now ≡ length self.now.levels.now.costs }
+        requires same { (k : ℕ) → k < length self.now.levels.now.costs → slice_index saved.now k ≡ slice_index words.old k }
+        requires work { length work.old ≡ (length self.now.graph.now.nodes + 2) * (cost_words self.now.levels.now.top + 1) }
+        requires state { length state.now ≡ length self.now.levels.now.costs }
+        ensures found { FindsNext self.now.graph.now words.old self.now.levels.now (point_if pointed (bits_of state.now)) words.new result }
+        ensures steps { MatchOption result (steps.new ≤ steps.old + (point_faults (point_if pointed (bits_of state.now)) + 1))
+            (λ _. (search : ℕ) → AreEnough (length self.now.levels.now.costs) self.now.levels.now.top search → steps.new ≤ steps.old
+            + (point_faults (point_if pointed (bits_of state.now)) + 1
+            + fixing_passes (length self.now.levels.now.costs) self.now.levels.now.top search (fixed_bits (length self.now.levels.now.costs) words.new))) }
+    {
+        if pointed {
+            self.find_after(words, saved, work, state, steps)
+        } else {
+            self.find_from(words, work, 0, steps)
+        }
+    }
+
+    // The first state after another.
+    fn find_after<L: Ledger>(
+        &self,
+        words: &mut [u32],
+        saved: &[u32],
+        work: &mut [u32],
+        state: &[u32],
+        steps: &mut Steps<L>,
+    ) -> Option<u32>
+        requires long { length words.old ≡ self.now.graph.now.vars }
+        requires words { All (λ w. w < 3) words.old }
+        requires saved { length saved.now ≡ length self.now.levels.now.costs }
+        requires same { (k : ℕ) → k < length self.now.levels.now.costs → slice_index saved.now k ≡ slice_index words.old k }
+        requires work { length work.old ≡ (length self.now.graph.now.nodes + 2) * (cost_words self.now.levels.now.top + 1) }
+        requires state { length state.now ≡ length self.now.levels.now.costs }
+        ensures found { FindsNext self.now.graph.now words.old self.now.levels.now (Some (bits_of state.now)) words.new result }
+        ensures steps { MatchOption result (steps.new ≤ steps.old + (fault_count (bits_of state.now) + 1))
+            (λ _. (search : ℕ) → AreEnough (length self.now.levels.now.costs) self.now.levels.now.top search → steps.new ≤ steps.old
+            + (fault_count (bits_of state.now) + 1
+            + fixing_passes (length self.now.levels.now.costs) self.now.levels.now.top search (fixed_bits (length self.now.levels.now.costs) words.new))) }
+    {
+        let own = state_cost(state, self.levels.costs());
+        let top = self.levels.top();
+        if own > top {
+            return None;
+        }
+        match self.leave(words, saved, work, state, own, steps) {
+            Some(part) => {
+                self.settle(words, work, own, part + 1, steps);
+                Some(own)
+            }
+            None => self.find_from(words, work, own + 1, steps),
+        }
+    }
+
+    // The first of the states whose cost is at least so much.
+    fn find_from<L: Ledger>(
+        &self,
+        words: &mut [u32],
+        work: &mut [u32],
+        from: u32,
+        steps: &mut Steps<L>,
+    ) -> Option<u32>
+        requires long { length words.old ≡ self.now.graph.now.vars }
+        requires words { All (λ w. w < 3) words.old }
+        requires work { length work.old ≡ (length self.now.graph.now.nodes + 2) * (cost_words self.now.levels.now.top + 1) }
+        ensures found { FindsFirst self.now.graph.now words.old self.now.levels.now from words.new result }
+        ensures steps { MatchOption result (steps.new ≤ steps.old + (1))
+            (λ _. (search : ℕ) → AreEnough (length self.now.levels.now.costs) self.now.levels.now.top search → steps.new ≤ steps.old
+            + (1 + fixing_passes (length self.now.levels.now.costs) self.now.levels.now.top search (fixed_bits (length self.now.levels.now.costs) words.new))) }
+    {
+        match self.next_cost(words, work, from, steps) {
+            None => None,
+            Some(cost) => {
+                self.settle(words, work, cost, 0, steps);
+                Some(cost)
+            }
+        }
+    }
+}

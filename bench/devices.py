@@ -164,6 +164,23 @@ def corrector(bits):
     return netlist(["r"] + [f"i{row}" for row in range(rows)] + [f"d{bit:02}" for bit in range(bits)], lines)
 
 
+def in_nands(text):
+    """A netlist whose exclusive ors are made of NANDs: two inputs after the other by four of them."""
+    lines = []
+    for line in text.decode().splitlines():
+        name, _, ends = re.fullmatch(r"(?:(\S+) = )?(\w+)\((.*)\)", line).groups()
+        if " = XOR(" not in line:
+            lines.append(line)
+            continue
+        first, *others = ends.split(", ")
+        for place, other in enumerate(others):
+            made = name if place == len(others) - 1 else f"{name}_{place}"
+            lines += [f"{made}n = NAND({first}, {other})", f"{made}l = NAND({first}, {made}n)", f"{made}r = NAND({other}, {made}n)",
+                      f"{made} = NAND({made}l, {made}r)"]
+            first = made
+    return ("\n".join(lines) + "\n").encode()
+
+
 def alu_slice(bits):
     """Slices that give the and, the or, the exclusive or or the sum of two bits, by two selecting wires."""
     lines, carry = ["n_0 = NOT(s_0)", "n_1 = NOT(s_1)"], "c"

@@ -13,7 +13,8 @@ use Rattle.branch_states.specs.declared.measuring.TheConstants.{BUDGET_LIMIT}
 use Rattle.dnnf_compiler.specs.declared.compiling.Compiled.{Compiled}
 use Rattle.dnnf_compiler.specs.Compiled.{IsCompiled}
 use Rattle.level_lister.specs.Listing.{cost_words}
-use Rattle.level_lister.specs.declared.levels.TheConstants.{TOP_LIMIT, PART_LIMIT}
+use Rattle.part_sets.specs.declared.kept.TheConstants.{PART_LIMIT}
+use Rattle.level_lister.specs.declared.levels.TheConstants.{TOP_LIMIT}
 use Rattle.session_core.specs.declared.limits.TheConstants.{SERVED_BITS}
 use Rattle.session_core.specs.Services.{CanList, CanDraw}
 use Rattle.diag_cli.specs.declared.refusal.Refusal.{Refusal}

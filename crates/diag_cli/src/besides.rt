@@ -21,8 +21,8 @@ use device_model::{Device, PART_LIMIT};
 use dnnf_compiler::Compiled;
 use level_lister::{TOP_LIMIT, level_bits};
 use node_store::Graph;
+use part_sets::part_words;
 use session_core::{Extras, SERVED_BITS};
-use smooth_nnf::part_words;
 use std::alloc::Global;
 
 /// The graph of a device, where the sum of its clauses is within the budget and what is told besides takes few bits.
@@ -113,7 +113,7 @@ fn least_bits(sum: u32, vars: u32, parts: u32, least: bool) -> u64
         return 0;
     }
     let nodes = 3 * u64::from(sum) + 2 * u64::from(vars) + 2;
-    nodes * (32 * (2 + part_words(parts) as u64))
+    nodes * (32 * (2 + part_words(parts as usize) as u64))
 }
 
 // Refuses too many bits.

@@ -1,6 +1,7 @@
 use crate::listing::either_is_faulty;
 use diag_edge::MemSink;
 use node_store::Graph;
+use part_sets::PartSets;
 use scratch_pool::Region;
 use smooth_nnf::write_least;
 use std::alloc::Global;
@@ -22,7 +23,8 @@ fn drawn(
     assert!(rt; costs.iter().all(|cost| *cost < 10));
     let mut region = Region::new(alloc, 64)?;
     let mut out = MemSink::new(alloc, 1024, Vec::new(alloc), 0)?;
-    write_least(graph, words, costs, &mut region, &mut out)?;
+    let sets = PartSets::new(alloc, graph, 3)?;
+    write_least(graph, &sets, words, costs, &mut region, &mut out)?;
     Ok(out.as_slice().to_vec(alloc)?)
 }
 

@@ -14,7 +14,8 @@ use Rattle.conditioner.specs.declared.leaves.Leaf.{Leaf}
 use Rattle.conditioner.specs.declared.leaves.Leaf.TheVariants.{True, False, Open}
 use Rattle.conditioner.specs.Words.{leaf_of}
 use Rattle.minimiser.specs.Costs.{known_at, part_cost}
-use Rattle.level_lister.specs.PartSets.{has_number}
+use Rattle.part_sets.specs.Numbers.{has_number}
+use Rattle.part_sets.proofs.Kids.{mention-is, literal-fits}
 use Rattle.level_lister.specs.inner.CostSets.{has_shifted, AreSums, IsCostSet}
 use Rattle.level_lister.specs.inner.NodeSets.{IsNodeSet}
 use Rattle.level_lister.proofs.Reaching.{same_is, false_literal_is, literal_is, and_is, or_is}
@@ -53,34 +54,13 @@ apart_from f (k ∷ kids) (suc j) e lt = by_first (f k) refl (apart_from f kids 
       ap (λ b. (b || list_any (λ x. x) (map f (take j kids))) && f (get_or kids j 0)) q ∙ none_at kids j (not-true _ rest) (omega arith)
   by_first false q more = ap (λ b. (b || list_any (λ x. x) (map f (take j kids))) && f (get_or kids j 0)) q ∙ more
 
-any_at : (f : ℕ → Bool) (kids : List ℕ) (j : ℕ) → j < length kids → f (get_or kids j 0) ≡ true → list_any (λ x. x) (map f kids) ≡ true
-any_at f [] j lt e = absurd (omega arith)
-any_at f (k ∷ kids) zero lt e = or_left _ _ e
-any_at f (k ∷ kids) (suc j) lt e = or_right _ _ (any_at f kids j (omega arith) e)
-
--- the set of a node stands before those of later nodes
-pub room_for : (k n size : ℕ) → k < n → k * size + size ≤ n * size
-room_for k n size h = grind arith
-
 pub shifted_none : (set : List ℕ) (n : ℕ) → has_shifted set 0 n ≡ has_number set n
 shifted_none set n = ap (λ b. b && has_number set (n - 0)) (le-leb 0 n (omega arith)) ∙ ap (has_number set) (let e : n - 0 ≡ n = omega arith in e)
 
 module _ (graph : Graph) (at : ℕ) (kids : List ℕ) (ok : IsGraph graph) (inside : at < length graph.nodes) (are : kids ≡ (node_at graph.nodes at).kids) where
-  pub kid-below : (j : ℕ) → j < length kids → get_or kids j 0 < at
-  kid-below j lt = subst (λ (ks : List ℕ). All (λ k. k < at) ks) (sym are) (below-each at (node_at graph.nodes at).kids (fits-at graph.vars graph.nodes at ok.nodes.fit inside).below) j 0 lt
-
   -- what the node says, by its kids
   pub truth-is : (a : Assignment) → is_true graph.nodes at a ≡ truth_by a (node_at graph.nodes at).what (map (λ k. is_true graph.nodes k a) kids)
   truth-is a = value_of-at (truth_by a) graph.nodes at inside (fits-at graph.vars graph.nodes at ok.nodes.fit inside).below ∙ ap (λ ks. truth_by a (node_at graph.nodes at).what (map (λ k. is_true graph.nodes k a) ks)) (sym are)
-
-  pub mention-is : (v : ℕ) → mentions graph.nodes v at ≡ mention_by v (node_at graph.nodes at).what (map (mentions graph.nodes v) kids)
-  mention-is v = value_of-at (mention_by v) graph.nodes at inside (fits-at graph.vars graph.nodes at ok.nodes.fit inside).below ∙ ap (λ ks. mention_by v (node_at graph.nodes at).what (map (mentions graph.nodes v) ks)) (sym are)
-
-  -- a literal has a variable that is there
-  pub literal-fits : (var : ℕ) (positive : Bool) → Literal var positive ≡ (node_at graph.nodes at).what → (1 ≤ var) × (var ≤ graph.vars)
-  literal-fits var positive e =
-      let is = literal graph.vars var positive (node_at graph.nodes at).kids (subst (λ w. kind_fits graph.vars w (node_at graph.nodes at).kids ≡ true) (sym e) (fits-at graph.vars graph.nodes at ok.nodes.fit inside).kind) in
-      (is.low, is.high)
 
   module _ (words costs : List ℕ) where
     -- ---- a literal
@@ -89,10 +69,10 @@ module _ (graph : Graph) (at : ℕ) (kids : List ℕ) (ok : IsGraph graph) (insi
         → (leaf ≡ False → (n : ℕ) → has_number set n ≡ false) → ((leaf ≡ False → ⊥) → (n : ℕ) → n < 32 * length set → has_number set n ≡ (n == cond positive 0 cost)) → IsNodeSet graph words costs at set
     literal_set var cost positive leaf set what is priced ruled_out allowed = same_is words costs _ _ _ _ set
         (λ a. sym (truth-is a ∙ ap (λ w. truth_by a w (map (λ k. is_true graph.nodes k a) kids)) (sym what)))
-        (λ v. sym (mention-is v ∙ ap (λ w. mention_by v w (map (mentions graph.nodes v) kids)) (sym what)))
+        (λ v. sym (mention-is graph at kids ok inside are v ∙ ap (λ w. mention_by v w (map (mentions graph.nodes v) kids)) (sym what)))
         (⊎_elim
         (λ p. false_literal_is words costs var positive set (sym is ∙ p) (ruled_out p))
-        (λ p. literal_is words costs var positive set (literal-fits var positive what).0 (λ q. p (is ∙ q)) (λ n h. allowed p n h ∙ ap (λ c. n == cond positive 0 c) priced))
+        (λ p. literal_is words costs var positive set (literal-fits graph at kids ok inside are var positive what).0 (λ q. p (is ∙ q)) (λ n h. allowed p n h ∙ ap (λ c. n == cond positive 0 c) priced))
         (false_or_not leaf)) where
           false_or_not : (leaf : Leaf) → (leaf ≡ False) ⊎ (leaf ≡ False → ⊥)
           false_or_not True = inr (λ e. cc)
@@ -117,16 +97,12 @@ module _ (graph : Graph) (at : ℕ) (kids : List ℕ) (ok : IsGraph graph) (insi
     pub and_all : (j : ℕ) (set : List ℕ) → (node_at graph.nodes at).what ≡ And → length kids ≤ j → AndSet j set → IsNodeSet graph words costs at set
     and_all j set what le is = same_is words costs _ _ _ _ set
         (λ a. ap (λ ks. list_all (λ b. b) (map (λ k. is_true graph.nodes k a) ks)) (take_all j kids le) ∙ sym (truth-is a ∙ ap (λ w. truth_by a w (map (λ k. is_true graph.nodes k a) kids)) what))
-        (λ v. ap (λ ks. list_any (λ b. b) (map (mentions graph.nodes v) ks)) (take_all j kids le) ∙ sym (mention-is v ∙ ap (λ w. mention_by v w (map (mentions graph.nodes v) kids)) what)) is
+        (λ v. ap (λ ks. list_any (λ b. b) (map (mentions graph.nodes v) ks)) (take_all j kids le) ∙ sym (mention-is graph at kids ok inside are v ∙ ap (λ w. mention_by v w (map (mentions graph.nodes v) kids)) what)) is
 
     -- ---- an Or
 
     abbrev pub OrSet : ℕ → List ℕ → Type 0
     OrSet j set = IsCostSet words costs (λ a. list_any (λ b. b) (map (λ k. is_true graph.nodes k a) (take j kids))) (λ v. mentions graph.nodes v at) set
-
-    -- what is below a kid is below the node
-    pub kid-mentions : (j : ℕ) → (node_at graph.nodes at).what ≡ Or → j < length kids → (v : ℕ) → mentions graph.nodes v (get_or kids j 0) ≡ true → mentions graph.nodes v at ≡ true
-    kid-mentions j what lt v e = mention-is v ∙ ap (λ w. mention_by v w (map (mentions graph.nodes v) kids)) what ∙ any_at (mentions graph.nodes v) kids j lt e
 
     pub or_more : (j : ℕ) (old kid set : List ℕ) → j < length kids → length old ≡ length set → length kid ≡ length set → ((n : ℕ) → n < 32 * length set → has_number set n ≡ (has_number old n || has_shifted kid 0 n))
         → OrSet j old → IsCostSet words costs (λ a. is_true graph.nodes (get_or kids j 0) a) (λ v. mentions graph.nodes v at) kid → OrSet (j + 1) set

@@ -3,7 +3,6 @@ pub mod SetBits
 pub mod Sums
 pub mod Among
 pub mod Reaching
-pub mod Missing
 pub mod Growing
 pub mod Kids
 pub mod Stacks
@@ -15,11 +14,9 @@ pub mod Finding
 pub mod Listed
 pub mod StateBits
 pub mod Behind
-pub mod PartSets
 pub mod Spreading
 pub mod Telling
 pub mod PairNodes
 pub mod PairWhole
 pub mod Narrowing
 pub mod Grouping
-pub mod Flags

@@ -18,10 +18,11 @@ use Rattle.conditioner.specs.Words.{known_of, word_of, leaf_of}
 use Rattle.minimiser.specs.Costs.{known_at}
 use Rattle.level_lister.specs.declared.pairs.Pair.{Pair}
 use Rattle.level_lister.specs.declared.pairs.Groups.{Groups}
-use Rattle.level_lister.specs.PartSets.{SameBelow}
+use Rattle.part_sets.specs.PartSets.{SameBelow}
 use Rattle.level_lister.specs.inner.CostSets.{Follows}
 use Rattle.level_lister.specs.inner.Pairs.{Tells, TellsNode, TellNodes, TellsWhole, pair_at, group_in, group_count}
-use Rattle.level_lister.proofs.Kids.{all_push, any_push, apart_from, truth-is, mention-is, kid-mentions}
+use Rattle.part_sets.proofs.Kids.{mention-is, kid-mentions}
+use Rattle.level_lister.proofs.Kids.{all_push, any_push, apart_from, truth-is}
 use Rattle.level_lister.proofs.Telling.{step_below, tells_same}
 
 -- ---- groups
@@ -108,7 +109,7 @@ module _ (graph : Graph) (at : ℕ) (kids : List ℕ) (ok : IsGraph graph) (insi
   pub kid_full : (j : ℕ) (pair : Pair) → (node_at graph.nodes at).what ≡ Or → j < length kids → SameBelow graph (length costs) at → TellsNode graph words costs top groups (get_or kids j 0) pair
       → Told (λ a. is_true graph.nodes (get_or kids j 0) a) (λ v. mentions graph.nodes v at) pair
   kid_full j pair what lt below is = tells_same words costs top (group_count top) (group_in words (length costs) groups) _ _ _ _ pair (on_parts words (length costs) groups) (λ a. refl)
-      (λ v e. kid-mentions graph at kids ok inside are words costs j what lt v e)
+      (λ v e. kid-mentions graph at kids ok inside are j what lt v e)
       (λ v l h. ap (λ ks. mentions graph.nodes v (get_or ks j 0)) are ∙ below j v (subst (λ (ks : List ℕ). j < length ks) are lt) l (omega arith)) is
 
 -- ---- one part

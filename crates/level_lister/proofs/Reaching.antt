@@ -10,9 +10,9 @@ use Rattle.ranking.proofs.Cases.{usual_bit, usual_bit-agrees, agrees_cond}
 use Rattle.conditioner.specs.declared.leaves.Leaf.TheVariants.{False}
 use Rattle.conditioner.specs.Words.{known_of, leaf_of}
 use Rattle.minimiser.specs.Costs.{known_at, part_cost}
-use Rattle.level_lister.specs.PartSets.{has_number}
+use Rattle.part_sets.specs.Numbers.{has_number}
 use Rattle.level_lister.specs.inner.CostSets.{has_shifted, cost_among, AreSums, Follows, Reaches, IsCostSet}
-use Rattle.level_lister.proofs.SetBits.{has-within}
+use Rattle.part_sets.proofs.SetBits.{has-within}
 use Rattle.level_lister.proofs.Among.{among-same, among-none, among-apart, among-one}
 
 module _ (words costs : List ℕ) where

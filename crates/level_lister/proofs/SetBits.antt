@@ -1,12 +1,11 @@
--- The bits of words, and the numbers in sets.
-use Rattle.std.proofs.Common.{◌≡◌, ℕ, zero, suc, ◌+◌, ◌-◌, ◌*◌, ◌/◌, ◌%◌, ◌^◌, ◌<◌, ◌≤◌, max, Bool, true, false, ◌&&◌, ◌||◌, List, length, get_or, set, refl, ap, sym, ◌∙◌, arith, ⊎_elim, bit_and, bit_or}
-use Rattle.std.specs.Prelude.{◌==◌, nat_lt}
+-- Words whose numbers are greater.
+use Rattle.std.proofs.Common.{◌≡◌, ℕ, zero, suc, ◌+◌, ◌-◌, ◌*◌, ◌/◌, ◌%◌, ◌^◌, ◌<◌, ◌≤◌, Bool, false, ◌&&◌, List, get_or, ap, sym, ◌∙◌, arith, ⊎_elim, bit_and, bit_or}
+use Rattle.std.specs.Prelude.{◌==◌}
 use Rattle.std.specs.Int.{bit_at}
-use Rattle.std.proofs.lemmas.Nat.{or_shifted, shl_whole, one_shl, shr-shr}
-use Rattle.std.proofs.lemmas.Nat.Bits.{bit_at-zero, bit_at_and, bit_at_or, bit_at_ones, bit_at-lt, bit_at-pow_same, bit_at-pow_other, bit_at_cat_low, bit_at_cat_high}
-use Rattle.std.proofs.lemmas.Bool.{cases_eq, cases_lt, lt-ltb, le-ltb, le-leb, lt-leb, eq-eqb, ne_eqb, false≢true}
-use Rattle.std.proofs.lemmas.List.{get_or-set_same, get_or-set_other, get_or_past}
-use Rattle.level_lister.specs.PartSets.{has_number}
+use Rattle.std.proofs.lemmas.Nat.{or_shifted, shl_whole, shr-shr}
+use Rattle.std.proofs.lemmas.Nat.Bits.{bit_at-zero, bit_at_and, bit_at_ones, bit_at-lt, bit_at_cat_low, bit_at_cat_high}
+use Rattle.std.proofs.lemmas.Bool.{cases_lt, le-leb, lt-leb}
+use Rattle.part_sets.specs.Numbers.{has_number}
 use Rattle.level_lister.specs.inner.CostSets.{has_shifted, word_before}
 
 -- ---- one word
@@ -36,52 +35,7 @@ pub joined_above : (high low more b : ℕ) → high < 2 ^ 32 → low < 2 ^ 32 �
 joined_above high low more b h l m le lt =
     joined high low more b h l lt ∙ bit_at_cat_high high 32 low (32 - more + b) l (omega arith) ∙ ap (bit_at high) (omega arith)
 
--- ---- the numbers in a set
-
-pub none_at : (set : List ℕ) (n : ℕ) → get_or set (n / 32) 0 ≡ 0 → has_number set n ≡ false
-none_at set n e = ap (λ w. bit_at w (n % 32) == 1) e ∙ ap (λ b. b == 1) (bit_at-zero (n % 32))
-
--- a set has no number that it has no room for
-pub has-within : (set : List ℕ) (n : ℕ) → has_number set n ≡ true → n < 32 * length set
-has-within set n e = ⊎_elim (λ p. omega arith) (λ p. absurd (false≢true (sym (none_at set n (get_or_past set (n / 32) 0 p)) ∙ e))) (cases_lt (n / 32) (length set))
-
-abbrev one_bit : ℕ → ℕ
-one_bit r = 1 * 2 ^ r % 4294967296
-
-one_bit-is : (r : ℕ) → r < 32 → one_bit r ≡ 2 ^ r
-one_bit-is r h = one_shl r 32 h
-
--- one bit is put into an empty set
-pub one_is : (xs : List ℕ) (cost n : ℕ) → ((m : ℕ) → has_number xs m ≡ false) → cost / 32 < length xs → has_number (set xs (cost / 32) (1 * 2 ^ (cost % 32) % 4294967296)) n ≡ (n == cost)
-one_is xs cost n none h = ⊎_elim (λ e. here e) (λ ne. there ne) (cases_eq (n / 32) (cost / 32)) where
-  word : ℕ
-  word = 1 * 2 ^ (cost % 32) % 4294967296
-
-  here : n / 32 ≡ cost / 32 → has_number (set xs (cost / 32) (1 * 2 ^ (cost % 32) % 4294967296)) n ≡ (n == cost)
-  here e =
-      let at : get_or (set xs (cost / 32) (1 * 2 ^ (cost % 32) % 4294967296)) (n / 32) 0 ≡ 2 ^ (cost % 32) =
-      ap (λ k. get_or (set xs (cost / 32) (1 * 2 ^ (cost % 32) % 4294967296)) k 0) e ∙ get_or-set_same xs (cost / 32) _ 0 h ∙ one_bit-is (cost % 32) (omega arith) in
-      ap (λ w. bit_at w (n % 32) == 1) at ∙ ⊎_elim
-      (λ same. ap (λ b. b == 1) (ap (bit_at (2 ^ (cost % 32))) same ∙ bit_at-pow_same (cost % 32)) ∙ sym (eq-eqb n cost (omega arith)))
-      (λ other. ap (λ b. b == 1) (bit_at-pow_other (cost % 32) (n % 32) other) ∙ sym (ne_eqb n cost (λ q. other (ap (λ m. m % 32) q))))
-      (cases_eq (n % 32) (cost % 32))
-
-  there : (n / 32 ≡ cost / 32 → ⊥) → has_number (set xs (cost / 32) (1 * 2 ^ (cost % 32) % 4294967296)) n ≡ (n == cost)
-  there ne = ap (λ w. bit_at w (n % 32) == 1) (get_or-set_other xs (cost / 32) (n / 32) _ 0 ne) ∙ none n ∙ sym (ne_eqb n cost (λ q. ne (ap (λ m. m / 32) q)))
-
--- a bit of two words
-pub or-bit : (x y b : ℕ) → (bit_at (bit_or x y) b == 1) ≡ ((bit_at x b == 1) || (bit_at y b == 1))
-or-bit x y b = ap (λ m. m == 1) (bit_at_or x y b) ∙ by_bits (bit_at x b) (bit_at y b) (bit_at-lt x b) (bit_at-lt y b) where
-  by_bits : (p q : ℕ) → p < 2 → q < 2 → (max p q == 1) ≡ ((p == 1) || (q == 1))
-  by_bits zero zero h g = refl
-  by_bits zero (suc zero) h g = refl
-  by_bits (suc zero) zero h g = refl
-  by_bits (suc zero) (suc zero) h g = refl
-  by_bits (suc (suc p)) q h g = absurd (omega arith)
-  by_bits zero (suc (suc q)) h g = absurd (omega arith)
-  by_bits (suc zero) (suc (suc q)) h g = absurd (omega arith)
-
--- ---- a word whose numbers are greater
+-- ---- the numbers of a set
 
 pub never_shifted : (xs : List ℕ) (more n : ℕ) → n < more → has_shifted xs more n ≡ false
 never_shifted xs more n h = ap (λ b. b && has_number xs (n - more)) (lt-leb more n h)
@@ -100,45 +54,3 @@ shifted_is xs i more at low word place is below above n e = ⊎_elim
       by_place : (at : ℕ) → at + more / 32 ≡ i → low ≡ word_before xs at → n % 32 < more % 32 → (bit_at low (32 - more % 32 + n % 32) == 1) ≡ has_shifted xs more n
       by_place zero place is lt = ap (λ w. bit_at w (32 - more % 32 + n % 32) == 1) is ∙ ap (λ b. b == 1) (bit_at-zero (32 - more % 32 + n % 32)) ∙ sym (never_shifted xs more n (omega arith))
       by_place (suc k) place is lt = ap (λ w. bit_at w (32 - more % 32 + n % 32) == 1) is ∙ sym (shifted_to xs more n k (32 - more % 32 + n % 32) (omega arith) (omega arith) (omega arith))
-
--- ---- words one after the other
-
--- the words before one have got the numbers of another set
-abbrev pub AreAdded : List ℕ → List ℕ → ℕ → ℕ → List ℕ → Type 0
-AreAdded old other more i new = (n : ℕ) → has_number new n ≡ (has_number old n || (nat_lt (n / 32) i && has_shifted other more n))
-
-pub added_none : (old other : List ℕ) (more : ℕ) → AreAdded old other more 0 old
-added_none old other more n = sym (or-none (has_number old n) (ap (λ b. b && has_shifted other more n) (le-ltb (n / 32) 0 (omega arith)))) where
-  or-none : (x : Bool) {y : Bool} → y ≡ false → (x || y) ≡ x
-  or-none true e = refl
-  or-none false e = e
-
-pub added_more : (old other xs : List ℕ) (more i word : ℕ) → i < length xs → AreAdded old other more i xs → ((n : ℕ) → n / 32 ≡ i → (bit_at word (n % 32) == 1) ≡ has_shifted other more n)
-    → AreAdded old other more (i + 1) (set xs i (bit_or (get_or xs i 0) word))
-added_more old other xs more i word h are is n = ⊎_elim (λ e. here e) (λ ne. there ne) (cases_eq (n / 32) i) where
-  new : List ℕ
-  new = set xs i (bit_or (get_or xs i 0) word)
-
-  here : n / 32 ≡ i → has_number (set xs i (bit_or (get_or xs i 0) word)) n ≡ (has_number old n || (nat_lt (n / 32) (i + 1) && has_shifted other more n))
-  here e =
-      let at : get_or (set xs i (bit_or (get_or xs i 0) word)) (n / 32) 0 ≡ bit_or (get_or xs (n / 32) 0) word =
-      ap (λ k. get_or (set xs i (bit_or (get_or xs i 0) word)) k 0) e ∙ get_or-set_same xs i _ 0 h ∙ ap (λ k. bit_or (get_or xs k 0) word) (sym e) in
-      let was : has_number xs n ≡ has_number old n = are n ∙ or-none (has_number old n) (ap (λ b. b && has_shifted other more n) (le-ltb (n / 32) i (omega arith))) in
-      ap (λ w. bit_at w (n % 32) == 1) at ∙ or-bit (get_or xs (n / 32) 0) word (n % 32)
-      ∙ (λ j. was j || is n e j)
-      ∙ ap (λ b. has_number old n || (b && has_shifted other more n)) (sym (lt-ltb (n / 32) (i + 1) (omega arith))) where
-        or-none : (x : Bool) {y : Bool} → y ≡ false → (x || y) ≡ x
-        or-none true e = refl
-        or-none false e = e
-
-  there : (n / 32 ≡ i → ⊥) → has_number (set xs i (bit_or (get_or xs i 0) word)) n ≡ (has_number old n || (nat_lt (n / 32) (i + 1) && has_shifted other more n))
-  there ne = ap (λ w. bit_at w (n % 32) == 1) (get_or-set_other xs i (n / 32) _ 0 ne) ∙ are n
-      ∙ ap (λ b. has_number old n || (b && has_shifted other more n)) (same_test (n / 32) i ne) where
-        same_test : (m i : ℕ) → (m ≡ i → ⊥) → nat_lt m i ≡ nat_lt m (i + 1)
-        same_test m i ne = ⊎_elim (λ (p : m < i). lt-ltb m i p ∙ sym (lt-ltb m (i + 1) (omega arith)))
-            (λ (p : i ≤ m). le-ltb m i p ∙ sym (le-ltb m (i + 1) (above m i p ne))) (cases_lt m i) where
-              above : (m i : ℕ) → i ≤ m → (m ≡ i → ⊥) → i + 1 ≤ m
-              above m i p ne = grind arith
-
-pub added_all : (old other new : List ℕ) (more i n : ℕ) → length new ≤ i → AreAdded old other more i new → n < 32 * length new → has_number new n ≡ (has_number old n || has_shifted other more n)
-added_all old other new more i n e are h = are n ∙ ap (λ b. has_number old n || (b && has_shifted other more n)) (lt-ltb (n / 32) i (omega arith))

@@ -7,7 +7,7 @@ use Rattle.std.proofs.lemmas.Nat.Bits.{bit_at-zero, bit_at-pow_same, bit_at-pow_
 use Rattle.std.proofs.Math.Nat.{lt-div-mul-add}
 use Rattle.std.proofs.lemmas.Bool.{cases_eq, cases_lt, or_cases, or_left, or_right, eq-eqb, ne_eqb, false≢true}
 use Rattle.level_lister.specs.inner.Pairs.{has_bit, SpreadOf, IsSpread}
-use Rattle.level_lister.proofs.SetBits.{or-bit}
+use Rattle.part_sets.proofs.SetBits.{or-bit}
 
 pub no_bit : (n : ℕ) → has_bit 0 n ≡ false
 no_bit n = ap (λ b. b == 1) (bit_at-zero n)

@@ -1,19 +1,11 @@
--- Sets that stand one behind the other.
-use Rattle.std.proofs.Common.{◌≡◌, ℕ, ◌+◌, ◌*◌, ◌<◌, ◌≤◌, List, ◌++◌, length, take, drop, refl, ap, sym, ◌∙◌, subst, arith, ⊎_elim}
-use Rattle.std.proofs.lemmas.List.{take-append-le, drop-append-le, drop_at, take_at, length-drop}
+-- Sets of costs that stand one behind the other.
+use Rattle.std.proofs.Common.{◌≡◌, ℕ, ◌+◌, ◌*◌, ◌<◌, ◌≤◌, List, ◌++◌, length, ap, sym, ◌∙◌, subst, arith, ⊎_elim}
 use Rattle.std.proofs.lemmas.Bool.{cases_lt}
 use Rattle.graph_rules.specs.Graphs.{Graph}
-use Rattle.level_lister.specs.PartSets.{set_at}
+use Rattle.part_sets.specs.Numbers.{set_at}
+use Rattle.part_sets.proofs.Kids.{room_for}
+use Rattle.part_sets.proofs.Stacks.{set_at-front, set_at-here}
 use Rattle.level_lister.specs.inner.NodeSets.{IsNodeSet, AreNodeSets}
-use Rattle.level_lister.proofs.Kids.{room_for}
-
-pub set_at-front : (front back : List ℕ) (k size : ℕ) → k * size + size ≤ length front → set_at (front ++ back) k size ≡ set_at front k size
-set_at-front front back k size h =
-    ap (take size) (drop-append-le (k * size) front back (omega arith))
-    ∙ take-append-le size (drop (k * size) front) back (omega (arith, length-drop (k * size) front))
-
-pub set_at-here : (front set back : List ℕ) (k size : ℕ) → length front ≡ k * size → length set ≡ size → set_at (front ++ (set ++ back)) k size ≡ set
-set_at-here front set back k size h l = ap (λ n. take size (drop n (front ++ (set ++ back)))) (sym h) ∙ ap (take size) (drop_at front (set ++ back) (length front) refl) ∙ take_at set back size l
 
 module _ (graph : Graph) (words costs : List ℕ) (size : ℕ) where
   -- the sets before a node, and that of the node

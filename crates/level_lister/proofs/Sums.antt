@@ -2,9 +2,9 @@
 use Rattle.std.proofs.Common.{◌≡◌, ℕ, ◌+◌, ◌-◌, ◌*◌, ◌<◌, ◌≤◌, true, false, ◌||◌, List, length, ap, sym, ◌∙◌, arith, ⊎_elim}
 use Rattle.std.specs.Prelude.{nat_le}
 use Rattle.std.proofs.lemmas.Bool.{cases_lt, and_parts, and_from, or_cases, or_left, or_right, le-leb, leb-true, false≢true}
-use Rattle.level_lister.specs.PartSets.{has_number}
+use Rattle.part_sets.specs.Numbers.{has_number}
 use Rattle.level_lister.specs.inner.CostSets.{has_shifted, SumOf, AreSums}
-use Rattle.level_lister.proofs.SetBits.{has-within}
+use Rattle.part_sets.proofs.SetBits.{has-within}
 
 -- no sum is added where the right set has not the cost
 pub sums_skip : (left right set : List ℕ) (cost : ℕ) → AreSums left right cost set → has_number right cost ≡ false → AreSums left right (cost + 1) set

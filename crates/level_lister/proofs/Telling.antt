@@ -11,11 +11,11 @@ use Rattle.minimiser.specs.Costs.{known_at}
 use Rattle.level_lister.specs.declared.pairs.Pair.{Pair}
 use Rattle.level_lister.specs.inner.CostSets.{cost_among, Follows}
 use Rattle.level_lister.specs.inner.Pairs.{has_bit, SpreadOf, IsSpread, Meets, AreCosts, HasFault, Tells}
-use Rattle.level_lister.proofs.SetBits.{or-bit}
+use Rattle.part_sets.proofs.SetBits.{or-bit}
 use Rattle.level_lister.proofs.Among.{among-same, among-none, among-apart, among-one}
 use Rattle.level_lister.proofs.Reaching.{usual, usual-follows, set_to, set_to-here, set_to-follows}
 use Rattle.level_lister.proofs.Spreading.{no_bit, one_bit}
-use Rattle.level_lister.proofs.Kids.{room_for}
+use Rattle.part_sets.proofs.Kids.{room_for}
 
 -- ---- one word
 

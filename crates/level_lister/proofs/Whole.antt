@@ -5,7 +5,7 @@ use Rattle.ranking.specs.Bits.{bit_in}
 use Rattle.ranking.specs.Ranking.{cost}
 use Rattle.graph_rules.specs.Graphs.{Graph, IsGraph}
 use Rattle.minimiser.proofs.Whole.{state_of, assignment_of}
-use Rattle.level_lister.specs.PartSets.{has_number}
+use Rattle.part_sets.specs.Numbers.{has_number}
 use Rattle.level_lister.specs.inner.CostSets.{cost_among}
 use Rattle.level_lister.specs.inner.NodeSets.{IsWholeSet}
 use Rattle.level_lister.specs.inner.Searching.{HasCost}

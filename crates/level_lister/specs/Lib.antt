@@ -1,4 +1,3 @@
-pub mod PartSets
 pub mod Listing
 pub mod Bits
 pub mod inner

@@ -7,8 +7,9 @@ use Rattle.minimiser.specs.declared.pass.TheConstants.{TOTAL_LIMIT}
 use Rattle.ranking.specs.Levels.{levels, levels_rest}
 use Rattle.level_lister.specs.declared.levels.LevelStep.{LevelStep}
 use Rattle.level_lister.specs.declared.levels.LevelStep.TheVariants.{Found, End, Inconsistent}
-use Rattle.level_lister.specs.declared.levels.TheConstants.{TOP_LIMIT, PART_LIMIT}
-use Rattle.level_lister.specs.PartSets.{AreBelow, AreLacking}
+use Rattle.part_sets.specs.declared.kept.TheConstants.{PART_LIMIT}
+use Rattle.level_lister.specs.declared.levels.TheConstants.{TOP_LIMIT}
+use Rattle.part_sets.specs.PartSets.{AreBelow, AreLacking}
 
 -- the costs of the parts, the greatest cost that is listed, and for each node of a graph the parts below it and whether a kid lacks
 -- one of them

@@ -1,7 +1,8 @@
 ghost use Rattle.std.specs.Prelude.{◌≡◌, ◌^◌, ◌<◌, ◌≤◌};
 ghost use Rattle.level_lister.specs.Bits.{level_bits};
 
-use crate::levels::{PART_LIMIT, TOP_LIMIT};
+use crate::levels::TOP_LIMIT;
+use part_sets::PART_LIMIT;
 
 /// How many bits the sets of a graph may take that is compiled from clauses with this sum and so many variables: for each node the
 /// parts below it, and its costs up to a greatest one.

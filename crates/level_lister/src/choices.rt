@@ -1,11 +1,12 @@
 //! Parts that are free to be ok or faulty, since a kid of a node does not mention them.
 ghost use Rattle.std.specs.Prelude.{◌≡◌, ◌≢◌, ℕ, ◌+◌, ◌*◌, ◌<◌, ◌≤◌, Bool, true, false, not, ◌&&◌, ◌||◌, length, All, ◌==◌};
 ghost use Rattle.ranking.specs.Assignments.{Assignment};
-ghost use Rattle.level_lister.specs.PartSets.{has_number, size_of, ArePartsOf};
+ghost use Rattle.part_sets.specs.Numbers.{has_number, part_words};
+ghost use Rattle.part_sets.specs.PartSets.{ArePartsOf};
 ghost use Rattle.level_lister.specs.inner.CostSets.{has_shifted, IsCostSet};
 
-use crate::levels::PART_LIMIT;
-use crate::sets::{WIDTH, add_shifted, clear};
+use crate::sets::add_shifted;
+use part_sets::{PART_LIMIT, clear, next_missing};
 
 // Lets each part be free that is below a node and not below a kid of it: the set of the kid's costs becomes one of the costs of all
 // parts below the node.
@@ -20,8 +21,8 @@ pub(crate) fn widen(
     requires words { All (λ w. w < 3) words.now }
     requires parts { length costs.now ≤ length words.now }
     requires few { length costs.now ≤ PART_LIMIT }
-    requires outer { length outer.now ≡ size_of (length costs.now) }
-    requires inner { length inner.now ≡ size_of (length costs.now) }
+    requires outer { length outer.now ≡ part_words (length costs.now) }
+    requires inner { length inner.now ≡ part_words (length costs.now) }
     requires spare { length spare.old ≡ length set.old }
     ensures { (test : Assignment → Bool) (some more : ℕ → Bool)
         → ArePartsOf (length costs.now) some inner.now → ArePartsOf (length costs.now) more outer.now
@@ -50,24 +51,4 @@ fn add_part(word: u32, cost: u32, set: &mut [u32], spare: &mut [u32])
         clear(set);
     }
     add_shifted(set, spare, cost as usize);
-}
-
-// The first number from one on that the outer set has and the inner one has not, or one that is past both.
-pub(crate) fn next_missing(outer: &[u32], inner: &[u32], from: usize) -> usize
-    requires inner { length inner.now ≡ length outer.now }
-    requires few { length outer.now ≤ 128 }
-    ensures from { from ≤ result }
-    ensures before { (p : ℕ) → from ≤ p → p < result → (has_number outer.now p && not (has_number inner.now p)) ≡ false }
-    ensures found { result < 32 * length outer.now
-        → (has_number outer.now result && not (has_number inner.now result)) ≡ true }
-{
-    let mut at = from;
-    while at < WIDTH * outer.len() {
-        let gap = (outer[at / WIDTH] & !inner[at / WIDTH]) >> (at % WIDTH);
-        if gap != 0 {
-            return at + gap.trailing_zeros() as usize;
-        }
-        at = (at / WIDTH + 1) * WIDTH;
-    }
-    at
 }

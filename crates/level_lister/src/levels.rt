@@ -5,12 +5,11 @@ ghost use Rattle.scratch_pool.specs.Regions.{free_words};
 ghost use Rattle.level_lister.specs.Listing.{IsFor, cost_words, point_if, later_levels, level_step};
 ghost use Rattle.level_lister.specs.Passes.{AreEnough, most_passes};
 
-use crate::below::parts_below;
-use crate::lacking::nodes_lacking;
 use crate::search::Search;
 use crate::states::{keep, put_back, read_state};
 use minimiser::{Steps, TOTAL_LIMIT};
 use node_store::Graph;
+use part_sets::{PART_LIMIT, PartSets};
 use scratch_pool::Region;
 use std::alloc::{AllocError, Global};
 use std::marker::{Brand, Model};
@@ -18,9 +17,6 @@ use std::sync::ledger::{Blank, Ledger};
 
 /// States of more than this cost are never listed.
 pub const TOP_LIMIT: u32 = 4_096_000;
-
-/// A graph has at most so many parts.
-pub const PART_LIMIT: usize = 4_096;
 
 /// What comes next.
 #[derive(Clone, Copy, Debug, PartialEq, Eq)]
@@ -38,10 +34,7 @@ pub enum LevelStep {
 pub struct Levels {
     costs: Vec<u32>,
     top: u32,
-    // for each node the parts below it, and behind them all parts
-    below: Vec<u32>,
-    // for each node a word that is 0 only where no kid lacks one of these, and behind them one that is 0 where the last node lacks none
-    lacking: Vec<u32>,
+    sets: PartSets,
 }
 
 impl Model for Levels {
@@ -49,7 +42,7 @@ impl Model for Levels {
 
     ghost Value = { Kept };
 
-    ghost view = { λ l. record { costs = l.costs.items; top = l.top; below = l.below.items; lacking = l.lacking.items } };
+    ghost view = { λ l. record { costs = l.costs.items; top = l.top; below = l.sets.below; lacking = l.sets.lacking } };
 }
 
 impl Levels {
@@ -64,13 +57,10 @@ impl Levels {
         ensures costs { IfOk result (λ levels. levels.costs ≡ costs.now) }
         ensures top { IfOk result (λ levels. levels.top ≡ top) }
     {
-        let below = parts_below(alloc, graph, costs.len())?;
-        let lacking = nodes_lacking(alloc, graph, &below, costs.len())?;
         Ok(Levels {
             costs: costs.to_vec(alloc)?,
             top,
-            below,
-            lacking,
+            sets: PartSets::new(alloc, graph, costs.len())?,
         })
     }
 
@@ -139,13 +129,21 @@ impl Levels {
     pub(crate) fn below(&self) -> &[u32]
         ensures { result.now ≡ self.now.below }
     {
-        &self.below
+        self.sets.below()
     }
 
     pub(crate) fn lacking(&self) -> &[u32]
         ensures { result.now ≡ self.now.lacking }
     {
-        &self.lacking
+        self.sets.lacking()
+    }
+
+    /// The sets of parts that are kept of the graph.
+    pub fn sets(&self) -> &PartSets
+        ensures below { result.now.below ≡ self.now.below }
+        ensures lacking { result.now.lacking ≡ self.now.lacking }
+    {
+        &self.sets
     }
 
     /// How many words one step needs.

@@ -1,10 +1,8 @@
 //! The health states that a graph allows under the words of its variables, by rising cost, one after the other.
 #![tactic(auto)]
 
-mod below;
 mod bits;
 mod choices;
-mod lacking;
 mod levels;
 mod pair_pass;
 mod pairs;
@@ -16,4 +14,4 @@ mod settling;
 mod states;
 
 pub use bits::level_bits;
-pub use levels::{LevelStep, Levels, PART_LIMIT, TOP_LIMIT};
+pub use levels::{LevelStep, Levels, TOP_LIMIT};

@@ -7,16 +7,16 @@ ghost use Rattle.graph_rules.specs.declared.NodeKind.TheVariants.{And, Or};
 ghost use Rattle.graph_rules.specs.Graphs.{node_at};
 ghost use Rattle.minimiser.specs.Costs.{known_at};
 ghost use Rattle.level_lister.specs.Passes.{group_count};
-ghost use Rattle.level_lister.specs.PartSets.{size_of, set_at, ArePartsOf, SameBelow};
+ghost use Rattle.part_sets.specs.Numbers.{part_words, set_at};
+ghost use Rattle.part_sets.specs.PartSets.{ArePartsOf, SameBelow};
 ghost use Rattle.level_lister.specs.inner.Pairs.{has_bit, Tells, TellsNode, TellNodes, TellsWhole, group_in, pair_at};
 
-use crate::choices::next_missing;
-use crate::levels::{Levels, PART_LIMIT};
+use crate::levels::Levels;
 use crate::pairs::{Groups, Pair, either, joined, one};
-use crate::pass::{set_at, size_of};
 use crate::search::Search;
 use conditioner::{Leaf, leaf};
 use graph_rules::NodeKind;
+use part_sets::{PART_LIMIT, next_missing, part_words, set_at};
 
 // What costs nothing, and has no faulty part.
 const FREE: Pair = Pair {
@@ -140,18 +140,18 @@ impl Levels {
         requires few { length self.now.costs ≤ PART_LIMIT }
         requires top { self.now.top < 32 }
         requires size { 0 < groups.size }
-        requires inner { inner * size_of (length self.now.costs) + size_of (length self.now.costs) ≤ length self.now.below }
-        requires outer { outer * size_of (length self.now.costs) + size_of (length self.now.costs) ≤ length self.now.below }
+        requires inner { inner * part_words (length self.now.costs) + part_words (length self.now.costs) ≤ length self.now.below }
+        requires outer { outer * part_words (length self.now.costs) + part_words (length self.now.costs) ≤ length self.now.below }
         ensures { (test : Assignment → Bool) (some more : ℕ → Bool)
-            → ArePartsOf (length self.now.costs) some (set_at self.now.below inner (size_of (length self.now.costs)))
-            → ArePartsOf (length self.now.costs) more (set_at self.now.below outer (size_of (length self.now.costs)))
+            → ArePartsOf (length self.now.costs) some (set_at self.now.below inner (part_words (length self.now.costs)))
+            → ArePartsOf (length self.now.costs) more (set_at self.now.below outer (part_words (length self.now.costs)))
             → ((v : ℕ) → some v ≡ true → more v ≡ true)
             → Tells words.now self.now.costs self.now.top (group_count self.now.top) (group_in words.now (length self.now.costs) groups) test some pair
             → Tells words.now self.now.costs self.now.top (group_count self.now.top) (group_in words.now (length self.now.costs) groups) test more result }
     {
         let parts = self.costs().len();
-        let below = set_at(self.below(), outer, size_of(parts));
-        let own = set_at(self.below(), inner, size_of(parts));
+        let below = set_at(self.below(), outer, part_words(parts));
+        let own = set_at(self.below(), inner, part_words(parts));
         let mut pair = pair;
         let mut part = next_missing(below, own, 0);
         while part < parts {

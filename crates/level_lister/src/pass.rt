@@ -1,18 +1,18 @@
 //! One pass over the nodes, which brings the set of the costs of each.
 ghost use Rattle.std.specs.Prelude.{◌≡◌, ◌≢◌, ℕ, ◌+◌, ◌*◌, ◌<◌, ◌≤◌, false, List, length, All, ◌==◌, if◌then◌else◌};
 ghost use Rattle.conditioner.specs.declared.leaves.Leaf.{Leaf};
-ghost use Rattle.level_lister.specs.PartSets.{has_number, size_of, set_at};
+ghost use Rattle.part_sets.specs.Numbers.{has_number, part_words, set_at};
 ghost use Rattle.graph_rules.specs.declared.NodeKind.TheVariants.{And, Or};
 ghost use Rattle.graph_rules.specs.Graphs.{node_at};
 ghost use Rattle.minimiser.specs.Costs.{part_cost};
 ghost use Rattle.level_lister.specs.inner.NodeSets.{IsNodeSet, AreNodeSets, IsWholeSet};
 
 use crate::choices::widen;
-use crate::levels::PART_LIMIT;
 use crate::search::Search;
-use crate::sets::{SET_LIMIT, add_shifted, clear, put_one, put_sums};
+use crate::sets::{SET_LIMIT, add_shifted, put_sums};
 use conditioner::{Leaf, leaf};
 use graph_rules::NodeKind;
+use part_sets::{clear, part_words, put_one, set_at};
 
 impl Search<'_> {
     // Brings the set of the costs of each node, and that of the costs of all parts at which the last node can be true.
@@ -35,7 +35,7 @@ impl Search<'_> {
         whole.copy_from_slice(set_at(sets, root, whole.len()));
         let costs = self.levels.costs();
         let below = self.levels.below();
-        let size = size_of(costs.len());
+        let size = part_words(costs.len());
         widen(
             set_at(below, root + 1, size),
             set_at(below, root, size),
@@ -143,7 +143,7 @@ impl Search<'_> {
         let size = set.len();
         let costs = self.levels.costs();
         let below = self.levels.below();
-        let parts = size_of(costs.len());
+        let parts = part_words(costs.len());
         let own = set_at(below, at as usize, parts);
         clear(set);
         for kid in self.graph.kids(at) {
@@ -159,24 +159,6 @@ impl Search<'_> {
             add_shifted(set, spare, 0);
         }
     }
-}
-
-// How many words the set of so many numbers has.
-pub(crate) fn size_of(count: usize) -> usize
-    requires { count ≤ PART_LIMIT }
-    ensures { result ≡ size_of count }
-{
-    count.div_ceil(32)
-}
-
-// The set of one of those that stand one behind the other.
-pub(crate) fn set_at(sets: &[u32], k: usize, size: usize) -> &[u32]
-    requires { k * size + size ≤ length sets.now }
-    ensures set { result.now ≡ set_at sets.now k size }
-    ensures long { length result.now ≡ size }
-{
-    let start = k * size;
-    &sets[start..start + size]
 }
 
 // What the failure of a variable's part costs, and 0 for one that is no part's.

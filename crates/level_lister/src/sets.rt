@@ -1,47 +1,13 @@
-//! Sets of numbers, as bits of words.
+//! Sets of costs, as bits of words.
 ghost use Rattle.std.specs.Prelude.{◌≡◌, ℕ, ◌+◌, ◌-◌, ◌*◌, ◌/◌, ◌%◌, ◌<◌, ◌≤◌, ◌||◌, false, length, ◌==◌};
 ghost use Rattle.std.specs.Int.{bit_at};
-ghost use Rattle.level_lister.specs.PartSets.{has_number};
+ghost use Rattle.part_sets.specs.Numbers.{has_number};
 ghost use Rattle.level_lister.specs.inner.CostSets.{has_shifted, word_before, AreSums};
 
-/// How many numbers a word tells.
-pub(crate) const WIDTH: usize = 32;
+use part_sets::{WIDTH, clear, has_number};
 
 /// A set has at most so many words: those for the costs up to the greatest that is listed.
 pub const SET_LIMIT: usize = 128_001;
-
-// Whether a set has a number.
-pub(crate) fn has_number(set: &[u32], number: usize) -> bool
-    requires { number < 32 * length set.now }
-    ensures { result ≡ has_number set.now number }
-{
-    (set[number / WIDTH] >> (number % WIDTH)) & 1 == 1
-}
-
-// Makes a set empty.
-pub(crate) fn clear(set: &mut [u32])
-    ensures { (n : ℕ) → has_number set.new n ≡ false }
-{
-    set.fill(0);
-}
-
-// Makes a set of one number, if it has room for it.
-pub(crate) fn put_one(set: &mut [u32], cost: usize)
-    ensures { (n : ℕ) → n < 32 * length set.old → has_number set.new n ≡ (n == cost) }
-{
-    clear(set);
-    if cost / WIDTH < set.len() {
-        set[cost / WIDTH] = 1 << (cost % WIDTH);
-    }
-}
-
-// Adds a number to a set.
-pub(crate) fn add_one(set: &mut [u32], number: usize)
-    requires { number < 32 * length set.old }
-    ensures { (n : ℕ) → has_number set.new n ≡ (has_number set.old n || (n == number)) }
-{
-    set[number / WIDTH] |= 1 << (number % WIDTH);
-}
 
 // Adds to a set the numbers of another, each of them greater by so much.
 pub(crate) fn add_shifted(set: &mut [u32], other: &[u32], more: usize)

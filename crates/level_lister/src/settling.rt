@@ -9,9 +9,9 @@ ghost use Rattle.level_lister.specs.inner.Searching.{OfCost, HasCost, Settled, N
 
 use crate::pairs::{Groups, has_bit};
 use crate::search::Search;
-use crate::sets::has_number;
 use crate::states::{fix_ok, fixed_cost, follow};
 use minimiser::Steps;
+use part_sets::has_number;
 use std::sync::ledger::Ledger;
 
 // No part is in any group.

@@ -5,6 +5,7 @@ ghost use Rattle.device_model.specs.Devices.{place_of};
 ghost use Rattle.device_model.specs.declared.limits.TheConstants.{PART_LIMIT, WIRE_LIMIT};
 ghost use Rattle.conditioner.specs.Models.{total_cost};
 ghost use Rattle.minimiser.specs.declared.pass.TheConstants.{TOTAL_LIMIT};
+ghost use Rattle.part_sets.specs.PartSets.{AreFor};
 ghost use Rattle.level_lister.specs.Listing.{IsFor};
 ghost use Rattle.level_lister.specs.declared.levels.TheConstants.{TOP_LIMIT};
 ghost use Rattle.scratch_pool.specs.declared.region.TheConstants.{REGION_LIMIT};
@@ -15,9 +16,9 @@ use crate::name_table::NameTable;
 use device_model::Name;
 use level_lister::Levels;
 use node_store::Graph;
+use part_sets::PartSets;
 use ranking::Extras;
 use scratch_pool::REGION_LIMIT;
-use smooth_nnf::part_words;
 use std::alloc::{AllocError, Global};
 use std::marker::Model;
 
@@ -31,23 +32,25 @@ pub(crate) struct Basis {
     graph: Graph,
     // what lists states by rising cost, where these are told
     levels: Option<Levels>,
+    // what the graph of the diagnoses is drawn with, where it is told and nothing else keeps it
+    sets: Option<PartSets>,
     least: bool,
 }
 
 impl Model for Basis {
     ghost use Rattle.session_rules.specs.GraphSystems.{Subject};
-    ghost use Rattle.session_core.specs.inner.Bases.{IsBasis, ListsLevels, basis_of};
+    ghost use Rattle.session_core.specs.inner.Bases.{IsBasis, ListsLevels, HasSets, basis_of};
 
     ghost Value = { Subject };
 
     ghost view = { λ g. basis_of g.parts g.wires g.costs.items g.graph g.levels g.least };
 
     ghost invariant = { λ g. let subject = basis_of g.parts g.wires g.costs.items g.graph g.levels g.least in
-        IsBasis subject × ListsLevels subject g.levels };
+        IsBasis subject × (ListsLevels subject g.levels × HasSets subject g.levels g.sets) };
 }
 
 impl Basis {
-    ghost use Rattle.session_core.specs.inner.Bases.{IsBasis, AreEnough, level_room, least_room};
+    ghost use Rattle.session_core.specs.inner.Bases.{IsBasis, AreEnough, level_room};
 
     /// Names, costs and a graph. `Err` means that memory ran out.
     pub(crate) fn of(
@@ -76,12 +79,14 @@ impl Basis {
         // a graph is one whose children stand before it and share no variable below an and
         let _nodes = graph.len();
         let levels = levels_of(alloc, &graph, &costs, extras.levels)?;
+        let sets = sets_of(alloc, &graph, costs.len(), extras)?;
         Ok(Basis {
             parts: NameTable::of(alloc, parts)?,
             wires: NameTable::of(alloc, wires)?,
             costs,
             graph,
             levels,
+            sets,
             least: extras.least,
         })
     }
@@ -156,6 +161,17 @@ impl Basis {
         self.levels.is_some()
     }
 
+    /// The sets of parts that the graph of the diagnoses is drawn with.
+    pub(crate) fn part_sets(&self) -> &PartSets
+        requires told { self.now.extras.least ≡ true }
+        ensures { AreFor self.now.graph (length self.now.costs) result.now }
+    {
+        match &self.levels {
+            Some(levels) => levels.sets(),
+            None => self.sets.as_ref().unwrap(),
+        }
+    }
+
     /// Whether the graph of the diagnoses is told.
     pub(crate) fn tells_least(&self) -> bool
         ensures { result ≡ self.now.extras.least }
@@ -172,7 +188,7 @@ impl Basis {
             None => 0,
             Some(levels) => self.level_room(levels),
         };
-        self.probes_room().max(levels).max(self.drawing_room())
+        self.probes_room().max(levels)
     }
 
     /// How many words the probes of all wires work with.
@@ -196,17 +212,6 @@ impl Basis {
         ensures basis { IsBasis self.now }
     {
         levels.room(self.graph())
-    }
-
-    // How many words the graph of the diagnoses is drawn with, where it is told.
-    fn drawing_room(&self) -> usize
-        ensures enough { self.now.extras.least ≡ true → least_room self.now ≤ result }
-        ensures few { result < REGION_LIMIT }
-    {
-        if !self.tells_least() {
-            return 0;
-        }
-        self.nodes() * (2 + part_words(self.parts().len() as u32))
     }
 
     /// How many variables the graph has.
@@ -245,4 +250,21 @@ fn levels_of(
         None => Ok(None),
         Some(top) => Ok(Some(Levels::new(alloc, graph, costs, top)?)),
     }
+}
+
+// The sets of parts, where the graph of the diagnoses is told and what lists states does not keep them.
+fn sets_of(
+    alloc: Global,
+    graph: &Graph,
+    parts: usize,
+    extras: Extras,
+) -> Result<Option<PartSets>, AllocError>
+    requires few { parts ≤ PART_LIMIT }
+    ensures some { IfOk result (λ sets. extras.levels ≡ None → extras.least ≡ true → is_some sets ≡ true) }
+    ensures for_graph { IfOk result (λ sets. IfSome sets (AreFor graph.now parts)) }
+{
+    if extras.least && extras.levels.is_none() {
+        return Ok(Some(PartSets::new(alloc, graph, parts)?));
+    }
+    Ok(None)
 }

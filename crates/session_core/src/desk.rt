@@ -248,6 +248,7 @@ impl Desk {
     {
         write_least(
             self.basis.graph(),
+            self.basis.part_sets(),
             &self.known,
             self.basis.costs(),
             &mut self.room,

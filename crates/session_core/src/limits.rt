@@ -12,5 +12,5 @@ pub const SERVED_VARIABLES: u32 = 110_000;
 pub const SERVED_NODES: u32 = 536_870_912;
 
 /// Where states are listed by rising cost, the sets of the nodes have at most so many bits; where the graph of the diagnoses is told,
-/// so have the words that it is drawn with.
+/// so have the words that it is drawn with and the sets of parts.
 pub const SERVED_BITS: u64 = 2_147_483_648;

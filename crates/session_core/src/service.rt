@@ -18,7 +18,7 @@ use ranking::Extras;
 use std::alloc::Global;
 use std::marker::Model;
 
-/// Sessions over names and a graph, and the line that is being read. It takes all its memory when it is made, and none later.
+/// Sessions over names and a graph, and the line that is being read. As it is written, it takes all its memory when it is made.
 /// It is not `Drop`: [`Service::finish`] spends it.
 pub struct Service {
     pub(crate) sessions: Sessions,

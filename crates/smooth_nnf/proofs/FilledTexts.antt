@@ -11,7 +11,7 @@ use Rattle.text_rules.specs.Tokens.{spaced}
 use Rattle.graph_rules.specs.WrittenGraphs.{node_words}
 use Rattle.nnf_text.proofs.LineTexts.{and-spaced}
 use Rattle.smooth_nnf.specs.Layouts.{filler, fillers}
-use Rattle.smooth_nnf.specs.Sizes.{part_words}
+use Rattle.part_sets.specs.Numbers.{part_words}
 use Rattle.smooth_nnf.specs.inner.Sets.{has_bit, part_at}
 use Rattle.smooth_nnf.specs.inner.Drawings.{Drawing, missing_in, filled_line}
 use Rattle.smooth_nnf.specs.inner.Texts.{numbers_text, bit_text, word_text}

@@ -4,8 +4,7 @@ pub mod Fillers
 pub mod Meaning
 pub mod DrawnLines
 pub mod WholeText
-mod Bits
-mod FillingSets
+mod Lacking
 mod LinePlaces
 mod WordParts
 mod FilledTexts

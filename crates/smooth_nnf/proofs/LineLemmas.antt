@@ -20,7 +20,7 @@ use Rattle.minimiser.specs.Stored.{cost_in}
 use Rattle.minimiser.proofs.Sums.{cost_in-some}
 use Rattle.nnf_text.proofs.LineTexts.{and-spaced, or-spaced}
 use Rattle.smooth_nnf.specs.Layouts.{and_over, own_line, costs_just, cheapest_kids, kid_line, or_behind, or_lines, lines_before, lines_to, own_lines, last_at, last_line}
-use Rattle.smooth_nnf.specs.inner.Drawings.{Drawing, IsDrawing, shown, filled_line}
+use Rattle.smooth_nnf.specs.inner.Drawings.{Drawing, IsDrawing, IsUnder, shown, filled_line}
 use Rattle.smooth_nnf.specs.inner.Texts.{numbers_text, lines_text, kid_text}
 
 pub numbered : (nodes : List Node) (i : ℕ) → i < length nodes → (i, node_at nodes i) ≡ get_or (enumerate_from 0 nodes) i (0, true_node)
@@ -82,6 +82,15 @@ own-at least line number (node ∷ nodes) (suc i) lt =
     let e : (number + 1) + i ≡ number + suc i = omega arith in
     subst (λ n. lines_to least (node_at nodes i) (cost_at least n) ≤ get_or (own_lines least (line + lines_to least node (cost_at least number) + 1) (number + 1) nodes) i 0) e
     (own-at least (line + lines_to least node (cost_at least number) + 1) (number + 1) nodes i (omega arith))
+
+-- a kid of an or
+pub kid-under : (d : Drawing) (node : ℕ) (kids : List ℕ) → node < length d.graph.nodes → node_at d.graph.nodes node ≡ record { what = Or; kids = kids } → (i : ℕ) → i < length kids → IsUnder d (Some node) (get_or kids i 0)
+kid-under d node kids lt at i h = (lt, record {
+  what = ap (λ (n : Node). n.what) at;
+  place = i;
+  within = subst (λ (n : Node). i < length n.kids) (sym at) h;
+  kid_is = ap (λ (n : Node). get_or n.kids i 0) at;
+})
 
 module _ (d : Drawing) (is : IsDrawing d) (valid : IsGraph d.graph) (node : ℕ) (lt : node < length d.graph.nodes) (what : NodeKind) (kids : List ℕ) (at : node_at d.graph.nodes node ≡ record { what = what; kids = kids }) where
   fit : Fits d.graph.vars node (record { what = what; kids = kids })

@@ -1,11 +1,11 @@
 -- The parts of the bits of words.
-use Rattle.std.proofs.Common.{◌≡◌, ℕ, zero, suc, ◌+◌, ◌-◌, ◌*◌, ◌/◌, ◌%◌, ◌^◌, ◌<◌, ◌≤◌, Bool, true, false, not, cond, ◌&&◌, ◌==◌, List, [], ◌∷◌, ◌++◌, length, take, drop, get_or, refl, sym, ap, ◌∙◌, arith, inl, inr, append_assoc, append-nil, length-append}
-use Rattle.std.specs.Prelude.{◌⊎◌, nat_le, bit_and, count_ones}
+use Rattle.std.proofs.Common.{◌≡◌, ℕ, zero, suc, ◌+◌, ◌-◌, ◌*◌, ◌/◌, ◌%◌, ◌^◌, ◌<◌, ◌≤◌, Bool, true, false, not, cond, ◌&&◌, ◌==◌, List, [], ◌∷◌, ◌++◌, length, take, drop, get_or, refl, sym, ap, ◌∙◌, arith, append_assoc, append-nil, length-append}
+use Rattle.std.specs.Prelude.{nat_le, bit_and, count_ones}
 use Rattle.std.specs.Int.{bit_at, w32}
 use Rattle.std.specs.List.{filter, range_with_len}
-use Rattle.std.proofs.lemmas.Bool.{cases_lt, le-leb, leb-true, false_from_ne_true}
-use Rattle.std.proofs.lemmas.Nat.{pow_below, ones-le}
-use Rattle.std.proofs.lemmas.Nat.Bits.{bit_at-suc, bit_at-lt, bit_at_lowest, bit_at_not, bit_at_ones, bit_at_ones_above}
+use Rattle.std.proofs.lemmas.Bool.{le-leb, leb-true, false_from_ne_true}
+use Rattle.std.proofs.lemmas.Nat.{ones-le}
+use Rattle.std.proofs.lemmas.Nat.Bits.{bit_at-suc, bit_at-lt, bit_at_lowest, bit_at_not}
 use Rattle.std.proofs.lemmas.List.{length-take-le, length-drop, get_or-take, get_or-drop}
 use Rattle.std.proofs.lemmas.List.FromFn.{length-range_with_len}
 use Rattle.std.proofs.lemmas.List.Elements.{filter-append}
@@ -14,26 +14,14 @@ use Rattle.graph_rules.specs.Graphs.{mentions}
 use Rattle.scratch_pool.proofs.Counted.{block-below}
 use Rattle.ranking.proofs.Members.{filter_same}
 use Rattle.nnf_text.proofs.Bits.{has_bit-and}
-use Rattle.smooth_nnf.specs.Sizes.{part_words}
+use Rattle.part_sets.specs.Numbers.{part_words}
 use Rattle.smooth_nnf.specs.inner.Sets.{has_bit, part_at}
 use Rattle.smooth_nnf.specs.inner.Drawings.{Drawing, IsDrawing, word_parts, set_parts, part_count}
 use Rattle.smooth_nnf.proofs.Fillers.{in_range}
 use Rattle.smooth_nnf.proofs.DrawnLines.{length-filter-le}
+use Rattle.smooth_nnf.proofs.Lacking.{set-bit}
 
 -- ---- words of which some bits are set
-
-pub full_bits : (parts word b : ℕ) → 32 ≤ parts - 32 * word → b < 32 → has_bit 4294967295 b ≡ nat_le (part_at word b) parts
-full_bits parts word b full s = ap (λ n. n == 1) (bit_at_ones 32 b s) ∙ sym (le-leb (part_at word b) parts (omega arith))
-
-pub last_bits : (parts word b : ℕ) → parts - 32 * word < 32 → 32 * word < parts → b < 32 → has_bit (1 * 2 ^ (parts - 32 * word) % 4294967296 - 1) b ≡ nat_le (part_at word b) parts
-last_bits parts word b short some s =
-    let rest = parts - 32 * word in
-    let fits : 2 ^ rest < 2 ^ 32 = pow_below rest 32 short in
-    let same : 1 * 2 ^ rest % 4294967296 - 1 ≡ 2 ^ rest - 1 = omega arith in
-    ap (λ n. has_bit n b) same ∙ by (cases_lt b rest) where
-      by : (b < parts - 32 * word) ⊎ (parts - 32 * word ≤ b) → has_bit (2 ^ (parts - 32 * word) - 1) b ≡ nat_le (part_at word b) parts
-      by (inl inside) = ap (λ n. n == 1) (bit_at_ones (parts - 32 * word) b inside) ∙ sym (le-leb (part_at word b) parts (omega arith))
-      by (inr past) = ap (λ n. n == 1) (bit_at_ones_above (parts - 32 * word) b past) ∙ sym (false_from_ne_true _ (λ e. let le = leb-true (part_at word b) parts e in absurd (omega arith)))
 
 off-bit : (n : ℕ) → n < 2 → ((1 - n) == 1) ≡ not (n == 1)
 off-bit zero h = refl
@@ -174,14 +162,14 @@ pub node_parts : (d : Drawing) → IsDrawing d → (node : ℕ) → node < lengt
     → length (set_parts 0 set) ≡ part_count d node
 node_parts d is node lt set at =
     let width : ℕ = part_words d.parts in
-    let room = block-below width node (length d.graph.nodes) lt in
-    let enough : width ≤ length (drop (node * width) d.sets) = omega (arith, length-drop (node * width) d.sets, is.room, room) in
+    let room = block-below width node (length d.graph.nodes + 1) (omega arith) in
+    let enough : width ≤ length (drop (node * width) d.sets) = omega (arith, length-drop (node * width) d.sets, is.below.long, room) in
     let long : length set ≡ width = ap length at ∙ length-take-le width (drop (node * width) d.sets) enough in
     let few : d.parts ≤ 32 * length set = omega (arith, long) in
     ap length (set_parts-are (λ p. nat_le p d.parts && mentions d.graph.nodes p node) 0 set (λ i b inside s.
     let first : 0 + i ≡ i = omega arith in
     ap (λ xs. has_bit (get_or xs i 0) b) at ∙ ap (λ n. has_bit n b) (get_or-take width (drop (node * width) d.sets) i 0 (omega (arith, long)) ∙ get_or-drop (node * width) d.sets i 0)
-    ∙ is.below node i b lt (omega (arith, long)) s ∙ ap (λ n. nat_le (part_at n b) d.parts && mentions d.graph.nodes (part_at n b) node) (sym first)))
+    ∙ set-bit d.parts (λ v. mentions d.graph.nodes v node) d.sets node i b (is.below.nodes node lt) (omega (arith, long)) s ∙ ap (λ n. nat_le (part_at n b) d.parts && mentions d.graph.nodes (part_at n b) node) (sym first)))
     ∙ ap length (all-words (λ p. mentions d.graph.nodes p node) d.parts (32 * length set) few)
 
 pub part_count-le : (d : Drawing) (node : ℕ) → part_count d node ≤ d.parts

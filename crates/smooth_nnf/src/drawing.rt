@@ -1,19 +1,18 @@
 //! What a text is drawn from.
-ghost use Rattle.std.specs.Prelude.{◌≡◌, ℕ, ◌*◌, ◌^◌, ◌<◌, ◌≤◌, ◌&&◌, true, not, nat_le, map, length, slice_index};
-ghost use Rattle.graph_rules.specs.Graphs.{mentions};
+ghost use Rattle.std.specs.Prelude.{◌≡◌, ℕ, ◌*◌, ◌^◌, ◌<◌, ◌≤◌, ◌&&◌, true, false, not, nat_le, map, length, slice_index};
 ghost use Rattle.minimiser.specs.Costs.{cost_at};
 ghost use Rattle.minimiser.specs.Stored.{cost_in};
 ghost use Rattle.smooth_nnf.specs.Layouts.{fillers, filler, literal_line};
 ghost use Rattle.std.specs.List.{filter, range_with_len};
-ghost use Rattle.smooth_nnf.specs.Sizes.{part_words};
+ghost use Rattle.part_sets.specs.Numbers.{part_words};
 ghost use Rattle.smooth_nnf.specs.inner.Sets.{has_bit, part_at};
-ghost use Rattle.smooth_nnf.specs.inner.Drawings.{IsDrawing, IsNodeOf, is_over, missing_in, part_count, set_parts};
+ghost use Rattle.smooth_nnf.specs.inner.Drawings.{IsDrawing, IsNodeOf, IsUnder, is_over, missing_in, part_count, set_parts};
 
-use crate::sets::part_words;
 use node_store::Graph;
+use part_sets::{PartSets, part_words, set_at};
 use std::marker::Model;
 
-/// A graph under words, the number of its parts, and the least cost, the own line and the set of parts of each node.
+/// A graph under words, the number of its parts, the least cost and the own line of each node, and what is kept of its parts.
 #[derive(Drop)]
 pub(crate) struct Drawing<'a> {
     pub(crate) graph: &'a Graph,
@@ -21,7 +20,7 @@ pub(crate) struct Drawing<'a> {
     pub(crate) parts: u32,
     pub(crate) values: &'a [u32],
     pub(crate) lines: &'a [u32],
-    pub(crate) sets: &'a [u32],
+    pub(crate) sets: &'a PartSets,
 }
 
 impl<'a> Model for Drawing<'a> {
@@ -29,9 +28,9 @@ impl<'a> Model for Drawing<'a> {
 
     ghost Value = { Kept };
 
-    ghost view = { λ d. record { graph = d.graph.now; words = d.words.now; parts = d.parts; values = d.values.now; lines = d.lines.now; sets = d.sets.now } };
+    ghost view = { λ d. record { graph = d.graph.now; words = d.words.now; parts = d.parts; values = d.values.now; lines = d.lines.now; sets = d.sets.now.below; lacking = d.sets.now.lacking } };
 
-    ghost invariant = { λ d. IsDrawing (record { graph = d.graph.now; words = d.words.now; parts = d.parts; values = d.values.now; lines = d.lines.now; sets = d.sets.now }) };
+    ghost invariant = { λ d. IsDrawing (record { graph = d.graph.now; words = d.words.now; parts = d.parts; values = d.values.now; lines = d.lines.now; sets = d.sets.now.below; lacking = d.sets.now.lacking }) };
 }
 
 impl<'a> Drawing<'a> {
@@ -79,7 +78,7 @@ impl<'a> Drawing<'a> {
     pub(crate) fn width(&self) -> usize
         ensures { result ≡ part_words self.now.parts }
     {
-        part_words(self.parts)
+        part_words(self.parts as usize)
     }
 
     // How many parts a node has below it.
@@ -88,9 +87,7 @@ impl<'a> Drawing<'a> {
         ensures count { result ≡ part_count self.now node }
         ensures most { result ≤ self.now.parts }
     {
-        let width = part_words(self.parts);
-        let start = node as usize * width;
-        count_parts(&self.sets[start..start + width])
+        count_parts(set_at(self.sets.below(), node as usize, self.width()))
     }
 
     // How many parts a line is to have below it.
@@ -105,14 +102,31 @@ impl<'a> Drawing<'a> {
         }
     }
 
+    // Whether nothing is missing below the nodes whose lines are filled in up to the parts of an or, or up to all parts.
+    pub(crate) fn lacks_none(&self, over: Option<u32>) -> bool
+        requires over { IsNodeOf self.now over }
+        ensures { (node part : ℕ) → result ≡ true → IsUnder self.now over node → 1 ≤ part → part ≤ self.now.parts
+            → missing_in self.now over node part ≡ false }
+    {
+        match over {
+            Some(node) => self.sets.lacking()[node as usize] == 0,
+            None => self.sets.lacking()[self.graph.len() as usize] == 0,
+        }
+    }
+
     // How many parts are missing below a node.
     pub(crate) fn missing_count(&self, over: Option<u32>, node: u32) -> u32
         requires node { node < length self.now.graph.nodes }
         requires over { IsNodeOf self.now over }
-        requires wider { (part : ℕ) → mentions self.now.graph.nodes part node ≡ true → is_over self.now.graph.nodes over part ≡ true }
+        requires under { IsUnder self.now over node }
         ensures count { result ≡ length (fillers self.now.words self.now.parts (missing_in self.now over node)) }
         ensures most { result ≤ self.now.parts }
     {
+        if self.lacks_none(over) {
+            return 0;
+        }
+        // Its contract says that this is a graph.
+        let _nodes = self.graph.len();
         self.over_count(over) - self.part_count(node)
     }
 
@@ -123,10 +137,11 @@ impl<'a> Drawing<'a> {
         ensures { (b : ℕ) → b < 32 → has_bit result b
             ≡ (nat_le (part_at word b) self.now.parts && is_over self.now.graph.nodes over (part_at word b)) }
     {
-        match over {
-            Some(over) => self.sets[over as usize * part_words(self.parts) + word],
-            None => parts_in(self.parts, word),
-        }
+        let node = match over {
+            Some(node) => node,
+            None => self.graph.len(),
+        };
+        self.sets.below()[node as usize * self.width() + word]
     }
 
     // The parts of a word that are missing below a node.
@@ -140,7 +155,7 @@ impl<'a> Drawing<'a> {
         let all = self.over_word(over, word);
         without(
             all,
-            self.sets[node as usize * part_words(self.parts) + word],
+            self.sets.below()[node as usize * self.width() + word],
         )
     }
 
@@ -170,19 +185,6 @@ fn without(all: u32, others: u32) -> u32
     ensures { (b : ℕ) → b < 32 → has_bit result b ≡ (has_bit all b && not (has_bit others b)) }
 {
     all & !others
-}
-
-// The parts of a word.
-fn parts_in(parts: u32, word: usize) -> u32
-    requires { word < part_words parts }
-    ensures { (b : ℕ) → b < 32 → has_bit result b ≡ nat_le (part_at word b) parts }
-{
-    let rest = parts as usize - 32 * word;
-    if rest >= 32 {
-        u32::MAX
-    } else {
-        (1 << rest) - 1
-    }
 }
 
 // The line of a part's literal.

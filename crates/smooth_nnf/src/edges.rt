@@ -1,11 +1,11 @@
 //! How many edges the lines have.
 ghost use Rattle.std.specs.Prelude.{◌≡◌, ◌≢◌, ℕ, ◌+◌, ◌*◌, ◌^◌, ◌<◌, ◌≤◌, true, Some, map, length, slice_index, sum_by, All};
-ghost use Rattle.graph_rules.specs.Graphs.{node_at, mentions, IsGraph};
+ghost use Rattle.graph_rules.specs.Graphs.{node_at, IsGraph};
 ghost use Rattle.graph_rules.specs.GraphTexts.{edges};
 ghost use Rattle.minimiser.specs.Costs.{cost_at};
 ghost use Rattle.minimiser.specs.Stored.{cost_in};
 ghost use Rattle.smooth_nnf.specs.Layouts.{all_lines, last_line, lines_by, node_lines};
-ghost use Rattle.smooth_nnf.specs.inner.Drawings.{shown};
+ghost use Rattle.smooth_nnf.specs.inner.Drawings.{IsUnder, shown};
 ghost use Rattle.smooth_nnf.specs.inner.Texts.{kid_edges};
 
 use crate::drawing::Drawing;
@@ -74,8 +74,7 @@ fn or_edges(drawing: &Drawing<'_>, node: u32, kids: &[u32], cost: u32) -> u64
     requires kids { All (λ kid. kid < length drawing.now.graph.nodes) kids.now }
     requires few { length kids.now < 2 ^ 32 }
     requires cost { cost ≢ NONE }
-    requires wider { (i part : ℕ) → i < length kids.now
-        → mentions drawing.now.graph.nodes part (slice_index kids.now i) ≡ true → mentions drawing.now.graph.nodes part node ≡ true }
+    requires is { node_at drawing.now.graph.nodes node ≡ record { what = NodeKind.Or; kids = kids.now } }
     ensures { result ≡ sum_by (kid_edges drawing.now node cost) kids.now }
 {
     let mut total = 0;
@@ -90,7 +89,7 @@ fn kid_edges(drawing: &Drawing<'_>, node: u32, kid: u32, cost: u32) -> u64
     requires node { node < length drawing.now.graph.nodes }
     requires kid { kid < length drawing.now.graph.nodes }
     requires cost { cost ≢ NONE }
-    requires wider { (part : ℕ) → mentions drawing.now.graph.nodes part kid ≡ true → mentions drawing.now.graph.nodes part node ≡ true }
+    requires under { IsUnder drawing.now (Some node) kid }
     ensures count { result ≡ kid_edges drawing.now node cost kid }
     ensures most { result ≤ 2 ^ 31 + 2 }
 {

@@ -4,16 +4,17 @@ ghost use Rattle.std.specs.List.{flat_map, range_with_len};
 ghost use Rattle.diag_edge.specs.Adding.{Adds};
 ghost use Rattle.diag_edge.specs.Edge.{HasCause};
 ghost use Rattle.text_rules.specs.Tokens.{spaced};
-ghost use Rattle.graph_rules.specs.Graphs.{mentions};
 ghost use Rattle.graph_rules.specs.WrittenGraphs.{node_words};
 ghost use Rattle.smooth_nnf.specs.Layouts.{fillers};
-ghost use Rattle.smooth_nnf.specs.Sizes.{part_words};
+ghost use Rattle.part_sets.specs.Numbers.{part_words};
 ghost use Rattle.smooth_nnf.specs.inner.Sets.{has_bit, part_at};
-ghost use Rattle.smooth_nnf.specs.inner.Drawings.{IsNodeOf, is_over, missing_in, filled_line};
+ghost use Rattle.smooth_nnf.specs.inner.Drawings.{IsNodeOf, IsUnder, missing_in, filled_line};
 ghost use Rattle.smooth_nnf.specs.inner.Texts.{numbers_text, bit_text, word_text};
 
 use crate::drawing::Drawing;
 use diag_edge::{Chunk, Sink, WriteFailed};
+use graph_rules::NodeKind;
+use nnf_text::add_node;
 
 // Adds the line of a node, with the parts that are missing filled in.
 pub(crate) fn add_filled<O: Sink>(
@@ -25,11 +26,14 @@ pub(crate) fn add_filled<O: Sink>(
 ) -> Result<(), WriteFailed>
     requires node { node < length drawing.now.graph.nodes }
     requires over { IsNodeOf drawing.now over }
-    requires wider { (part : ℕ) → mentions drawing.now.graph.nodes part node ≡ true → is_over drawing.now.graph.nodes over part ≡ true }
+    requires under { IsUnder drawing.now over node }
     ensures bytes { Adds (O.got out.old) (O.got out.new) chunk.old chunk.new result
         (spaced (node_words (filled_line drawing.now over node))) }
     ensures cause { HasCause (O.faults out.old) (O.faults out.new) result }
 {
+    if drawing.lacks_none(over) {
+        return add_node(chunk, out, NodeKind::And, &[drawing.line(node)]);
+    }
     // Its contract says that this is a drawing.
     let _parts = drawing.parts();
     let count = drawing.missing_count(over, node) + 1;

@@ -6,8 +6,6 @@ mod edges;
 mod filling;
 mod lines;
 mod places;
-mod sets;
 mod writing;
 
-pub use sets::part_words;
 pub use writing::write_least;

@@ -4,12 +4,12 @@ ghost use Rattle.std.specs.List.{flat_map, enumerate_from, range_with_len};
 ghost use Rattle.diag_edge.specs.Adding.{Adds};
 ghost use Rattle.diag_edge.specs.Edge.{HasCause};
 ghost use Rattle.text_rules.specs.Tokens.{spaced};
-ghost use Rattle.graph_rules.specs.Graphs.{node_at, literal_node, mentions, IsGraph};
+ghost use Rattle.graph_rules.specs.Graphs.{node_at, literal_node, IsGraph};
 ghost use Rattle.graph_rules.specs.WrittenGraphs.{node_words};
 ghost use Rattle.minimiser.specs.Costs.{cost_at};
 ghost use Rattle.minimiser.specs.Stored.{cost_in};
 ghost use Rattle.smooth_nnf.specs.Layouts.{and_over, literal_pair, lines_by, literal_kids, cheapest_kids, kid_line, or_behind, or_lines, node_lines, last_line};
-ghost use Rattle.smooth_nnf.specs.inner.Drawings.{shown};
+ghost use Rattle.smooth_nnf.specs.inner.Drawings.{IsUnder, shown};
 ghost use Rattle.smooth_nnf.specs.inner.Texts.{numbers_text, lines_text, kid_text};
 
 use crate::drawing::{Drawing, literal_line};
@@ -243,8 +243,7 @@ fn add_or<O: Sink>(
     requires kids { All (λ kid. kid < length drawing.now.graph.nodes) kids.now }
     requires few { length kids.now < 2 ^ 32 }
     requires cost { cost ≢ NONE }
-    requires wider { (i part : ℕ) → i < length kids.now
-        → mentions drawing.now.graph.nodes part (slice_index kids.now i) ≡ true → mentions drawing.now.graph.nodes part node ≡ true }
+    requires is { node_at drawing.now.graph.nodes node ≡ record { what = NodeKind.Or; kids = kids.now } }
     requires room { length (cheapest_kids (map cost_in drawing.now.values) cost kids.now) ≤ slice_index drawing.now.lines node }
     ensures bytes { Adds (O.got out.old) (O.got out.new) chunk.old chunk.new result
         (flat_map (kid_text drawing.now node cost) kids.now ++ spaced (node_words
@@ -287,8 +286,7 @@ fn add_kid_lines<O: Sink>(
     requires node { node < length drawing.now.graph.nodes }
     requires kids { All (λ kid. kid < length drawing.now.graph.nodes) kids.now }
     requires cost { cost ≢ NONE }
-    requires wider { (i part : ℕ) → i < length kids.now
-        → mentions drawing.now.graph.nodes part (slice_index kids.now i) ≡ true → mentions drawing.now.graph.nodes part node ≡ true }
+    requires is { node_at drawing.now.graph.nodes node ≡ record { what = NodeKind.Or; kids = kids.now } }
     ensures bytes { Adds (O.got out.old) (O.got out.new) chunk.old chunk.new result
         (flat_map (kid_text drawing.now node cost) kids.now) }
     ensures cause { HasCause (O.faults out.old) (O.faults out.new) result }
@@ -311,7 +309,7 @@ fn add_kid_line<O: Sink>(
     requires node { node < length drawing.now.graph.nodes }
     requires kid { kid < length drawing.now.graph.nodes }
     requires cost { cost ≢ NONE }
-    requires wider { (part : ℕ) → mentions drawing.now.graph.nodes part kid ≡ true → mentions drawing.now.graph.nodes part node ≡ true }
+    requires under { IsUnder drawing.now (Some node) kid }
     ensures bytes { Adds (O.got out.old) (O.got out.new) chunk.old chunk.new result
         (kid_text drawing.now node cost kid) }
     ensures cause { HasCause (O.faults out.old) (O.faults out.new) result }

@@ -9,17 +9,18 @@ ghost use Rattle.scratch_pool.specs.Regions.{free_words};
 ghost use Rattle.graph_rules.specs.StateGraphs.{IsSmoothGraphOfStates};
 ghost use Rattle.smooth_nnf.specs.Layouts.{all_lines, least_text};
 ghost use Rattle.smooth_nnf.specs.inner.Drawings.{shown};
+ghost use Rattle.part_sets.specs.PartSets.{AreFor};
 ghost use Rattle.smooth_nnf.specs.Sizes.{drawing_words};
 
 use crate::drawing::Drawing;
 use crate::edges::edge_count;
 use crate::lines::{add_last, add_literals, add_nodes};
 use crate::places::place_lines;
-use crate::sets::{fill_sets, part_words};
 use diag_edge::{Chunk, Sink, WriteFailed};
 use minimiser::{Steps, TOTAL_LIMIT, least};
 use nnf_text::add_header;
 use node_store::Graph;
+use part_sets::PartSets;
 use scratch_pool::Region;
 use std::marker::Brand;
 use std::sync::ledger::{Blank, Ledger};
@@ -28,9 +29,10 @@ use std::sync::ledger::{Blank, Ledger};
 /// 2 where it is false. The parts are the first variables, and each has a cost.
 ///
 /// The text is smooth and decomposable, and has at most a line for each node of the graph and each of its edges, two for each part,
-/// and one more. The region lends 2 words for each node, and one more for each 32 parts. No memory is taken.
+/// and one more. The region lends 2 words for each node. No memory is taken.
 pub fn write_least<O: Sink>(
     graph: &Graph,
+    sets: &PartSets,
     words: &[u32],
     costs: &[u32],
     region: &mut Region,
@@ -43,7 +45,8 @@ pub fn write_least<O: Sink>(
     requires total { total_cost costs.now < TOTAL_LIMIT }
     requires few { length graph.now.nodes + edges graph.now.nodes + 2 * length costs.now + 1 < 2 ^ 32 }
     requires idle { region.old.runs ≡ [] }
-    requires room { drawing_words (length graph.now.nodes) (length costs.now) ≤ free_words region.old }
+    requires sets { AreFor graph.now (length costs.now) sets.now }
+    requires room { drawing_words (length graph.now.nodes) ≤ free_words region.old }
 
     ensures bytes { Puts (O.got out.old) (O.got out.new) result
         (least_text graph.now words.now costs.now) }
@@ -56,13 +59,11 @@ pub fn write_least<O: Sink>(
     ensures diagnoses { IsSmoothGraphOfStates (length costs.now) (diagnoses_under graph.now words.now costs.now)
         (parsed (least_text graph.now words.now costs.now)) }
 {
-    let parts = costs.len() as u32;
-    let run = region
-        .carve(graph.len() as usize * (2 + part_words(parts)))
-        .unwrap();
+    let run = region.carve(graph.len() as usize * 2).unwrap();
     let written = write_in::<O, Brand>(
         Blank::new(1),
         graph,
+        sets,
         words,
         costs,
         region.run_mut(&run),
@@ -72,10 +73,11 @@ pub fn write_least<O: Sink>(
     written
 }
 
-// Writes it in scratch of which all words are 0.
+// Writes it, in scratch.
 fn write_in<O: Sink, L: Ledger>(
     blank: Blank,
     graph: &Graph,
+    sets: &PartSets,
     words: &[u32],
     costs: &[u32],
     scratch: &mut [u32],
@@ -90,8 +92,8 @@ fn write_in<O: Sink, L: Ledger>(
     requires dear { All (λ c. 0 < c) costs.now }
     requires total { total_cost costs.now < TOTAL_LIMIT }
     requires few { length graph.now.nodes + edges graph.now.nodes + 2 * length costs.now + 1 < 2 ^ 32 }
-    requires room { length scratch.old ≡ drawing_words (length graph.now.nodes) (length costs.now) }
-    requires zeros { All (λ w. w ≡ 0) scratch.old }
+    requires sets { AreFor graph.now (length costs.now) sets.now }
+    requires room { length scratch.old ≡ drawing_words (length graph.now.nodes) }
     ensures bytes { Puts (O.got out.old) (O.got out.new) result
         (least_text graph.now words.now costs.now) }
     ensures cause { HasCause (O.faults out.old) (O.faults out.new) result }
@@ -99,11 +101,9 @@ fn write_in<O: Sink, L: Ledger>(
 {
     let parts = costs.len() as u32;
     let nodes = graph.len() as usize;
-    let (values, rest) = scratch.split_at_mut(nodes);
-    let (lines, sets) = rest.split_at_mut(nodes);
+    let (values, lines) = scratch.split_at_mut(nodes);
     least(graph, words, costs, values, &mut Steps::<L>::new(blank));
     let count = place_lines(graph, parts, values, lines);
-    fill_sets(graph, parts, sets);
     let drawing = Drawing {
         graph,
         words,

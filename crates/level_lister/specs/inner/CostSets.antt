@@ -3,7 +3,7 @@ use Rattle.std.specs.Prelude.{◌≡◌, ℕ, zero, suc, ◌+◌, ◌-◌, ◌*�
 use Rattle.ranking.specs.Assignments.{Assignment}
 use Rattle.ranking.specs.Cases.{agrees_at}
 use Rattle.minimiser.specs.Costs.{known_at}
-use Rattle.level_lister.specs.PartSets.{has_number}
+use Rattle.part_sets.specs.Numbers.{has_number}
 
 -- the word before the one at a place, and 0 before the first
 abbrev pub word_before : List ℕ → ℕ → ℕ

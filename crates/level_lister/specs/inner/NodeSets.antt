@@ -1,7 +1,7 @@
 -- The sets of the costs that the nodes of a graph can have.
 use Rattle.std.specs.Prelude.{ℕ, ◌-◌, ◌<◌, true, List, length}
 use Rattle.graph_rules.specs.Graphs.{Graph, is_true, mentions}
-use Rattle.level_lister.specs.PartSets.{set_at}
+use Rattle.part_sets.specs.Numbers.{set_at}
 use Rattle.level_lister.specs.inner.CostSets.{IsCostSet}
 
 -- the set of the costs at which a node can be true, of the faulty parts below it

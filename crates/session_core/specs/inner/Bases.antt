@@ -1,5 +1,5 @@
 -- What a service asks over, how much room its answers take, and the words of a case.
-use Rattle.std.specs.Prelude.{◌≡◌, ℕ, ◌+◌, ◌*◌, ◌<◌, ◌≤◌, Bool, Option, IfSome, List, length, All, true}
+use Rattle.std.specs.Prelude.{◌≡◌, ℕ, ◌+◌, ◌*◌, ◌<◌, ◌≤◌, Bool, Option, None, IfSome, is_some, List, length, All, true}
 use Rattle.std.specs.Option.{option_map}
 use Rattle.text_rules.specs.Names.{Name, names_rise}
 use Rattle.ranking.specs.Cases.{Case}
@@ -8,7 +8,7 @@ use Rattle.graph_rules.specs.Graphs.{Graph, IsGraph}
 use Rattle.conditioner.specs.Models.{total_cost}
 use Rattle.minimiser.specs.declared.pass.TheConstants.{TOTAL_LIMIT}
 use Rattle.level_lister.specs.Listing.{Kept, IsFor, cost_words}
-use Rattle.smooth_nnf.specs.Sizes.{drawing_words}
+use Rattle.part_sets.specs.PartSets.{Kept as Sets, AreFor}
 use Rattle.session_rules.specs.GraphSystems.{Subject}
 use Rattle.session_rules.specs.CaseWords.{case_of_words, AreWords}
 use Rattle.session_core.specs.declared.limits.TheConstants.{SERVED_VARIABLES, SERVED_NODES}
@@ -43,19 +43,20 @@ basis_of parts wires costs graph levels least = record {
 abbrev pub ListsLevels : Subject → Option Kept → Type 0
 ListsLevels subject levels = IfSome levels (λ kept. IsFor subject.graph kept × (kept.costs ≡ subject.costs))
 
+-- the sets of parts that the graph of the diagnoses is drawn with: they are kept with what lists states, or else alone
+abbrev pub HasSets : Subject → Option Kept → Option Sets → Type 0
+HasSets subject levels sets =
+    (levels ≡ None → subject.extras.least ≡ true → is_some sets ≡ true) × IfSome sets (AreFor subject.graph (length subject.costs))
+
 -- how many words a step by rising cost works with
 abbrev pub level_room : Subject → ℕ → ℕ
 level_room subject top = length subject.costs + (length subject.graph.nodes + 2) * (cost_words top + 1)
 
--- and how many the graph of the diagnoses is drawn with
-abbrev pub least_room : Subject → ℕ
-least_room subject = drawing_words (length subject.graph.nodes) (length subject.costs)
-
--- So many words are enough for each answer that takes some: for the probes of all wires, and for what is told besides.
+-- So many words are enough for each answer that takes some: for the probes of all wires, and for a step by rising cost. The graph of the
+-- diagnoses is drawn with fewer than the probes.
 pub record AreEnough (subject : Subject) (words : ℕ) : Type 0 where
   pub probes : 4 * length subject.graph.nodes ≤ words
   pub level : IfSome subject.extras.levels (λ top. level_room subject top ≤ words)
-  pub least : subject.extras.least ≡ true → least_room subject ≤ words
 
 -- words of a case for each variable of the graph
 abbrev pub AreKnown : Subject → List ℕ → Type 0

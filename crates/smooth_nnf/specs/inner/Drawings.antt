@@ -1,15 +1,16 @@
 -- What a text is drawn from, as it is kept.
 use Rattle.std.specs.Prelude.{◌≡◌, ℕ, ◌*◌, ◌+◌, ◌-◌, ◌^◌, ◌<◌, ◌≤◌, Bool, true, not, ◌&&◌, List, [], ◌∷◌, ◌++◌, map, length, slice_index, Option, Some, None, All}
 use Rattle.std.specs.List.{filter, range_with_len}
-use Rattle.graph_rules.specs.Graphs.{Node, Graph, mentions}
+use Rattle.graph_rules.specs.declared.NodeKind.TheVariants.{Or}
+use Rattle.graph_rules.specs.Graphs.{Node, Graph, node_at, mentions}
 use Rattle.graph_rules.specs.GraphTexts.{edges}
 use Rattle.minimiser.specs.Costs.{cost_at}
 use Rattle.minimiser.specs.Stored.{cost_in}
 use Rattle.smooth_nnf.specs.Layouts.{Layout, and_over, fillers, lines_to, own_lines}
-use Rattle.smooth_nnf.specs.Sizes.{part_words}
-use Rattle.smooth_nnf.specs.inner.Sets.{has_bit, AreSets}
+use Rattle.part_sets.specs.PartSets.{AreBelow, AreLacking}
+use Rattle.smooth_nnf.specs.inner.Sets.{has_bit}
 
--- a layout, with its costs as numbers and the sets of the parts below each node
+-- a layout, with its costs as numbers, the sets of the parts below each node, and whether a kid lacks one
 pub record Drawing : Type 0 where
   pub graph : Graph
   pub words : List ℕ
@@ -17,6 +18,7 @@ pub record Drawing : Type 0 where
   pub values : List ℕ
   pub lines : List ℕ
   pub sets : List ℕ
+  pub lacking : List ℕ
 
 abbrev pub shown : Drawing → Layout
 shown drawing = record {
@@ -37,8 +39,8 @@ pub record IsDrawing (drawing : Drawing) : Type 0 where
   pub places : length drawing.lines ≡ length drawing.graph.nodes
   pub placed : drawing.lines ≡ own_lines (map cost_in drawing.values) (2 * drawing.parts) 0 drawing.graph.nodes
   pub count : length drawing.graph.nodes + edges drawing.graph.nodes + 2 * drawing.parts + 1 < 2 ^ 32
-  pub room : length drawing.sets ≡ length drawing.graph.nodes * part_words drawing.parts
-  pub below : AreSets drawing.parts drawing.graph.nodes drawing.sets (length drawing.graph.nodes)
+  pub below : AreBelow drawing.graph drawing.parts drawing.sets
+  pub lacks : AreLacking drawing.graph drawing.parts drawing.lacking
 
 -- how many lines there are up to the last one of these nodes, where the first one has this number and its lines begin at this line
 abbrev pub lines_after : List (Option ℕ) → ℕ → ℕ → List Node → ℕ
@@ -64,6 +66,18 @@ filled_line drawing over node =
 abbrev pub IsNodeOf : Drawing → Option ℕ → Type 0
 IsNodeOf drawing None = Unit {0}
 IsNodeOf drawing (Some node) = node < length drawing.graph.nodes
+
+-- a kid of an or
+pub record IsKidOf (nodes : List Node) (node kid : ℕ) : Type 0 where
+  pub what : (node_at nodes node).what ≡ Or
+  pub place : ℕ
+  pub within : place < length (node_at nodes node).kids
+  pub kid_is : slice_index (node_at nodes node).kids place ≡ kid
+
+-- a line is filled in up to the parts of an or for a kid of it, and up to all parts for the last node
+abbrev pub IsUnder : Drawing → Option ℕ → ℕ → Type 0
+IsUnder drawing None kid = kid ≡ length drawing.graph.nodes - 1
+IsUnder drawing (Some node) kid = (node < length drawing.graph.nodes) × IsKidOf drawing.graph.nodes node kid
 
 -- the parts of the bits of a word
 abbrev pub word_parts : ℕ → ℕ → List ℕ

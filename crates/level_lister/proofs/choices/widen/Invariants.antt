@@ -1,6 +1,7 @@
 use Rattle.std.proofs.Common.{◌≡◌, ℕ, ◌-◌, ◌*◌, ◌<◌, Bool, true, not, ◌&&◌, length}
 use Rattle.ranking.specs.Assignments.{Assignment}
-use Rattle.level_lister.specs.PartSets.{has_number, ArePartsOf}
+use Rattle.part_sets.specs.Numbers.{has_number}
+use Rattle.part_sets.specs.PartSets.{ArePartsOf}
 use Rattle.level_lister.specs.inner.CostSets.{IsCostSet}
 use Rattle.level_lister.proofs.Growing.{grown}
 use Rattle.level_lister.proofs.choices.widen.Given as goal

@@ -2,7 +2,7 @@ use Rattle.std.proofs.Common.{sym, ap, ◌∙◌}
 use Rattle.graph_rules.specs.GraphTexts.{edges}
 use Rattle.smooth_nnf.specs.Layouts.{lines_by}
 use Rattle.smooth_nnf.specs.inner.Drawings.{shown}
-use Rattle.smooth_nnf.proofs.LineLemmas.{kids-inside, few-kids-of, kid-wider}
+use Rattle.smooth_nnf.proofs.LineLemmas.{kids-inside, few-kids-of}
 use Rattle.smooth_nnf.proofs.EdgeLemmas.{or-edges}
 use Rattle.smooth_nnf.proofs.edges.edges_by.Goals as goal
 
@@ -12,8 +12,8 @@ or_edges-requires-clause-kids c = kids-inside c.args.drawing.now c.parts-parts.e
 pub or_edges-requires-clause-few : goal.or_edges-requires-clause-few
 or_edges-requires-clause-few c = few-kids-of c.args.drawing.now c.parts-parts.ensures.whole c.requires.valid c.args.node c.requires.node c.args.what c.args.kids.now c.requires.is c.in-Or.is
 
-pub or_edges-requires-clause-wider : goal.or_edges-requires-clause-wider
-or_edges-requires-clause-wider c = kid-wider c.args.drawing.now c.parts-parts.ensures.whole c.requires.valid c.args.node c.requires.node c.args.what c.args.kids.now c.requires.is c.in-Or.is
+pub or_edges-requires-clause-is : goal.or_edges-requires-clause-is
+or_edges-requires-clause-is c = c.requires.is ∙ (λ i. record { what = c.in-Or.is i; kids = c.args.kids.now })
 
 pub returns-in-Or : goal.returns-in-Or
 returns-in-Or c =

@@ -1,7 +1,16 @@
-use Rattle.std.proofs.Common.{◌+◌, ap, arith}
+use Rattle.std.proofs.Common.{◌+◌, ◌∷◌, ap, sym, arith}
+use Rattle.text_rules.specs.Tokens.{spaced}
+use Rattle.graph_rules.specs.declared.NodeKind.TheVariants.{And}
+use Rattle.graph_rules.specs.WrittenGraphs.{kind_words}
 use Rattle.diag_edge.proofs.Added.{adds_same}
 use Rattle.smooth_nnf.proofs.FilledTexts.{filled-text}
+use Rattle.smooth_nnf.proofs.Lacking.{no-fillers}
 use Rattle.smooth_nnf.proofs.filling.add_filled.Goals as goal
+
+pub returns-then-lacks_none-clause-bytes : goal.returns-then-lacks_none-clause-bytes
+returns-then-lacks_none-clause-bytes g c =
+    let none = no-fillers c.args.drawing.now c.args.over c.args.node (λ part low high. c.lacks_none.ensures c.args.node part c.if-lacks_none.true c.requires.under low high) in
+    adds_same _ _ _ _ _ _ _ (λ i. spaced (kind_words And (c.line.ensures i ∷ sym none i))) c.add_node.ensures.bytes
 
 pub overflow_add-count : goal.overflow_add-count
 overflow_add-count g c = omega (arith, c.missing_count-count.ensures.most, c.parts-parts.ensures.whole.few)

@@ -2,7 +2,7 @@ use Rattle.std.proofs.Common.{rules, ◌<◌, ◌≤◌, ap, length, arith}
 use Rattle.std.specs.List.{range_with_len}
 use Rattle.std.proofs.lemmas.List.FromFn.{length-range_with_len}
 use Rattle.diag_edge.proofs.Added.{each_more, each_part, each_all, adds_same}
-use Rattle.smooth_nnf.specs.Sizes.{part_words}
+use Rattle.part_sets.specs.Numbers.{part_words}
 use Rattle.smooth_nnf.specs.inner.Texts.{word_text}
 use Rattle.smooth_nnf.proofs.FilledTexts.{first-numbers, fillers-text, grown_same}
 use Rattle.smooth_nnf.proofs.filling.add_fillers.Goals as goal

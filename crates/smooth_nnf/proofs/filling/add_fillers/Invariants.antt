@@ -1,7 +1,7 @@
 use Rattle.std.proofs.Common.{◌≡◌, take}
 use Rattle.std.specs.List.{flat_map, range_with_len}
 use Rattle.diag_edge.specs.Adding.{Grown}
-use Rattle.smooth_nnf.specs.Sizes.{part_words}
+use Rattle.part_sets.specs.Numbers.{part_words}
 use Rattle.smooth_nnf.specs.inner.Texts.{word_text}
 use Rattle.smooth_nnf.proofs.filling.add_fillers.Given as goal
 

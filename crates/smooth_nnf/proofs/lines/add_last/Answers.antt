@@ -4,6 +4,9 @@ use Rattle.diag_edge.proofs.Added.{adds_same}
 use Rattle.smooth_nnf.proofs.LineLemmas.{last-text}
 use Rattle.smooth_nnf.proofs.lines.add_last.Goals as goal
 
+pub add_filled-requires-clause-under : goal.add_filled-requires-clause-under
+add_filled-requires-clause-under g c = ap (λ n. n - 1) (c.len-root.ensures.len ∙ ap (λ (gr : Graph). length gr.nodes) c.graph.ensures.graph)
+
 pub returns-clause-bytes : goal.returns-clause-bytes
 returns-clause-bytes g c =
     let d = c.args.drawing.now in

@@ -5,7 +5,7 @@ use Rattle.smooth_nnf.specs.Layouts.{lines_by}
 use Rattle.smooth_nnf.specs.inner.Drawings.{shown}
 use Rattle.smooth_nnf.specs.inner.Texts.{lines_text}
 use Rattle.diag_edge.proofs.Added.{adds_same}
-use Rattle.smooth_nnf.proofs.LineLemmas.{kids-inside, few-kids-of, kid-wider, line-room, literal-low, and-text, or-lines-text}
+use Rattle.smooth_nnf.proofs.LineLemmas.{kids-inside, few-kids-of, line-room, literal-low, and-text, or-lines-text}
 use Rattle.smooth_nnf.proofs.lines.add_lines_by.Goals as goal
 
 -- a node is what it is, over its kids
@@ -44,12 +44,11 @@ add_or-requires-clause-few g c =
     let is = both d.graph.nodes c.args.node c.what.result c.args.kids.now (what-of _ d.graph c.args.node c.what.result c.what.ensures c.graph-graph.ensures.graph) c.requires.kids in
     few-kids-of d c.parts-parts.ensures.whole valid c.args.node c.requires.node c.what.result c.args.kids.now is c.in-Or.is
 
-pub add_or-requires-clause-wider : goal.add_or-requires-clause-wider
-add_or-requires-clause-wider g c =
+pub add_or-requires-clause-is : goal.add_or-requires-clause-is
+add_or-requires-clause-is g c =
     let d = c.args.drawing.now in
-    let valid : IsGraph d.graph = subst IsGraph c.graph-graph.ensures.graph c.len-nodes.ensures.valid in
-    let is = both d.graph.nodes c.args.node c.what.result c.args.kids.now (what-of _ d.graph c.args.node c.what.result c.what.ensures c.graph-graph.ensures.graph) c.requires.kids in
-    kid-wider d c.parts-parts.ensures.whole valid c.args.node c.requires.node c.what.result c.args.kids.now is c.in-Or.is
+    both d.graph.nodes c.args.node c.what.result c.args.kids.now (what-of _ d.graph c.args.node c.what.result c.what.ensures c.graph-graph.ensures.graph) c.requires.kids
+    ∙ (λ i. record { what = c.in-Or.is i; kids = c.args.kids.now })
 
 pub add_or-requires-clause-room : goal.add_or-requires-clause-room
 add_or-requires-clause-room g c =

@@ -1,5 +1,6 @@
 use Rattle.std.proofs.Common.{◌≡◌, ◌+◌, ◌<◌, length, sym, ap, subst, arith, ◌∙◌}
-use Rattle.level_lister.specs.PartSets.{size_of, set_at, ArePartsOf}
+use Rattle.part_sets.specs.Numbers.{part_words, set_at}
+use Rattle.part_sets.specs.PartSets.{ArePartsOf}
 use Rattle.level_lister.specs.inner.Pairs.{group_count, group_in}
 use Rattle.level_lister.proofs.Growing.{pair_none, pair_all, pair_skip, pair_apart, pair_more}
 use Rattle.level_lister.proofs.PairNodes.{on_parts}
@@ -29,7 +30,7 @@ loop-part-preserved c =
     let group = group_in words (length costs) c.args.groups in
     let on = on_parts words (length costs) c.args.groups in
     let lt : part < length costs = omega (arith, c.loop-part-test.true, ap length c.costs-parts.ensures) in
-    let miss = c.loop-part.invariant.found (omega (arith, c.set_at-below.ensures.long, c.size_of.ensures, c.loop-part-test.true)) in record {
+    let miss = c.loop-part.invariant.found (omega (arith, c.set_at-below.ensures.long, c.part_words.ensures, c.loop-part-test.true)) in record {
       told = λ test some more on_inner on_outer within is.
           pair_skip words costs top (group_count top) group on test some more within outer inner on_inner on_outer (part + 1) c.next_missing-part-in-loop-part.result c.joined-pair.result
           c.next_missing-part-in-loop-part.ensures.from c.next_missing-part-in-loop-part.ensures.before
@@ -48,9 +49,9 @@ returns c test some more on_inner on_outer within is =
     let below = c.args.self.now.below in
     let group = group_in words (length costs) c.args.groups in
     let parts : length c.costs-parts.result.now ≡ length costs = ap length c.costs-parts.ensures in
-    let outer : c.set_at-below.result.now ≡ set_at below c.args.outer (size_of (length costs)) =
-    c.set_at-below.ensures.set ∙ (λ i. set_at (c.below.ensures i) c.args.outer ((c.size_of.ensures ∙ ap size_of parts) i)) in
-    let inner : c.set_at-own.result.now ≡ set_at below c.args.inner (size_of (length costs)) =
-    c.set_at-own.ensures.set ∙ (λ i. set_at (c.below-2.ensures i) c.args.inner ((c.size_of-2.ensures ∙ ap size_of parts) i)) in
+    let outer : c.set_at-below.result.now ≡ set_at below c.args.outer (part_words (length costs)) =
+    c.set_at-below.ensures.set ∙ (λ i. set_at (c.below.ensures i) c.args.outer ((c.part_words.ensures ∙ ap part_words parts) i)) in
+    let inner : c.set_at-own.result.now ≡ set_at below c.args.inner (part_words (length costs)) =
+    c.set_at-own.ensures.set ∙ (λ i. set_at (c.below-2.ensures i) c.args.inner ((c.part_words-2.ensures ∙ ap part_words parts) i)) in
     pair_all words costs top (group_count top) group (on_parts words (length costs) c.args.groups) test some more within c.loop-part.part c.loop-part.pair (omega (arith, c.loop-part-test.false, parts))
     (c.loop-part.invariant.told test some more (subst (ArePartsOf (length costs) some) (sym inner) on_inner) (subst (ArePartsOf (length costs) more) (sym outer) on_outer) within is)

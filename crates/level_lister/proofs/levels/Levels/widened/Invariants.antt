@@ -1,6 +1,6 @@
 use Rattle.std.proofs.Common.{◌≡◌, ℕ, ◌-◌, ◌*◌, ◌<◌, Bool, true, length}
 use Rattle.ranking.specs.Assignments.{Assignment}
-use Rattle.level_lister.specs.PartSets.{ArePartsOf}
+use Rattle.part_sets.specs.PartSets.{ArePartsOf}
 use Rattle.level_lister.specs.inner.Pairs.{Tells, group_count, group_in}
 use Rattle.level_lister.proofs.Growing.{grown, is_missing}
 use Rattle.level_lister.proofs.levels.Levels.widened.Given as goal

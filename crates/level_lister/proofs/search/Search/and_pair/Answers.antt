@@ -1,6 +1,6 @@
 use Rattle.std.proofs.Common.{◌+◌, length, get_or, sym, ap, subst, arith}
 use Rattle.level_lister.specs.inner.Pairs.{TellsNode, group_count, group_in}
-use Rattle.level_lister.proofs.Kids.{kid-below}
+use Rattle.part_sets.proofs.Kids.{kid-below}
 use Rattle.level_lister.proofs.Telling.{tells_true}
 use Rattle.level_lister.proofs.PairNodes.{and_apart, and_next, and_end}
 use Rattle.level_lister.proofs.search.Search.and_pair.Goals as goal

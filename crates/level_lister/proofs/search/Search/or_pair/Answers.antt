@@ -1,9 +1,9 @@
 use Rattle.std.proofs.Common.{◌+◌, ◌<◌, length, get_or, sym, refl, subst, arith}
 use Rattle.std.proofs.lemmas.Bool.{false≢true}
 use Rattle.graph_rules.specs.Graphs.{is_true, mentions}
-use Rattle.level_lister.specs.PartSets.{size_of}
+use Rattle.part_sets.specs.Numbers.{part_words}
 use Rattle.level_lister.specs.inner.Pairs.{TellsNode, group_count, group_in}
-use Rattle.level_lister.proofs.Kids.{kid-below, kid-mentions, room_for}
+use Rattle.part_sets.proofs.Kids.{kid-below, kid-mentions, room_for}
 use Rattle.level_lister.proofs.Telling.{tells_none}
 use Rattle.level_lister.proofs.PairNodes.{or_next, or_end}
 use Rattle.level_lister.proofs.search.Search.or_pair.Goals as goal
@@ -19,7 +19,7 @@ pair_at-own-requires c =
 pub widened-requires-clause-inner : goal.widened-requires-clause-inner
 widened-requires-clause-inner c =
     let kids = c.kids-kid-items.result.now in
-    let size = size_of (length c.args.self.now.levels.now.costs) in
+    let size = part_words (length c.args.self.now.levels.now.costs) in
     omega (
       arith,
       c.args.self.now.for_graph.below.long,
@@ -29,7 +29,7 @@ widened-requires-clause-inner c =
 
 pub widened-requires-clause-outer : goal.widened-requires-clause-outer
 widened-requires-clause-outer c =
-    let size = size_of (length c.args.self.now.levels.now.costs) in
+    let size = part_words (length c.args.self.now.levels.now.costs) in
     omega (arith, c.args.self.now.for_graph.below.long, room_for c.args.at (length c.args.self.now.graph.now.nodes + 1) size (omega (arith, c.requires.at)))
 
 pub loop-kid-preserved : goal.loop-kid-preserved
@@ -51,7 +51,7 @@ loop-kid-preserved c =
     (c.either-pair.ensures words costs top (group_count top) (group_in words (length costs) groups) _ _ _ c.loop-kid.invariant
     (c.widened.ensures (λ a. is_true graph.nodes (get_or kids j 0) a) (λ v. mentions graph.nodes v (get_or kids j 0)) (λ v. mentions graph.nodes v at)
     (c.args.self.now.for_graph.below.nodes (get_or kids j 0) inside) (c.args.self.now.for_graph.below.nodes at c.requires.at)
-    (kid-mentions graph at kids ok c.requires.at c.kids-kid-items.ensures words costs j c.requires.what lt) kid))
+    (kid-mentions graph at kids ok c.requires.at c.kids-kid-items.ensures j c.requires.what lt) kid))
 
 pub returns : goal.returns
 returns c =

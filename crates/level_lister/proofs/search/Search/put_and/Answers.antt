@@ -2,7 +2,8 @@ use Rattle.std.proofs.Common.{◌≡◌, ◌*◌, List, ℕ, length, get_or, sym
 use Rattle.level_lister.specs.inner.CostSets.{AreSums}
 use Rattle.level_lister.specs.inner.NodeSets.{AreNodeSets, IsNodeSet}
 use Rattle.level_lister.proofs.Reaching.{zero_is}
-use Rattle.level_lister.proofs.Kids.{room_for, kid-below, and_more, and_all}
+use Rattle.part_sets.proofs.Kids.{room_for, kid-below}
+use Rattle.level_lister.proofs.Kids.{and_more, and_all}
 use Rattle.level_lister.proofs.search.Search.put_and.Goals as goal
 
 pub loop-kid-init : goal.loop-kid-init

@@ -1,9 +1,11 @@
 use Rattle.std.proofs.Common.{◌≡◌, ◌<◌, ◌+◌, ◌*◌, List, ℕ, length, get_or, sym, ◌∙◌, ap, subst, arith}
 use Rattle.graph_rules.specs.Graphs.{is_true, mentions}
 use Rattle.level_lister.specs.inner.CostSets.{IsCostSet}
-use Rattle.level_lister.specs.PartSets.{size_of, set_at, ArePartsOf}
+use Rattle.part_sets.specs.Numbers.{part_words, set_at}
+use Rattle.part_sets.specs.PartSets.{ArePartsOf}
 use Rattle.level_lister.proofs.Reaching.{empty_is}
-use Rattle.level_lister.proofs.Kids.{room_for, kid-below, kid-mentions, or_more, or_all}
+use Rattle.part_sets.proofs.Kids.{room_for, kid-below, kid-mentions}
+use Rattle.level_lister.proofs.Kids.{or_more, or_all}
 use Rattle.level_lister.proofs.search.Search.put_or.Goals as goal
 
 pub loop-kid-init : goal.loop-kid-init
@@ -18,11 +20,11 @@ pub set_at-requires-in-loop-kid : goal.set_at-requires-in-loop-kid
 set_at-requires-in-loop-kid c =
     let kids = c.kids-kid-items.result.now in
     let graph = c.args.self.now.graph.now in
-    let size = c.size_of-parts.result in
+    let size = c.part_words-parts.result in
     let parts = length c.args.self.now.levels.now.costs in
-    let same : c.size_of-parts.result ≡ size_of (length c.args.self.now.levels.now.costs) = c.size_of-parts.ensures ∙ ap (λ (cs : List ℕ). size_of (length cs)) c.costs-costs.ensures in
+    let same : c.part_words-parts.result ≡ part_words (length c.args.self.now.levels.now.costs) = c.part_words-parts.ensures ∙ ap (λ (cs : List ℕ). part_words (length cs)) c.costs-costs.ensures in
     let below = kid-below graph c.args.at kids c.vars-vars.ensures.valid c.requires.at c.kids-kid-items.ensures c.loop-kid.kid-index c.loop-kid-test.true in
-    let long : length c.below-below.result.now ≡ (length graph.nodes + 1) * c.size_of-parts.result =
+    let long : length c.below-below.result.now ≡ (length graph.nodes + 1) * c.part_words-parts.result =
     ap length c.below-below.ensures ∙ c.args.self.now.for_graph.below.long ∙ ap (λ n. (length graph.nodes + 1) * n) (sym same) in
     omega (arith, long, room_for (get_or kids c.loop-kid.kid-index 0) (length graph.nodes + 1) size (omega arith))
 
@@ -39,7 +41,7 @@ loop-kid-preserved c =
     let below = kid-below graph c.args.at kids ok c.requires.at c.kids-kid-items.ensures j c.loop-kid-test.true in
     let inside : kid < length graph.nodes = omega arith in
     let many : length kept.costs ≡ length c.costs-costs.result.now = sym (ap length c.costs-costs.ensures) in
-    let size : c.size_of-parts.result ≡ size_of (length kept.costs) = c.size_of-parts.ensures ∙ ap size_of (sym many) in
+    let size : c.part_words-parts.result ≡ part_words (length kept.costs) = c.part_words-parts.ensures ∙ ap part_words (sym many) in
     let on_outer : ArePartsOf parts (λ v. mentions graph.nodes v c.args.at) c.set_at-own.result.now =
     subst (ArePartsOf parts (λ v. mentions graph.nodes v c.args.at)) (sym (c.set_at-own.ensures.set ∙ (λ i. set_at (c.below-below.ensures i) c.args.at (size i)))) (c.args.self.now.for_graph.below.nodes c.args.at c.requires.at) in
     let on_inner : ArePartsOf parts (λ v. mentions graph.nodes v kid) c.set_at-in-loop-kid.result.now =
@@ -52,7 +54,7 @@ loop-kid-preserved c =
     (c.widen.ensures (λ a. is_true graph.nodes kid a) (λ v. mentions graph.nodes v kid) (λ v. mentions graph.nodes v c.args.at)
     (subst (λ n. ArePartsOf n (λ v. mentions graph.nodes v kid) c.set_at-in-loop-kid.result.now) many on_inner)
     (subst (λ n. ArePartsOf n (λ v. mentions graph.nodes v c.args.at) c.set_at-own.result.now) many on_outer)
-    (kid-mentions graph c.args.at kids ok c.requires.at c.kids-kid-items.ensures words kept.costs j c.requires.what c.loop-kid-test.true) own))
+    (kid-mentions graph c.args.at kids ok c.requires.at c.kids-kid-items.ensures j c.requires.what c.loop-kid-test.true) own))
 
 pub returns : goal.returns
 returns c = or_all c.args.self.now.graph.now c.args.at c.kids-kid-items.result.now c.vars-vars.ensures.valid c.requires.at c.kids-kid-items.ensures c.args.words.now c.args.self.now.levels.now.costs c.loop-kid.kid-index c.loop-kid.set c.requires.what (omega arith) c.loop-kid.invariant

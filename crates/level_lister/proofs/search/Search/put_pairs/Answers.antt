@@ -1,8 +1,9 @@
 use Rattle.std.proofs.Common.{◌≡◌, ◌+◌, ◌-◌, ◌<◌, true, length, get_or, sym, ap, refl, subst, arith, ◌∙◌}
 use Rattle.graph_rules.specs.Graphs.{is_true, mentions}
-use Rattle.level_lister.specs.PartSets.{size_of, set_at, ArePartsOf}
+use Rattle.part_sets.specs.Numbers.{part_words, set_at}
+use Rattle.part_sets.specs.PartSets.{ArePartsOf}
 use Rattle.level_lister.specs.inner.Pairs.{TellsNode, pair_at}
-use Rattle.level_lister.proofs.Kids.{room_for}
+use Rattle.part_sets.proofs.Kids.{room_for}
 use Rattle.level_lister.proofs.PairNodes.{nodes_more, whole_full}
 use Rattle.level_lister.proofs.search.Search.put_pairs.Goals as goal
 
@@ -22,7 +23,7 @@ returns-then-lacking-root-eq0 c =
     let all : c.loop-at.at ≡ length graph.nodes = omega (arith, c.loop-at-test.false, c.loop-at.invariant.end, c.loop-at.auto.at-end) in
     let pair : c.pair_at-pair.result ≡ pair_at c.loop-at.values (length graph.nodes - 1) = c.pair_at-pair.ensures ∙ ap (pair_at c.loop-at.values) root in
     let full : get_or c.args.self.now.levels.now.lacking (length graph.nodes) 0 ≡ 0 = sym (λ i. get_or (c.lacking.ensures i) (next i) 0) ∙ c.if-lacking-root-eq0.true in
-    whole_full graph c.args.words.now costs c.args.self.now.levels.now.top c.args.groups c.pair_at-pair.result (c.args.self.now.for_graph.lacking.all full)
+    whole_full graph c.args.words.now costs c.args.self.now.levels.now.top c.args.groups c.pair_at-pair.result (c.args.self.now.for_graph.lacking.all.0 full)
     (subst (TellsNode graph c.args.words.now costs c.args.self.now.levels.now.top c.args.groups (length graph.nodes - 1)) (sym pair) (c.loop-at.invariant.told (length graph.nodes - 1) (omega (arith, inside, all))))
 
 pub returns : goal.returns
@@ -30,7 +31,7 @@ returns c =
     let graph = c.args.self.now.graph.now in
     let costs = c.args.self.now.levels.now.costs in
     let below = c.args.self.now.levels.now.below in
-    let size = size_of (length costs) in
+    let size = part_words (length costs) in
     let inside : length graph.nodes - 1 < length graph.nodes = omega (arith, c.len.ensures.valid.some) in
     let root : c.len.result - 1 ≡ length graph.nodes - 1 = omega (arith, c.len.ensures.len) in
     let next : c.len.result - 1 + 1 ≡ length graph.nodes = omega (arith, c.len.ensures.len, c.len.ensures.valid.some) in
@@ -44,8 +45,8 @@ returns c =
 
 pub widened-requires-clause-inner : goal.widened-requires-clause-inner
 widened-requires-clause-inner c =
-    omega (arith, c.args.self.now.for_graph.below.long, room_for (c.len.result - 1) (length c.args.self.now.graph.now.nodes + 1) (size_of (length c.args.self.now.levels.now.costs)) (omega (arith, c.len.ensures.len, c.len.ensures.valid.some)))
+    omega (arith, c.args.self.now.for_graph.below.long, room_for (c.len.result - 1) (length c.args.self.now.graph.now.nodes + 1) (part_words (length c.args.self.now.levels.now.costs)) (omega (arith, c.len.ensures.len, c.len.ensures.valid.some)))
 
 pub widened-requires-clause-outer : goal.widened-requires-clause-outer
 widened-requires-clause-outer c =
-    omega (arith, c.args.self.now.for_graph.below.long, room_for (c.len.result - 1 + 1) (length c.args.self.now.graph.now.nodes + 1) (size_of (length c.args.self.now.levels.now.costs)) (omega (arith, c.len.ensures.len, c.len.ensures.valid.some)))
+    omega (arith, c.args.self.now.for_graph.below.long, room_for (c.len.result - 1 + 1) (length c.args.self.now.graph.now.nodes + 1) (part_words (length c.args.self.now.levels.now.costs)) (omega (arith, c.len.ensures.len, c.len.ensures.valid.some)))

@@ -1,6 +1,7 @@
 use Rattle.std.proofs.Common.{refl, ◌∙◌, ap, arith}
 use Rattle.minimiser.specs.Costs.{part_cost}
-use Rattle.level_lister.proofs.Kids.{literal-fits, literal_set}
+use Rattle.part_sets.proofs.Kids.{literal-fits}
+use Rattle.level_lister.proofs.Kids.{literal_set}
 use Rattle.level_lister.proofs.search.Search.put_set.Goals as goal
 
 pub leaf-requires-clause-var : goal.leaf-requires-clause-var

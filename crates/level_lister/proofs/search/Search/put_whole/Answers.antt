@@ -2,7 +2,8 @@ use Rattle.std.proofs.Common.{◌≡◌, ◌+◌, ◌-◌, ◌<◌, List, ℕ, t
 use Rattle.graph_rules.specs.Graphs.{is_true, mentions}
 use Rattle.level_lister.specs.inner.CostSets.{IsCostSet}
 use Rattle.level_lister.specs.inner.NodeSets.{IsNodeSet, IsWholeSet}
-use Rattle.level_lister.specs.PartSets.{size_of, set_at, ArePartsOf}
+use Rattle.part_sets.specs.Numbers.{part_words, set_at}
+use Rattle.part_sets.specs.PartSets.{ArePartsOf}
 use Rattle.level_lister.proofs.search.Search.put_whole.Goals as goal
 
 pub returns : goal.returns
@@ -15,7 +16,7 @@ returns c =
     let place : c.len.result - 1 ≡ length graph.nodes - 1 = omega (arith, c.len.ensures.len) in
     let next : c.len.result - 1 + 1 ≡ length graph.nodes = omega (arith, c.len.ensures.len, c.len.ensures.valid.some) in
     let many : length kept.costs ≡ length c.costs-costs.result.now = sym (ap length c.costs-costs.ensures) in
-    let size : c.size_of-size.result ≡ size_of (length kept.costs) = c.size_of-size.ensures ∙ ap size_of (sym many) in
+    let size : c.part_words-size.result ≡ part_words (length kept.costs) = c.part_words-size.ensures ∙ ap part_words (sym many) in
     let long : length c.put_sets.new.spare ≡ length c.args.whole.now = omega arith in
     let on_outer : ArePartsOf (length kept.costs) (λ v. true) c.set_at-2.result.now =
     subst (ArePartsOf (length kept.costs) (λ v. true)) (sym (c.set_at-2.ensures.set ∙ (λ i. set_at (c.below-below.ensures i) (next i) (size i)))) c.args.self.now.for_graph.below.all in

@@ -5,7 +5,7 @@ use Rattle.diagnosis_lister.specs.inner.Working.{fixed_bits}
 use Rattle.diagnosis_lister.proofs.Faults.{faults-kept, faults-added}
 use Rattle.diagnosis_lister.proofs.Fixing.{FixesOk}
 use Rattle.level_lister.specs.inner.Pairs.{FaultIn, OkAmong}
-use Rattle.level_lister.proofs.Kids.{room_for}
+use Rattle.part_sets.proofs.Kids.{room_for}
 use Rattle.level_lister.proofs.Exact.{Refines-start, settle_end}
 use Rattle.level_lister.proofs.Grouping.{settle_ok, settle_found}
 use Rattle.level_lister.proofs.search.Search.settle_by_groups.Goals as goal

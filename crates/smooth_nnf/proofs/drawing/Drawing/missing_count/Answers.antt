@@ -1,24 +1,38 @@
-use Rattle.std.proofs.Common.{arith}
+use Rattle.std.proofs.Common.{length, ap, sym, subst, arith}
 use Rattle.std.specs.List.{filter, range_with_len}
 use Rattle.std.proofs.lemmas.List.{length-map}
-use Rattle.graph_rules.specs.Graphs.{mentions}
+use Rattle.graph_rules.specs.Graphs.{mentions, IsGraph}
 use Rattle.smooth_nnf.specs.Layouts.{filler}
-use Rattle.smooth_nnf.specs.inner.Drawings.{is_over, missing_in}
+use Rattle.smooth_nnf.specs.inner.Drawings.{Drawing, IsDrawing, is_over, missing_in}
 use Rattle.smooth_nnf.proofs.WordParts.{left-over}
+use Rattle.smooth_nnf.proofs.Lacking.{no-fillers, under-wider}
 use Rattle.smooth_nnf.proofs.drawing.Drawing.missing_count.Goals as goal
+
+pub returns-then-lacks_none-clause-count : goal.returns-then-lacks_none-clause-count
+returns-then-lacks_none-clause-count c =
+    ap length (sym (no-fillers c.args.self.now c.args.over c.args.node (λ part low high. c.lacks_none.ensures c.args.node part c.if-lacks_none.true c.requires.under low high)))
 
 pub overflow_sub-result : goal.overflow_sub-result
 overflow_sub-result c =
     let d = c.args.self.now in
-    omega (arith, c.over_count.ensures.count, c.part_count.ensures.count, left-over (is_over d.graph.nodes c.args.over) (λ p. mentions d.graph.nodes p c.args.node) c.requires.wider (range_with_len 1 d.parts))
-
-pub returns-clause-count : goal.returns-clause-count
-returns-clause-count c =
-    let d = c.args.self.now in
+    let is : IsDrawing d = subst IsDrawing c.self.view_is c.self.invariant in
+    let valid : IsGraph d.graph = subst IsGraph (ap (λ (s : Drawing). s.graph) c.self.view_is) c.len-nodes.ensures.valid in
     omega (
       arith,
       c.over_count.ensures.count,
       c.part_count.ensures.count,
-      left-over (is_over d.graph.nodes c.args.over) (λ p. mentions d.graph.nodes p c.args.node) c.requires.wider (range_with_len 1 d.parts),
+      left-over (is_over d.graph.nodes c.args.over) (λ p. mentions d.graph.nodes p c.args.node) (under-wider d is valid c.args.over c.args.node c.requires.under) (range_with_len 1 d.parts),
+    )
+
+pub returns-clause-count : goal.returns-clause-count
+returns-clause-count c =
+    let d = c.args.self.now in
+    let is : IsDrawing d = subst IsDrawing c.self.view_is c.self.invariant in
+    let valid : IsGraph d.graph = subst IsGraph (ap (λ (s : Drawing). s.graph) c.self.view_is) c.len-nodes.ensures.valid in
+    omega (
+      arith,
+      c.over_count.ensures.count,
+      c.part_count.ensures.count,
+      left-over (is_over d.graph.nodes c.args.over) (λ p. mentions d.graph.nodes p c.args.node) (under-wider d is valid c.args.over c.args.node c.requires.under) (range_with_len 1 d.parts),
       length-map (filter (missing_in d c.args.over c.args.node) (range_with_len 1 d.parts)) (filler d.words),
     )

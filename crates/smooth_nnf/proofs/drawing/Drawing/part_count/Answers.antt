@@ -1,18 +1,24 @@
-use Rattle.std.proofs.Common.{◌≡◌, ◌+◌, ◌-◌, ◌*◌, ap, ◌∙◌, subst, arith, take, drop}
-use Rattle.smooth_nnf.specs.Sizes.{part_words}
+use Rattle.std.proofs.Common.{◌≡◌, ◌+◌, ◌*◌, ◌≤◌, ap, sym, ◌∙◌, subst, arith, length, take, drop}
+use Rattle.scratch_pool.proofs.Counted.{block-below}
+use Rattle.part_sets.specs.Numbers.{part_words}
 use Rattle.smooth_nnf.specs.inner.Drawings.{Drawing, IsDrawing, part_count}
 use Rattle.smooth_nnf.proofs.WordParts.{node_parts, part_count-le}
 use Rattle.smooth_nnf.proofs.drawing.Drawing.part_count.Goals as goal
 
+pub set_at-requires : goal.set_at-requires
+set_at-requires c =
+    let d = c.args.self.now in
+    let is : IsDrawing d = subst IsDrawing c.self.view_is c.self.invariant in
+    let room = block-below (part_words d.parts) c.args.node (length d.graph.nodes + 1) (omega (arith, c.requires)) in
+    let sets = c.below.ensures ∙ ap (λ (s : Drawing). s.sets) c.self.view_is in
+    subst (λ w. c.args.node * w + w ≤ length c.below.result.now) (sym c.width.ensures) (omega (arith, ap length sets, is.below.long, room))
+
 count-is : (c : goal.After-count_parts) → c.count_parts.result ≡ part_count c.args.self.now c.args.node
 count-is c =
     let d = c.args.self.now in
-    let wide : c.part_words-width.result ≡ part_words d.parts = c.part_words-width.ensures ∙ ap (λ (s : Drawing). part_words s.parts) c.self.view_is in
-    let sets = ap (λ (s : Drawing). s.sets) c.self.view_is in
-    let span : (c.args.node * part_words d.parts + part_words d.parts) - c.args.node * part_words d.parts ≡ part_words d.parts = omega arith in
     c.count_parts.ensures
     ∙ node_parts d (subst IsDrawing c.self.view_is c.self.invariant) c.args.node c.requires _
-    ((λ i. take ((c.args.node * wide i + wide i) - c.args.node * wide i) (drop (c.args.node * wide i) (sets i))) ∙ ap (λ n. take n (drop (c.args.node * part_words d.parts) d.sets)) span)
+    (c.set_at.ensures.set ∙ (λ i. take (c.width.ensures i) (drop (c.args.node * c.width.ensures i) ((c.below.ensures ∙ ap (λ (s : Drawing). s.sets) c.self.view_is) i))))
 
 pub returns-clause-count : goal.returns-clause-count
 returns-clause-count c = count-is c

@@ -1,8 +1,0 @@
-use Rattle.std.proofs.Common.{◌≡◌, ℕ}
-use Rattle.std.specs.Prelude.{nat_lt}
-use Rattle.level_lister.specs.PartSets.{has_number}
-use Rattle.level_lister.proofs.below.put_every.Given as goal
-
--- each number before this one is there, and no other
-abbrev pub invariant-loop-number : goal.invariant-loop-number
-invariant-loop-number l = (n : ℕ) → has_number l.set n ≡ nat_lt n l.number

@@ -1,0 +1,44 @@
+-- Sets of parts: those below each node of a graph, and whether the kids of a node lack one.
+use Rattle.std.specs.Prelude.{◌≡◌, ◌↔◌, ℕ, ◌+◌, ◌-◌, ◌*◌, ◌<◌, ◌≤◌, Bool, true, ◌&&◌, List, length, slice_index, nat_lt}
+use Rattle.graph_rules.specs.declared.NodeKind.TheVariants.{Or}
+use Rattle.graph_rules.specs.Graphs.{Graph, node_at, mentions}
+use Rattle.part_sets.specs.Numbers.{has_number, part_words, set_at}
+
+-- the set of the parts whose variables are among some, parts being counted from 0
+abbrev pub ArePartsOf : ℕ → (ℕ → Bool) → List ℕ → Type 0
+ArePartsOf parts some set = (p : ℕ) → has_number set p ≡ (nat_lt p parts && some (p + 1))
+
+-- the sets of the parts below the first nodes
+abbrev pub ArePartsBelow : Graph → ℕ → List ℕ → ℕ → Type 0
+ArePartsBelow graph parts below n =
+    (k : ℕ) → k < n → ArePartsOf parts (λ v. mentions graph.nodes v k) (set_at below k (part_words parts))
+
+-- and behind those of all nodes the set of all parts
+pub record AreBelow (graph : Graph) (parts : ℕ) (below : List ℕ) : Type 0 where
+  pub long : length below ≡ (length graph.nodes + 1) * part_words parts
+  pub nodes : ArePartsBelow graph parts below (length graph.nodes)
+  pub all : ArePartsOf parts (λ v. true) (set_at below (length graph.nodes) (part_words parts))
+
+-- all kids of a node have the same parts below them as the node
+abbrev pub SameBelow : Graph → ℕ → ℕ → Type 0
+SameBelow graph parts k =
+    (j v : ℕ) → j < length (node_at graph.nodes k).kids → 1 ≤ v → v ≤ parts
+    → mentions graph.nodes v (slice_index (node_at graph.nodes k).kids j) ≡ mentions graph.nodes v k
+
+-- The word of an or is 0 exactly where its kids lack none of its parts, and the word behind those of all nodes where the last node
+-- lacks no part at all.
+pub record AreLacking (graph : Graph) (parts : ℕ) (lacking : List ℕ) : Type 0 where
+  pub long : length lacking ≡ length graph.nodes + 1
+  pub ors : (k : ℕ) → k < length graph.nodes → (node_at graph.nodes k).what ≡ Or → (slice_index lacking k ≡ 0) ↔ SameBelow graph parts k
+  pub all : (slice_index lacking (length graph.nodes) ≡ 0)
+      ↔ ((v : ℕ) → 1 ≤ v → v ≤ parts → mentions graph.nodes v (length graph.nodes - 1) ≡ true)
+
+-- what is kept of a graph: the sets of the parts below its nodes and of all parts, and a word for each node and for all parts
+pub record Kept : Type 0 where
+  pub below : List ℕ
+  pub lacking : List ℕ
+
+-- it is that of this graph, of which so many variables are parts
+pub record AreFor (graph : Graph) (parts : ℕ) (kept : Kept) : Type 0 where
+  pub below : AreBelow graph parts kept.below
+  pub lacking : AreLacking graph parts kept.lacking

@@ -1,0 +1,58 @@
+//! What is kept of a graph.
+ghost use Rattle.std.specs.Prelude.{◌≡◌, ◌≤◌, IfOk};
+ghost use Rattle.part_sets.specs.PartSets.{AreFor};
+
+use crate::below::parts_below;
+use crate::lacking::nodes_lacking;
+use node_store::Graph;
+use std::alloc::{AllocError, Global};
+use std::marker::Model;
+
+/// A graph has at most so many parts.
+pub const PART_LIMIT: usize = 4_096;
+
+/// For each node of a graph the parts below it, and for each or whether a child of it lacks one of them. The parts are the first
+/// variables.
+#[derive(Drop)]
+pub struct PartSets {
+    // for each node the parts below it, and behind them all parts
+    below: Vec<u32>,
+    // for each node a word that is 0 where it is no or, or no kid of it lacks a part; and behind them one that is 0 where the last node
+    // lacks none at all
+    lacking: Vec<u32>,
+}
+
+impl Model for PartSets {
+    ghost use Rattle.part_sets.specs.PartSets.{Kept};
+
+    ghost Value = { Kept };
+
+    ghost view = { λ s. record { below = s.below.items; lacking = s.lacking.items } };
+}
+
+impl PartSets {
+    /// The sets of a graph of which so many variables are parts. `Err` means that memory ran out.
+    pub fn new(alloc: Global, graph: &Graph, parts: usize) -> Result<PartSets, AllocError>
+        requires few { parts ≤ PART_LIMIT }
+        ensures for_graph { IfOk result (λ sets. AreFor graph.now parts sets) }
+    {
+        let below = parts_below(alloc, graph, parts)?;
+        let lacking = nodes_lacking(alloc, graph, &below, parts)?;
+        Ok(PartSets { below, lacking })
+    }
+
+    /// For each node the parts below it, one set behind the other, and behind them all parts.
+    pub fn below(&self) -> &[u32]
+        ensures { result.now ≡ self.now.below }
+    {
+        &self.below
+    }
+
+    /// For each node a word, of an or 0 exactly where no child of it lacks a part of it; and behind them one that is 0 exactly where the
+    /// last node lacks no part.
+    pub fn lacking(&self) -> &[u32]
+        ensures { result.now ≡ self.now.lacking }
+    {
+        &self.lacking
+    }
+}

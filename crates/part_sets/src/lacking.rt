@@ -1,0 +1,92 @@
+//! Which nodes have a kid that lacks a part.
+ghost use Rattle.std.specs.Prelude.{◌≡◌, ◌↔◌, ℕ, ◌+◌, ◌*◌, ◌<◌, ◌≤◌, false, not, ◌&&◌, length, IfOk};
+ghost use Rattle.graph_rules.specs.declared.NodeKind.TheVariants.{Or};
+ghost use Rattle.graph_rules.specs.Graphs.{node_at};
+ghost use Rattle.part_sets.specs.Numbers.{has_number, part_words, set_at};
+ghost use Rattle.part_sets.specs.PartSets.{AreBelow, SameBelow, AreLacking};
+
+use crate::kept::PART_LIMIT;
+use crate::numbers::{next_missing, part_words, set_at};
+use graph_rules::NodeKind;
+use node_store::Graph;
+use std::alloc::{AllocError, Global};
+
+// For each node a word that is 0 where it is no or, or no kid of it lacks a part; and behind them one that is 0 where the last node
+// lacks none at all.
+pub(crate) fn nodes_lacking(
+    alloc: Global,
+    graph: &Graph,
+    below: &[u32],
+    parts: usize,
+) -> Result<Vec<u32>, AllocError>
+    requires parts { parts ≤ PART_LIMIT }
+    requires below { AreBelow graph.now parts below.now }
+    ensures { IfOk result (λ lacking. AreLacking graph.now parts lacking.items) }
+{
+    let mut lacking = vec![in alloc; 0; graph.len() as usize + 1]?;
+    put_lacking(graph, below, parts, &mut lacking);
+    Ok(lacking)
+}
+
+fn put_lacking(graph: &Graph, below: &[u32], parts: usize, lacking: &mut [u32])
+    requires parts { parts ≤ PART_LIMIT }
+    requires below { AreBelow graph.now parts below.now }
+    requires long { length lacking.old ≡ length graph.now.nodes + 1 }
+    ensures { AreLacking graph.now parts lacking.new }
+{
+    let count = graph.len();
+    for at in 0..count {
+        lacking[at as usize] = flag(kid_lacks(graph, below, parts, at));
+    }
+    let root = count as usize - 1;
+    lacking[root + 1] = flag(lacks(below, parts, root + 1, root));
+}
+
+// The word of a node.
+fn flag(lacks: bool) -> u32
+    ensures { (result ≡ 0) ↔ (lacks ≡ false) }
+{
+    u32::from(lacks)
+}
+
+// Whether a node is an Or of which a kid lacks a part.
+fn kid_lacks(graph: &Graph, below: &[u32], parts: usize, at: u32) -> bool
+    requires parts { parts ≤ PART_LIMIT }
+    requires below { AreBelow graph.now parts below.now }
+    requires at { at < length graph.now.nodes }
+    ensures { (node_at graph.now.nodes at).what ≡ Or → (result ≡ false) ↔ SameBelow graph.now parts at }
+{
+    match graph.what(at) {
+        NodeKind::Literal { .. } | NodeKind::And => false,
+        NodeKind::Or => one_lacks(graph, below, parts, at),
+    }
+}
+
+fn one_lacks(graph: &Graph, below: &[u32], parts: usize, at: u32) -> bool
+    requires parts { parts ≤ PART_LIMIT }
+    requires below { AreBelow graph.now parts below.now }
+    requires at { at < length graph.now.nodes }
+    requires what { (node_at graph.now.nodes at).what ≡ Or }
+    ensures { (result ≡ false) ↔ SameBelow graph.now parts at }
+{
+    // Its contract says that this is a graph.
+    let _vars = graph.vars();
+    for kid in graph.kids(at) {
+        if lacks(below, parts, at as usize, *kid as usize) {
+            return true;
+        }
+    }
+    false
+}
+
+// Whether a set has a part that another has not.
+fn lacks(below: &[u32], parts: usize, outer: usize, inner: usize) -> bool
+    requires parts { parts ≤ PART_LIMIT }
+    requires outer { outer * part_words parts + part_words parts ≤ length below.now }
+    requires inner { inner * part_words parts + part_words parts ≤ length below.now }
+    ensures { (result ≡ false) ↔ ((p : ℕ) → p < parts
+        → (has_number (set_at below.now outer (part_words parts)) p && not (has_number (set_at below.now inner (part_words parts)) p)) ≡ false) }
+{
+    let size = part_words(parts);
+    next_missing(set_at(below, outer, size), set_at(below, inner, size), 0) < parts
+}

@@ -1,0 +1,87 @@
+//! Sets of numbers, as bits of words.
+ghost use Rattle.std.specs.Prelude.{◌≡◌, ℕ, ◌+◌, ◌*◌, ◌<◌, ◌≤◌, ◌&&◌, ◌||◌, true, false, not, length, ◌==◌};
+ghost use Rattle.part_sets.specs.Numbers.{has_number, part_words, set_at};
+
+/// How many numbers a word tells.
+pub const WIDTH: usize = 32;
+
+/// How many words a set of so many parts has.
+pub fn part_words(parts: usize) -> usize
+    ensures { result ≡ part_words parts }
+{
+    parts.div_ceil(WIDTH)
+}
+
+/// The set of one of those that stand one behind the other.
+pub fn set_at(sets: &[u32], k: usize, size: usize) -> &[u32]
+    requires { k * size + size ≤ length sets.now }
+    ensures set { result.now ≡ set_at sets.now k size }
+    ensures long { length result.now ≡ size }
+{
+    let start = k * size;
+    &sets[start..start + size]
+}
+
+/// Whether a set has a number.
+pub fn has_number(set: &[u32], number: usize) -> bool
+    requires { number < 32 * length set.now }
+    ensures { result ≡ has_number set.now number }
+{
+    (set[number / WIDTH] >> (number % WIDTH)) & 1 == 1
+}
+
+/// Makes a set empty.
+pub fn clear(set: &mut [u32])
+    ensures { (n : ℕ) → has_number set.new n ≡ false }
+{
+    set.fill(0);
+}
+
+/// Makes a set of one number, if it has room for it.
+pub fn put_one(set: &mut [u32], number: usize)
+    ensures { (n : ℕ) → n < 32 * length set.old → has_number set.new n ≡ (n == number) }
+{
+    clear(set);
+    if number / WIDTH < set.len() {
+        set[number / WIDTH] = 1 << (number % WIDTH);
+    }
+}
+
+// Adds a number to a set.
+pub(crate) fn add_one(set: &mut [u32], number: usize)
+    requires { number < 32 * length set.old }
+    ensures { (n : ℕ) → has_number set.new n ≡ (has_number set.old n || (n == number)) }
+{
+    set[number / WIDTH] |= 1 << (number % WIDTH);
+}
+
+// Adds to a set the numbers of another.
+pub(crate) fn add_all(set: &mut [u32], other: &[u32])
+    requires { length other.now ≡ length set.old }
+    ensures { (n : ℕ) → n < 32 * length set.old
+        → has_number set.new n ≡ (has_number set.old n || has_number other.now n) }
+{
+    for (i, word) in set.iter_mut().enumerate() {
+        *word |= other[i];
+    }
+}
+
+/// The first number from one on that the outer set has and the inner one has not, or one that is past both.
+pub fn next_missing(outer: &[u32], inner: &[u32], from: usize) -> usize
+    requires inner { length inner.now ≡ length outer.now }
+    requires few { length outer.now ≤ 128 }
+    ensures from { from ≤ result }
+    ensures before { (p : ℕ) → from ≤ p → p < result → (has_number outer.now p && not (has_number inner.now p)) ≡ false }
+    ensures found { result < 32 * length outer.now
+        → (has_number outer.now result && not (has_number inner.now result)) ≡ true }
+{
+    let mut at = from;
+    while at < WIDTH * outer.len() {
+        let gap = (outer[at / WIDTH] & !inner[at / WIDTH]) >> (at % WIDTH);
+        if gap != 0 {
+            return at + gap.trailing_zeros() as usize;
+        }
+        at = (at / WIDTH + 1) * WIDTH;
+    }
+    at
+}

@@ -1,9 +1,11 @@
 //! The program `diag`.
 #![tactic(auto)]
 
-use diag_cli::{FileShelf, Refusal, StdSink, StdSource, diag, tell, words_of};
+use device_files::{Refusal, tell};
+use diag_cli::diag;
 use std::io;
 use std::process::ExitCode;
+use system_edge::{FileShelf, StdSink, StdSource, words_of};
 
 fn main(rt: HostRuntime) -> ExitCode {
     let alloc = rt.alloc();

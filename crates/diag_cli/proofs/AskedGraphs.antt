@@ -3,7 +3,7 @@ use Rattle.std.proofs.Common.{◌≡◌, ℕ, sym, subst}
 use Rattle.std.specs.Prelude.{Result, Ok}
 use Rattle.session_rules.specs.GraphSystems.{Subject, system_of}
 use Rattle.session_core.specs.Services.{Shown}
-use Rattle.diag_cli.specs.Output.{Output}
+use Rattle.device_files.specs.Output.{Output}
 use Rattle.diag_cli.specs.Courses.{answers_of, served_or_refused}
 use Rattle.diag_cli.specs.Following.{Reading, Writing, IsServed, Follows}
 use Rattle.diag_cli.specs.inner.Serving.{IsReady}

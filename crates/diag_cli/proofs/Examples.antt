@@ -5,7 +5,7 @@ use Rattle.session_rules.specs.Items.{Item, Plain}
 use Rattle.ranking.specs.Systems.{no_extras}
 use Rattle.diag_cli.specs.declared.words.ServeOptions.{ServeOptions}
 use Rattle.diag_cli.specs.Words.{Load, Over, Serve, ServeFrames, Ask, Plan, Check, Compile, form_of}
-use Rattle.diag_cli.specs.Describing.{long_file_line}
+use Rattle.device_files.specs.Describing.{long_file_line}
 use Rattle.diag_cli.specs.Besides.{levels_bits, least_bits, bits_line}
 use Rattle.diag_cli.specs.Courses.{Ended, Failed, Cut, read_error, script_too_long, served}
 

@@ -17,10 +17,10 @@ use Rattle.part_sets.specs.declared.kept.TheConstants.{PART_LIMIT}
 use Rattle.level_lister.specs.declared.levels.TheConstants.{TOP_LIMIT}
 use Rattle.session_core.specs.declared.limits.TheConstants.{SERVED_BITS}
 use Rattle.session_core.specs.Services.{CanList, CanDraw}
-use Rattle.diag_cli.specs.declared.refusal.Refusal.{Refusal}
+use Rattle.device_files.specs.declared.refusal.Refusal.{Refusal}
 use Rattle.diag_cli.specs.Besides.{levels_bits, least_bits, bits_line, if_few, in_few_bits}
-use Rattle.diag_cli.specs.Output.{Output, says}
-use Rattle.diag_cli.specs.Refusals.{told_by}
+use Rattle.device_files.specs.Output.{Output, says}
+use Rattle.device_files.specs.Refusals.{told_by}
 use Rattle.diag_cli.specs.inner.Serving.{CanTell}
 
 -- ---- few bits of the greatest graph are few of each

@@ -21,15 +21,16 @@ use Rattle.bench_reader.specs.SequentialNetlists.{sequential_netlist}
 use Rattle.diag_cli.specs.declared.serving.TheConstants.{SCRIPT_LIMIT}
 use Rattle.diag_cli.specs.declared.words.ServeOptions.{ServeOptions}
 use Rattle.diag_cli.specs.Words.{Form, Load, Over, Command, Serve, ServeFrames, Ask, Plan, Check, Compile, asks_script}
-use Rattle.diag_cli.specs.Describing.{netlist_line, long_file_line, or_line, described, device_in}
+use Rattle.device_files.specs.Describing.{netlist_line, long_file_line, or_line, described, device_in}
 use Rattle.diag_cli.specs.Frames.{sequential_in, if_unrolled}
-use Rattle.diag_cli.specs.Output.{Output, Gives, says, no_memory}
+use Rattle.device_files.specs.Output.{Output, Gives, says, no_memory, GivesUnlessMemory}
 use Rattle.diag_cli.specs.Courses.{End, Ended, Failed, Cut, Course, Tells, Serves, usage_line, read_error, not_loaded, served, wholly_served, whole_output, if_within, served_or_refused, course_by}
 use Rattle.diag_cli.specs.Loads.{loaded}
-use Rattle.diag_cli.specs.Refusals.{or_memory}
+use Rattle.device_files.specs.Refusals.{or_memory}
 use Rattle.diag_cli.specs.Runs.{GivesUnlessShort, IsDone, IsRun}
-use Rattle.diag_cli.specs.Following.{Reading, Writing, IsIdle, EndsAs, AreTaken, CameTo, IsServed, WritesFirst, IsStopped, GivesUnlessMemory, Follows}
-use Rattle.diag_cli.proofs.Failing.{gives_part}
+use Rattle.diag_cli.specs.Following.{Reading, Writing, IsIdle, EndsAs, AreTaken, CameTo, IsServed, WritesFirst, IsStopped, Follows}
+use Rattle.device_files.proofs.Failing.{gives_part}
+use Rattle.device_files.proofs.PlannedDevices.{short_file}
 use Rattle.diag_cli.proofs.Unread.{IsUnread}
 use Rattle.diag_cli.proofs.Scripts.{taken_all, broken_begins_all}
 
@@ -39,9 +40,6 @@ same_file file bytes None same is = tt
 same_file file bytes (Some all) same is = same ∙ is
 
 -- a file that is short enough is read
-pub short_file : (path file : List ℕ) → length file ≤ TEXT_LIMIT → device_in path file ≡ described path file
-short_file path file short = let few : nat_le (length file) TEXT_LIMIT ≡ true = grind arith in rw few
-
 pub short_netlist : (file : List ℕ) → length file ≤ TEXT_LIMIT → sequential_in file ≡ or_line netlist_line (sequential_netlist file)
 short_netlist file short = let few : nat_le (length file) TEXT_LIMIT ≡ true = grind arith in rw few
 

@@ -7,13 +7,9 @@ pub mod Running
 pub mod ServedDevices
 pub mod AskedGraphs
 pub mod ServedFrames
-pub mod Failing
 pub mod Unread
 pub mod Scripts
-pub mod Ordering
 pub mod Headline
-pub mod PlannedDevices
-pub mod Adapting
 pub mod WholeGraphs
 pub mod LoadedAdders
 pub mod GateDevices

@@ -22,11 +22,10 @@ use Rattle.session_rules.proofs.Begun.{HaveSpellings}
 use Rattle.session_rules.proofs.Meaning.{same_consistent}
 use Rattle.diag_cli.specs.declared.loading.TheConstants.{LISTED_LIMIT}
 use Rattle.diag_cli.specs.declared.loading.Summary.{Summary}
-use Rattle.diag_cli.specs.Output.{Output, Gives}
-use Rattle.diag_cli.specs.Following.{GivesUnlessMemory}
-use Rattle.diag_cli.specs.Planning.{count_line}
+use Rattle.device_files.specs.Output.{Output, Gives, GivesUnlessMemory}
+use Rattle.device_files.specs.Planning.{count_line}
 use Rattle.diag_cli.specs.Loads.{names_line, listed_lines}
-use Rattle.diag_cli.specs.Refusals.{or_memory}
+use Rattle.device_files.specs.Refusals.{or_memory}
 use Rattle.diag_cli.specs.inner.Loading.{if_found, IsSummaryOf}
 use Rattle.diag_cli.specs.inner.Serving.{IsServable}
 

@@ -24,10 +24,10 @@ use Rattle.session_core.specs.Serving.{FailsBehind, FailsAtOnce}
 use Rattle.session_core.proofs.Exact.{makes_over, breaks_over, parted}
 use Rattle.diag_edge.specs.Edge.{AppendsPrefix}
 use Rattle.diag_edge.proofs.Growing.{grows_more}
-use Rattle.diag_cli.specs.Output.{Output, Gives}
+use Rattle.device_files.specs.Output.{Output, Gives}
 use Rattle.diag_cli.specs.Courses.{ready_line, answers_of}
 use Rattle.diag_cli.specs.Following.{WritesFirst, IsStopped}
-use Rattle.diag_cli.proofs.Failing.{given_grows}
+use Rattle.device_files.proofs.Failing.{given_grows}
 
 -- ---- nothing is read after a write that failed
 

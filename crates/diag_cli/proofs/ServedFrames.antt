@@ -13,8 +13,8 @@ use Rattle.clause_order.specs.Orders.{SameTruth}
 use Rattle.frame_unroller.specs.Unrolling.{unrolled, reason, IsUnrolled}
 use Rattle.frame_unroller.proofs.Refusing.{unrolled-names}
 use Rattle.dnnf_compiler.proofs.Laws.{graph_over}
-use Rattle.diag_cli.specs.Planning.{within}
-use Rattle.diag_cli.specs.Orders.{list_by, ByOrder}
+use Rattle.device_files.specs.Planning.{within}
+use Rattle.device_files.specs.Orders.{list_by, ByOrder, IsInOrder}
 use Rattle.std.proofs.lemmas.List.{length-map, length-replicate}
 use Rattle.ranking.specs.Ranking.{plain_costs}
 use Rattle.graph_rules.specs.Graphs.{Graph, IsGraph}
@@ -30,14 +30,13 @@ use Rattle.session_rules.proofs.Keeping.{HasCases-empty}
 use Rattle.session_core.specs.Services.{Shown}
 use Rattle.ranking.specs.Systems.{with_extras}
 use Rattle.diag_cli.specs.declared.words.ServeOptions.{ServeOptions}
-use Rattle.diag_cli.specs.Output.{Output}
+use Rattle.device_files.specs.Output.{Output}
 use Rattle.diag_cli.specs.Besides.{in_few_bits}
 use Rattle.diag_cli.specs.Courses.{ready_line, answers_of, served_frames, served_or_refused}
 use Rattle.diag_cli.specs.Frames.{unrolled_within, netlist_by, if_unrolled}
 use Rattle.diag_cli.specs.Following.{Reading, Writing, IsServed, Follows}
-use Rattle.diag_cli.specs.inner.Ordering.{IsInOrder}
 use Rattle.diag_cli.specs.inner.Serving.{IsFrameService, frames_told}
-use Rattle.diag_cli.proofs.Ordering.{by_same, by_list}
+use Rattle.device_files.proofs.Ordering.{by_same, by_list}
 
 module _ (seq : Sequential) (frames : ℕ) (options : ServeOptions) where
   named : length (part_names seq.device.parts) ≡ length seq.device.parts

@@ -1,5 +1,5 @@
 -- What is given where a device is compiled.
-use Rattle.std.proofs.Common.{◌≡◌, ℕ, ◌+◌, ◌*◌, ◌≤◌, true, List, [], ◌∷◌, length, Option, None, Some, Result, Ok, refl, sym, ◌∙◌, ap, subst, arith, inl, inr, nat_le}
+use Rattle.std.proofs.Common.{◌≡◌, ℕ, ◌+◌, ◌*◌, ◌≤◌, true, List, [], ◌∷◌, length, Option, None, Some, Result, Ok, refl, sym, ◌∙◌, ap, subst, arith, inl, inr}
 use Rattle.std.specs.Prelude.{MatchResult}
 use Rattle.text_rules.specs.declared.text_lines.TheConstants.{TEXT_LIMIT}
 use Rattle.text_rules.specs.Expected.{IsExpectedFault}
@@ -15,21 +15,18 @@ use Rattle.branch_states.specs.Branches.{sum_of}
 use Rattle.session_rules.specs.Items.{Whole}
 use Rattle.session_rules.specs.Spelling.{IsWholeOf}
 use Rattle.session_rules.proofs.Spellings.{replies_one}
-use Rattle.diag_cli.specs.Output.{Output, Gives}
-use Rattle.diag_cli.specs.Following.{GivesUnlessMemory}
-use Rattle.diag_cli.specs.Describing.{described, device_in}
-use Rattle.diag_cli.specs.Planning.{within}
+use Rattle.device_files.specs.Output.{Output, Gives, GivesUnlessMemory}
+use Rattle.device_files.specs.Describing.{described, device_in}
+use Rattle.device_files.specs.Planning.{within}
 use Rattle.diag_cli.specs.Courses.{graph_by, compiled}
-use Rattle.diag_cli.specs.Refusals.{or_memory}
+use Rattle.device_files.specs.Refusals.{or_memory}
 use Rattle.diag_cli.specs.inner.Serving.{IsServable}
-use Rattle.diag_cli.proofs.Failing.{replies_give}
+use Rattle.device_files.proofs.Failing.{replies_give}
+use Rattle.device_files.proofs.PlannedDevices.{short_file}
 
 -- the device of a short text is that of its file
 in_file : (path file : List ℕ) (device : Device) → length file ≤ TEXT_LIMIT → described path file ≡ Ok device → device_in path file ≡ Ok device
-in_file path file device short is = rw few is
-  where
-    few : nat_le (length file) TEXT_LIMIT ≡ true
-    few = grind arith
+in_file path file device short is = short_file path file short ∙ is
 
 -- there are too many clauses, or their sum is above the budget
 pub not_compiled : (fault : Option Output) (path file : List ℕ) (budget : ℕ) (clauses : Device → Result ClauseList EncodeError) (device : Device) (status : ℕ) (a b : Option (List ℕ)) → length file ≤ TEXT_LIMIT → described path file ≡ Ok device
@@ -64,3 +61,10 @@ module _ (path file : List ℕ) (budget : ℕ) (clauses : Device → Result Clau
     where
       spelled : IsWholeOf device cnf.vars most (parsed (graph_text (record graph { vars = vars })))
       spelled = subst (IsWholeOf device cnf.vars most) (sym (reads ∙ ap (λ n. Ok (record graph { vars = n })) same)) (is_whole servable of_cnf few_nodes)
+
+-- what is told where a file cannot be compiled
+pub not_described : (fault : Option Output) (path file : List ℕ) (budget : ℕ) (clauses : Device → Result ClauseList EncodeError) (status : ℕ) (a b : Option (List ℕ))
+    → length file ≤ TEXT_LIMIT → IsExpectedFault fault (described path file) → Gives (or_memory fault) status a b → GivesUnlessMemory (compiled budget clauses (device_in path file)) status a b
+not_described None path file budget clauses status a b short is said = inl said
+not_described (Some output) path file budget clauses status a b short is said =
+    inr (subst (λ (o : Output). Gives o status a b) (sym (ap (compiled budget clauses) (short_file path file short ∙ is))) said)

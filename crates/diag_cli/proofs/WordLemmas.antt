@@ -15,7 +15,8 @@ use Rattle.diag_cli.specs.declared.words.TheConstants.{DEFAULT_BUDGET, DEFAULT_S
 use Rattle.diag_cli.specs.declared.words.Options.{Options}
 use Rattle.diag_cli.specs.declared.words.ServeOptions.{ServeOptions}
 use Rattle.diag_cli.specs.declared.words.Form.{Form as FormRead}
-use Rattle.diag_cli.specs.Words.{Form, Load, Over, Serve, ServeFrames, Ask, Plan, Check, Compile, no_options, given_once, with_budget, with_sessions, with_frames, with_levels, with_order, with_least, none_of_serve, none_but_order, are_none, serve_options, stands_alone, and_alone, and_option, and_options, form_serve, form_by, form_over, sessions_in, ask_by, form_ask, form_load, form_by_words, form_of, is_netlist_path, is_device_path, is_graph_path, only_if}
+use Rattle.diag_cli.specs.Words.{Form, Load, Over, Serve, ServeFrames, Ask, Plan, Check, Compile, no_options, given_once, with_budget, with_sessions, with_frames, with_levels, with_order, with_least, none_of_serve, none_but_order, are_none, serve_options, stands_alone, and_alone, and_option, and_options, form_serve, form_by, form_over, sessions_in, ask_by, form_ask, form_load, form_by_words, form_of, only_if}
+use Rattle.device_files.specs.Paths.{is_netlist_path, is_device_path, is_graph_path}
 use Rattle.diag_cli.specs.inner.Forms.{meant, AreWithinLimits, IsWithinLimits}
 
 -- ---- words of the code and words of the definition

@@ -8,7 +8,7 @@ use Rattle.nnf_ask.specs.declared.names.AskError.TheVariants.{Health, Wires, Mem
 use Rattle.nnf_ask.specs.Asking.{asked_names, asked_subject}
 use Rattle.session_rules.specs.GraphSystems.{Subject}
 use Rattle.diag_edge.specs.ErrorLines.{above_line}
-use Rattle.diag_cli.specs.Output.{Output, says, no_memory_line}
+use Rattle.device_files.specs.Output.{Output, says, no_memory_line}
 
 -- the line that tells why the variables have no names
 abbrev pub asking_line : AskError → List ℕ

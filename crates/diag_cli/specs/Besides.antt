@@ -7,7 +7,7 @@ use Rattle.branch_states.specs.Branches.{sum_of}
 use Rattle.level_lister.specs.Bits.{level_bits}
 use Rattle.smooth_nnf.specs.Sizes.{drawing_bits}
 use Rattle.session_core.specs.declared.limits.TheConstants.{SERVED_BITS}
-use Rattle.diag_cli.specs.Output.{Output, says}
+use Rattle.device_files.specs.Output.{Output, says}
 
 -- the bits of states by rising cost, where these are told, over the greatest graph that is compiled from clauses of this sum
 abbrev pub levels_bits : (sum vars parts : ℕ) → Option ℕ → ℕ

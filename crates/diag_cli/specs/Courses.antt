@@ -16,15 +16,15 @@ use Rattle.session_rules.specs.GraphSystems.{system_of}
 use Rattle.diag_cli.specs.declared.serving.TheConstants.{SCRIPT_LIMIT}
 use Rattle.diag_cli.specs.declared.words.ServeOptions.{ServeOptions}
 use Rattle.diag_cli.specs.Words.{Form, Load, Over, Command, Serve, ServeFrames, Ask, Plan, Check, Compile}
-use Rattle.diag_cli.specs.Output.{Output, says, too_long_line, no_memory}
-use Rattle.diag_cli.specs.Describing.{long_file_line, device_in}
-use Rattle.diag_cli.specs.Orders.{list_by, clauses_by}
-use Rattle.diag_cli.specs.Planning.{within, sizes_in, planned}
+use Rattle.device_files.specs.Output.{Output, says, too_long_line, no_memory}
+use Rattle.device_files.specs.Describing.{long_file_line, device_in}
+use Rattle.device_files.specs.Orders.{list_by, clauses_by}
+use Rattle.device_files.specs.Planning.{within, sizes_in, planned}
 use Rattle.diag_cli.specs.Besides.{in_few_bits}
 use Rattle.bench_reader.specs.declared.sequential.Sequential.{Sequential}
 use Rattle.frame_unroller.specs.Diagnosis.{frame_system}
 use Rattle.diag_cli.specs.Frames.{sequential_in, if_unrolled}
-use Rattle.diag_cli.specs.Checking.{graph_in, checked}
+use Rattle.device_files.specs.Checking.{graph_in, checked}
 use Rattle.diag_cli.specs.Asking.{asked}
 use Rattle.diag_cli.specs.Loads.{loaded}
 

@@ -6,7 +6,7 @@ use Rattle.session_rules.specs.Items.{Item}
 use Rattle.session_rules.specs.Spelling.{Writes, WritesPart}
 use Rattle.session_core.specs.declared.serving.TheConstants.{READ_LIMIT}
 use Rattle.diag_cli.specs.declared.serving.TheConstants.{SCRIPT_LIMIT}
-use Rattle.diag_cli.specs.Output.{Output, Gives, no_memory}
+use Rattle.device_files.specs.Output.{Gives, GivesUnlessMemory, no_memory}
 use Rattle.diag_cli.specs.Courses.{End, Ended, Failed, Cut, Course, Tells, Serves, served}
 
 -- what a source of bytes shows at a time: the bytes still to come, where they are told, how many were taken, and its faults
@@ -84,10 +84,6 @@ CameTo answers input new_input out new_out status =
 pub record IsServed (answers : List (List ℕ) → List Item) (input new_input : Reading) (out new_out : Writing) (status : ℕ) : Type 0 where
   pub answer : CameTo answers input new_input out new_out status
   pub all_read : status ≡ 0 → IsAtEnd new_input.left
-
--- memory ran out, or the output was given
-abbrev pub GivesUnlessMemory : Output → ℕ → Option (List ℕ) → Option (List ℕ) → Type 0
-GivesUnlessMemory output status before after = Gives no_memory status before after ⊎ Gives output status before after
 
 -- what was done, by the course
 abbrev pub Follows : Course → Reading → Reading → Writing → Writing → ℕ → Type 0

@@ -11,10 +11,10 @@ use Rattle.frame_unroller.specs.declared.unrolling.UnrollError.{UnrollError}
 use Rattle.frame_unroller.specs.declared.unrolling.UnrollError.TheVariants.{TooManyParts, TooManyWires, TooManyClauses, Memory}
 use Rattle.frame_unroller.specs.Unrolling.{unrolled}
 use Rattle.diag_edge.specs.ErrorLines.{above_line}
-use Rattle.diag_cli.specs.Output.{Output, says, no_memory}
-use Rattle.diag_cli.specs.Describing.{netlist_line, long_file_line, or_line}
+use Rattle.device_files.specs.Output.{Output, says, no_memory}
+use Rattle.device_files.specs.Describing.{netlist_line, long_file_line, or_line}
 use Rattle.diag_cli.specs.declared.words.ServeOptions.{ServeOptions}
-use Rattle.diag_cli.specs.Planning.{within}
+use Rattle.device_files.specs.Planning.{within}
 use Rattle.diag_cli.specs.Besides.{in_few_bits}
 
 -- the netlist of a file, which may be too long

@@ -1,15 +1,9 @@
 pub mod Words
-pub mod Output
-pub mod Describing
-pub mod Checking
-pub mod Orders
 pub mod Asking
-pub mod Planning
 pub mod Frames
 pub mod Loads
 pub mod Besides
 pub mod Courses
 pub mod Following
 pub mod Runs
-pub mod Refusals
 pub mod inner

@@ -14,9 +14,9 @@ use Rattle.session_rules.specs.Items.{Item, line}
 use Rattle.session_rules.specs.Replies.{faulty_names}
 use Rattle.diag_cli.specs.declared.words.TheConstants.{DEFAULT_BUDGET}
 use Rattle.diag_cli.specs.declared.loading.TheConstants.{LISTED_LIMIT}
-use Rattle.diag_cli.specs.Output.{Output}
-use Rattle.diag_cli.specs.Describing.{or_line, netlist_line}
-use Rattle.diag_cli.specs.Planning.{count_line, within}
+use Rattle.device_files.specs.Output.{Output}
+use Rattle.device_files.specs.Describing.{or_line, netlist_line}
+use Rattle.device_files.specs.Planning.{count_line, within}
 
 -- a word and the names of the faulty parts
 abbrev pub names_line : List ℕ → List Name → List Bool → Item

@@ -10,7 +10,7 @@ use Rattle.session_rules.specs.Items.{Item}
 use Rattle.session_rules.specs.Spelling.{Writes}
 use Rattle.diag_cli.specs.declared.serving.TheConstants.{SCRIPT_LIMIT}
 use Rattle.diag_cli.specs.Words.{Form, named_file, told_file, asks_script}
-use Rattle.diag_cli.specs.Output.{Output, Gives, no_memory, says}
+use Rattle.device_files.specs.Output.{Output, Gives, no_memory, says}
 use Rattle.diag_cli.specs.Following.{Reading, Writing, IsIdle, WritesFirst, IsStopped, Follows}
 use Rattle.diag_cli.specs.Courses.{Failed, Tells, Serves, read_error, served, whole_output, course_of}
 

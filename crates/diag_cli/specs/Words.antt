@@ -1,5 +1,5 @@
 -- What the words of the command line ask for.
-use Rattle.std.specs.Prelude.{ℕ, Bool, true, false, not, ◌&&◌, ◌||◌, is_none, nat_lt, ◌-◌, List, [], ◌∷◌, length, drop, Option, Some, None, unwrap_or, option_and_then, if◌then◌else◌, codes}
+use Rattle.std.specs.Prelude.{ℕ, Bool, true, false, not, ◌&&◌, ◌||◌, is_none, List, [], ◌∷◌, Option, Some, None, unwrap_or, option_and_then, if◌then◌else◌, codes}
 use Rattle.std.specs.Option.{option_map, option_map_or}
 use Rattle.text_rules.specs.Names.{same_name}
 use Rattle.text_rules.specs.Numbers.{plain_number_in}
@@ -8,6 +8,7 @@ use Rattle.device_model.specs.declared.limits.TheConstants.{PART_LIMIT}
 use Rattle.branch_states.specs.declared.measuring.TheConstants.{BUDGET_LIMIT}
 use Rattle.frame_unroller.specs.declared.unrolling.TheConstants.{FRAME_LIMIT}
 use Rattle.diag_edge.specs.Edge.{Holding, told_bytes}
+use Rattle.device_files.specs.Paths.{is_netlist_path, is_device_path, is_graph_path}
 use Rattle.diag_cli.specs.declared.words.Options.{Options}
 use Rattle.diag_cli.specs.declared.words.ServeOptions.{ServeOptions}
 use Rattle.level_lister.specs.declared.levels.TheConstants.{TOP_LIMIT}
@@ -49,28 +50,6 @@ asks_script (Some (Over path (Serve options))) = true
 asks_script (Some (Over path (ServeFrames frames options))) = true
 asks_script (Some (Over path (Ask health sessions))) = true
 asks_script form = false
-
--- ---- files by their endings
-
--- something stands before the ending
-abbrev pub ends_in : List ℕ → List ℕ → Bool
-ends_in ending path = nat_lt (length ending) (length path) && same_name (drop (length path - length ending) path) ending
-
--- a design by its ending
-abbrev pub is_design_path : List ℕ → Bool
-is_design_path path = ends_in (codes ".dev") path
-
--- a netlist by its ending
-abbrev pub is_netlist_path : List ℕ → Bool
-is_netlist_path path = ends_in (codes ".bench") path
-
--- a netlist or a design
-abbrev pub is_device_path : List ℕ → Bool
-is_device_path path = is_netlist_path path || is_design_path path
-
--- a graph
-abbrev pub is_graph_path : List ℕ → Bool
-is_graph_path path = ends_in (codes ".nnf") path
 
 -- ---- options
 

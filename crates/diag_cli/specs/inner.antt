@@ -2,4 +2,3 @@
 pub mod Forms
 pub mod Loading
 pub mod Serving
-pub mod Ordering

@@ -1,14 +1,13 @@
 ghost use Rattle.std.specs.Prelude.{◌≡◌, ◌≢◌, ◌-◌, ◌^◌, ◌<◌, ◌≤◌, length};
 ghost use Rattle.diag_edge.specs.Edge.{RoseExactly};
-ghost use Rattle.diag_cli.specs.Describing.{device_in};
-ghost use Rattle.diag_cli.specs.Orders.{ByClauses};
+ghost use Rattle.device_files.specs.Describing.{device_in};
+ghost use Rattle.device_files.specs.Orders.{ByClauses};
 ghost use Rattle.diag_cli.specs.Courses.{compiled};
-ghost use Rattle.diag_cli.specs.Following.{GivesUnlessMemory};
+ghost use Rattle.device_files.specs.Output.{GivesUnlessMemory};
 
-use crate::describing::described;
 use crate::graphs::graph_within;
-use crate::refusal::tell;
 use branch_states::BUDGET_LIMIT;
+use device_files::{described, tell};
 use diag_edge::Sink;
 use nnf_text::write_nnf;
 use std::alloc::Global;

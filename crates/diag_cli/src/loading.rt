@@ -5,20 +5,17 @@ ghost use Rattle.diag_edge.specs.Edge.{HasCause, RoseExactly};
 ghost use Rattle.diagnosis_lister.specs.Listing.{bits_of};
 ghost use Rattle.adder_load.specs.Adders.{adder_text};
 ghost use Rattle.session_rules.specs.Spelling.{Replies};
-ghost use Rattle.diag_cli.specs.Describing.{or_line, netlist_line};
+ghost use Rattle.device_files.specs.Describing.{or_line, netlist_line};
 ghost use Rattle.diag_cli.specs.Loads.{names_line, summary_of, loaded};
-ghost use Rattle.diag_cli.specs.Output.{Gives};
-ghost use Rattle.diag_cli.specs.Refusals.{Finds};
+ghost use Rattle.device_files.specs.Output.{Gives, GivesUnlessMemory};
+ghost use Rattle.device_files.specs.Refusals.{Finds};
 ghost use Rattle.diag_cli.specs.inner.Loading.{IsSummaryOf, IsInStep, Loads, listed_items, inconsistent_items, found_items, summary_items, summary_output};
 ghost use Rattle.diag_cli.specs.inner.Serving.{IsServable};
-ghost use Rattle.diag_cli.specs.Following.{GivesUnlessMemory};
 
-use crate::describing::netlist_device;
 use crate::graphs::{costs_of, graph_within};
-use crate::planning::put_count;
-use crate::refusal::{Refusal, tell};
 use crate::words::DEFAULT_BUDGET;
 use adder_load::{Found, PLACE_LIMIT, adder_text, note_readings, sample};
+use device_files::{Refusal, netlist_device, put_count, tell};
 use device_model::{Device, Name};
 use diag_edge::{Sink, WriteFailed, put_line};
 use fault_graph::Distiller;
@@ -120,7 +117,7 @@ fn summary_at(alloc: Global, places: u32) -> Result<Summary, Refusal>
 }
 
 // Puts a line of a word and the names of the faulty parts.
-#[tactic(auto, using(crate::proofs::Failing::line_replies))]
+#[tactic(auto, using(device_files::proofs::Failing::line_replies))]
 fn put_names<O: Sink>(
     out: &mut O,
     what: &[u8],
@@ -154,7 +151,7 @@ fn put_listed<O: Sink>(
 }
 
 // That no state agrees with what was seen.
-#[tactic(auto, using(crate::proofs::Failing::line_replies))]
+#[tactic(auto, using(device_files::proofs::Failing::line_replies))]
 fn put_inconsistent<O: Sink>(out: &mut O) -> Result<(), WriteFailed>
     ensures text { Replies (O.got out.old) (O.got out.new) result inconsistent_items }
     ensures cause { HasCause (O.faults out.old) (O.faults out.new) result }
@@ -187,7 +184,7 @@ fn put_summary<O: Sink>(out: &mut O, summary: &Summary) -> Result<(), WriteFaile
 }
 
 // Tells a summary and answers 0, or 5 where a write failed.
-#[tactic(auto, using(crate::proofs::Failing::gives_items))]
+#[tactic(auto, using(device_files::proofs::Failing::gives_items))]
 fn tell_summary<O: Sink>(out: &mut O, summary: &Summary) -> u8
     requires in_step { IsInStep summary.now }
     requires faults { O.faults out.old < 2 ^ 64 - 1 }

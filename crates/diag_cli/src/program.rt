@@ -1,6 +1,6 @@
 ghost use Rattle.std.specs.Prelude.{◌-◌, ◌^◌, ◌<◌, map, string_bytes, Some, IfSome};
 ghost use Rattle.diag_cli.specs.Words.{form_of, named_file, Over};
-ghost use Rattle.diag_cli.specs.Orders.{ByOrder};
+ghost use Rattle.device_files.specs.Orders.{ByOrder};
 ghost use Rattle.diag_cli.specs.Runs.{IsRun};
 ghost use Rattle.diag_cli.specs.inner.Forms.{command_meant, IsCommandWithin};
 

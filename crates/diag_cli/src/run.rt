@@ -1,17 +1,16 @@
 ghost use Rattle.std.specs.Prelude.{◌≡◌, ◌≢◌, ◌+◌, ◌-◌, ◌^◌, ◌<◌, ◌≤◌, length};
 ghost use Rattle.diag_edge.specs.Edge.{RoseExactly};
-ghost use Rattle.diag_cli.specs.Orders.{ByOrder};
+ghost use Rattle.device_files.specs.Orders.{ByOrder};
 ghost use Rattle.diag_cli.specs.Courses.{course_by};
 ghost use Rattle.diag_cli.specs.Following.{Follows};
 ghost use Rattle.diag_cli.specs.inner.Forms.{command_meant, IsCommandWithin};
 
 use crate::asking::ask_file;
-use crate::checking::check_file;
 use crate::compiling::compile_file;
 use crate::framing::serve_frames;
-use crate::planning::plan_file;
 use crate::serving::{SCRIPT_LIMIT, serve_file};
 use crate::words::Command;
+use device_files::{check_file, plan_file};
 use diag_edge::{Sink, Source};
 use std::alloc::Global;
 use text_rules::TEXT_LIMIT;

@@ -1,15 +1,15 @@
 ghost use Rattle.std.specs.Prelude.{◌≡◌, ◌≢◌, ◌⊎◌, ℕ, ◌-◌, ◌^◌, ◌<◌};
 ghost use Rattle.diag_edge.specs.Edge.{RoseExactly};
-ghost use Rattle.diag_cli.specs.Output.{Gives, says, too_long_line};
+ghost use Rattle.device_files.specs.Output.{Gives, says, too_long_line};
 ghost use Rattle.diag_cli.specs.Courses.{read_error, usage_line, not_loaded};
 
-use crate::refusal::{Refusal, tell};
+use device_files::{Refusal, tell};
 use diag_edge::{LoadError, Sink, WriteFailed, put_line};
 use itoa::Buffer;
 use text_rules::TEXT_LIMIT;
 
 /// Writes a text and answers the status, or 5 where the write failed.
-#[tactic(auto, using(crate::proofs::Failing::gives_line))]
+#[tactic(auto, using(device_files::proofs::Failing::gives_line))]
 pub fn say<O: Sink>(out: &mut O, text: &[u8], status: u8) -> u8
     requires faults { O.faults out.old < 2 ^ 64 - 1 }
     requires status { status ≢ 5 }
@@ -44,7 +44,7 @@ pub fn say_usage<O: Sink>(out: &mut O) -> u8
 }
 
 /// Tells that something has more bytes than may be and answers the status, or 5 where the write failed.
-#[tactic(auto, using(crate::proofs::Failing::gives_line))]
+#[tactic(auto, using(device_files::proofs::Failing::gives_line))]
 pub(crate) fn say_too_long<O: Sink>(out: &mut O, what: &[u8], limit: u64, status: u8) -> u8
     requires faults { O.faults out.old < 2 ^ 64 - 1 }
     requires status { status ≢ 5 }

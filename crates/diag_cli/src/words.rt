@@ -1,11 +1,12 @@
 ghost use Rattle.std.specs.Prelude.{◌≡◌, map, string_bytes, IfSome};
 ghost use Rattle.std.specs.Option.{option_map};
 ghost use Rattle.text_rules.specs.Numbers.{plain_number_in};
-ghost use Rattle.diag_cli.specs.Words.{form_of, form_by_words, form_over, form_load, form_ask, sessions_in, form_by, form_serve, serve_options, budget_of, none_of_serve, none_but_order, are_none, given_once, with_order, with_least, stands_alone, and_alone, and_option, and_options, ends_in, is_design_path, is_netlist_path, is_device_path, is_graph_path};
+ghost use Rattle.diag_cli.specs.Words.{form_of, form_by_words, form_over, form_load, form_ask, sessions_in, form_by, form_serve, serve_options, budget_of, none_of_serve, none_but_order, are_none, given_once, with_order, with_least, stands_alone, and_alone, and_option, and_options};
 ghost use Rattle.diag_cli.specs.inner.Forms.{meant, IsWithinLimits};
 
 use adder_load::PLACE_LIMIT;
 use branch_states::BUDGET_LIMIT;
+use device_files::{is_device_path, is_graph_path, is_netlist_path};
 use device_model::PART_LIMIT;
 use frame_unroller::FRAME_LIMIT;
 use level_lister::TOP_LIMIT;
@@ -245,41 +246,6 @@ fn and_options(given: Options, words: &[String]) -> Option<Options>
         }
         [_] => None,
     }
-}
-
-// Whether something stands before an ending.
-fn ends_in(ending: &[u8], path: &str) -> bool
-    ensures { result ≡ ends_in ending.now path.now }
-{
-    path.len() > ending.len() && path.as_bytes().ends_with(ending)
-}
-
-/// Whether a file is a design by its ending.
-pub fn is_design_path(path: &str) -> bool
-    ensures { result ≡ is_design_path path.now }
-{
-    ends_in(b".dev", path)
-}
-
-// Whether a file is a netlist by its ending.
-fn is_netlist_path(path: &str) -> bool
-    ensures { result ≡ is_netlist_path path.now }
-{
-    ends_in(b".bench", path)
-}
-
-/// Whether a file is a netlist or a design by its ending.
-pub fn is_device_path(path: &str) -> bool
-    ensures { result ≡ is_device_path path.now }
-{
-    is_netlist_path(path) || is_design_path(path)
-}
-
-// Whether a file is a graph by its ending.
-fn is_graph_path(path: &str) -> bool
-    ensures { result ≡ is_graph_path path.now }
-{
-    ends_in(b".nnf", path)
 }
 
 // What `serve` is, over a netlist where there are frames.

@@ -1,8 +1,8 @@
-use diag_cli::{StdSink, StdSource};
 use diag_edge::{Sink, Source};
 use std::io;
 use std::io::{ErrorKind, Read, Write};
 use std::test::Fail;
+use system_edge::{StdSink, StdSource};
 
 /// Moves at most three bytes a call, and is interrupted at each second call.
 #[derive(Drop)]

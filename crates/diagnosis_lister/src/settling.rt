@@ -5,6 +5,7 @@ ghost use Rattle.minimiser.specs.Stored.{AreLeastCosts};
 ghost use Rattle.diagnosis_lister.specs.Listing.{fault_count};
 ghost use Rattle.diagnosis_lister.specs.inner.Working.{IsFirst, fixed_bits};
 
+use conditioner::fix_ok;
 use minimiser::{Steps, TOTAL_LIMIT, first_suspect, least};
 use node_store::Graph;
 use std::sync::ledger::Ledger;
@@ -65,21 +66,4 @@ pub(crate) fn settle<L: Ledger>(
         least(graph, words, costs, values, steps);
     }
     fix_ok(words, from, costs.len());
-}
-
-// Fixes the open parts from one up to another to ok.
-fn fix_ok(words: &mut [u32], from: usize, to: usize)
-    requires words { All (λ w. w < 3) words.old }
-    requires to { to ≤ length words.old }
-    ensures words { All (λ w. w < 3) words.new }
-    ensures fixed { (k : ℕ) → from ≤ k → k < to → slice_index words.old k ≡ 0 → slice_index words.new k ≡ 1 }
-    ensures kept { (k : ℕ) → slice_index words.old k ≢ 0 → slice_index words.new k ≡ slice_index words.old k }
-    ensures before { (k : ℕ) → k < from → slice_index words.new k ≡ slice_index words.old k }
-    ensures behind { (k : ℕ) → to ≤ k → slice_index words.new k ≡ slice_index words.old k }
-{
-    for part in from..to {
-        if words[part] == 0 {
-            words[part] = 1;
-        }
-    }
 }

@@ -7,5 +7,5 @@ pub few_costs : (costs : List ℕ) → length costs ≡ 3 → All (λ n. n < 10)
 few_costs costs three small = omega (arith, sum_by-le (λ n. n) 10 costs (λ k d h. let s = small k d h in omega arith))
 
 -- and so are three that are not so small
-pub some_costs : (costs : List ℕ) → length costs ≡ 3 → All (λ n. n < 100) costs → total_cost costs < 2147483647
-some_costs costs three small = omega (arith, sum_by-le (λ n. n) 100 costs (λ k d h. let s = small k d h in omega arith))
+pub some_costs : (costs : List ℕ) → length costs ≡ 3 → All (λ n. n < 1001) costs → total_cost costs < 2147483647
+some_costs costs three small = omega (arith, sum_by-le (λ n. n) 1001 costs (λ k d h. let s = small k d h in omega arith))

@@ -1,5 +1,5 @@
 -- Words behind a place that are the same.
-use Rattle.std.proofs.Common.{◌≡◌, ℕ, zero, suc, ◌≤◌, List, [], ◌∷◌, ◌++◌, drop, length, get_or, refl, ap, arith, length-append}
+use Rattle.std.proofs.Common.{◌≡◌, ℕ, zero, suc, ◌≤◌, List, [], ◌∷◌, drop, length, get_or, refl, arith}
 use Rattle.std.proofs.lemmas.Grind.{same_number_lists}
 
 pub same_behind : (n : ℕ) (xs ys : List ℕ) → length xs ≡ length ys → ((k : ℕ) → n ≤ k → get_or xs k 0 ≡ get_or ys k 0) → drop n xs ≡ drop n ys
@@ -8,8 +8,3 @@ same_behind (suc n) [] [] l e = refl
 same_behind (suc n) [] (y ∷ ys) l e = absurd (omega arith)
 same_behind (suc n) (x ∷ xs) [] l e = absurd (omega arith)
 same_behind (suc n) (x ∷ xs) (y ∷ ys) l e = same_behind n xs ys (omega arith) (λ k h. e (suc k) (omega arith))
-
--- where one run was carved and released, none is left, and as many words are free
-pub none_left : {X : Type 0} (xs ys : List X) (x y : X) → ys ≡ x ∷ [] → ys ≡ xs ++ y ∷ [] → xs ≡ []
-none_left [] ys x y e f = refl
-none_left (z ∷ xs) ys x y e f = absurd (omega (arith, ap length e, ap length f, length-append xs (y ∷ [])))

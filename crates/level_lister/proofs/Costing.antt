@@ -6,7 +6,7 @@ use Rattle.ranking.specs.Ranking.{cost}
 use Rattle.ranking.specs.Bits.{bit_in}
 use Rattle.ranking.specs.Cases.{agrees_at}
 use Rattle.conditioner.specs.Words.{known_of}
-use Rattle.minimiser.specs.inner.Held.{held_one, held_cost}
+use Rattle.minimiser.specs.Held.{held_one, held_cost}
 use Rattle.minimiser.proofs.Held.{total-drop}
 use Rattle.minimiser.proofs.Models.{Agree}
 use Rattle.diagnosis_lister.specs.Listing.{bits_of}

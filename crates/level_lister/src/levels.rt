@@ -1,7 +1,6 @@
 ghost use Rattle.std.specs.Prelude.{◌≡◌, ◌≢◌, ℕ, ◌+◌, ◌*◌, ◌<◌, ◌≤◌, [], length, true, false, IfOk, All, Some, MatchOption, slice_index, slice_index_or};
 ghost use Rattle.conditioner.specs.Models.{models, total_cost};
 ghost use Rattle.diagnosis_lister.specs.Listing.{bits_of};
-ghost use Rattle.scratch_pool.specs.Regions.{free_words};
 ghost use Rattle.level_lister.specs.Listing.{IsFor, cost_words, point_if, later_levels, level_step};
 ghost use Rattle.level_lister.specs.Passes.{AreEnough, most_passes};
 
@@ -10,10 +9,9 @@ use crate::states::{keep, put_back, read_state};
 use minimiser::{Steps, TOTAL_LIMIT};
 use node_store::Graph;
 use part_sets::{PART_LIMIT, PartSets};
-use scratch_pool::Region;
 use std::alloc::{AllocError, Global};
-use std::marker::{Brand, Model};
-use std::sync::ledger::{Blank, Ledger};
+use std::marker::Model;
+use std::sync::ledger::Ledger;
 
 /// States of more than this cost are never listed.
 pub const TOP_LIMIT: u32 = 4_096_000;
@@ -64,49 +62,6 @@ impl Levels {
         })
     }
 
-    /// The next of the states that agree with the words, by cost and then in their order: the first one of all, or the first one
-    /// after the state, where that is a point. A point need not be listed.
-    ///
-    /// The words are the same afterwards, and so is how much of the region is free. Where nothing is found the state stays.
-    pub fn next(
-        &self,
-        graph: &Graph,
-        words: &mut [u32],
-        region: &mut Region,
-        state: &mut [u32],
-        pointed: bool,
-    ) -> LevelStep
-        requires graph { IsFor graph.now self.now }
-        requires long { length words.old ≡ graph.now.vars }
-        requires words { All (λ w. w < 3) words.old }
-        requires state { length state.old ≡ length self.now.costs }
-        requires state_words { All (λ s. s < 2) state.old }
-        requires runs { region.old.runs ≡ [] }
-        requires room { (length graph.now.nodes + 2) * (cost_words self.now.top + 1) + length self.now.costs ≤ free_words region.old }
-
-        ensures step { result ≡ level_step self.now.costs (models graph.now words.old (length self.now.costs))
-            (later_levels graph.now words.old self.now (point_if pointed (bits_of state.old))) }
-        ensures next { bits_of state.new ≡ slice_index_or
-            (later_levels graph.now words.old self.now (point_if pointed (bits_of state.old))) 0 (bits_of state.old) }
-        ensures state { All (λ s. s < 2) state.new }
-        ensures words { words.new ≡ words.old }
-        ensures runs { region.new.runs ≡ [] }
-        ensures free { free_words region.new ≡ free_words region.old }
-    {
-        let room = self.room(graph);
-        let run = region.carve(room).unwrap();
-        let step = self.next_in::<Brand>(
-            Blank::new(1),
-            graph,
-            words,
-            region.run_mut(&run),
-            state,
-            pointed,
-        );
-        region.release(run);
-        step
-    }
-
     // How many words a set has.
     pub(crate) fn size(&self) -> usize
         ensures { result ≡ cost_words self.now.top }
@@ -154,37 +109,12 @@ impl Levels {
         self.costs.len() + (graph.len() as usize + 2) * (self.size() + 1)
     }
 
-    fn next_in<L: Ledger>(
-        &self,
-        blank: Blank,
-        graph: &Graph,
-        words: &mut [u32],
-        scratch: &mut [u32],
-        state: &mut [u32],
-        pointed: bool,
-    ) -> LevelStep
-        requires name { blank.name ≡ L.name }
-        requires shares { blank.parts ≡ L.parts }
-        requires some { 0 < blank.parts }
-        requires graph { IsFor graph.now self.now }
-        requires long { length words.old ≡ graph.now.vars }
-        requires words { All (λ w. w < 3) words.old }
-        requires state { length state.old ≡ length self.now.costs }
-        requires state_words { All (λ s. s < 2) state.old }
-        requires room { length scratch.old ≡ length self.now.costs + (length graph.now.nodes + 2) * (cost_words self.now.top + 1) }
-        ensures step { result ≡ level_step self.now.costs (models graph.now words.old (length self.now.costs))
-            (later_levels graph.now words.old self.now (point_if pointed (bits_of state.old))) }
-        ensures next { bits_of state.new ≡ slice_index_or
-            (later_levels graph.now words.old self.now (point_if pointed (bits_of state.old))) 0 (bits_of state.old) }
-        ensures state { All (λ s. s < 2) state.new }
-        ensures words { words.new ≡ words.old }
-    {
-        let mut steps = Steps::<L>::new(blank);
-        self.next_by(graph, words, scratch, state, pointed, &mut steps)
-    }
-
-    /// The same in words that are lent for it. The passes over the graph are counted.
-    pub fn next_by<L: Ledger>(
+    /// The next of the states that agree with the words, by cost and then in their order: the first one of all, or the first one
+    /// after the state, where `pointed` says that it is a point. A point need not be listed. It is worked out in words that are lent for it, as many
+    /// as `room` tells, whatever they hold; the passes over the graph are counted.
+    ///
+    /// The words are the same afterwards. Where nothing is found the state stays.
+    pub fn next<L: Ledger>(
         &self,
         graph: &Graph,
         words: &mut [u32],

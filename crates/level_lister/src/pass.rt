@@ -4,7 +4,6 @@ ghost use Rattle.conditioner.specs.declared.leaves.Leaf.{Leaf};
 ghost use Rattle.part_sets.specs.Numbers.{has_number, part_words, set_at};
 ghost use Rattle.graph_rules.specs.declared.NodeKind.TheVariants.{And, Or};
 ghost use Rattle.graph_rules.specs.Graphs.{node_at};
-ghost use Rattle.minimiser.specs.Costs.{part_cost};
 ghost use Rattle.level_lister.specs.inner.NodeSets.{IsNodeSet, AreNodeSets, IsWholeSet};
 
 use crate::choices::widen;
@@ -12,6 +11,7 @@ use crate::search::Search;
 use crate::sets::{SET_LIMIT, add_shifted, put_sums};
 use conditioner::{Leaf, leaf};
 use graph_rules::NodeKind;
+use minimiser::part_cost;
 use part_sets::{clear, part_words, put_one, set_at};
 
 impl Search<'_> {
@@ -158,17 +158,6 @@ impl Search<'_> {
             );
             add_shifted(set, spare, 0);
         }
-    }
-}
-
-// What the failure of a variable's part costs, and 0 for one that is no part's.
-fn part_cost(var: u32, costs: &[u32]) -> u32
-    requires { 1 ≤ var }
-    ensures { result ≡ part_cost costs.now var }
-{
-    match costs.get(var as usize - 1) {
-        Some(cost) => *cost,
-        None => 0,
     }
 }
 

@@ -2,15 +2,16 @@
 ghost use Rattle.std.specs.Prelude.{◌≡◌, ◌≢◌, ◌↔◌, ℕ, ◌+◌, ◌*◌, ◌^◌, ◌<◌, ◌≤◌, length, All, IsTrue, IfSome, MatchOption, slice_index};
 ghost use Rattle.diagnosis_lister.specs.Listing.{bits_of, fault_count};
 ghost use Rattle.diagnosis_lister.specs.inner.Working.{IsFirst, fixed_bits};
-ghost use Rattle.minimiser.specs.inner.Held.{held_cost};
+ghost use Rattle.minimiser.specs.Held.{held_cost};
 ghost use Rattle.level_lister.specs.Listing.{cost_words};
 ghost use Rattle.level_lister.specs.Passes.{AreEnough, group_count, fixing_passes};
 ghost use Rattle.level_lister.specs.inner.Searching.{OfCost, HasCost, Settled, NoneAfter, Leaves};
 
 use crate::pairs::{Groups, has_bit};
 use crate::search::Search;
-use crate::states::{fix_ok, fixed_cost, follow};
-use minimiser::Steps;
+use crate::states::follow;
+use conditioner::fix_ok;
+use minimiser::{Steps, held_cost};
 use part_sets::has_number;
 use std::sync::ledger::Ledger;
 
@@ -263,7 +264,7 @@ impl Search<'_> {
             (fixed_bits (length self.now.levels.now.costs) words.new) }
         ensures steps { steps.new ≤ steps.old + length self.now.levels.now.costs }
     {
-        let mut spent = fixed_cost(words, self.levels.costs());
+        let mut spent = held_cost(words, self.levels.costs());
         for part in from..self.levels.costs().len() {
             spent = self.settle_part(words, work, cost, part, spent, steps);
         }

@@ -4,7 +4,6 @@ ghost use Rattle.ranking.specs.Ranking.{cost};
 ghost use Rattle.conditioner.specs.Models.{total_cost};
 ghost use Rattle.diagnosis_lister.specs.Listing.{bits_of};
 ghost use Rattle.diagnosis_lister.specs.inner.Working.{Follows, fixed_bits};
-ghost use Rattle.minimiser.specs.inner.Held.{held_cost};
 
 use minimiser::TOTAL_LIMIT;
 
@@ -18,23 +17,6 @@ pub(crate) fn state_cost(state: &[u32], costs: &[u32]) -> u32
     let mut total = 0;
     for (part, cost) in costs.iter().enumerate() {
         if state[part] != 0 {
-            total += *cost;
-        }
-    }
-    total
-}
-
-// What the parts cost that are fixed to faulty.
-#[tactic(auto, using(minimiser::proofs::Held::held_steps))]
-pub(crate) fn fixed_cost(words: &[u32], costs: &[u32]) -> u32
-    requires words { All (λ w. w < 3) words.now }
-    requires long { length costs.now ≤ length words.now }
-    requires total { total_cost costs.now < TOTAL_LIMIT }
-    ensures { result ≡ held_cost costs.now words.now }
-{
-    let mut total = 0;
-    for (part, cost) in costs.iter().enumerate() {
-        if words[part] == 2 {
             total += *cost;
         }
     }
@@ -58,23 +40,6 @@ pub(crate) fn follow(words: &mut [u32], state: &[u32]) -> usize
         }
     }
     state.len()
-}
-
-// Fixes the open parts from one up to another to ok.
-pub(crate) fn fix_ok(words: &mut [u32], from: usize, to: usize)
-    requires words { All (λ w. w < 3) words.old }
-    requires to { to ≤ length words.old }
-    ensures words { All (λ w. w < 3) words.new }
-    ensures fixed { (k : ℕ) → from ≤ k → k < to → slice_index words.old k ≡ 0 → slice_index words.new k ≡ 1 }
-    ensures kept { (k : ℕ) → slice_index words.old k ≢ 0 → slice_index words.new k ≡ slice_index words.old k }
-    ensures before { (k : ℕ) → k < from → slice_index words.new k ≡ slice_index words.old k }
-    ensures behind { (k : ℕ) → to ≤ k → slice_index words.new k ≡ slice_index words.old k }
-{
-    for part in from..to {
-        if words[part] == 0 {
-            words[part] = 1;
-        }
-    }
 }
 
 // Writes what the words say of the parts into the state.

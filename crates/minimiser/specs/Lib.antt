@@ -1,4 +1,5 @@
 pub mod Costs
 pub mod Stored
+pub mod Held
 pub mod Suspects
 pub mod inner

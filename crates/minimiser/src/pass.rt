@@ -1,7 +1,7 @@
 ghost use Rattle.std.specs.Prelude.{◌≡◌, ◌+◌, ◌-◌, ◌<◌, ◌≤◌, ◌^◌, [], ◌∷◌, ◌++◌, map, length, All, IfSome};
 ghost use Rattle.conditioner.specs.Models.{least_under, total_cost};
 ghost use Rattle.minimiser.specs.Costs.{part_cost, literal_cost, cost_at, sum_costs, cheapest};
-ghost use Rattle.minimiser.specs.inner.Held.{held_cost};
+ghost use Rattle.minimiser.specs.Held.{held_cost};
 ghost use Rattle.minimiser.specs.Stored.{cost_in, costs_to, AreLeastCosts};
 
 use crate::steps::Steps;
@@ -88,8 +88,8 @@ fn node_value(graph: &Graph, words: &[u32], costs: &[u32], values: &[u32], at: u
     }
 }
 
-// What the failure of a variable's part costs, and 0 for one that is no part's.
-fn part_cost(var: u32, costs: &[u32]) -> u32
+/// What the failure of a variable's part costs, and 0 for one that is no part's.
+pub fn part_cost(var: u32, costs: &[u32]) -> u32
     requires { 1 ≤ var }
     ensures { result ≡ part_cost costs.now var }
 {
@@ -138,9 +138,9 @@ fn or_value(values: &[u32], kids: &[u32]) -> u32
     best
 }
 
-// What the parts cost that are fixed to faulty.
+/// What the parts cost together that the words fix to faulty.
 #[tactic(auto, using(crate::proofs::Held::held_steps))]
-fn held_cost(words: &[u32], costs: &[u32]) -> u32
+pub fn held_cost(words: &[u32], costs: &[u32]) -> u32
     requires words { All (λ w. w < 3) words.now }
     requires long { length costs.now ≤ length words.now }
     requires total { total_cost costs.now < TOTAL_LIMIT }

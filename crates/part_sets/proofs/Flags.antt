@@ -3,10 +3,9 @@ use Rattle.std.proofs.Common.{◌≡◌, ℕ, ◌+◌, ◌-◌, ◌<◌, ◌≤�
 use Rattle.std.specs.Prelude.{◌↔◌, nat_lt}
 use Rattle.std.proofs.lemmas.Bool.{cases_lt, lt-ltb}
 use Rattle.std.proofs.lemmas.List.{get_or-set_same, get_or-set_other}
-use Rattle.graph_rules.specs.declared.NodeKind.TheVariants.{Or}
-use Rattle.graph_rules.specs.Graphs.{Graph, node_at}
+use Rattle.graph_rules.specs.Graphs.{Graph}
 use Rattle.part_sets.specs.Numbers.{has_number}
-use Rattle.part_sets.specs.PartSets.{ArePartsOf, SameBelow}
+use Rattle.part_sets.specs.PartSets.{ArePartsOf, LacksNone}
 
 same_bits : (x y : Bool) → (x ≡ true → y ≡ true) → (y && not x) ≡ false → x ≡ y
 same_bits true y h e = sym (h refl)
@@ -35,16 +34,15 @@ none_lacking parts outer inner some more on_inner on_outer same p lt =
 
 -- the words of the nodes before one
 abbrev pub AreFlags : Graph → ℕ → List ℕ → ℕ → Type 0
-AreFlags graph parts lacking n = (k : ℕ) → k < n → (node_at graph.nodes k).what ≡ Or → (get_or lacking k 0 ≡ 0) ↔ SameBelow graph parts k
+AreFlags graph parts lacking n = (k : ℕ) → k < n → (get_or lacking k 0 ≡ 0) ↔ LacksNone graph parts k
 
-pub flags_more : (graph : Graph) (parts : ℕ) (lacking : List ℕ) (at word : ℕ) → at < length lacking → AreFlags graph parts lacking at → ((node_at graph.nodes at).what ≡ Or → (word ≡ 0) ↔ SameBelow graph parts at) → AreFlags graph parts (set lacking at word) (at + 1)
-flags_more graph parts lacking at word lt are here k h what = ⊎_elim
+pub flags_more : (graph : Graph) (parts : ℕ) (lacking : List ℕ) (at word : ℕ) → at < length lacking → AreFlags graph parts lacking at → (word ≡ 0) ↔ LacksNone graph parts at → AreFlags graph parts (set lacking at word) (at + 1)
+flags_more graph parts lacking at word lt are here k h = ⊎_elim
     (λ (p : k < at).
     let other : get_or (set lacking at word) k 0 ≡ get_or lacking k 0 = get_or-set_other lacking at k word 0 (λ e. absurd (omega arith)) in
-    (λ zero. (are k p what).0 (sym other ∙ zero), λ same. other ∙ (are k p what).1 same))
+    (λ zero. (are k p).0 (sym other ∙ zero), λ same. other ∙ (are k p).1 same))
     (λ (p : at ≤ k).
     let same : at ≡ k = omega arith in
     let own : get_or (set lacking at word) k 0 ≡ word = ap (λ j. get_or (set lacking at word) j 0) (sym same) ∙ get_or-set_same lacking at word 0 lt in
-    let is = here (ap (λ j. (node_at graph.nodes j).what) same ∙ what) in
-    (λ zero. subst (SameBelow graph parts) same (is.0 (sym own ∙ zero)), λ below. own ∙ is.1 (subst (SameBelow graph parts) (sym same) below)))
+    (λ zero. subst (LacksNone graph parts) same (here.0 (sym own ∙ zero)), λ below. own ∙ here.1 (subst (LacksNone graph parts) (sym same) below)))
     (cases_lt k at)

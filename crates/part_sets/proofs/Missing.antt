@@ -51,7 +51,7 @@ module _ (outer inner : List ℕ) (at : ℕ) (small : (k : ℕ) → get_or inner
     abbrev pub lowest : ℕ
     lowest = trailing_zeros w32 gap
 
-    lowest-low : get_or outer (at / 32) 0 < 2 ^ 32 → at % 32 + lowest < 32
+    pub lowest-low : get_or outer (at / 32) 0 < 2 ^ 32 → at % 32 + lowest < 32
     lowest-low small_outer =
         let low = bit_at-trailing_zeros w32 gap some fits in
         ⊎_elim (λ p. p) (λ (p : 32 ≤ at % 32 + lowest). absurd (not_above p low.1)) (cases_lt (at % 32 + lowest) 32) where

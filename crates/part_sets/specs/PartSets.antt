@@ -25,11 +25,14 @@ SameBelow graph parts k =
     (j v : ℕ) → j < length (node_at graph.nodes k).kids → 1 ≤ v → v ≤ parts
     → mentions graph.nodes v (slice_index (node_at graph.nodes k).kids j) ≡ mentions graph.nodes v k
 
--- The word of an or is 0 exactly where its kids lack none of its parts, and the word behind those of all nodes where the last node
--- lacks no part at all.
+-- a node is no or, or its kids lack none of its parts
+abbrev pub LacksNone : Graph → ℕ → ℕ → Type 0
+LacksNone graph parts k = (node_at graph.nodes k).what ≡ Or → SameBelow graph parts k
+
+-- The word of a node is 0 exactly where this is so, and the word behind those of all nodes where the last node lacks no part at all.
 pub record AreLacking (graph : Graph) (parts : ℕ) (lacking : List ℕ) : Type 0 where
   pub long : length lacking ≡ length graph.nodes + 1
-  pub ors : (k : ℕ) → k < length graph.nodes → (node_at graph.nodes k).what ≡ Or → (slice_index lacking k ≡ 0) ↔ SameBelow graph parts k
+  pub nodes : (k : ℕ) → k < length graph.nodes → (slice_index lacking k ≡ 0) ↔ LacksNone graph parts k
   pub all : (slice_index lacking (length graph.nodes) ≡ 0)
       ↔ ((v : ℕ) → 1 ≤ v → v ≤ parts → mentions graph.nodes v (length graph.nodes - 1) ≡ true)
 

@@ -8,7 +8,7 @@ use node_store::Graph;
 use std::alloc::{AllocError, Global};
 use std::marker::Model;
 
-/// A graph has at most so many parts.
+/// Sets are kept of at most so many parts.
 pub const PART_LIMIT: usize = 4_096;
 
 /// For each node of a graph the parts below it, and for each or whether a child of it lacks one of them. The parts are the first
@@ -48,8 +48,8 @@ impl PartSets {
         &self.below
     }
 
-    /// For each node a word, of an or 0 exactly where no child of it lacks a part of it; and behind them one that is 0 exactly where the
-    /// last node lacks no part.
+    /// For each node a word that is 0 exactly where the node is no or, or no child of it lacks a part of it; and behind them one that
+    /// is 0 exactly where the last node lacks no part.
     pub fn lacking(&self) -> &[u32]
         ensures { result.now ≡ self.now.lacking }
     {

@@ -3,7 +3,7 @@ ghost use Rattle.std.specs.Prelude.{◌≡◌, ◌↔◌, ℕ, ◌+◌, ◌*◌,
 ghost use Rattle.graph_rules.specs.declared.NodeKind.TheVariants.{Or};
 ghost use Rattle.graph_rules.specs.Graphs.{node_at};
 ghost use Rattle.part_sets.specs.Numbers.{has_number, part_words, set_at};
-ghost use Rattle.part_sets.specs.PartSets.{AreBelow, SameBelow, AreLacking};
+ghost use Rattle.part_sets.specs.PartSets.{AreBelow, SameBelow, LacksNone, AreLacking};
 
 use crate::kept::PART_LIMIT;
 use crate::numbers::{next_missing, part_words, set_at};
@@ -54,10 +54,11 @@ fn kid_lacks(graph: &Graph, below: &[u32], parts: usize, at: u32) -> bool
     requires parts { parts ≤ PART_LIMIT }
     requires below { AreBelow graph.now parts below.now }
     requires at { at < length graph.now.nodes }
-    ensures { (node_at graph.now.nodes at).what ≡ Or → (result ≡ false) ↔ SameBelow graph.now parts at }
+    ensures { (result ≡ false) ↔ LacksNone graph.now parts at }
 {
     match graph.what(at) {
-        NodeKind::Literal { .. } | NodeKind::And => false,
+        NodeKind::Literal { .. } => false,
+        NodeKind::And => false,
         NodeKind::Or => one_lacks(graph, below, parts, at),
     }
 }

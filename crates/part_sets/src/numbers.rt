@@ -1,6 +1,8 @@
 //! Sets of numbers, as bits of words.
-ghost use Rattle.std.specs.Prelude.{◌≡◌, ℕ, ◌+◌, ◌*◌, ◌<◌, ◌≤◌, ◌&&◌, ◌||◌, true, false, not, length, ◌==◌};
+ghost use Rattle.std.specs.Prelude.{◌≡◌, ◌⊎◌, ℕ, ◌+◌, ◌*◌, ◌<◌, ◌≤◌, ◌&&◌, ◌||◌, true, false, not, length, ◌==◌};
 ghost use Rattle.part_sets.specs.Numbers.{has_number, part_words, set_at};
+
+use crate::kept::PART_LIMIT;
 
 /// How many numbers a word tells.
 pub const WIDTH: usize = 32;
@@ -24,7 +26,7 @@ pub fn set_at(sets: &[u32], k: usize, size: usize) -> &[u32]
 
 /// Whether a set has a number.
 pub fn has_number(set: &[u32], number: usize) -> bool
-    requires { number < 32 * length set.now }
+    requires { number < WIDTH * length set.now }
     ensures { result ≡ has_number set.now number }
 {
     (set[number / WIDTH] >> (number % WIDTH)) & 1 == 1
@@ -37,9 +39,9 @@ pub fn clear(set: &mut [u32])
     set.fill(0);
 }
 
-/// Makes a set of one number, if it has room for it.
+/// Makes a set of one number, if it has room for it; else an empty one.
 pub fn put_one(set: &mut [u32], number: usize)
-    ensures { (n : ℕ) → n < 32 * length set.old → has_number set.new n ≡ (n == number) }
+    ensures { (n : ℕ) → n < WIDTH * length set.old → has_number set.new n ≡ (n == number) }
 {
     clear(set);
     if number / WIDTH < set.len() {
@@ -66,13 +68,15 @@ pub(crate) fn add_all(set: &mut [u32], other: &[u32])
     }
 }
 
-/// The first number from one on that the outer set has and the inner one has not, or one that is past both.
+/// The first number from one on that the outer set has and the inner one has not. Where there is none it is the number behind both
+/// sets, or the one to begin from, where that is greater.
 pub fn next_missing(outer: &[u32], inner: &[u32], from: usize) -> usize
     requires inner { length inner.now ≡ length outer.now }
-    requires few { length outer.now ≤ 128 }
+    requires few { length outer.now ≤ part_words PART_LIMIT }
     ensures from { from ≤ result }
+    ensures most { (result ≡ from) ⊎ (result ≤ WIDTH * length outer.now) }
     ensures before { (p : ℕ) → from ≤ p → p < result → (has_number outer.now p && not (has_number inner.now p)) ≡ false }
-    ensures found { result < 32 * length outer.now
+    ensures found { result < WIDTH * length outer.now
         → (has_number outer.now result && not (has_number inner.now result)) ≡ true }
 {
     let mut at = from;

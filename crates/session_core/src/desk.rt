@@ -226,7 +226,7 @@ impl Desk {
         let pointed = start_at(&mut self.state, point);
         let levels = self.basis.levels().unwrap();
         let run = self.room.carve(self.basis.level_room(levels)).unwrap();
-        let step = levels.next_by(
+        let step = levels.next(
             self.basis.graph(),
             &mut self.known,
             self.room.run_mut(&run),

@@ -34,7 +34,7 @@ none-of_all d is zero node part under low high = ap (λ b. true && not b) (ap (m
 pub none-of_or : (d : Drawing) → IsDrawing d → (o : ℕ) → get_or d.lacking o 0 ≡ 0 → (node part : ℕ) → IsUnder d (Some o) node → 1 ≤ part → part ≤ d.parts → missing_in d (Some o) node part ≡ false
 none-of_or d is o zero node part under low high =
     let same : mentions d.graph.nodes part node ≡ mentions d.graph.nodes part o =
-    ap (mentions d.graph.nodes part) (sym under.1.kid_is) ∙ (is.lacks.ors o under.0 under.1.what).0 zero under.1.place part under.1.within low high in
+    ap (mentions d.graph.nodes part) (sym under.1.kid_is) ∙ (is.lacks.nodes o under.0).0 zero under.1.what under.1.place part under.1.within low high in
     ap (λ b. mentions d.graph.nodes part o && not b) same ∙ never (mentions d.graph.nodes part o) where
       never : (b : Bool) → (b && not b) ≡ false
       never true = refl

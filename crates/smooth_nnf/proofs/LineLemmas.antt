@@ -85,12 +85,15 @@ own-at least line number (node ∷ nodes) (suc i) lt =
 
 -- a kid of an or
 pub kid-under : (d : Drawing) (node : ℕ) (kids : List ℕ) → node < length d.graph.nodes → node_at d.graph.nodes node ≡ record { what = Or; kids = kids } → (i : ℕ) → i < length kids → IsUnder d (Some node) (get_or kids i 0)
-kid-under d node kids lt at i h = (lt, record {
-  what = ap (λ (n : Node). n.what) at;
-  place = i;
-  within = subst (λ (n : Node). i < length n.kids) (sym at) h;
-  kid_is = ap (λ (n : Node). get_or n.kids i 0) at;
-})
+kid-under d node kids lt at i h = (
+  lt,
+  record {
+    what = ap (λ (n : Node). n.what) at;
+    place = i;
+    within = subst (λ (n : Node). i < length n.kids) (sym at) h;
+    kid_is = ap (λ (n : Node). get_or n.kids i 0) at;
+  },
+)
 
 module _ (d : Drawing) (is : IsDrawing d) (valid : IsGraph d.graph) (node : ℕ) (lt : node < length d.graph.nodes) (what : NodeKind) (kids : List ℕ) (at : node_at d.graph.nodes node ≡ record { what = what; kids = kids }) where
   fit : Fits d.graph.vars node (record { what = what; kids = kids })

@@ -1,4 +1,4 @@
--- How much is drawn with.
+-- How much the graph of the diagnoses takes.
 use Rattle.std.specs.Prelude.{ℕ, ◌+◌, ◌*◌}
 use Rattle.part_sets.specs.Numbers.{part_words}
 
@@ -6,6 +6,6 @@ use Rattle.part_sets.specs.Numbers.{part_words}
 abbrev pub drawing_words : ℕ → ℕ
 drawing_words nodes = nodes * 2
 
--- and how many bits these are, with the sets of the parts below the nodes, which are kept
+-- how many bits are counted for it: these words, and the sets of the parts below the nodes, which are kept
 abbrev pub drawing_bits : ℕ → ℕ → ℕ
 drawing_bits nodes parts = nodes * (32 * (2 + part_words parts))

@@ -153,10 +153,7 @@ impl<'a> Drawing<'a> {
             ≡ (nat_le (part_at word b) self.now.parts && missing_in self.now over node (part_at word b)) }
     {
         let all = self.over_word(over, word);
-        without(
-            all,
-            self.sets.below()[node as usize * self.width() + word],
-        )
+        without(all, self.sets.below()[node as usize * self.width() + word])
     }
 
     // The line that fills in a part.

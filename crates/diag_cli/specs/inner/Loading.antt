@@ -8,11 +8,11 @@ use Rattle.adder_load.specs.declared.sampling.Found.{Found}
 use Rattle.adder_load.specs.Readings.{adder_case}
 use Rattle.session_rules.specs.Items.{Item, line}
 use Rattle.diag_cli.specs.declared.loading.Summary.{Summary}
-use Rattle.diag_cli.specs.declared.refusal.Refusal.{Refusal}
-use Rattle.diag_cli.specs.Output.{Output}
-use Rattle.diag_cli.specs.Planning.{count_line}
+use Rattle.device_files.specs.declared.refusal.Refusal.{Refusal}
+use Rattle.device_files.specs.Output.{Output}
+use Rattle.device_files.specs.Planning.{count_line}
 use Rattle.diag_cli.specs.Loads.{names_line, summary_lines}
-use Rattle.diag_cli.specs.Refusals.{told_by}
+use Rattle.device_files.specs.Refusals.{told_by}
 
 abbrev pub listed_items : List Name → Found → List ℕ → List ℕ → List Item
 listed_items parts found first last =

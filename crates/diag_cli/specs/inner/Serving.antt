@@ -10,7 +10,7 @@ use Rattle.frame_unroller.specs.declared.unrolling.UnrollError.TheVariants.{Memo
 use Rattle.frame_unroller.specs.Diagnosis.{frame_wires, fits_over}
 use Rattle.dnnf_compiler.specs.Compiled.{IsGraphOver, IsGraphOf}
 use Rattle.diag_cli.specs.declared.words.ServeOptions.{ServeOptions}
-use Rattle.diag_cli.specs.Output.{Output}
+use Rattle.device_files.specs.Output.{Output}
 use Rattle.diag_cli.specs.Frames.{not_unrolled}
 use Rattle.session_core.specs.declared.limits.TheConstants.{SERVED_VARIABLES, SERVED_NODES}
 use Rattle.session_core.specs.Services.{Shown, CanList, CanDraw}

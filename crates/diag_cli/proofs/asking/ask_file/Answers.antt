@@ -1,8 +1,8 @@
 use Rattle.std.proofs.Common.{refl}
 use Rattle.session_rules.specs.GraphSystems.{system_of}
-use Rattle.diag_cli.specs.Checking.{graph_in}
+use Rattle.device_files.specs.Checking.{graph_in}
 use Rattle.diag_cli.specs.Asking.{asked}
-use Rattle.diag_cli.specs.Refusals.{told_by}
+use Rattle.device_files.specs.Refusals.{told_by}
 use Rattle.diag_cli.proofs.Headline.{follows_refusal}
 use Rattle.diag_cli.proofs.AskedGraphs.{subject_served}
 use Rattle.diag_cli.proofs.asking.ask_file.Goals as goal

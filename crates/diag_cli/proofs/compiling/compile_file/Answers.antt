@@ -1,9 +1,8 @@
 use Rattle.std.proofs.Common.{refl, Result, Ok, Err}
-use Rattle.diag_cli.specs.Refusals.{told_by}
-use Rattle.diag_cli.proofs.WholeGraphs.{graph_gives, not_compiled}
-use Rattle.diag_cli.specs.Orders.{clauses_by}
-use Rattle.diag_cli.proofs.Ordering.{by_any, by_same}
-use Rattle.diag_cli.proofs.PlannedDevices.{not_described}
+use Rattle.device_files.specs.Refusals.{told_by}
+use Rattle.diag_cli.proofs.WholeGraphs.{graph_gives, not_compiled, not_described}
+use Rattle.device_files.specs.Orders.{clauses_by}
+use Rattle.device_files.proofs.Ordering.{by_any, by_same}
 use Rattle.diag_cli.proofs.compiling.compile_file.Goals as goal
 
 pub returns-in-Ok-write_nnf-clause-said : goal.returns-in-Ok-write_nnf-clause-said

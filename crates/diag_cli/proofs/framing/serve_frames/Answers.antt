@@ -1,10 +1,10 @@
 use Rattle.std.proofs.Common.{refl}
 use Rattle.diag_cli.specs.Courses.{served_frames}
-use Rattle.diag_cli.specs.Orders.{list_by}
+use Rattle.device_files.specs.Orders.{list_by}
 use Rattle.diag_cli.specs.Frames.{sequential_in, if_unrolled}
-use Rattle.diag_cli.specs.Refusals.{told_by}
+use Rattle.device_files.specs.Refusals.{told_by}
 use Rattle.diag_cli.proofs.Headline.{refused_frames, follows_refusal}
-use Rattle.diag_cli.proofs.Ordering.{by_any}
+use Rattle.device_files.proofs.Ordering.{by_any}
 use Rattle.diag_cli.proofs.framing.serve_frames.Goals as goal
 
 pub returns-in-Err-clause-follows : goal.returns-in-Err-clause-follows

@@ -1,10 +1,10 @@
 use Rattle.std.proofs.Common.{Ok, refl}
 use Rattle.diag_cli.specs.Courses.{served_frames}
-use Rattle.diag_cli.specs.Orders.{list_by}
+use Rattle.device_files.specs.Orders.{list_by}
 use Rattle.diag_cli.specs.Frames.{if_unrolled}
-use Rattle.diag_cli.specs.Refusals.{told_by}
+use Rattle.device_files.specs.Refusals.{told_by}
 use Rattle.diag_cli.proofs.Headline.{follows_refusal}
-use Rattle.diag_cli.proofs.Ordering.{by_same}
+use Rattle.device_files.proofs.Ordering.{by_same}
 use Rattle.diag_cli.proofs.ServedFrames.{frames_served}
 use Rattle.diag_cli.proofs.framing.serve_sequential.Goals as goal
 

@@ -5,11 +5,11 @@ use Rattle.ranking.specs.Ranking.{plain_costs}
 use Rattle.session_core.specs.Services.{CanList, CanDraw}
 use Rattle.diag_cli.specs.Besides.{in_few_bits}
 use Rattle.diag_cli.specs.Frames.{netlist_by}
-use Rattle.diag_cli.specs.Orders.{list_by}
-use Rattle.diag_cli.specs.Planning.{within}
-use Rattle.diag_cli.specs.Refusals.{told_by}
+use Rattle.device_files.specs.Orders.{list_by}
+use Rattle.device_files.specs.Planning.{within}
+use Rattle.device_files.specs.Refusals.{told_by}
 use Rattle.diag_cli.proofs.FewBits.{fault_through}
-use Rattle.diag_cli.proofs.Ordering.{by_any, ordered_vars, ordered_alike}
+use Rattle.device_files.proofs.Ordering.{by_any, ordered_vars, ordered_alike}
 use Rattle.diag_cli.proofs.ServedFrames.{not_unrolled_told, unrolled_gives, many_parts, many_costs, frame_service}
 use Rattle.diag_cli.proofs.framing.service_within.Goals as goal
 

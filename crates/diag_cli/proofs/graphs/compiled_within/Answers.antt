@@ -1,5 +1,5 @@
 use Rattle.std.proofs.Common.{rules}
-use Rattle.diag_cli.proofs.Ordering.{kept_within, refused_above}
+use Rattle.device_files.proofs.Ordering.{kept_within, refused_above}
 use Rattle.diag_cli.proofs.graphs.compiled_within.Goals as goal
 
 pub returns-in-Ok-clause-list : goal.returns-in-Ok-clause-list

@@ -2,10 +2,10 @@ use Rattle.std.proofs.Common.{◌≡◌, Ok, ◌∙◌, arith}
 use Rattle.std.proofs.lemmas.Result.{err_from_is_err_and}
 use Rattle.text_rules.specs.Expected.{IsExpectedFault}
 use Rattle.branch_states.specs.Branches.{sum_of}
-use Rattle.diag_cli.specs.Planning.{within}
-use Rattle.diag_cli.specs.Refusals.{told_by}
+use Rattle.device_files.specs.Planning.{within}
+use Rattle.device_files.specs.Refusals.{told_by}
 use Rattle.diag_cli.proofs.ServedDevices.{servable}
-use Rattle.diag_cli.proofs.Ordering.{by_any, list_vars, list_alike, list_gives}
+use Rattle.device_files.proofs.Ordering.{by_any, list_vars, list_alike, list_gives}
 use Rattle.diag_cli.proofs.graphs.graph_within.Goals as goal
 
 pub returns-in_err-cnf-clause-list : goal.returns-in_err-cnf-clause-list

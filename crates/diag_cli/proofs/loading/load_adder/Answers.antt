@@ -1,5 +1,5 @@
 use Rattle.diag_cli.specs.Loads.{loaded}
-use Rattle.diag_cli.specs.Refusals.{told_by}
+use Rattle.device_files.specs.Refusals.{told_by}
 use Rattle.diag_cli.specs.inner.Loading.{summary_output}
 use Rattle.diag_cli.proofs.LoadedAdders.{gives_told, gives_summary}
 use Rattle.diag_cli.proofs.loading.load_adder.Goals as goal

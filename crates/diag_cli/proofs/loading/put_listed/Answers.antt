@@ -3,9 +3,9 @@ use Rattle.text_rules.specs.Names.{Name}
 use Rattle.diagnosis_lister.specs.Listing.{bits_of}
 use Rattle.session_rules.specs.Items.{Item}
 use Rattle.session_rules.specs.Spelling.{Writes, WritesPart}
-use Rattle.diag_cli.specs.Planning.{count_line}
+use Rattle.device_files.specs.Planning.{count_line}
 use Rattle.diag_cli.specs.Loads.{names_line}
-use Rattle.diag_cli.proofs.Failing.{replies_then, replies_cut}
+use Rattle.device_files.proofs.Failing.{replies_then, replies_cut}
 use Rattle.diag_cli.proofs.loading.put_listed.Goals as goal
 
 abbrev minimum : ℕ → Item

@@ -2,9 +2,9 @@ use Rattle.std.proofs.Common.{◌∷◌, [], ◌∙◌, ℕ, codes, length, refl
 use Rattle.session_rules.specs.Items.{Item}
 use Rattle.session_rules.specs.Spelling.{Writes, WritesPart}
 use Rattle.diag_cli.specs.declared.loading.Summary.{Summary}
-use Rattle.diag_cli.specs.Planning.{count_line}
+use Rattle.device_files.specs.Planning.{count_line}
 use Rattle.diag_cli.specs.inner.Loading.{found_items}
-use Rattle.diag_cli.proofs.Failing.{replies_then, replies_cut}
+use Rattle.device_files.proofs.Failing.{replies_then, replies_cut}
 use Rattle.diag_cli.proofs.LoadedAdders.{have_found}
 use Rattle.diag_cli.proofs.loading.put_summary.Goals as goal
 

@@ -3,7 +3,7 @@ use Rattle.diag_cli.specs.Words.{Load, form_of}
 use Rattle.diag_cli.specs.inner.Forms.{meant}
 use Rattle.diag_cli.specs.Following.{Reading}
 use Rattle.diag_cli.proofs.Headline.{run_usage, run_load}
-use Rattle.diag_cli.proofs.Ordering.{by_any}
+use Rattle.device_files.proofs.Ordering.{by_any}
 use Rattle.diag_cli.proofs.program.diag.Goals as goal
 
 pub returns-in-None : goal.returns-in-None

@@ -3,7 +3,7 @@ use Rattle.text_rules.specs.declared.text_lines.TheConstants.{TEXT_LIMIT}
 use Rattle.diag_edge.specs.declared.loading.LoadError.TheVariants.{Long}
 use Rattle.diag_cli.specs.inner.Forms.{command_meant}
 use Rattle.diag_cli.proofs.Headline.{same_file, run_loaded, run_unread}
-use Rattle.diag_cli.proofs.Ordering.{by_any, by_same}
+use Rattle.device_files.proofs.Ordering.{by_any, by_same}
 use Rattle.diag_cli.proofs.Unread.{unread}
 use Rattle.diag_cli.proofs.program.run_over.Goals as goal
 

@@ -1,5 +1,5 @@
 use Rattle.std.proofs.Common.{refl}
-use Rattle.diag_cli.proofs.Ordering.{by_any}
+use Rattle.device_files.proofs.Ordering.{by_any}
 use Rattle.diag_cli.proofs.run.run_file.Goals as goal
 
 pub returns-in-Check-clause-follows : goal.returns-in-Check-clause-follows

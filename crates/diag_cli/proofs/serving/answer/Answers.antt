@@ -4,7 +4,7 @@ use Rattle.diag_edge.proofs.Growing.{consumes_none}
 use Rattle.session_rules.specs.GraphSystems.{system_of}
 use Rattle.session_core.specs.Services.{moves_of}
 use Rattle.diag_cli.specs.Courses.{Ended, Failed, Cut, read_error, script_too_long, answers_of}
-use Rattle.diag_cli.proofs.Failing.{gives_all, gives_after}
+use Rattle.device_files.proofs.Failing.{gives_all, gives_after}
 use Rattle.diag_cli.proofs.Running.{breaks_behind, breaks_at_once, ready_then, ready_begun, lines_begun, first_given, answered_first, stopped_at_once, stopped_at_end}
 use Rattle.diag_cli.proofs.serving.answer.Goals as goal
 

@@ -1,10 +1,10 @@
 use Rattle.std.proofs.Common.{Ok, refl}
 use Rattle.diag_cli.specs.Courses.{if_within, served_device}
-use Rattle.diag_cli.specs.Refusals.{told_by}
+use Rattle.device_files.specs.Refusals.{told_by}
 use Rattle.diag_cli.proofs.Headline.{follows_refusal}
 use Rattle.diag_cli.proofs.ServedDevices.{device_served}
-use Rattle.diag_cli.specs.Orders.{clauses_by}
-use Rattle.diag_cli.proofs.Ordering.{by_same}
+use Rattle.device_files.specs.Orders.{clauses_by}
+use Rattle.device_files.proofs.Ordering.{by_same}
 use Rattle.diag_cli.proofs.serving.serve_device.Goals as goal
 
 pub returns-in-Ok-clause-follows : goal.returns-in-Ok-clause-follows

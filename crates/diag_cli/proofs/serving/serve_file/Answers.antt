@@ -1,10 +1,10 @@
 use Rattle.std.proofs.Common.{refl}
-use Rattle.diag_cli.specs.Describing.{device_in}
+use Rattle.device_files.specs.Describing.{device_in}
 use Rattle.diag_cli.specs.Courses.{if_within, served_device}
-use Rattle.diag_cli.specs.Refusals.{told_by}
+use Rattle.device_files.specs.Refusals.{told_by}
 use Rattle.diag_cli.proofs.Headline.{refused_in, follows_refusal}
-use Rattle.diag_cli.specs.Orders.{clauses_by}
-use Rattle.diag_cli.proofs.Ordering.{by_any}
+use Rattle.device_files.specs.Orders.{clauses_by}
+use Rattle.device_files.proofs.Ordering.{by_any}
 use Rattle.diag_cli.proofs.serving.serve_file.Goals as goal
 
 pub returns-in-Err-clause-follows : goal.returns-in-Err-clause-follows

@@ -54,6 +54,8 @@ returns-then-lacks c = (λ never. absurd (false≢true (sym never)), λ same. ab
       (λ v l h. ap (λ ks. mentions graph.nodes v (get_or ks i 0)) c.kids-kid-items.ensures ∙ same i v (subst (λ (ks : List ℕ). i < length ks) c.kids-kid-items.ensures c.loop-kid-test.true) l h)
 
 pub returns : goal.returns
-returns c = (λ e j v lt l h.
-    ap (λ ks. mentions c.args.graph.now.nodes v (get_or ks j 0)) (sym c.kids-kid-items.ensures) ∙ c.loop-kid.invariant j v (omega (arith, c.loop-kid-test.false, subst (λ (ks : List ℕ). j < length ks) (sym c.kids-kid-items.ensures) lt)) l h,
-    λ same. refl)
+returns c = (
+  λ e j v lt l h.
+      ap (λ ks. mentions c.args.graph.now.nodes v (get_or ks j 0)) (sym c.kids-kid-items.ensures) ∙ c.loop-kid.invariant j v (omega (arith, c.loop-kid-test.false, subst (λ (ks : List ℕ). j < length ks) (sym c.kids-kid-items.ensures) lt)) l h,
+  λ same. refl,
+)

@@ -10,7 +10,7 @@ use Rattle.part_sets.proofs.lacking.put_lacking.Goals as goal
 pub loop-at-preserved : goal.loop-at-preserved
 loop-at-preserved c = record {
   flags = flags_more c.args.graph.now c.args.parts c.loop-at.lacking c.loop-at.at c.flag.result (omega (arith, c.requires.long, c.loop-at.auto.lacking, c.loop-at.invariant.end, c.loop-at-test.true)) c.loop-at.invariant.flags
-      (λ what. let is = c.kid_lacks.ensures what in (λ zero. is.0 (c.flag.ensures.0 zero), λ same. c.flag.ensures.1 (is.1 same)));
+      (λ zero. c.kid_lacks.ensures.0 (c.flag.ensures.0 zero), λ same. c.flag.ensures.1 (c.kid_lacks.ensures.1 same));
   end = c.loop-at.invariant.end;
 }
 
@@ -40,18 +40,20 @@ returns c =
     ap (λ m. get_or (set old (c.len-count.result - 1 + 1) word) m 0) (sym next) ∙ get_or-set_same old (c.len-count.result - 1 + 1) word 0 (omega (arith, long, next)) in
     record {
       long = length-set old (c.len-count.result - 1 + 1) word ∙ long;
-      ors = λ k lt what.
+      nodes = λ k lt.
           let other : get_or (set old (c.len-count.result - 1 + 1) word) k 0 ≡ get_or old k 0 = get_or-set_other old (c.len-count.result - 1 + 1) k word 0 (λ e. absurd (omega arith)) in
-          let is = c.loop-at.invariant.flags k (omega arith) what in
+          let is = c.loop-at.invariant.flags k (omega arith) in
           (λ zero. is.0 (sym other ∙ zero), λ same. other ∙ is.1 same);
-      all = (λ zero v l h. same_parts parts (set_at below (length graph.nodes) size) (set_at below (length graph.nodes - 1) size) (λ v. mentions graph.nodes v (length graph.nodes - 1)) (λ v. true)
-          (c.requires.below.nodes (length graph.nodes - 1) inside) c.requires.below.all (λ v e. refl)
-          (subst (λ m. (p : ℕ) → p < parts → (has_number (set_at below (length graph.nodes) size) p && not (has_number (set_at below m size) p)) ≡ false) root
-          (subst (λ m. (p : ℕ) → p < parts → (has_number (set_at below m size) p && not (has_number (set_at below (c.len-count.result - 1) size) p)) ≡ false) next
-          (c.lacks.ensures.0 (c.flag-2.ensures.0 (sym own ∙ zero))))) v l h,
-          λ whole. own ∙ c.flag-2.ensures.1 (c.lacks.ensures.1
-          (subst (λ m. (p : ℕ) → p < parts → (has_number (set_at below (c.len-count.result - 1 + 1) size) p && not (has_number (set_at below m size) p)) ≡ false) (sym root)
-          (subst (λ m. (p : ℕ) → p < parts → (has_number (set_at below m size) p && not (has_number (set_at below (length graph.nodes - 1) size) p)) ≡ false) (sym next)
-          (none_lacking parts (set_at below (length graph.nodes) size) (set_at below (length graph.nodes - 1) size) (λ v. mentions graph.nodes v (length graph.nodes - 1)) (λ v. true)
-          (c.requires.below.nodes (length graph.nodes - 1) inside) c.requires.below.all whole)))));
+      all = (
+        λ zero v l h. same_parts parts (set_at below (length graph.nodes) size) (set_at below (length graph.nodes - 1) size) (λ v. mentions graph.nodes v (length graph.nodes - 1)) (λ v. true)
+            (c.requires.below.nodes (length graph.nodes - 1) inside) c.requires.below.all (λ v e. refl)
+            (subst (λ m. (p : ℕ) → p < parts → (has_number (set_at below (length graph.nodes) size) p && not (has_number (set_at below m size) p)) ≡ false) root
+            (subst (λ m. (p : ℕ) → p < parts → (has_number (set_at below m size) p && not (has_number (set_at below (c.len-count.result - 1) size) p)) ≡ false) next
+            (c.lacks.ensures.0 (c.flag-2.ensures.0 (sym own ∙ zero))))) v l h,
+        λ whole. own ∙ c.flag-2.ensures.1 (c.lacks.ensures.1
+            (subst (λ m. (p : ℕ) → p < parts → (has_number (set_at below (c.len-count.result - 1 + 1) size) p && not (has_number (set_at below m size) p)) ≡ false) (sym root)
+            (subst (λ m. (p : ℕ) → p < parts → (has_number (set_at below m size) p && not (has_number (set_at below (length graph.nodes - 1) size) p)) ≡ false) (sym next)
+            (none_lacking parts (set_at below (length graph.nodes) size) (set_at below (length graph.nodes - 1) size) (λ v. mentions graph.nodes v (length graph.nodes - 1)) (λ v. true)
+            (c.requires.below.nodes (length graph.nodes - 1) inside) c.requires.below.all whole)))),
+      );
     }

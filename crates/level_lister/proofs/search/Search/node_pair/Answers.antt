@@ -16,7 +16,7 @@ pub returns-in-And : goal.returns-in-And
 returns-in-And c = c.and_pair.ensures c.args.words.now c.args.groups c.requires.earlier
 
 pub full_pair-requires-clause-same : goal.full_pair-requires-clause-same
-full_pair-requires-clause-same c = (c.args.self.now.for_graph.lacking.ors c.args.at c.requires.at (sym c.in-Or.ensures)).0 (sym (ap (λ xs. get_or xs c.args.at 0) c.lacking.ensures) ∙ c.if-lacking-at-eq0.true)
+full_pair-requires-clause-same c = (c.args.self.now.for_graph.lacking.nodes c.args.at c.requires.at).0 (sym (ap (λ xs. get_or xs c.args.at 0) c.lacking.ensures) ∙ c.if-lacking-at-eq0.true) (sym c.in-Or.ensures)
 
 pub returns-then-lacking-at-eq0 : goal.returns-then-lacking-at-eq0
 returns-then-lacking-at-eq0 c = c.full_pair.ensures c.args.words.now c.args.groups c.requires.earlier

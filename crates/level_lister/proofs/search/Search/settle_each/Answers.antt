@@ -1,5 +1,5 @@
 use Rattle.std.proofs.Common.{◌≡◌, length, ◌∙◌, ap, subst, arith}
-use Rattle.minimiser.specs.inner.Held.{held_cost}
+use Rattle.minimiser.specs.Held.{held_cost}
 use Rattle.level_lister.proofs.Costing.{held-le}
 use Rattle.level_lister.proofs.Exact.{Settling, Refines-start, OfCost-agrees, settle_step, settle_end}
 use Rattle.level_lister.proofs.search.Search.settle_each.Goals as goal
@@ -10,7 +10,7 @@ loop-part-init g c =
     let costs = c.args.self.now.levels.now.costs in
     let words = c.args.words.now in
     let some = c.requires.some in
-    let spent : c.fixed_cost-spent.result ≡ held_cost costs words = ◌∙◌ {b = held_cost c.costs.result.now words} c.fixed_cost-spent.ensures (ap (λ cs. held_cost cs words) c.costs.ensures) in record {
+    let spent : c.held_cost-spent.result ≡ held_cost costs words = ◌∙◌ {b = held_cost c.costs.result.now words} c.held_cost-spent.ensures.cost (ap (λ cs. held_cost cs words) c.costs.ensures) in record {
       small = c.requires.words;
       settles = record { refines = Refines-start (length costs) words; front = c.requires.front; some = some; first = λ h is. is };
       spent = spent;

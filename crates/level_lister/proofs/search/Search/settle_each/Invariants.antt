@@ -1,5 +1,5 @@
 use Rattle.std.proofs.Common.{◌≡◌, ◌+◌, ◌<◌, ◌≤◌, All, length}
-use Rattle.minimiser.specs.inner.Held.{held_cost}
+use Rattle.minimiser.specs.Held.{held_cost}
 use Rattle.level_lister.proofs.Exact.{Settling}
 use Rattle.level_lister.proofs.search.Search.settle_each.Given as goal
 

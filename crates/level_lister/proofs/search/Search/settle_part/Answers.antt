@@ -2,7 +2,7 @@ use Rattle.std.proofs.Common.{◌≡◌, ◌<◌, length, get_or, set, sym, ◌�
 use Rattle.std.proofs.Math.ListN.{length-set}
 use Rattle.std.proofs.lemmas.Bool.{false≢true}
 use Rattle.std.proofs.lemmas.List.Elements.{All-set}
-use Rattle.minimiser.specs.inner.Held.{held_cost}
+use Rattle.minimiser.specs.Held.{held_cost}
 use Rattle.level_lister.specs.inner.Searching.{HasCost, IsOk}
 use Rattle.level_lister.proofs.Costing.{held-le, held-set_faulty, held-set_ok}
 use Rattle.level_lister.proofs.Exact.{OfCost-agrees}

@@ -1,0 +1,40 @@
+-- Why a file gives nothing of what the words ask for, and what is told of it.
+use Rattle.std.specs.Prelude.{ℕ, List, Option, Some, None, Result}
+use Rattle.text_rules.specs.Expected.{Fulfils}
+use Rattle.device_files.specs.declared.refusal.Refusal.{Refusal}
+use Rattle.device_files.specs.declared.refusal.Refusal.TheVariants.{Fault, Header, Counts, Bits, Shared, Above, Sum, Memory}
+use Rattle.device_files.specs.Output.{Output, says, no_memory, no_memory_line}
+use Rattle.graph_rules.specs.GraphTexts as graphs
+use Rattle.diag_edge.specs.ErrorLines.{fault_line, above_line}
+use Rattle.device_files.specs.Checking.{graph_fault_line}
+use Rattle.device_files.specs.Planning.{sum_line}
+
+-- the line that tells a refusal
+abbrev pub refusal_line : Refusal → List ℕ
+refusal_line (Fault line number name) = fault_line line number name.now
+refusal_line Header = graph_fault_line graphs.NoHeader
+refusal_line (Counts said found) = graph_fault_line (graphs.Counts said found)
+refusal_line (Bits bits) = graph_fault_line (graphs.TooLarge bits)
+refusal_line (Shared node variable) = graph_fault_line (graphs.Shared node variable)
+refusal_line (Above what count limit) = above_line what.now count limit
+refusal_line (Sum budget) = sum_line budget
+refusal_line Memory = no_memory_line
+
+-- and the status that goes with it
+abbrev pub refusal_status : Refusal → ℕ
+refusal_status (Sum budget) = 3
+refusal_status Memory = 6
+refusal_status refusal = 1
+
+-- the output that tells a refusal; want of memory is no refusal of the file
+abbrev pub told_by : Refusal → Option Output
+told_by Memory = None
+told_by refusal = Some (says (refusal_line refusal) (refusal_status refusal))
+
+abbrev pub or_memory : Option Output → Output
+or_memory None = no_memory
+or_memory (Some output) = output
+
+-- An `Ok` is what is expected, or a refusal tells the output that is.
+abbrev pub Finds : {A : Type 0} → Result A Output → Result A Refusal → Type 0
+Finds expected result = Fulfils (λ found. found) told_by expected result

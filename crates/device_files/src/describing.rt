@@ -1,0 +1,72 @@
+ghost use Rattle.std.specs.Prelude.{◌≤◌, length};
+ghost use Rattle.bench_reader.specs.Netlists.{netlist};
+ghost use Rattle.component_lang.specs.Reading.{design};
+ghost use Rattle.flattener.specs.Flat.{flattened};
+ghost use Rattle.device_files.specs.Describing.{netlist_line, flatten_line, or_line, design_device, described};
+ghost use Rattle.device_files.specs.Refusals.{Finds};
+
+use crate::paths::is_design_path;
+use crate::refusal::{Refusal, above};
+use bench_reader::{BenchError, read_bench};
+use component_lang::{Design, LangError, read_lang};
+use device_model::{Device, NAME_LIMIT, PART_LIMIT, WIRE_LIMIT};
+use flattener::{FlattenError, INSTANCE_LIMIT, flatten};
+use std::alloc::Global;
+use text_rules::TEXT_LIMIT;
+
+/// The device that the text of a netlist describes. An error says why there is none.
+pub fn netlist_device(alloc: Global, text: &[u8]) -> Result<Device, Refusal>
+    requires { length text.now ≤ TEXT_LIMIT }
+    ensures { Finds (or_line netlist_line (netlist text.now)) result }
+{
+    match read_bench(alloc, text) {
+        Ok(device) => Ok(device),
+        Err(BenchError::Bad { line, what }) => Err(Refusal::Fault {
+            line,
+            number: what.number(),
+            name: what.name(),
+        }),
+        Err(BenchError::Memory) => Err(Refusal::Memory),
+    }
+}
+
+fn flattened_device(alloc: Global, design: &Design) -> Result<Device, Refusal>
+    ensures { Finds (or_line flatten_line (flattened design.now)) result }
+{
+    match flatten(alloc, design) {
+        Ok(device) => Ok(device),
+        Err(FlattenError::TooManyParts { count }) => Err(above("parts", count, PART_LIMIT)),
+        Err(FlattenError::TooManyWires { count }) => Err(above("wires", count, WIRE_LIMIT)),
+        Err(FlattenError::TooManyBlocks { count }) => Err(above("blocks", count, INSTANCE_LIMIT)),
+        Err(FlattenError::PathTooLong { length }) => Err(above("path", length, NAME_LIMIT)),
+        Err(FlattenError::Memory) => Err(Refusal::Memory),
+    }
+}
+
+fn design_device(alloc: Global, text: &[u8]) -> Result<Device, Refusal>
+    requires { length text.now ≤ TEXT_LIMIT }
+    ensures { Finds (design_device (design text.now)) result }
+{
+    match read_lang(alloc, text) {
+        Ok(design) => flattened_device(alloc, &design),
+        Err(LangError::Bad { line, what }) => Err(Refusal::Fault {
+            line,
+            number: what.number(),
+            name: what.name(),
+        }),
+        Err(LangError::Memory) => Err(Refusal::Memory),
+    }
+}
+
+/// The device that a text describes, by the ending of its file's path: a design where this is `.dev`, else a netlist. An error says
+/// why there is none.
+pub fn described(alloc: Global, path: &str, text: &[u8]) -> Result<Device, Refusal>
+    requires { length text.now ≤ TEXT_LIMIT }
+    ensures { Finds (described path.now text.now) result }
+{
+    if is_design_path(path) {
+        design_device(alloc, text)
+    } else {
+        netlist_device(alloc, text)
+    }
+}

@@ -1,0 +1,18 @@
+//! What a file comes to: the device that it describes, its clauses and their sum, or a graph; else the line that refuses it.
+#![tactic(auto)]
+
+mod checking;
+mod describing;
+mod graph_fault;
+mod paths;
+mod planning;
+mod refusal;
+mod weighing;
+
+pub use checking::{check_file, graph_in};
+pub use describing::{described, netlist_device};
+pub use graph_fault::GraphFault;
+pub use paths::{is_design_path, is_device_path, is_graph_path, is_netlist_path};
+pub use planning::{Sizes, plan_file, put_count};
+pub use refusal::{Refusal, above, tell};
+pub use weighing::{in_order, ordered_clauses, sum_within};

@@ -1,0 +1,38 @@
+//! What a file is by the ending of its path.
+ghost use Rattle.std.specs.Prelude.{◌≡◌};
+ghost use Rattle.device_files.specs.Paths.{ends_in, is_design_path, is_netlist_path, is_device_path, is_graph_path};
+
+// Whether something stands before an ending.
+fn ends_in(ending: &[u8], path: &str) -> bool
+    ensures { result ≡ ends_in ending.now path.now }
+{
+    path.len() > ending.len() && path.as_bytes().ends_with(ending)
+}
+
+/// Whether a file is a design: `.dev`, behind at least one more byte.
+pub fn is_design_path(path: &str) -> bool
+    ensures { result ≡ is_design_path path.now }
+{
+    ends_in(b".dev", path)
+}
+
+/// Whether a file is a netlist: `.bench`, behind at least one more byte.
+pub fn is_netlist_path(path: &str) -> bool
+    ensures { result ≡ is_netlist_path path.now }
+{
+    ends_in(b".bench", path)
+}
+
+/// Whether a file is of a device, as a netlist or as a design.
+pub fn is_device_path(path: &str) -> bool
+    ensures { result ≡ is_device_path path.now }
+{
+    is_netlist_path(path) || is_design_path(path)
+}
+
+/// Whether a file is a graph: `.nnf`, behind at least one more byte.
+pub fn is_graph_path(path: &str) -> bool
+    ensures { result ≡ is_graph_path path.now }
+{
+    ends_in(b".nnf", path)
+}

@@ -1,0 +1,210 @@
+ghost use Rattle.std.specs.Prelude.{◌≡◌, ◌≢◌, ◌⊎◌, ◌-◌, ◌^◌, ◌<◌, ◌≤◌, Some};
+ghost use Rattle.diag_edge.specs.Edge.{HasCause, RoseExactly, Puts};
+ghost use Rattle.diag_edge.specs.ErrorLines.{above_line};
+ghost use Rattle.graph_rules.specs.GraphTexts.{NoHeader, Counts, TooLarge, Shared};
+ghost use Rattle.device_files.specs.declared.refusal.Refusal.TheVariants.{Memory};
+ghost use Rattle.device_files.specs.Checking.{graph_fault_line};
+ghost use Rattle.device_files.specs.Planning.{sum_line};
+ghost use Rattle.device_files.specs.Output.{Gives, says};
+ghost use Rattle.device_files.specs.Refusals.{refusal_line, refusal_status, told_by, or_memory};
+
+use crate::graph_fault::GraphFault;
+use diag_edge::{Sink, WriteFailed, put_above, put_fault, put_line};
+use graph_rules::BITS_LIMIT;
+use itoa::Buffer;
+use std::alloc::AllocError;
+
+/// Why a file gives nothing of what the words ask for.
+#[derive(Clone, Copy, Debug, PartialEq, Eq)]
+pub enum Refusal {
+    /// The text has a fault: its line, its number and its name.
+    Fault {
+        line: u32,
+        number: u32,
+        name: &'static str,
+    },
+    /// A graph's text has no header.
+    Header,
+    /// The header says another number of nodes, or else of edges.
+    Counts {
+        said: u64,
+        found: u64,
+    },
+    /// A graph has more nodes times variables than may be.
+    Bits {
+        bits: u64,
+    },
+    /// Two children of an and share a variable.
+    Shared {
+        node: u32,
+        variable: u32,
+    },
+    /// A count is above its limit.
+    Above {
+        what: &'static str,
+        count: u64,
+        limit: u64,
+    },
+    /// The sum of the clauses is above the budget.
+    Sum {
+        budget: u32,
+    },
+    /// There was no memory.
+    Memory,
+}
+
+impl From<AllocError> for Refusal {
+    ghost from_gives = { λ _ refusal. refusal ≡ Memory };
+
+    fn from(_: AllocError) -> Self {
+        Refusal::Memory
+    }
+}
+
+impl Refusal {
+    // The status that goes with it.
+    fn status(self) -> u8
+        ensures value { result ≡ refusal_status self }
+        ensures few { (result ≡ 1) ⊎ ((result ≡ 3) ⊎ (result ≡ 6)) }
+    {
+        match self {
+            Refusal::Sum { budget: _ } => 3,
+            Refusal::Memory => 6,
+            _ => 1,
+        }
+    }
+}
+
+/// The refusal that tells a count above its limit.
+pub fn above(what: &'static str, count: u64, limit: usize) -> Refusal
+    ensures { told_by result ≡ Some (says (above_line what.now count limit) 1) }
+{
+    Refusal::Above {
+        what,
+        count,
+        limit: limit as u64,
+    }
+}
+
+// The line that tells that there is no header.
+fn put_no_header<O: Sink>(out: &mut O) -> Result<(), WriteFailed>
+    ensures text { Puts (O.got out.old) (O.got out.new) result (graph_fault_line NoHeader) }
+    ensures cause { HasCause (O.faults out.old) (O.faults out.new) result }
+{
+    put_line(
+        out,
+        &[
+            b"error:",
+            b"fault",
+            Buffer::new().format(GraphFault::Header.number()).as_bytes(),
+            GraphFault::Header.name().as_bytes(),
+        ],
+    )
+}
+
+// The line that tells numbers that are not those said.
+fn put_counts<O: Sink>(out: &mut O, said: u64, found: u64) -> Result<(), WriteFailed>
+    ensures text { Puts (O.got out.old) (O.got out.new) result (graph_fault_line (Counts said found)) }
+    ensures cause { HasCause (O.faults out.old) (O.faults out.new) result }
+{
+    put_line(
+        out,
+        &[
+            b"error:",
+            b"fault",
+            Buffer::new().format(GraphFault::Counts.number()).as_bytes(),
+            GraphFault::Counts.name().as_bytes(),
+            Buffer::new().format(said).as_bytes(),
+            Buffer::new().format(found).as_bytes(),
+        ],
+    )
+}
+
+// The line that tells a graph that is too large.
+fn put_bits<O: Sink>(out: &mut O, bits: u64) -> Result<(), WriteFailed>
+    ensures text { Puts (O.got out.old) (O.got out.new) result (graph_fault_line (TooLarge bits)) }
+    ensures cause { HasCause (O.faults out.old) (O.faults out.new) result }
+{
+    put_line(
+        out,
+        &[
+            b"error:",
+            b"fault",
+            Buffer::new().format(GraphFault::Bits.number()).as_bytes(),
+            GraphFault::Bits.name().as_bytes(),
+            Buffer::new().format(bits).as_bytes(),
+            b"above",
+            Buffer::new().format(BITS_LIMIT).as_bytes(),
+        ],
+    )
+}
+
+// The line that tells a shared variable.
+fn put_shared<O: Sink>(out: &mut O, node: u32, variable: u32) -> Result<(), WriteFailed>
+    ensures text { Puts (O.got out.old) (O.got out.new) result (graph_fault_line (Shared node variable)) }
+    ensures cause { HasCause (O.faults out.old) (O.faults out.new) result }
+{
+    put_line(
+        out,
+        &[
+            b"error:",
+            b"fault",
+            Buffer::new().format(GraphFault::Shared.number()).as_bytes(),
+            GraphFault::Shared.name().as_bytes(),
+            b"node",
+            Buffer::new().format(node).as_bytes(),
+            b"variable",
+            Buffer::new().format(variable).as_bytes(),
+        ],
+    )
+}
+
+// The line that tells a sum above the budget.
+fn put_sum<O: Sink>(out: &mut O, budget: u32) -> Result<(), WriteFailed>
+    ensures text { Puts (O.got out.old) (O.got out.new) result (sum_line budget) }
+    ensures cause { HasCause (O.faults out.old) (O.faults out.new) result }
+{
+    put_line(
+        out,
+        &[
+            b"error:",
+            b"sum",
+            b"above",
+            Buffer::new().format(budget).as_bytes(),
+        ],
+    )
+}
+
+// The line that tells a refusal.
+fn put_refusal<O: Sink>(out: &mut O, refusal: Refusal) -> Result<(), WriteFailed>
+    ensures text { Puts (O.got out.old) (O.got out.new) result (refusal_line refusal) }
+    ensures cause { HasCause (O.faults out.old) (O.faults out.new) result }
+{
+    match refusal {
+        Refusal::Fault { line, number, name } => put_fault(out, line, number, name.as_bytes()),
+        Refusal::Header => put_no_header(out),
+        Refusal::Counts { said, found } => put_counts(out, said, found),
+        Refusal::Bits { bits } => put_bits(out, bits),
+        Refusal::Shared { node, variable } => put_shared(out, node, variable),
+        Refusal::Above { what, count, limit } => put_above(out, what.as_bytes(), count, limit),
+        Refusal::Sum { budget } => put_sum(out, budget),
+        Refusal::Memory => out.put(b"error: memory\n"),
+    }
+}
+
+/// Tells a refusal and answers the status, or 5 where the write failed.
+#[tactic(auto, using(crate::proofs::Failing::gives_refusal))]
+pub fn tell<O: Sink>(out: &mut O, refusal: Refusal) -> u8
+    requires faults { O.faults out.old < 2 ^ 64 - 1 }
+    ensures write_fault { RoseExactly (O.faults out.old) (O.faults out.new) (result ≡ 5) }
+    ensures not_usage { result ≢ 2 }
+    ensures not_read { result ≢ 4 }
+    ensures not_cut { result ≢ 7 }
+    ensures few { result ≤ 7 }
+    ensures said { Gives (or_memory (told_by refusal)) result (O.got out.old) (O.got out.new) }
+{
+    match put_refusal(out, refusal) {
+        Ok(()) => refusal.status(),
+        Err(_) => 5,
+    }
+}

@@ -1,7 +1,7 @@
 ghost use Rattle.std.specs.Prelude.{◌≡◌, ◌-◌, ◌<◌, ◌≤◌, [], length, take, All, slice_index_or, IfSome};
 ghost use Rattle.std.specs.Option.{option_map};
 ghost use Rattle.conditioner.specs.Models.{least_under, diagnoses_under, total_cost};
-ghost use Rattle.diagnosis_lister.specs.Listing.{bits_of};
+ghost use Rattle.conditioner.specs.Words.{bits_of};
 ghost use Rattle.fault_graph.specs.Distilled.{Serves};
 
 use diagnosis_lister::Step;

@@ -12,7 +12,7 @@ use Rattle.device_model.specs.Devices.{Device, part_names, part_costs}
 use Rattle.device_model.specs.declared.component.Component.{Component}
 use Rattle.device_model.specs.Diagnosis.{device_system}
 use Rattle.conditioner.specs.Models.{models, least_under, diagnoses_under}
-use Rattle.diagnosis_lister.specs.Listing.{bits_of}
+use Rattle.conditioner.specs.Words.{bits_of}
 use Rattle.adder_load.specs.declared.sampling.Found.{Found}
 use Rattle.adder_load.specs.Readings.{adder_case}
 use Rattle.adder_load.proofs.Cases.{case_seen, case_held}

@@ -11,7 +11,8 @@ use Rattle.clause_encoder.specs.Encoding.{most_variables, encoded, Describes}
 use Rattle.clause_encoder.proofs.Sizes.{encoded-few_vars}
 use Rattle.branch_states.specs.declared.measuring.TheConstants.{BUDGET_LIMIT}
 use Rattle.clause_encoder.specs.declared.encoding.EncodeError.{EncodeError}
-use Rattle.dnnf_compiler.specs.Compiled.{IsGraphOf, SaysAll}
+use Rattle.dnnf_compiler.specs.Compiled.{SaysAll}
+use Rattle.session_rules.specs.Spelling.{IsGraphOf}
 use Rattle.dnnf_compiler.proofs.Laws.{graph_of_device}
 use Rattle.session_rules.specs.Items.{Item}
 use Rattle.session_rules.specs.GraphSystems.{compiled_system, system_of}

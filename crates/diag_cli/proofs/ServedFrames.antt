@@ -22,7 +22,8 @@ use Rattle.device_model.specs.Devices.{part_names}
 use Rattle.device_model.specs.declared.component.Component.{Component}
 use Rattle.bench_reader.specs.declared.sequential.Sequential.{Sequential}
 use Rattle.frame_unroller.specs.Diagnosis.{frame_wires, fits_over, frame_system}
-use Rattle.dnnf_compiler.specs.Compiled.{IsGraphOver, SaysAll}
+use Rattle.dnnf_compiler.specs.Compiled.{SaysAll}
+use Rattle.graph_rules.specs.GraphsOver.{IsGraphOver}
 use Rattle.session_rules.specs.Items.{Item}
 use Rattle.session_rules.specs.GraphSystems.{system_of}
 use Rattle.session_rules.proofs.GraphReplies.{fitting_replies}

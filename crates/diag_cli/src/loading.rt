@@ -2,7 +2,7 @@
 ghost use Rattle.std.specs.Prelude.{◌≡◌, ◌≢◌, ◌⊎◌, [], ◌∷◌, ◌-◌, ◌^◌, ◌<◌, ◌≤◌, Ok, length, IfOk};
 ghost use Rattle.bench_reader.specs.Netlists.{netlist};
 ghost use Rattle.diag_edge.specs.Edge.{HasCause, RoseExactly};
-ghost use Rattle.diagnosis_lister.specs.Listing.{bits_of};
+ghost use Rattle.conditioner.specs.Words.{bits_of};
 ghost use Rattle.adder_load.specs.Adders.{adder_text};
 ghost use Rattle.session_rules.specs.Spelling.{Replies};
 ghost use Rattle.device_files.specs.Describing.{or_line, netlist_line};

@@ -80,8 +80,24 @@ impl Chunk {
     }
 
     /// Adds a word behind a space.
-    #[tactic(auto, using(crate::proofs::Added::adds_on))]
     pub fn add_word<O: Sink>(&mut self, out: &mut O, word: &[u8]) -> Result<(), WriteFailed>
+        ensures bytes { Adds (O.got out.old) (O.got out.new) self.old self.new result
+            (32 ∷ word.now) }
+        ensures cause { HasCause (O.faults out.old) (O.faults out.new) result }
+    {
+        if word.len() >= CHUNK_LIMIT {
+            return self.add_apart(out, word);
+        }
+        // Room is made for both at once, since most words are short numbers.
+        self.make_room(out, word.len() + 1)?;
+        self.push(b" ");
+        self.push(word);
+        Ok(())
+    }
+
+    // Adds a space, and then a word that has no room behind it.
+    #[tactic(auto, using(crate::proofs::Added::adds_on))]
+    fn add_apart<O: Sink>(&mut self, out: &mut O, word: &[u8]) -> Result<(), WriteFailed>
         ensures bytes { Adds (O.got out.old) (O.got out.new) self.old self.new result
             (32 ∷ word.now) }
         ensures cause { HasCause (O.faults out.old) (O.faults out.new) result }

@@ -5,7 +5,8 @@ use Rattle.std.proofs.Math.ListN.{length-map}
 use Rattle.std.proofs.lemmas.Bool.{eqb-true, eq-eqb}
 use Rattle.std.proofs.lemmas.List.Sums.{sum_by-cons, sum_by-drop_more, sum_by-take-drop, count_by-le-length}
 use Rattle.ranking.specs.Bits.{bit_in}
-use Rattle.diagnosis_lister.specs.Listing.{bits_of, fault_count}
+use Rattle.conditioner.specs.Words.{bits_of}
+use Rattle.diagnosis_lister.specs.Listing.{fault_count}
 use Rattle.diagnosis_lister.specs.inner.Working.{fixed_bits}
 
 fault_count-cons : (b : Bool) (bits : List Bool) → fault_count (b ∷ bits) ≡ cond (not b) 1 0 + fault_count bits

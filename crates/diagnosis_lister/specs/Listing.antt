@@ -1,11 +1,7 @@
--- What the lister answers, and how it writes a state.
-use Rattle.std.specs.Prelude.{ℕ, Bool, not, List, [], ◌∷◌, map, count_by, ◌==◌}
+-- What the lister answers.
+use Rattle.std.specs.Prelude.{ℕ, Bool, not, List, [], ◌∷◌, count_by}
 use Rattle.diagnosis_lister.specs.declared.listing.Step.{Step}
 use Rattle.diagnosis_lister.specs.declared.listing.Step.TheVariants.{Found, End, Inconsistent}
-
--- a state of words, 0 where the part is ok
-abbrev pub bits_of : List ℕ → List Bool
-bits_of state = map (λ s. s == 0) state
 
 -- how many parts are faulty
 abbrev pub fault_count : List Bool → ℕ

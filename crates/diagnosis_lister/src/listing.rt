@@ -1,7 +1,8 @@
 ghost use Rattle.std.specs.Prelude.{◌≡◌, ◌+◌, ◌*◌, ◌<◌, ◌≤◌, length, All, Some, slice_index_or};
 ghost use Rattle.ranking.specs.Ranking.{rest};
 ghost use Rattle.conditioner.specs.Models.{models, least_under, diagnoses_under, total_cost};
-ghost use Rattle.diagnosis_lister.specs.Listing.{bits_of, step_of, fault_count};
+ghost use Rattle.diagnosis_lister.specs.Listing.{step_of, fault_count};
+ghost use Rattle.conditioner.specs.Words.{bits_of};
 
 use crate::leaving::leave;
 use crate::marks::{mark, unmark, write_back};

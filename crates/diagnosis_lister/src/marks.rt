@@ -1,5 +1,5 @@
 ghost use Rattle.std.specs.Prelude.{◌≡◌, ℕ, ◌+◌, ◌<◌, ◌≤◌, length, All, slice_index, if◌then◌else◌, ◌%◌};
-ghost use Rattle.diagnosis_lister.specs.Listing.{bits_of};
+ghost use Rattle.conditioner.specs.Words.{bits_of};
 ghost use Rattle.diagnosis_lister.specs.inner.Marks.{mark_of, is_marked, marked_bits, AreMarks};
 ghost use Rattle.diagnosis_lister.specs.inner.Working.{fixed_bits};
 

@@ -6,7 +6,7 @@ ghost use Rattle.diagnosis_lister.specs.Listing.{fault_count};
 ghost use Rattle.diagnosis_lister.specs.inner.Working.{IsFirst, fixed_bits};
 
 use conditioner::fix_ok;
-use minimiser::{Steps, TOTAL_LIMIT, first_suspect, least};
+use minimiser::{Steps, TOTAL_LIMIT, first_suspect, least, put_least_costs};
 use node_store::Graph;
 use std::sync::ledger::Ledger;
 
@@ -63,7 +63,7 @@ pub(crate) fn settle<L: Ledger>(
         fix_ok(words, from, part);
         words[part] = 2;
         from = part + 1;
-        least(graph, words, costs, values, steps);
+        put_least_costs(graph, words, costs, values, steps);
     }
     fix_ok(words, from, costs.len());
 }

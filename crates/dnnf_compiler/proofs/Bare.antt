@@ -28,7 +28,7 @@ filled x ks = by (length (x ∷ ks) == 0) refl where
   by true e = absurd (let none = eqb-true (length (x ∷ ks)) 0 e in omega (arith, none))
 
 silent : (nodes : List Node) (v : ℕ) (what : NodeKind) (ks : List ℕ) → is_bare what ks ≡ true → mention_by v what (map (mentions nodes v) ks) ≡ false
-silent nodes v (Literal var positive) ks e = absurd (let never : ⊥ = cc in never)
+silent nodes v (Literal positive var) ks e = absurd (let never : ⊥ = cc in never)
 silent nodes v And [] e = refl
 silent nodes v And (k ∷ ks) e = absurd (let clash : true ≡ false = sym e ∙ filled k ks in let never : ⊥ = cc in never)
 silent nodes v Or [] e = refl
@@ -55,7 +55,7 @@ names_grow old new v (Some n) g h named = g.variables n v h ∙ named
 pub other_plain : (m : Maker) → IsMaker m → (k : ℕ) → k ≢ m.yes → k ≢ m.no → IsPlain m.store.nodes k
 other_plain m is k not_yes not_no = λ node there. by node.what node.kids there where
   by : (what : NodeKind) (kids : List ℕ) → slice_get m.store.nodes k ≡ Some (record { what = what; kids = kids }) → is_bare what kids ≡ false
-  by (Literal var positive) kids e = refl
+  by (Literal positive var) kids e = refl
   by And [] e = absurd (not_yes (is.store.once k m.yes true_node e is.yes_node))
   by And (x ∷ kids) e = filled x kids
   by Or [] e = absurd (not_no (is.store.once k m.no (record { what = Or; kids = [] }) e is.no_node))

@@ -9,7 +9,8 @@ use Rattle.clause_encoder.specs.Clauses.{ClauseList, all_hold}
 use Rattle.clause_encoder.specs.Encoding.{encoded, DescribesBy, Describes}
 use Rattle.clause_encoder.proofs.Settled.{any-same}
 use Rattle.clause_encoder.proofs.Sizes.{encoded-is}
-use Rattle.dnnf_compiler.specs.Compiled.{SaysAll, IsGraphOver, IsGraphOf}
+use Rattle.dnnf_compiler.specs.Compiled.{SaysAll}
+use Rattle.graph_rules.specs.GraphsOver.{IsGraphOver}
 
 -- With what is said of clauses and of their graph, the graph is true where they describe that bits fit.
 pub graph_over : (parts wires : ℕ) (fits_by : List Bool → List Bool → Bool) (cnf : ClauseList) (graph : Graph) → parts + wires ≤ cnf.vars → DescribesBy cnf parts wires fits_by
@@ -25,6 +26,6 @@ graph_over parts wires fits_by cnf graph enough describes vars says = record {
 
 -- With what the encoder says of a device's clauses, it is the graph of the device.
 pub graph_of_device : (device : Device) (cnf : ClauseList) (graph : Graph) → encoded device ≡ Ok cnf → Describes cnf device
-    → graph.vars ≡ cnf.vars → SaysAll cnf.clauses graph → IsGraphOf device graph
+    → graph.vars ≡ cnf.vars → SaysAll cnf.clauses graph → IsGraphOver (length device.parts) (length device.wires) (fits device) graph
 graph_of_device device cnf graph is describes vars says =
     graph_over (length device.parts) (length device.wires) (fits device) cnf graph (omega (arith, (encoded-is device cnf is).vars)) describes vars says

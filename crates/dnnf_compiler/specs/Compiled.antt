@@ -1,11 +1,8 @@
--- What a graph says that was compiled: of clauses, and of the device that they are of.
-use Rattle.std.specs.Prelude.{◌≡◌, ℕ, ◌+◌, ◌*◌, ◌-◌, ◌≤◌, Bool, List, ◌++◌, length}
-use Rattle.std.specs.List.{list_any}
-use Rattle.ranking.specs.Bits.{lists_of_bits}
+-- What a graph says that was compiled of clauses.
+use Rattle.std.specs.Prelude.{◌≡◌, ◌+◌, ◌*◌, ◌-◌, ◌≤◌, List, length}
 use Rattle.ranking.specs.Assignments.{Assignment}
-use Rattle.graph_rules.specs.Graphs.{Graph, IsGraph, is_true, holds}
+use Rattle.graph_rules.specs.Graphs.{Graph, IsGraph, is_true}
 use Rattle.graph_rules.specs.GraphTexts.{edges}
-use Rattle.device_model.specs.Devices.{Device, fits}
 use Rattle.clause_encoder.specs.Clauses.{Clause, ClauseList, all_hold}
 use Rattle.branch_states.specs.Branches.{sum_of}
 use Rattle.node_store.specs.Stores.{HasNoBareKid}
@@ -26,17 +23,3 @@ pub record IsCompiled (list : ClauseList) (compiled : Compiled) : Type 0 where
   pub few_made : compiled.made ≤ 3 * sum_of list.clauses + 2
   pub few_nodes : length compiled.graph.nodes ≤ compiled.made + 2 * list.vars
   pub few_edges : edges compiled.graph.nodes ≤ 6 * (sum_of list.clauses + 1)
-
--- whether it is true under these bits for the parts and the wires, and some bits for the variables above theirs
-abbrev pub holds_for : Graph → List Bool → List Bool → Bool
-holds_for graph state wires =
-    list_any (λ inner. holds graph (state ++ wires ++ inner)) (lists_of_bits (graph.vars - (length state + length wires)))
-
--- The variables are so many parts, then so many wires, then inner ones, and the graph is true exactly where bits of these fit.
-pub record IsGraphOver (parts wires : ℕ) (fits_by : List Bool → List Bool → Bool) (graph : Graph) : Type 0 where
-  pub room : parts + wires ≤ graph.vars
-  pub meaning : (state bits : List Bool) → length state ≡ parts → length bits ≡ wires → holds_for graph state bits ≡ fits_by state bits
-
--- It is true exactly where the device fits.
-abbrev pub IsGraphOf : Device → Graph → Type 0
-IsGraphOf device graph = IsGraphOver (length device.parts) (length device.wires) (fits device) graph

@@ -87,9 +87,9 @@ row-below keep place own (j ∷ kids) h = by_first (keep j) refl (row-below keep
   by_first false k more = more
 
 row-kind : (vars : ℕ) (values places : List ℕ) (cost : ℕ) (what : NodeKind) (kids : List ℕ) → kind_fits vars what kids ≡ true → kind_fits vars what (row_of values places cost kids) ≡ true
-row-kind vars values places cost (Literal var positive) kids fit =
+row-kind vars values places cost (Literal positive var) kids fit =
     let alone : kids ≡ [] = (literal vars var positive kids fit).alone in
-    subst (λ ks. kind_fits vars (Literal var positive) (row_of values places cost ks) ≡ true) (sym alone) (subst (λ ks. kind_fits vars (Literal var positive) ks ≡ true) alone fit)
+    subst (λ ks. kind_fits vars (Literal positive var) (row_of values places cost ks) ≡ true) (sym alone) (subst (λ ks. kind_fits vars (Literal positive var) ks ≡ true) alone fit)
 row-kind vars values places cost And kids fit = lt-ltb (length (row_of values places cost kids)) 4294967296 (omega (arith, row-le values places cost kids, ltb-true (length kids) 4294967296 fit))
 row-kind vars values places cost Or kids fit = lt-ltb (length (row_of values places cost kids)) 4294967296 (omega (arith, row-le values places cost kids, ltb-true (length kids) 4294967296 fit))
 
@@ -229,7 +229,7 @@ module _ (graph : Graph) (words costs : List ℕ) (ok : IsGraph graph) (long : l
       any h = narrower-any keep place (mentions nodes w) (mentions graph.nodes w) kids (λ j i k s. (kid-place j i k).inside w s) h
 
       by_kind : (what : NodeKind) → mention_by w what (map (mentions nodes w) row) ≡ true → mention_by w what (map (mentions graph.nodes w) kids) ≡ true
-      by_kind (Literal var positive) h = h
+      by_kind (Literal positive var) h = h
       by_kind And h = any h
       by_kind Or h = any h
 
@@ -242,7 +242,7 @@ module _ (graph : Graph) (words costs : List ℕ) (ok : IsGraph graph) (long : l
     apart : (w : ℕ) → apart_at (mentions nodes w) what row ≡ true
     apart w = by_kind what (apart-get (mentions graph.nodes w) graph.nodes at _ (ok.nodes.apart w) e) where
       by_kind : (what : NodeKind) → apart_at (mentions graph.nodes w) what kids ≡ true → apart_at (mentions nodes w) what row ≡ true
-      by_kind (Literal var positive) h = refl
+      by_kind (Literal positive var) h = refl
       by_kind And h = narrower-apart keep place (mentions nodes w) (mentions graph.nodes w) kids (λ j i k s. (kid-place j i k).inside w s) h
       by_kind Or h = refl
 
@@ -263,18 +263,18 @@ module _ (graph : Graph) (words costs : List ℕ) (ok : IsGraph graph) (long : l
       stands = StandsFor-same (known_at words) (part_cost costs) (length costs) (λ a. refl) (λ w. refl) refl (λ a. sym (ap (λ ks. truth_by a what (map (λ q. is_true nodes q a) ks)) one ∙ truth-one a what e)) stands;
       inside = λ w h. inside w (ap (λ ks. mention_by w what (map (mentions nodes w) ks)) one ∙ mention-one w what e h);
     } where
-      no-literal : (var : ℕ) (positive : Bool) → slice_get graph.nodes at ≡ Some (record { what = Literal var positive; kids = kids }) → ⊥
+      no-literal : (var : ℕ) (positive : Bool) → slice_get graph.nodes at ≡ Some (record { what = Literal positive var; kids = kids }) → ⊥
       no-literal var positive f =
           let alone : kids ≡ [] = (literal graph.vars var positive kids (fits-get graph.vars graph.nodes at _ ok.nodes.fit f).kind).alone in
           absurd (let none : [] ≡ p ∷ [] = sym (ap (row_of values places c) alone) ∙ one in cc)
 
       truth-one : (a : Assignment) (what : NodeKind) → slice_get graph.nodes at ≡ Some (record { what = what; kids = kids }) → truth_by a what (map (λ q. is_true nodes q a) (p ∷ [])) ≡ is_true nodes p a
-      truth-one a (Literal var positive) f = absurd (no-literal var positive f)
+      truth-one a (Literal positive var) f = absurd (no-literal var positive f)
       truth-one a And f = and-true (is_true nodes p a)
       truth-one a Or f = or-false (is_true nodes p a)
 
       mention-one : (w : ℕ) (what : NodeKind) → slice_get graph.nodes at ≡ Some (record { what = what; kids = kids }) → mentions nodes w p ≡ true → mention_by w what (map (mentions nodes w) (p ∷ [])) ≡ true
-      mention-one w (Literal var positive) f h = absurd (no-literal var positive f)
+      mention-one w (Literal positive var) f h = absurd (no-literal var positive f)
       mention-one w And f h = or-false (mentions nodes w p) ∙ h
       mention-one w Or f h = or-false (mentions nodes w p) ∙ h
 
@@ -322,7 +322,7 @@ module _ (graph : Graph) (words costs : List ℕ) (ok : IsGraph graph) (long : l
       some not = ⊎_elim (λ (p : 1 < length row). p) (λ (p : length row ≤ 1). absurd (not (empty row (omega (arith, p, many))))) (cases_lt 1 (length row))
 
       by_kind : (w : NodeKind) → what ≡ w → Joins w (length row)
-      by_kind (Literal var positive) o = tt
+      by_kind (Literal positive var) o = tt
       by_kind And o = some (no-and o)
       by_kind Or o = some (no-or o)
 

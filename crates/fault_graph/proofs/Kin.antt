@@ -142,7 +142,7 @@ module _ (graph : Graph) (words costs : List ℕ) (ok : IsGraph graph) (keep : �
   pub node-stands : (k c : ℕ) (what : NodeKind) (kids : List ℕ) → slice_get graph.nodes k ≡ Some (record { what = what; kids = kids }) → C graph words costs ok k ≡ Some c → 0 < c → KidsStand kids c
       → StandsAt k c (λ a. truth_by a what (map (λ p. U p a) (map place (filter keep kids))))
   unfolding Apart
-  node-stands k c (Literal var positive) kids e is dear h =
+  node-stands k c (Literal positive var) kids e is dear h =
       let s = says (kn var) (price var) c positive (sym (costs-at graph words costs ok k _ e) ∙ is) dear in
       StandsFor-same kn price n (λ a. true-at graph words costs ok k _ e a ∙ ap (λ p. same_bit p (a var)) s.0) (λ v. mention-at graph words costs ok k _ e v) s.1 (λ a. ap (λ p. same_bit p (a var)) s.0) (stands-literal kn price n var)
   node-stands k c And kids e is dear h =

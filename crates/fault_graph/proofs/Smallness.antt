@@ -25,7 +25,7 @@ paid costs (suc i) c e dear = ⊎_elim
 
 -- a literal that costs something says that an open part is faulty
 says : (words costs : List ℕ) (var c : ℕ) (positive : Bool) → literal_cost (leaf_of positive (known_at words var)) (part_cost costs var) positive ≡ Some c → 0 < c
-    → SaysFaulty words (length costs) (Literal var positive)
+    → SaysFaulty words (length costs) (Literal positive var)
 says words costs var c positive e dear = by_word (get_or words (var - 1) 0) refl positive e where
   by_word : (w : ℕ) → get_or words (var - 1) 0 ≡ w → (b : Bool) → literal_cost (leaf_of b (known_of w)) (part_cost costs var) b ≡ Some c → (b ≡ false) × (var ≤ length costs) × (get_or words (var - 1) 0 ≡ 0)
   by_word zero z true q = absurd (let free : 0 ≡ c = same_Some 0 c q in omega arith)
@@ -60,7 +60,7 @@ module _ (graph small : Graph) (words costs : List ℕ) (ok : IsGraph graph) (so
         by_kind x.0 x.1.dear node.what node.kids (sym (costs-at small words costs sound p node (slice_get-get_or small.nodes p true_node h)) ∙ cost-is x.0 p x.1);
   } where
     by_kind : (c : ℕ) → 0 < c → (what : NodeKind) (kids : List ℕ) → cost_by (known_at words) (part_cost costs) what (map (C small words costs sound) kids) ≡ Some c → SaysFaulty words (length costs) what
-    by_kind c dear (Literal var positive) kids e = says words costs var c positive e dear
+    by_kind c dear (Literal positive var) kids e = says words costs var c positive e dear
     by_kind c dear And kids e = tt
     by_kind c dear Or kids e = tt
 

@@ -17,13 +17,13 @@ pub record HasParent (nodes : List Node) (node : ℕ) : Type 0 where
 
 -- where it is a literal, it says that an open part is faulty; so many variables are parts
 abbrev pub SaysFaulty : List ℕ → ℕ → NodeKind → Type 0
-SaysFaulty words parts (Literal var positive) = (positive ≡ false) × (var ≤ parts) × (slice_index words (var - 1) ≡ 0)
+SaysFaulty words parts (Literal positive var) = (positive ≡ false) × (var ≤ parts) × (slice_index words (var - 1) ≡ 0)
 SaysFaulty words parts And = ⊤
 SaysFaulty words parts Or = ⊤
 
 -- an and or an or with so many children joins two or more
 abbrev pub Joins : NodeKind → ℕ → Type 0
-Joins (Literal var positive) kids = ⊤
+Joins (Literal positive var) kids = ⊤
 Joins And kids = 1 < kids
 Joins Or kids = 1 < kids
 

@@ -1,7 +1,8 @@
 ghost use Rattle.std.specs.Prelude.{◌≡◌, ℕ, ◌+◌, ◌*◌, ◌<◌, ◌≤◌, [], length, All, IfSome, Some, slice_get, slice_index_or};
 ghost use Rattle.ranking.specs.Ranking.{rest};
 ghost use Rattle.conditioner.specs.Models.{models, least_under, diagnoses_under, total_cost};
-ghost use Rattle.diagnosis_lister.specs.Listing.{bits_of, step_of, fault_count};
+ghost use Rattle.diagnosis_lister.specs.Listing.{step_of, fault_count};
+ghost use Rattle.conditioner.specs.Words.{bits_of};
 ghost use Rattle.probe_report.specs.Verdicts.{blame_of};
 ghost use Rattle.fault_graph.specs.Distilled.{IsOf, Serves};
 

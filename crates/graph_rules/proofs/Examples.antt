@@ -59,7 +59,7 @@ a_kid_of_its_own = refl
 a_variable_above : node_fits 1 0 (literal_node 2 true) ≡ false
 a_variable_above = refl
 
-a_literal_over_a_node : node_fits 1 1 (record { what = Literal 1 true; kids = 0 ∷ [] }) ≡ false
+a_literal_over_a_node : node_fits 1 1 (record { what = Literal true 1; kids = 0 ∷ [] }) ≡ false
 a_literal_over_a_node = refl
 
 -- ---- how a graph is written

@@ -11,7 +11,7 @@ use Rattle.graph_rules.specs.GraphTexts.{shares}
 use Rattle.graph_rules.proofs.NodesFit.{fits-at, literal}
 
 abbrev has_variable : ℕ → NodeKind → Bool
-has_variable v (Literal var positive) = var == v
+has_variable v (Literal positive var) = var == v
 has_variable v And = false
 has_variable v Or = false
 
@@ -34,7 +34,7 @@ none_of f [] h = refl
 none_of f (k ∷ kids) h = rw (h k) (none_of f kids h)
 
 not_mentioned : (v : ℕ) (kind : NodeKind) (kids : List ℕ) (earlier : List Bool) → has_variable v kind ≡ false → AllFalse earlier → mention_by v kind (map (bit_in earlier) kids) ≡ false
-not_mentioned v (Literal var positive) kids earlier other h = other
+not_mentioned v (Literal positive var) kids earlier other h = other
 not_mentioned v And kids earlier other h = none_of (bit_in earlier) kids h
 not_mentioned v Or kids earlier other h = none_of (bit_in earlier) kids h
 
@@ -49,7 +49,7 @@ none_at_most f [] none = refl
 none_at_most f (k ∷ kids) none = rw (none k) (none_at_most f kids none)
 
 none_apart : (f : ℕ → Bool) (kind : NodeKind) (kids : List ℕ) → ((k : ℕ) → f k ≡ false) → apart_at f kind kids ≡ true
-none_apart f (Literal var positive) kids none = refl
+none_apart f (Literal positive var) kids none = refl
 none_apart f And kids none = none_at_most f kids none
 none_apart f Or kids none = refl
 
@@ -62,10 +62,10 @@ pub record IsUsed (nodes : List Node) (v : ℕ) : Type 0 where
   pub at : ℕ
   pub inside : at < length nodes
   pub positive : Bool
-  pub literal : (node_at nodes at).what ≡ Literal v positive
+  pub literal : (node_at nodes at).what ≡ Literal positive v
 
-used_kind : (v : ℕ) (kind : NodeKind) → has_variable v kind ≡ true → (positive : Bool) × (kind ≡ Literal v positive)
-used_kind v (Literal var positive) e = let same = eqb-true var v e in (positive, ap (λ u. Literal u positive) same)
+used_kind : (v : ℕ) (kind : NodeKind) → has_variable v kind ≡ true → (positive : Bool) × (kind ≡ Literal positive v)
+used_kind v (Literal positive var) e = let same = eqb-true var v e in (positive, ap (λ u. Literal positive u) same)
 used_kind v And e = absurd (let no : false ≡ true = e in cc)
 used_kind v Or e = absurd (let no : false ≡ true = e in cc)
 

@@ -39,7 +39,7 @@ pub record IsLiteral (vars var : ℕ) (kids : List ℕ) : Type 0 where
   pub low : 1 ≤ var
   pub high : var ≤ vars
 
-pub literal : (vars var : ℕ) (positive : Bool) (kids : List ℕ) → kind_fits vars (Literal var positive) kids ≡ true → IsLiteral vars var kids
+pub literal : (vars var : ℕ) (positive : Bool) (kids : List ℕ) → kind_fits vars (Literal positive var) kids ≡ true → IsLiteral vars var kids
 literal vars var positive kids fit =
     let parts = and_parts (length kids == 0) (nat_le 1 var && nat_le var vars) fit in
     let range = and_parts (nat_le 1 var) (nat_le var vars) parts.1 in
@@ -68,7 +68,7 @@ nodes_fit-push vars own (m ∷ nodes) node all one =
     and_from _ _ parts.0 (nodes_fit-push vars (own + 1) nodes node parts.1 (subst (λ o. node_fits vars o node ≡ true) here one))
 
 pub apart_at-below : (f g : ℕ → Bool) (own : ℕ) (kind : NodeKind) (kids : List ℕ) → are_below own kids ≡ true → ((k : ℕ) → k < own → f k ≡ g k) → apart_at f kind kids ≡ apart_at g kind kids
-apart_at-below f g own (Literal var positive) kids below same = refl
+apart_at-below f g own (Literal positive var) kids below same = refl
 apart_at-below f g own And kids below same = ap at_most_one (map-below f g own kids below same)
 apart_at-below f g own Or kids below same = refl
 

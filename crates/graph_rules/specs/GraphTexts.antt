@@ -46,7 +46,7 @@ numbers (w ∷ ws) = number_before (small_number w) (numbers ws)
 -- a minus sign before a literal's number
 abbrev pub literal_with : Bool → Option ℕ → Option Node
 literal_with positive None = None
-literal_with positive (Some v) = Some (record { what = Literal v positive; kids = [] })
+literal_with positive (Some v) = Some (record { what = Literal positive v; kids = [] })
 
 abbrev pub literal_of : List ℕ → Option Node
 literal_of [] = None
@@ -75,7 +75,7 @@ node_of (word ∷ first ∷ second ∷ rest) =
 
 -- a variable is from 1 to the greatest
 abbrev pub variable_fits : ℕ → NodeKind → Bool
-variable_fits vars (Literal var positive) = nat_le 1 var && nat_le var vars
+variable_fits vars (Literal positive var) = nat_le 1 var && nat_le var vars
 variable_fits vars And = true
 variable_fits vars Or = true
 

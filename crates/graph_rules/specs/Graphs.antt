@@ -19,7 +19,7 @@ pub record Node : Type 0 where
   pub kids : List ℕ
 
 abbrev pub literal_node : ℕ → Bool → Node
-literal_node var positive = record { what = Literal var positive; kids = [] }
+literal_node var positive = record { what = Literal positive var; kids = [] }
 
 -- an and without kids is true
 abbrev pub true_node : Node
@@ -36,7 +36,7 @@ pub record Graph : Type 0 where
 
 -- a literal by the assignment, an and when all its kids are true, an or when one is
 abbrev pub truth_by : Assignment → NodeKind → List Bool → Bool
-truth_by a (Literal var positive) kids = same_bit positive (a var)
+truth_by a (Literal positive var) kids = same_bit positive (a var)
 truth_by a And kids = list_all (λ b. b) kids
 truth_by a Or kids = list_any (λ b. b) kids
 
@@ -48,7 +48,7 @@ is_true nodes i a = bit_in (values (truth a) nodes) i
 
 -- whether a variable stands at a node or below it
 abbrev pub mention_by : ℕ → NodeKind → List Bool → Bool
-mention_by v (Literal var positive) kids = var == v
+mention_by v (Literal positive var) kids = var == v
 mention_by v And kids = list_any (λ b. b) kids
 mention_by v Or kids = list_any (λ b. b) kids
 
@@ -60,7 +60,7 @@ mentions nodes v i = bit_in (values (mention v) nodes) i
 
 -- an and has a variable below one of its kids at most, kids being counted by position
 abbrev pub apart_at : (ℕ → Bool) → NodeKind → List ℕ → Bool
-apart_at mentioned (Literal var positive) kids = true
+apart_at mentioned (Literal positive var) kids = true
 apart_at mentioned And kids = at_most_one (map mentioned kids)
 apart_at mentioned Or kids = true
 
@@ -74,7 +74,7 @@ holds graph bits = is_true graph.nodes (length graph.nodes - 1) (assignment bits
 
 -- a literal has a variable from 1 to the greatest and no kids; an and or an or has fewer kids than the limit
 abbrev pub kind_fits : ℕ → NodeKind → List ℕ → Bool
-kind_fits vars (Literal var positive) kids = (length kids == 0) && (nat_le 1 var && nat_le var vars)
+kind_fits vars (Literal positive var) kids = (length kids == 0) && (nat_le 1 var && nat_le var vars)
 kind_fits vars And kids = nat_lt (length kids) CHILD_LIMIT
 kind_fits vars Or kids = nat_lt (length kids) CHILD_LIMIT
 

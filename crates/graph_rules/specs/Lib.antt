@@ -2,3 +2,4 @@ pub mod Graphs
 pub mod GraphTexts
 pub mod WrittenGraphs
 pub mod StateGraphs
+pub mod GraphsOver

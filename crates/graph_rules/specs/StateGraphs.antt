@@ -22,7 +22,7 @@ all_same (b ∷ bs) = list_all (same_bit b) bs
 
 -- an or has a variable below all of its kids or below none
 abbrev pub smooth_at : (ℕ → Bool) → NodeKind → List ℕ → Bool
-smooth_at mentioned (Literal var positive) kids = true
+smooth_at mentioned (Literal positive var) kids = true
 smooth_at mentioned And kids = true
 smooth_at mentioned Or kids = all_same (map mentioned kids)
 

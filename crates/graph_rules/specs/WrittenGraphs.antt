@@ -18,7 +18,7 @@ kid_words kids = decimal (length kids) ∷ map decimal kids
 
 -- the number behind O is always 0
 abbrev pub kind_words : NodeKind → List ℕ → List (List ℕ)
-kind_words (Literal var positive) kids = codes "L" ∷ literal_word positive var ∷ []
+kind_words (Literal positive var) kids = codes "L" ∷ literal_word positive var ∷ []
 kind_words And kids = codes "A" ∷ kid_words kids
 kind_words Or kids = codes "O" ∷ codes "0" ∷ kid_words kids
 

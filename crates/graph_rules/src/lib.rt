@@ -10,7 +10,8 @@ pub const BITS_LIMIT: u64 = 2_147_483_648;
 /// What a node of a graph is. An And without children is true, an Or without children is false.
 #[derive(Clone, Copy, Debug, PartialEq, Eq, Hash)]
 pub enum NodeKind {
-    Literal { var: u32, positive: bool },
+    // The sign stands first, so that a kind takes 8 bytes and not 12: a pass over a graph reads all of them.
+    Literal { positive: bool, var: u32 },
     And,
     Or,
 }

@@ -117,7 +117,7 @@ fn steps_through<L: Ledger>(
     requires parts { length levels.now.costs ≡ 3 }
     requires long { graph.now.vars ≡ 3 }
     requires words { All (λ w. w < 3) fixed.now }
-    requires room { length scratch.old ≡ 3 + (length graph.now.nodes + 2) * (cost_words levels.now.top + 1) }
+    requires room { length scratch.old ≡ 3 + (length graph.now.nodes + 2) * (2 * cost_words levels.now.top) }
 {
     let mut steps = Steps::<L>::new(blank);
     let mut words = *fixed;
@@ -148,7 +148,7 @@ fn points_through<L: Ledger>(
     requires graph { IsFor graph.now levels.now }
     requires parts { length levels.now.costs ≡ 3 }
     requires long { graph.now.vars ≡ 3 }
-    requires room { length scratch.old ≡ 3 + (length graph.now.nodes + 2) * (cost_words levels.now.top + 1) }
+    requires room { length scratch.old ≡ 3 + (length graph.now.nodes + 2) * (2 * cost_words levels.now.top) }
 {
     let mut steps = Steps::<L>::new(blank);
     for (fixed, point, wanted, later) in &POINTS {

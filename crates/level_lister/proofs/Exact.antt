@@ -10,7 +10,7 @@ use Rattle.conditioner.specs.Words.{word_of}
 use Rattle.minimiser.proofs.Models.{same_or_not, Agree, Agree-bit, Agree-same, Refines, model-agrees, Passes-old, Passes-new}
 use Rattle.diagnosis_lister.specs.inner.Working.{IsFirst, fixed_bits}
 use Rattle.diagnosis_lister.proofs.Order.{before-at, same_bits}
-use Rattle.level_lister.specs.inner.Searching.{OfCost, HasCost, Settled, WasFixed, IsFaulty, IsOk}
+use Rattle.level_lister.specs.inner.Searching.{OfCost, HasCost}
 
 pub Refines-start : (parts : ℕ) (words : List ℕ) → Refines parts words words
 Refines-start parts words = record { long = refl; kept = λ k ne. refl; others = λ k g. refl }
@@ -58,9 +58,6 @@ module _ (graph : Graph) (costs : List ℕ) (within : length costs ≤ graph.var
 
   -- of an open part that is fixed to a bit
   module _ (old : List ℕ) (part : ℕ) (b : Bool) (long : length old ≡ graph.vars) (lt : part < length costs) (free : get_or old part 0 ≡ 0) where
-    abbrev new : List ℕ
-    new = set old part (word_of b)
-
     refines : Refines (length costs) old (set old part (word_of b))
     refines = Refines-set (length costs) old part (word_of b) lt free
 
@@ -91,16 +88,10 @@ module _ (graph : Graph) (costs : List ℕ) (within : length costs ≤ graph.var
         below : k ≢ part → k < part
         below ne = omega arith
 
-  pub settle_step : (start old new : List ℕ) (part : ℕ) → length start ≡ graph.vars → part < length costs → Settling graph costs c start old part → Settled graph costs c old new part → Settling graph costs c start new (part + 1)
-  settle_step start old new part long lt s (WasFixed ne e) = subst (λ ws. Settling graph costs c start ws (part + 1)) (sym e) (record {
-    refines = s.refines;
-    front = λ k h q. ⊎_elim (λ same. ne (ap (λ j. get_or old j 0) (sym same) ∙ q)) (λ other. s.front k (below k h other) q) (same_or_not k part);
-    some = s.some;
-    first = s.first;
-  }) where
-    below : (k : ℕ) → k < part + 1 → k ≢ part → k < part
-    below k h ne = omega arith
-  settle_step start old new part long lt s (IsFaulty free e has) = subst (λ ws. Settling graph costs c start ws (part + 1)) (sym e) (record {
+  -- an open part is fixed that is faulty in some state
+  pub settle_faulty : (start old : List ℕ) (part : ℕ) → length start ≡ graph.vars → part < length costs → Settling graph costs c start old part → get_or old part 0 ≡ 0 → HasCost graph (set old part 2) costs c
+      → Settling graph costs c start (set old part 2) (part + 1)
+  settle_faulty start old part long lt s free has = record {
     refines = Refines-more (length costs) start old (set old part 2) s.refines (Refines-set (length costs) old part 2 lt free);
     front = front-more old part false (omega arith) s.front;
     some = has;
@@ -108,7 +99,7 @@ module _ (graph : Graph) (costs : List ℕ) (within : length costs ≤ graph.var
       meets = set-old old part false long' lt free h is.meets;
       before = λ k p. earlier h is k p (bit_in k part) refl;
     });
-  }) where
+  } where
     long' : length old ≡ graph.vars
     long' = s.refines.long ∙ long
 
@@ -118,23 +109,6 @@ module _ (graph : Graph) (costs : List ℕ) (within : length costs ≤ graph.var
         (λ j g. same_fixed (get_or old j 0) (bit_in h j) (bit_in k j) (s.front j g)
         (OfCost-agrees old h long' (set-old old part false long' lt free h is.meets) j (omega arith)) (OfCost-agrees old k long' p j (omega arith)))
         (set-bit old part false long' lt free h is.meets) q)
-  settle_step start old new part long lt s (IsOk free e none) = subst (λ ws. Settling graph costs c start ws (part + 1)) (sym e) (record {
-    refines = Refines-more (length costs) start old (set old part 1) s.refines (Refines-set (length costs) old part 1 lt free);
-    front = front-more old part true (omega arith) s.front;
-    some = record { state = s.some.state; is = moved s.some.state s.some.is };
-    first = λ h is. s.first h (record {
-      meets = set-old old part true long' lt free h is.meets;
-      before = λ k p. is.before k (moved k p);
-    });
-  }) where
-    long' : length old ≡ graph.vars
-    long' = s.refines.long ∙ long
-
-    moved : (h : List Bool) → OfCost graph old costs c h → OfCost graph (set old part 1) costs c h
-    moved h p = by_bit (bit_in h part) refl where
-      by_bit : (b : Bool) → bit_in h part ≡ b → OfCost graph (set old part 1) costs c h
-      by_bit true q = set-new old part true long' lt free h p q
-      by_bit false q = absurd (none (record { state = h; is = set-new old part false long' lt free h p q }))
 
   bit_in-map : (f : ℕ → Bool) (xs : List ℕ) (n i : ℕ) → i < n → n ≤ length xs → bit_in (map f (take n xs)) i ≡ f (get_or xs i 0)
   bit_in-map f xs zero i lt h = absurd (omega arith)

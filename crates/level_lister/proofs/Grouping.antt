@@ -6,9 +6,9 @@ use Rattle.ranking.specs.Bits.{bit_in}
 use Rattle.graph_rules.specs.Graphs.{Graph}
 use Rattle.minimiser.proofs.Models.{Agree, Refines}
 use Rattle.diagnosis_lister.proofs.Fixing.{FixesOk}
-use Rattle.level_lister.specs.inner.Searching.{OfCost, IsFaulty}
+use Rattle.level_lister.specs.inner.Searching.{OfCost}
 use Rattle.level_lister.specs.inner.Pairs.{FaultIn, OkAmong}
-use Rattle.level_lister.proofs.Exact.{Settling, OfCost-agrees, OfCost-old, OfCost-new, set-new, settle_step}
+use Rattle.level_lister.proofs.Exact.{Settling, OfCost-agrees, OfCost-old, OfCost-new, set-new, settle_faulty}
 
 module _ (graph : Graph) (costs : List ℕ) (within : length costs ≤ graph.vars) (c : ℕ) (start old new : List ℕ) (from to : ℕ) (long : length start ≡ graph.vars) (fit : to ≤ length costs)
     (s : Settling graph costs c start old from) (f : FixesOk old new from to) (ok : OkAmong graph old costs c from to) where
@@ -45,5 +45,5 @@ module _ (graph : Graph) (costs : List ℕ) (within : length costs ≤ graph.var
   pub settle_found : from ≤ to → FaultIn graph old costs c to → Settling graph costs c start (set new to 2) (to + 1)
   settle_found le u =
       let still : get_or new to 0 ≡ 0 = f.behind to (omega arith) ∙ u.open_ in
-      settle_step graph costs within c start new (set new to 2) to long u.within (settle_ok le)
-      (IsFaulty still refl (record { state = u.state; is = set-new graph costs within c new to false (f.long ∙ old-long) u.within still u.state (ok-moved u.state u.is) u.faulty }))
+      settle_faulty graph costs within c start new to long u.within (settle_ok le) still
+      (record { state = u.state; is = set-new graph costs within c new to false (f.long ∙ old-long) u.within still u.state (ok-moved u.state u.is) u.faulty })

@@ -8,7 +8,8 @@ use Rattle.part_sets.specs.PartSets.{ArePartsOf}
 use Rattle.level_lister.specs.inner.CostSets.{has_shifted, IsCostSet}
 use Rattle.level_lister.specs.declared.pairs.Pair.{Pair}
 use Rattle.level_lister.specs.inner.Pairs.{Tells}
-use Rattle.level_lister.proofs.Reaching.{wider_is, choice_is}
+use Rattle.level_lister.proofs.Reaching.{wider_is}
+use Rattle.level_lister.proofs.Meeting.{choice_is}
 use Rattle.level_lister.proofs.Telling.{tells_same}
 
 -- some variables, and those of more up to one

@@ -1,14 +1,14 @@
 -- The set of a node, from those of the kids before a place.
-use Rattle.std.proofs.Common.{◌≡◌, ℕ, zero, suc, ◌+◌, ◌-◌, ◌*◌, ◌<◌, ◌≤◌, Bool, true, false, cond, ◌&&◌, ◌||◌, List, [], ◌∷◌, ◌++◌, map, take, length, get_or, All, refl, ap, sym, ◌∙◌, subst, arith, inl, inr, ⊎_elim}
+use Rattle.std.proofs.Common.{◌≡◌, ℕ, zero, suc, ◌+◌, ◌-◌, ◌*◌, ◌<◌, ◌≤◌, Bool, true, false, cond, ◌&&◌, ◌||◌, List, [], ◌∷◌, ◌++◌, map, take, length, get_or, refl, ap, sym, ◌∙◌, subst, arith, inl, inr, ⊎_elim}
 use Rattle.std.specs.Prelude.{◌⊎◌, ◌==◌}
 use Rattle.std.specs.List.{list_all, list_any}
-use Rattle.std.proofs.lemmas.Bool.{or_left, or_right, not-true, le-leb}
+use Rattle.std.proofs.lemmas.Bool.{not-true, le-leb}
 use Rattle.std.proofs.lemmas.List.{map_more, take_all}
 use Rattle.ranking.specs.Assignments.{Assignment}
 use Rattle.graph_rules.specs.declared.NodeKind.TheVariants.{Literal, And, Or}
-use Rattle.graph_rules.specs.Graphs.{Graph, node_at, truth_by, mention_by, is_true, mentions, at_most_one, apart_at, kind_fits, IsGraph}
-use Rattle.graph_rules.proofs.NodeValues.{below-each, value_of-at}
-use Rattle.graph_rules.proofs.NodesFit.{fits-at, apart-at, literal}
+use Rattle.graph_rules.specs.Graphs.{Graph, node_at, truth_by, mention_by, is_true, mentions, at_most_one, apart_at, IsGraph}
+use Rattle.graph_rules.proofs.NodeValues.{value_of-at}
+use Rattle.graph_rules.proofs.NodesFit.{fits-at, apart-at}
 use Rattle.graph_rules.proofs.Kids.{at_most_one-tail}
 use Rattle.conditioner.specs.declared.leaves.Leaf.{Leaf}
 use Rattle.conditioner.specs.declared.leaves.Leaf.TheVariants.{True, False, Open}
@@ -18,7 +18,8 @@ use Rattle.part_sets.specs.Numbers.{has_number}
 use Rattle.part_sets.proofs.Kids.{mention-is, literal-fits}
 use Rattle.level_lister.specs.inner.CostSets.{has_shifted, AreSums, IsCostSet}
 use Rattle.level_lister.specs.inner.NodeSets.{IsNodeSet}
-use Rattle.level_lister.proofs.Reaching.{same_is, false_literal_is, literal_is, and_is, or_is}
+use Rattle.level_lister.proofs.Reaching.{same_is, false_literal_is, literal_is}
+use Rattle.level_lister.proofs.Meeting.{and_is, or_is}
 
 pub all_push : (bs : List Bool) (b : Bool) → list_all (λ x. x) (bs ++ b ∷ []) ≡ (list_all (λ x. x) bs && b)
 all_push [] true = refl
@@ -65,7 +66,7 @@ module _ (graph : Graph) (at : ℕ) (kids : List ℕ) (ok : IsGraph graph) (insi
   module _ (words costs : List ℕ) where
     -- ---- a literal
 
-    pub literal_set : (var cost : ℕ) (positive : Bool) (leaf : Leaf) (set : List ℕ) → Literal var positive ≡ (node_at graph.nodes at).what → leaf ≡ leaf_of positive (known_at words var) → cost ≡ part_cost costs var
+    pub literal_set : (var cost : ℕ) (positive : Bool) (leaf : Leaf) (set : List ℕ) → Literal positive var ≡ (node_at graph.nodes at).what → leaf ≡ leaf_of positive (known_at words var) → cost ≡ part_cost costs var
         → (leaf ≡ False → (n : ℕ) → has_number set n ≡ false) → ((leaf ≡ False → ⊥) → (n : ℕ) → n < 32 * length set → has_number set n ≡ (n == cond positive 0 cost)) → IsNodeSet graph words costs at set
     literal_set var cost positive leaf set what is priced ruled_out allowed = same_is words costs _ _ _ _ set
         (λ a. sym (truth-is a ∙ ap (λ w. truth_by a w (map (λ k. is_true graph.nodes k a) kids)) (sym what)))

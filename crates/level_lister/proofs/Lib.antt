@@ -3,6 +3,7 @@ pub mod SetBits
 pub mod Sums
 pub mod Among
 pub mod Reaching
+pub mod Meeting
 pub mod Growing
 pub mod Kids
 pub mod Stacks
@@ -17,6 +18,11 @@ pub mod Behind
 pub mod Spreading
 pub mod Telling
 pub mod PairNodes
+pub mod FaultStates
 pub mod PairWhole
 pub mod Narrowing
 pub mod Grouping
+pub mod Told
+pub mod Faulting
+pub mod FaultGrowing
+pub mod FaultNodes

@@ -9,7 +9,7 @@ use Rattle.graph_rules.specs.Graphs.{Graph}
 use Rattle.conditioner.specs.Models.{has_model, fits_words, models}
 use Rattle.ranking.proofs.Members.{In, In-append, In-append_left, In-append_right, In-filter, In-filtered, bits_in, bits_length, empty-none}
 use Rattle.diagnosis_lister.proofs.Order.{not_both_before, Sorted, Sorted-states, Sorted-filter}
-use Rattle.level_lister.specs.declared.levels.LevelStep.TheVariants.{Found, End, Inconsistent}
+use Rattle.level_lister.specs.declared.levels.LevelStep.TheVariants.{Found, End}
 use Rattle.ranking.specs.Levels.{of_cost, levels, is_level_before, levels_rest}
 use Rattle.level_lister.specs.Listing.{level_step}
 use Rattle.level_lister.specs.inner.Searching.{IsListed, IsFirstLevel, is_later}
@@ -142,9 +142,6 @@ module _ (costs : List ℕ) where
     next-none none = empty-none later (λ h m. none h (in-next h m))
 
     -- ---- the answers
-
-    pub step-none : ms ≡ [] → Inconsistent ≡ level_step costs ms later
-    step-none e = sym (ap (λ xs. level_step costs xs later) e)
 
     pub step-end : (ms ≡ [] → ⊥) → ((h : List Bool) → Next h → ⊥) → End ≡ level_step costs ms later
     step-end some none = sym (by_list ms some later (next-none none)) where

@@ -106,10 +106,6 @@ module _ (graph : Graph) (words costs : List ℕ) (c from : ℕ) where
           (λ (q : low + g * ((span + count) / (count + 1)) ≤ f.part). inl (record { part = f.part; from_ = q; to = omega (arith, reach p, f.to); fault = f.fault }))
           (cases_lt f.part (low + g * ((span + count) / (count + 1))))
 
-  -- a range of one place
-  pub range_found : (low : ℕ) → low < length costs → IsRange low 1 → FaultIn graph words costs c low
-  range_found low lt is = ⊎_elim (λ f. let same : f.part ≡ low = omega (arith, f.from_, f.to) in subst (FaultIn graph words costs c) same f.fault) (λ q. absurd (omega arith)) is.some
-
 -- so many passes are left for a range
 pub record PassesLeft (count span steps most : ℕ) : Type 0 where
   pub rest : ℕ

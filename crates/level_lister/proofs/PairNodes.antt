@@ -62,7 +62,7 @@ module _ (graph : Graph) (at : ℕ) (kids : List ℕ) (ok : IsGraph graph) (insi
   same t u some more pair e f is = tells_same words costs top (group_count top) (group_in words (length costs) groups) t u some more pair (on_parts words (length costs) groups) e
       (λ v p. sym (f v) ∙ p) (λ v l h. f v) is
 
-  pub literal_told : (var : ℕ) (positive : Bool) (pair : Pair) → Literal var positive ≡ (node_at graph.nodes at).what → Told (λ a. same_bit positive (a var)) (λ v. var == v) pair → TellsNode graph words costs top groups at pair
+  pub literal_told : (var : ℕ) (positive : Bool) (pair : Pair) → Literal positive var ≡ (node_at graph.nodes at).what → Told (λ a. same_bit positive (a var)) (λ v. var == v) pair → TellsNode graph words costs top groups at pair
   literal_told var positive pair what is = same _ _ _ _ pair
       (λ a. sym (truth-is graph at kids ok inside are a ∙ ap (λ w. truth_by a w (map (λ k. is_true graph.nodes k a) kids)) (sym what)))
       (λ v. sym (mention-is graph at kids ok inside are v ∙ ap (λ w. mention_by v w (map (mentions graph.nodes v) kids)) (sym what))) is
@@ -155,9 +155,6 @@ module _ (graph : Graph) (words costs : List ℕ) (top : ℕ) (groups : Groups) 
   pub nodes_more : (values : List ℕ) (at : ℕ) (pair : Pair) → 2 * at + 1 < length values → TellNodes graph words costs top groups values at → TellsNode graph words costs top groups at pair
       → TellNodes graph words costs top groups (set (set values (2 * at) pair.costs) (2 * at + 1) pair.faults) (at + 1)
   nodes_more values at pair room are is k lt = by_place (cases_lt k at) where
-    new : List ℕ
-    new = set (set values (2 * at) pair.costs) (2 * at + 1) pair.faults
-
     apart : (i : ℕ) → (i ≡ 2 * at → ⊥) → (i ≡ 2 * at + 1 → ⊥) → get_or (set (set values (2 * at) pair.costs) (2 * at + 1) pair.faults) i 0 ≡ get_or values i 0
     apart i ne mo = get_or-set_other (set values (2 * at) pair.costs) (2 * at + 1) i pair.faults 0 mo ∙ get_or-set_other values (2 * at) i pair.costs 0 ne
 

@@ -1,14 +1,14 @@
 -- What the words of the whole graph tell, for the states that the words allow.
-use Rattle.std.proofs.Common.{◌≡◌, ℕ, ◌+◌, ◌-◌, ◌*◌, ◌/◌, ◌<◌, ◌≤◌, true, List, length, get_or, refl, ap, sym, ◌∙◌, subst, arith}
+use Rattle.std.proofs.Common.{◌≡◌, ℕ, ◌+◌, ◌*◌, ◌<◌, ◌≤◌, true, List, length, sym, ◌∙◌, subst, arith}
 use Rattle.graph_rules.specs.Graphs.{Graph, IsGraph}
 use Rattle.minimiser.proofs.Whole.{state_of, assignment_of}
 use Rattle.level_lister.specs.declared.pairs.Pair.{Pair}
 use Rattle.level_lister.specs.declared.pairs.Groups.{Groups}
 use Rattle.level_lister.specs.inner.CostSets.{cost_among}
-use Rattle.level_lister.specs.inner.Pairs.{has_bit, HasFault, TellsWhole, FaultOf, group_count, group_in}
+use Rattle.level_lister.specs.inner.Pairs.{has_bit, TellsWhole, FaultOf, group_count}
 use Rattle.level_lister.specs.inner.Searching.{HasCost}
 use Rattle.level_lister.proofs.Whole.{among-all}
-use Rattle.level_lister.proofs.PairNodes.{IsGrouped, grouped, in_group}
+use Rattle.level_lister.proofs.FaultStates.{fault_state, state_fault}
 
 module _ (graph : Graph) (words costs : List ℕ) (top : ℕ) (groups : Groups) (pair : Pair) (ok : IsGraph graph) (long : length words ≡ graph.vars) (within : length costs ≤ graph.vars) (tells : TellsWhole graph words costs top groups pair) where
   pub pair_sound : (c : ℕ) → c ≤ top → has_bit pair.costs c ≡ true → HasCost graph words costs c
@@ -27,42 +27,9 @@ module _ (graph : Graph) (words costs : List ℕ) (top : ℕ) (groups : Groups) 
       subst (λ n. has_bit pair.costs n ≡ true) place (tells.cost_bits.whole a.by a.agrees a.holds (omega (arith, total)))
 
   pub group_sound : (c g : ℕ) → c ≤ top → g < group_count top → has_bit pair.faults (group_count top * c + g) ≡ true → FaultOf graph words costs c groups g
-  group_sound c g le lt e =
-      let r = (tells.fault_bits g lt).sound c le e in
-      let s = state_of graph words costs ok long within r.by r.follows r.holds.0 in
-      let fault = r.holds.1 in
-      let is = grouped words (length costs) groups g fault.var fault.of_group in
-      let part : ℕ = fault.var - 1 in
-      let inside : fault.var - 1 < length costs = omega (arith, is.low, is.high) in
-      let place : 1 + (fault.var - 1) ≡ fault.var = omega (arith, is.low) in
-      record {
-        state = s.state;
-        is = record { long = s.long_state; model = s.model; cost_is = among-all r.by 1 costs s.state s.long_state s.bits ∙ r.cost_is };
-        part = fault.var - 1;
-        within = inside;
-        open_ = is.open_;
-        faulty = s.bits (fault.var - 1) inside ∙ ap r.by place ∙ fault.faulty;
-        low = omega (arith, is.low);
-        group = is.group;
-      }
+  group_sound c g le lt e = fault_state graph words costs groups ok long within g c ((tells.fault_bits g lt).sound c le e)
 
   pub group_whole : (c g : ℕ) → c ≤ top → g < group_count top → FaultOf graph words costs c groups g → has_bit pair.faults (group_count top * c + g) ≡ true
   group_whole c g le lt f =
-      let h = f.state in
-      let a = assignment_of graph words costs ok long within h f.is.long f.is.model in
-      let total : cost_among (λ u. true) a.by 1 costs ≡ c = sym (among-all a.by 1 costs h f.is.long a.bits) ∙ f.is.cost_is in
-      let back : f.part + 1 - 1 ≡ f.part = omega arith in
-      let place : 1 + f.part ≡ f.part + 1 = omega arith in
-      let is : IsGrouped words (length costs) groups g (f.part + 1) = record {
-        low = omega (arith, f.low);
-        high = omega (arith, f.within);
-        open_ = ap (λ k. get_or words k 0) back ∙ f.open_;
-        group = ap (λ k. (k - groups.low) / groups.size) back ∙ f.group;
-      } in
-      let fault : HasFault (group_in words (length costs) groups g) (λ v. true) a.by = record {
-        var = f.part + 1;
-        among = refl;
-        of_group = in_group words (length costs) groups g (f.part + 1) is;
-        faulty = ap a.by (sym place) ∙ sym (a.bits f.part f.within) ∙ f.faulty;
-      } in
-      subst (λ n. has_bit pair.faults (group_count top * n + g) ≡ true) total ((tells.fault_bits g lt).whole a.by a.agrees (a.holds, fault) (omega (arith, total)))
+      let r = state_fault graph words costs groups ok long within g c f in
+      subst (λ n. has_bit pair.faults (group_count top * n + g) ≡ true) r.cost_is ((tells.fault_bits g lt).whole r.by r.follows r.holds (omega (arith, r.cost_is)))

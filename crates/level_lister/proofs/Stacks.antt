@@ -1,22 +1,21 @@
 -- Sets of costs that stand one behind the other.
 use Rattle.std.proofs.Common.{◌≡◌, ℕ, ◌+◌, ◌*◌, ◌<◌, ◌≤◌, List, ◌++◌, length, ap, sym, ◌∙◌, subst, arith, ⊎_elim}
 use Rattle.std.proofs.lemmas.Bool.{cases_lt}
-use Rattle.graph_rules.specs.Graphs.{Graph}
 use Rattle.part_sets.specs.Numbers.{set_at}
 use Rattle.part_sets.proofs.Kids.{room_for}
 use Rattle.part_sets.proofs.Stacks.{set_at-front, set_at-here}
-use Rattle.level_lister.specs.inner.NodeSets.{IsNodeSet, AreNodeSets}
 
-module _ (graph : Graph) (words costs : List ℕ) (size : ℕ) where
+-- of which something holds at each place
+module _ (Is : ℕ → List ℕ → Type 0) (size : ℕ) where
   -- the sets before a node, and that of the node
-  pub sets_more : (front set back : List ℕ) (at : ℕ) → length front ≡ at * size → length set ≡ size → AreNodeSets graph words costs size front at → IsNodeSet graph words costs at set
-      → AreNodeSets graph words costs size (front ++ (set ++ back)) (at + 1)
+  pub sets_more : (front set back : List ℕ) (at : ℕ) → length front ≡ at * size → length set ≡ size → ((k : ℕ) → k < at → Is k (set_at front k size)) → Is at set
+      → (k : ℕ) → k < at + 1 → Is k (set_at (front ++ (set ++ back)) k size)
   sets_more front set back at h l are is k lt = ⊎_elim
-      (λ (p : k < at). subst (IsNodeSet graph words costs k) (sym (set_at-front front (set ++ back) k size (omega (arith, h, room_for k at size p)))) (are k p))
+      (λ (p : k < at). subst (Is k) (sym (set_at-front front (set ++ back) k size (omega (arith, h, room_for k at size p)))) (are k p))
       (λ (p : at ≤ k). let same : k ≡ at = omega arith in
-      subst (λ j. IsNodeSet graph words costs j (set_at (front ++ (set ++ back)) j size)) (sym same) (subst (IsNodeSet graph words costs at) (sym (set_at-here front set back at size h l)) is))
+      subst (λ j. Is j (set_at (front ++ (set ++ back)) j size)) (sym same) (subst (Is at) (sym (set_at-here front set back at size h l)) is))
       (cases_lt k at)
 
-  pub sets_before : (sets front back : List ℕ) (at : ℕ) → sets ≡ front ++ back → length front ≡ at * size → AreNodeSets graph words costs size sets at → AreNodeSets graph words costs size front at
+  pub sets_before : (sets front back : List ℕ) (at : ℕ) → sets ≡ front ++ back → length front ≡ at * size → ((k : ℕ) → k < at → Is k (set_at sets k size)) → (k : ℕ) → k < at → Is k (set_at front k size)
   sets_before sets front back at e h are k lt =
-      subst (IsNodeSet graph words costs k) (ap (λ xs. set_at xs k size) e ∙ set_at-front front back k size (omega (arith, h, room_for k at size lt))) (are k lt)
+      subst (Is k) (ap (λ xs. set_at xs k size) e ∙ set_at-front front back k size (omega (arith, h, room_for k at size lt))) (are k lt)

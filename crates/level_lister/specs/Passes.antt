@@ -1,19 +1,23 @@
 -- How many passes over the graph a call makes.
-use Rattle.std.specs.Prelude.{ℕ, ◌+◌, ◌*◌, ◌/◌, ◌^◌, ◌<◌, Bool, List, Option, Some, None, nat_lt, if◌then◌else◌}
+use Rattle.std.specs.Prelude.{ℕ, ◌+◌, ◌*◌, ◌/◌, ◌^◌, ◌<◌, max, Bool, List, Option, Some, None}
 use Rattle.diagnosis_lister.specs.Listing.{fault_count}
 
--- where only costs up to one below 32 are listed, a pass tells in which of so many groups of parts the first fault is, or behind them
+-- a word has room for so many groups of parts at each cost that is listed
 abbrev pub group_count : ℕ → ℕ
 group_count top = 32 / (top + 1)
 
--- so many passes find a fault among the parts, where they are searched by groups
-abbrev pub AreEnough : ℕ → ℕ → ℕ → Type 0
-AreEnough parts top search = top < 32 → parts < (group_count top + 1) ^ search
+-- a pass tells in which of so many groups of parts the first fault is, or that none of them has one: as many as a word has room for, and
+-- at least one
+abbrev pub told_groups : ℕ → ℕ
+told_groups top = max 1 (group_count top)
 
--- What it takes to fix the parts as a state has them, where `search` passes are enough to find a fault. Where only costs below 32 are
--- listed, each fault is searched, and at last that there is no other. Else each part takes one at most.
-abbrev pub fixing_passes : ℕ → ℕ → ℕ → List Bool → ℕ
-fixing_passes parts top search state = if nat_lt top 32 then (fault_count state + 1) * search else parts
+-- so many passes find the first fault among the parts, or that there is none
+abbrev pub AreEnough : ℕ → ℕ → ℕ → Type 0
+AreEnough parts top search = parts < (told_groups top + 1) ^ search
+
+-- what it takes to fix the parts as a state has them: each fault is searched, and at last that there is no other
+abbrev pub fixing_passes : ℕ → List Bool → ℕ
+fixing_passes search state = (fault_count state + 1) * search
 
 -- how many parts are faulty in a point, if there is one
 abbrev pub point_faults : Option (List Bool) → ℕ
@@ -21,5 +25,5 @@ point_faults None = 0
 point_faults (Some point) = fault_count point
 
 -- one for whether there is a state, one for each fault of the point, one for the next cost, and those that fix the parts
-abbrev pub most_passes : ℕ → ℕ → ℕ → Option (List Bool) → List Bool → ℕ
-most_passes parts top search point state = 2 + point_faults point + fixing_passes parts top search state
+abbrev pub most_passes : ℕ → Option (List Bool) → List Bool → ℕ
+most_passes search point state = 2 + point_faults point + fixing_passes search state

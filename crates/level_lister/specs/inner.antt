@@ -3,3 +3,4 @@ pub mod CostSets
 pub mod NodeSets
 pub mod Searching
 pub mod Pairs
+pub mod FaultSets

@@ -1,12 +1,12 @@
 //! Parts that are free to be ok or faulty, since a kid of a node does not mention them.
-ghost use Rattle.std.specs.Prelude.{◌≡◌, ◌≢◌, ℕ, ◌+◌, ◌*◌, ◌<◌, ◌≤◌, Bool, true, false, not, ◌&&◌, ◌||◌, length, All, ◌==◌};
+ghost use Rattle.std.specs.Prelude.{◌≡◌, ℕ, ◌+◌, ◌*◌, ◌<◌, ◌≤◌, Bool, true, not, ◌&&◌, ◌||◌, length, All, ◌==◌};
 ghost use Rattle.ranking.specs.Assignments.{Assignment};
 ghost use Rattle.part_sets.specs.Numbers.{has_number, part_words};
 ghost use Rattle.part_sets.specs.PartSets.{ArePartsOf};
 ghost use Rattle.level_lister.specs.inner.CostSets.{has_shifted, IsCostSet};
 
-use crate::sets::add_shifted;
-use part_sets::{PART_LIMIT, clear, next_missing};
+use crate::sets::{add_shifted, shift};
+use part_sets::{PART_LIMIT, next_missing};
 
 // Lets each part be free that is below a node and not below a kid of it: the set of the kid's costs becomes one of the costs of all
 // parts below the node.
@@ -37,7 +37,7 @@ pub(crate) fn widen(
 }
 
 // Adds to a set the costs with one part more: with its cost where it can be faulty, and without it where it can be ok.
-fn add_part(word: u32, cost: u32, set: &mut [u32], spare: &mut [u32])
+pub(crate) fn add_part(word: u32, cost: u32, set: &mut [u32], spare: &mut [u32])
     requires word { word < 3 }
     requires spare { length spare.old ≡ length set.old }
     ensures { (n : ℕ) → n < 32 * length set.old → has_number set.new n
@@ -46,9 +46,10 @@ fn add_part(word: u32, cost: u32, set: &mut [u32], spare: &mut [u32])
     if word == 1 {
         return;
     }
-    spare.copy_from_slice(set);
     if word == 2 {
-        clear(set);
+        shift(set, cost as usize);
+        return;
     }
+    spare.copy_from_slice(set);
     add_shifted(set, spare, cost as usize);
 }

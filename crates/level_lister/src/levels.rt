@@ -1,6 +1,6 @@
-ghost use Rattle.std.specs.Prelude.{◌≡◌, ◌≢◌, ℕ, ◌+◌, ◌*◌, ◌<◌, ◌≤◌, [], length, true, false, IfOk, All, Some, MatchOption, slice_index, slice_index_or};
+ghost use Rattle.std.specs.Prelude.{◌≡◌, ℕ, ◌+◌, ◌*◌, ◌<◌, ◌≤◌, length, IfOk, All, Some, slice_index_or};
 ghost use Rattle.conditioner.specs.Models.{models, total_cost};
-ghost use Rattle.diagnosis_lister.specs.Listing.{bits_of};
+ghost use Rattle.conditioner.specs.Words.{bits_of};
 ghost use Rattle.level_lister.specs.Listing.{IsFor, cost_words, point_if, later_levels, level_step};
 ghost use Rattle.level_lister.specs.Passes.{AreEnough, most_passes};
 
@@ -104,14 +104,14 @@ impl Levels {
     /// How many words one step needs.
     pub fn room(&self, graph: &Graph) -> usize
         requires graph { IsFor graph.now self.now }
-        ensures { result ≡ length self.now.costs + (length graph.now.nodes + 2) * (cost_words self.now.top + 1) }
+        ensures { result ≡ length self.now.costs + (length graph.now.nodes + 2) * (2 * cost_words self.now.top) }
     {
-        self.costs.len() + (graph.len() as usize + 2) * (self.size() + 1)
+        self.costs.len() + (graph.len() as usize + 2) * (2 * self.size())
     }
 
     /// The next of the states that agree with the words, by cost and then in their order: the first one of all, or the first one
-    /// after the state, where `pointed` says that it is a point. A point need not be listed. It is worked out in words that are lent for it, as many
-    /// as `room` tells, whatever they hold; the passes over the graph are counted.
+    /// after the state, where `pointed` says that it is a point. A point need not be listed. It is worked out in words that are lent for
+    /// it, as many as `room` tells, whatever they hold; the passes over the graph are counted.
     ///
     /// The words are the same afterwards. Where nothing is found the state stays.
     pub fn next<L: Ledger>(
@@ -128,7 +128,7 @@ impl Levels {
         requires words { All (λ w. w < 3) words.old }
         requires state { length state.old ≡ length self.now.costs }
         requires state_words { All (λ s. s < 2) state.old }
-        requires room { length scratch.old ≡ length self.now.costs + (length graph.now.nodes + 2) * (cost_words self.now.top + 1) }
+        requires room { length scratch.old ≡ length self.now.costs + (length graph.now.nodes + 2) * (2 * cost_words self.now.top) }
         ensures step { result ≡ level_step self.now.costs (models graph.now words.old (length self.now.costs))
             (later_levels graph.now words.old self.now (point_if pointed (bits_of state.old))) }
         ensures next { bits_of state.new ≡ slice_index_or
@@ -138,7 +138,7 @@ impl Levels {
 
         // How many passes are made at most.
         ensures steps { (search : ℕ) → AreEnough (length self.now.costs) self.now.top search → steps.new ≤ steps.old
-            + most_passes (length self.now.costs) self.now.top search (point_if pointed (bits_of state.old)) (bits_of state.new) }
+            + most_passes search (point_if pointed (bits_of state.old)) (bits_of state.new) }
     {
         let search = Search {
             levels: self,

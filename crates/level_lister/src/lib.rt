@@ -3,6 +3,7 @@
 
 mod bits;
 mod choices;
+mod fault_pass;
 mod levels;
 mod pair_pass;
 mod pairs;

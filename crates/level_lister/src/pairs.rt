@@ -1,5 +1,5 @@
 //! Two words for a node, where few costs are listed: which costs it can have, and at which of them a part of a group is faulty.
-ghost use Rattle.std.specs.Prelude.{◌≡◌, ℕ, ◌+◌, ◌*◌, ◌<◌, ◌≤◌, Bool, false, ◌&&◌, ◌||◌, List, length, ◌==◌};
+ghost use Rattle.std.specs.Prelude.{◌≡◌, ℕ, ◌+◌, ◌*◌, ◌<◌, ◌≤◌, Bool, false, ◌&&◌, ◌||◌, List, ◌==◌};
 ghost use Rattle.ranking.specs.Assignments.{Assignment};
 ghost use Rattle.level_lister.specs.inner.Pairs.{has_bit, IsSpread, Tells};
 

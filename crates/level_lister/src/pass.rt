@@ -4,7 +4,10 @@ ghost use Rattle.conditioner.specs.declared.leaves.Leaf.{Leaf};
 ghost use Rattle.part_sets.specs.Numbers.{has_number, part_words, set_at};
 ghost use Rattle.graph_rules.specs.declared.NodeKind.TheVariants.{And, Or};
 ghost use Rattle.graph_rules.specs.Graphs.{node_at};
+ghost use Rattle.part_sets.specs.PartSets.{SameBelow};
+ghost use Rattle.level_lister.specs.declared.pairs.Groups.{Groups};
 ghost use Rattle.level_lister.specs.inner.NodeSets.{IsNodeSet, AreNodeSets, IsWholeSet};
+ghost use Rattle.level_lister.specs.inner.FaultSets.{IsNodeFaults, AreNodeFaults};
 
 use crate::choices::widen;
 use crate::search::Search;
@@ -12,6 +15,7 @@ use crate::sets::{SET_LIMIT, add_shifted, put_sums};
 use conditioner::{Leaf, leaf};
 use graph_rules::NodeKind;
 use minimiser::part_cost;
+use node_store::Graph;
 use part_sets::{clear, part_words, put_one, set_at};
 
 impl Search<'_> {
@@ -33,6 +37,9 @@ impl Search<'_> {
         self.put_sets(words, sets, whole, spare);
         let root = self.graph.len() as usize - 1;
         whole.copy_from_slice(set_at(sets, root, whole.len()));
+        if self.levels.lacking()[root + 1] == 0 {
+            return;
+        }
         let costs = self.levels.costs();
         let below = self.levels.below();
         let size = part_words(costs.len());
@@ -46,7 +53,14 @@ impl Search<'_> {
         );
     }
 
-    fn put_sets(&self, words: &[u32], sets: &mut [u32], spare: &mut [u32], other: &mut [u32])
+    // The set of the costs of each node.
+    pub(crate) fn put_sets(
+        &self,
+        words: &[u32],
+        sets: &mut [u32],
+        spare: &mut [u32],
+        other: &mut [u32],
+    )
         requires long { length words.now ≡ self.now.graph.now.vars }
         requires words { All (λ w. w < 3) words.now }
         requires room { length spare.old ≤ SET_LIMIT }
@@ -94,7 +108,13 @@ impl Search<'_> {
                 )
             }
             NodeKind::And => self.put_and(sets, at, set, spare),
-            NodeKind::Or => self.put_or(words, sets, at, set, spare, other),
+            NodeKind::Or => {
+                if self.levels.lacking()[at as usize] == 0 {
+                    put_full(self.graph, sets, at, set)
+                } else {
+                    self.put_or(words, sets, at, set, spare, other)
+                }
+            }
         }
     }
 
@@ -158,6 +178,25 @@ impl Search<'_> {
             );
             add_shifted(set, spare, 0);
         }
+    }
+}
+
+// The set of an Or whose kids lack no part, from those of the kids: that of its costs, or that of those with a fault.
+pub(crate) fn put_full(graph: &Graph, sets: &[u32], at: u32, set: &mut [u32])
+    requires at { at < length graph.now.nodes }
+    requires what { (node_at graph.now.nodes at).what ≡ Or }
+    requires sets { length sets.now ≡ at * length set.old }
+    ensures all { (words costs : List ℕ) → SameBelow graph.now (length costs) at
+        → AreNodeSets graph.now words costs (length set.old) sets.now at → IsNodeSet graph.now words costs at set.new }
+    ensures faulty { (words costs : List ℕ) (groups : Groups) → SameBelow graph.now (length costs) at
+        → AreNodeFaults graph.now words costs groups (length set.old) sets.now at → IsNodeFaults graph.now words costs groups at set.new }
+{
+    // Its contract says that this is a graph.
+    let _vars = graph.vars();
+    let size = set.len();
+    clear(set);
+    for kid in graph.kids(at) {
+        add_shifted(set, set_at(sets, *kid as usize, size), 0);
     }
 }
 

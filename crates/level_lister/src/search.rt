@@ -1,7 +1,8 @@
 //! The search for the next state.
 ghost use Rattle.std.specs.Prelude.{◌≡◌, ◌≢◌, ℕ, ◌+◌, ◌*◌, ◌<◌, ◌≤◌, [], length, true, false, All, Some, MatchOption, slice_index};
 ghost use Rattle.conditioner.specs.Models.{models};
-ghost use Rattle.diagnosis_lister.specs.Listing.{bits_of, fault_count};
+ghost use Rattle.diagnosis_lister.specs.Listing.{fault_count};
+ghost use Rattle.conditioner.specs.Words.{bits_of};
 ghost use Rattle.diagnosis_lister.specs.inner.Working.{fixed_bits};
 ghost use Rattle.level_lister.specs.Listing.{IsFor, cost_words, point_if};
 ghost use Rattle.level_lister.specs.Passes.{AreEnough, fixing_passes, point_faults};
@@ -31,7 +32,7 @@ impl Search<'_> {
     ) -> bool
         requires long { length words.now ≡ self.now.graph.now.vars }
         requires words { All (λ w. w < 3) words.now }
-        requires work { length work.old ≡ (length self.now.graph.now.nodes + 2) * (cost_words self.now.levels.now.top + 1) }
+        requires work { length work.old ≡ (length self.now.graph.now.nodes + 2) * (2 * cost_words self.now.levels.now.top) }
         ensures none { result ≡ false → models self.now.graph.now words.now (length self.now.levels.now.costs) ≡ [] }
         ensures some { result ≡ true → models self.now.graph.now words.now (length self.now.levels.now.costs) ≢ [] }
         ensures steps { steps.new ≡ steps.old + 1 }
@@ -54,13 +55,13 @@ impl Search<'_> {
         requires words { All (λ w. w < 3) words.old }
         requires saved { length saved.now ≡ length self.now.levels.now.costs }
         requires same { (k : ℕ) → k < length self.now.levels.now.costs → slice_index saved.now k ≡ slice_index words.old k }
-        requires work { length work.old ≡ (length self.now.graph.now.nodes + 2) * (cost_words self.now.levels.now.top + 1) }
+        requires work { length work.old ≡ (length self.now.graph.now.nodes + 2) * (2 * cost_words self.now.levels.now.top) }
         requires state { length state.now ≡ length self.now.levels.now.costs }
         ensures found { FindsNext self.now.graph.now words.old self.now.levels.now (point_if pointed (bits_of state.now)) words.new result }
         ensures steps { MatchOption result (steps.new ≤ steps.old + (point_faults (point_if pointed (bits_of state.now)) + 1))
             (λ _. (search : ℕ) → AreEnough (length self.now.levels.now.costs) self.now.levels.now.top search → steps.new ≤ steps.old
             + (point_faults (point_if pointed (bits_of state.now)) + 1
-            + fixing_passes (length self.now.levels.now.costs) self.now.levels.now.top search (fixed_bits (length self.now.levels.now.costs) words.new))) }
+            + fixing_passes search (fixed_bits (length self.now.levels.now.costs) words.new))) }
     {
         if pointed {
             self.find_after(words, saved, work, state, steps)
@@ -82,13 +83,13 @@ impl Search<'_> {
         requires words { All (λ w. w < 3) words.old }
         requires saved { length saved.now ≡ length self.now.levels.now.costs }
         requires same { (k : ℕ) → k < length self.now.levels.now.costs → slice_index saved.now k ≡ slice_index words.old k }
-        requires work { length work.old ≡ (length self.now.graph.now.nodes + 2) * (cost_words self.now.levels.now.top + 1) }
+        requires work { length work.old ≡ (length self.now.graph.now.nodes + 2) * (2 * cost_words self.now.levels.now.top) }
         requires state { length state.now ≡ length self.now.levels.now.costs }
         ensures found { FindsNext self.now.graph.now words.old self.now.levels.now (Some (bits_of state.now)) words.new result }
         ensures steps { MatchOption result (steps.new ≤ steps.old + (fault_count (bits_of state.now) + 1))
             (λ _. (search : ℕ) → AreEnough (length self.now.levels.now.costs) self.now.levels.now.top search → steps.new ≤ steps.old
             + (fault_count (bits_of state.now) + 1
-            + fixing_passes (length self.now.levels.now.costs) self.now.levels.now.top search (fixed_bits (length self.now.levels.now.costs) words.new))) }
+            + fixing_passes search (fixed_bits (length self.now.levels.now.costs) words.new))) }
     {
         let own = state_cost(state, self.levels.costs());
         let top = self.levels.top();
@@ -114,11 +115,11 @@ impl Search<'_> {
     ) -> Option<u32>
         requires long { length words.old ≡ self.now.graph.now.vars }
         requires words { All (λ w. w < 3) words.old }
-        requires work { length work.old ≡ (length self.now.graph.now.nodes + 2) * (cost_words self.now.levels.now.top + 1) }
+        requires work { length work.old ≡ (length self.now.graph.now.nodes + 2) * (2 * cost_words self.now.levels.now.top) }
         ensures found { FindsFirst self.now.graph.now words.old self.now.levels.now from words.new result }
-        ensures steps { MatchOption result (steps.new ≤ steps.old + (1))
+        ensures steps { MatchOption result (steps.new ≤ steps.old + 1)
             (λ _. (search : ℕ) → AreEnough (length self.now.levels.now.costs) self.now.levels.now.top search → steps.new ≤ steps.old
-            + (1 + fixing_passes (length self.now.levels.now.costs) self.now.levels.now.top search (fixed_bits (length self.now.levels.now.costs) words.new))) }
+            + (1 + fixing_passes search (fixed_bits (length self.now.levels.now.costs) words.new))) }
     {
         match self.next_cost(words, work, from, steps) {
             None => None,

@@ -1,13 +1,14 @@
 //! Sets of costs, as bits of words.
-ghost use Rattle.std.specs.Prelude.{◌≡◌, ℕ, ◌+◌, ◌-◌, ◌*◌, ◌/◌, ◌%◌, ◌<◌, ◌≤◌, ◌||◌, false, length, ◌==◌};
+ghost use Rattle.std.specs.Prelude.{◌≡◌, ℕ, ◌+◌, ◌-◌, ◌*◌, ◌/◌, ◌%◌, ◌<◌, ◌≤◌, ◌||◌, length, ◌==◌};
 ghost use Rattle.std.specs.Int.{bit_at};
 ghost use Rattle.part_sets.specs.Numbers.{has_number};
 ghost use Rattle.level_lister.specs.inner.CostSets.{has_shifted, word_before, AreSums};
 
+use crate::levels::TOP_LIMIT;
 use part_sets::{WIDTH, clear, has_number};
 
-/// A set has at most so many words: those for the costs up to the greatest that is listed.
-pub const SET_LIMIT: usize = 128_001;
+/// A set has at most so many words: those for the costs up to the greatest that is ever listed.
+pub const SET_LIMIT: usize = TOP_LIMIT as usize / WIDTH + 1;
 
 // Adds to a set the numbers of another, each of them greater by so much.
 pub(crate) fn add_shifted(set: &mut [u32], other: &[u32], more: usize)
@@ -17,6 +18,15 @@ pub(crate) fn add_shifted(set: &mut [u32], other: &[u32], more: usize)
 {
     for (i, word) in set.iter_mut().enumerate() {
         *word |= shifted_word(other, i, more);
+    }
+}
+
+// Makes each number of a set greater by so much. The last word comes first, since each is put from those up to it.
+pub(crate) fn shift(set: &mut [u32], more: usize)
+    ensures { (n : ℕ) → n < 32 * length set.old → has_number set.new n ≡ has_shifted set.old more n }
+{
+    for i in (0..set.len()).rev() {
+        set[i] = shifted_word(set, i, more);
     }
 }
 

@@ -1,17 +1,17 @@
 //! Parts that are fixed one after the other, so that one state of a cost is left.
-ghost use Rattle.std.specs.Prelude.{◌≡◌, ◌≢◌, ◌↔◌, ℕ, ◌+◌, ◌*◌, ◌^◌, ◌<◌, ◌≤◌, length, All, IsTrue, IfSome, MatchOption, slice_index};
-ghost use Rattle.diagnosis_lister.specs.Listing.{bits_of, fault_count};
+ghost use Rattle.std.specs.Prelude.{◌≡◌, ◌≢◌, ◌↔◌, ℕ, ◌+◌, ◌*◌, ◌<◌, ◌≤◌, length, All, IsTrue, MatchOption, slice_index};
+ghost use Rattle.diagnosis_lister.specs.Listing.{fault_count};
+ghost use Rattle.conditioner.specs.Words.{bits_of};
 ghost use Rattle.diagnosis_lister.specs.inner.Working.{IsFirst, fixed_bits};
-ghost use Rattle.minimiser.specs.Held.{held_cost};
 ghost use Rattle.level_lister.specs.Listing.{cost_words};
-ghost use Rattle.level_lister.specs.Passes.{AreEnough, group_count, fixing_passes};
-ghost use Rattle.level_lister.specs.inner.Searching.{OfCost, HasCost, Settled, NoneAfter, Leaves};
+ghost use Rattle.level_lister.specs.Passes.{AreEnough, fixing_passes};
+ghost use Rattle.level_lister.specs.inner.Searching.{OfCost, HasCost, NoneAfter, Leaves};
 
 use crate::pairs::{Groups, has_bit};
 use crate::search::Search;
 use crate::states::follow;
 use conditioner::fix_ok;
-use minimiser::{Steps, held_cost};
+use minimiser::Steps;
 use part_sets::has_number;
 use std::sync::ledger::Ledger;
 
@@ -32,7 +32,7 @@ impl Search<'_> {
     ) -> bool
         requires long { length words.now ≡ self.now.graph.now.vars }
         requires words { All (λ w. w < 3) words.now }
-        requires work { length work.old ≡ (length self.now.graph.now.nodes + 2) * (cost_words self.now.levels.now.top + 1) }
+        requires work { length work.old ≡ (length self.now.graph.now.nodes + 2) * (2 * cost_words self.now.levels.now.top) }
         requires cost { cost ≤ self.now.levels.now.top }
         ensures reached { IsTrue result ↔ HasCost self.now.graph.now words.now self.now.levels.now.costs cost }
         ensures steps { steps.new ≡ steps.old + 1 }
@@ -84,7 +84,7 @@ impl Search<'_> {
     ) -> Option<u32>
         requires long { length words.now ≡ self.now.graph.now.vars }
         requires words { All (λ w. w < 3) words.now }
-        requires work { length work.old ≡ (length self.now.graph.now.nodes + 2) * (cost_words self.now.levels.now.top + 1) }
+        requires work { length work.old ≡ (length self.now.graph.now.nodes + 2) * (2 * cost_words self.now.levels.now.top) }
         ensures next { MatchOption result
             ((c : ℕ) → from ≤ c → c ≤ self.now.levels.now.top → HasCost self.now.graph.now words.now self.now.levels.now.costs c → ⊥)
             (λ cost. (from ≤ cost) × (cost ≤ self.now.levels.now.top) × HasCost self.now.graph.now words.now self.now.levels.now.costs cost
@@ -142,44 +142,8 @@ impl Search<'_> {
         None
     }
 
-    // Fixes a part, if it is open: to faulty if it is so in some state of this cost that agrees with the words, and else to ok. What
-    // the parts cost then that are fixed to faulty.
-    fn settle_part<L: Ledger>(
-        &self,
-        words: &mut [u32],
-        work: &mut [u32],
-        cost: u32,
-        part: usize,
-        spent: u32,
-        steps: &mut Steps<L>,
-    ) -> u32
-        requires long { length words.old ≡ self.now.graph.now.vars }
-        requires words { All (λ w. w < 3) words.old }
-        requires work { length work.old ≡ (length self.now.graph.now.nodes + 2) * (cost_words self.now.levels.now.top + 1) }
-        requires cost { cost ≤ self.now.levels.now.top }
-        requires part { part < length self.now.levels.now.costs }
-        requires spent { spent ≡ held_cost self.now.levels.now.costs words.old }
-        requires few { spent ≤ cost }
-        ensures settled { Settled self.now.graph.now self.now.levels.now.costs cost words.old words.new part }
-        ensures words { All (λ w. w < 3) words.new }
-        ensures spent { result ≡ held_cost self.now.levels.now.costs words.new }
-        ensures few { result ≤ cost }
-        ensures steps { steps.new ≤ steps.old + 1 }
-    {
-        if words[part] != 0 {
-            return spent;
-        }
-        words[part] = 2;
-        let more = spent + self.levels.costs()[part];
-        if more <= cost && self.reaches(words, work, cost, steps) {
-            return more;
-        }
-        words[part] = 1;
-        spent
-    }
-
-    // Fixes each open part from one on, so that only the first of the states of this cost is left that agree with the words: faulty
-    // where that can be.
+    // Fixes each open part from one on, so that only the first of the states of this cost is left that agree with the words: the next
+    // part that can be faulty is searched, and those before it are ok.
     pub(crate) fn settle<L: Ledger>(
         &self,
         words: &mut [u32],
@@ -190,7 +154,7 @@ impl Search<'_> {
     )
         requires long { length words.old ≡ self.now.graph.now.vars }
         requires words { All (λ w. w < 3) words.old }
-        requires work { length work.old ≡ (length self.now.graph.now.nodes + 2) * (cost_words self.now.levels.now.top + 1) }
+        requires work { length work.old ≡ (length self.now.graph.now.nodes + 2) * (2 * cost_words self.now.levels.now.top) }
         requires cost { cost ≤ self.now.levels.now.top }
         requires from { from ≤ length self.now.levels.now.costs }
         requires front { (k : ℕ) → k < from → slice_index words.old k ≢ 0 }
@@ -200,38 +164,7 @@ impl Search<'_> {
         ensures first { IsFirst (OfCost self.now.graph.now words.old self.now.levels.now.costs cost)
             (fixed_bits (length self.now.levels.now.costs) words.new) }
         ensures steps { (search : ℕ) → AreEnough (length self.now.levels.now.costs) self.now.levels.now.top search → steps.new ≤ steps.old
-            + fixing_passes (length self.now.levels.now.costs) self.now.levels.now.top search (fixed_bits (length self.now.levels.now.costs) words.new) }
-    {
-        if self.levels.top() < 32 {
-            self.settle_by_groups(words, work, cost, from, steps);
-        } else {
-            self.settle_each(words, work, cost, from, steps);
-        }
-    }
-
-    // The same, where only costs below 32 are listed: the next part that can be faulty is searched, and those before it are ok.
-    fn settle_by_groups<L: Ledger>(
-        &self,
-        words: &mut [u32],
-        work: &mut [u32],
-        cost: u32,
-        from: usize,
-        steps: &mut Steps<L>,
-    )
-        requires long { length words.old ≡ self.now.graph.now.vars }
-        requires words { All (λ w. w < 3) words.old }
-        requires top { self.now.levels.now.top < 32 }
-        requires work { 2 * length self.now.graph.now.nodes ≤ length work.old }
-        requires cost { cost ≤ self.now.levels.now.top }
-        requires from { from ≤ length self.now.levels.now.costs }
-        requires front { (k : ℕ) → k < from → slice_index words.old k ≢ 0 }
-        requires some { HasCost self.now.graph.now words.old self.now.levels.now.costs cost }
-        ensures others { (k : ℕ) → length self.now.levels.now.costs ≤ k → slice_index words.new k ≡ slice_index words.old k }
-        ensures words { All (λ w. w < 3) words.new }
-        ensures first { IsFirst (OfCost self.now.graph.now words.old self.now.levels.now.costs cost)
-            (fixed_bits (length self.now.levels.now.costs) words.new) }
-        ensures steps { (search : ℕ) → length self.now.levels.now.costs < (group_count self.now.levels.now.top + 1) ^ search → steps.new ≤ steps.old
-            + (fault_count (fixed_bits (length self.now.levels.now.costs) words.new) + 1) * search }
+            + fixing_passes search (fixed_bits (length self.now.levels.now.costs) words.new) }
     {
         let mut from = from;
         while let Some(part) = self.first_faulty(words, work, cost, from, steps) {
@@ -240,34 +173,6 @@ impl Search<'_> {
             from = part + 1;
         }
         fix_ok(words, from, self.levels.costs().len());
-    }
-
-    // The same by a pass for each open part at most, and none for those that would cost too much.
-    fn settle_each<L: Ledger>(
-        &self,
-        words: &mut [u32],
-        work: &mut [u32],
-        cost: u32,
-        from: usize,
-        steps: &mut Steps<L>,
-    )
-        requires long { length words.old ≡ self.now.graph.now.vars }
-        requires words { All (λ w. w < 3) words.old }
-        requires work { length work.old ≡ (length self.now.graph.now.nodes + 2) * (cost_words self.now.levels.now.top + 1) }
-        requires cost { cost ≤ self.now.levels.now.top }
-        requires from { from ≤ length self.now.levels.now.costs }
-        requires front { (k : ℕ) → k < from → slice_index words.old k ≢ 0 }
-        requires some { HasCost self.now.graph.now words.old self.now.levels.now.costs cost }
-        ensures others { (k : ℕ) → length self.now.levels.now.costs ≤ k → slice_index words.new k ≡ slice_index words.old k }
-        ensures words { All (λ w. w < 3) words.new }
-        ensures first { IsFirst (OfCost self.now.graph.now words.old self.now.levels.now.costs cost)
-            (fixed_bits (length self.now.levels.now.costs) words.new) }
-        ensures steps { steps.new ≤ steps.old + length self.now.levels.now.costs }
-    {
-        let mut spent = held_cost(words, self.levels.costs());
-        for part in from..self.levels.costs().len() {
-            spent = self.settle_part(words, work, cost, part, spent, steps);
-        }
     }
 
     // The last part at which a later state of this cost can leave a state: the same before it, ok where the state has faulty. The
@@ -285,7 +190,7 @@ impl Search<'_> {
         requires words { All (λ w. w < 3) words.old }
         requires saved { length saved.now ≡ length self.now.levels.now.costs }
         requires same { (k : ℕ) → k < length self.now.levels.now.costs → slice_index saved.now k ≡ slice_index words.old k }
-        requires work { length work.old ≡ (length self.now.graph.now.nodes + 2) * (cost_words self.now.levels.now.top + 1) }
+        requires work { length work.old ≡ (length self.now.graph.now.nodes + 2) * (2 * cost_words self.now.levels.now.top) }
         requires state { length state.now ≡ length self.now.levels.now.costs }
         requires cost { cost ≤ self.now.levels.now.top }
         ensures words { All (λ w. w < 3) words.new }

@@ -1,8 +1,8 @@
 //! States, and the words that say them.
-ghost use Rattle.std.specs.Prelude.{◌≡◌, ◌≢◌, ℕ, ◌+◌, ◌<◌, ◌≤◌, ◌++◌, drop, length, slice_index, All};
+ghost use Rattle.std.specs.Prelude.{◌≡◌, ◌+◌, ◌<◌, ◌≤◌, ◌++◌, drop, length, All};
 ghost use Rattle.ranking.specs.Ranking.{cost};
 ghost use Rattle.conditioner.specs.Models.{total_cost};
-ghost use Rattle.diagnosis_lister.specs.Listing.{bits_of};
+ghost use Rattle.conditioner.specs.Words.{bits_of};
 ghost use Rattle.diagnosis_lister.specs.inner.Working.{Follows, fixed_bits};
 
 use minimiser::TOTAL_LIMIT;

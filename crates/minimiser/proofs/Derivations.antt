@@ -211,7 +211,7 @@ module _ (graph : Graph) (words costs : List ℕ) (ok : IsGraph graph) where
     pub at : by var ≡ false
 
   -- the variable of a useful literal that says faulty can be false
-  pub useful-literal : (k var : ℕ) (kids : List ℕ) → slice_get graph.nodes k ≡ Some (record { what = Literal var false; kids = kids }) → known_at words var ≡ None → Useful k → FalseAt var
+  pub useful-literal : (k var : ℕ) (kids : List ℕ) → slice_get graph.nodes k ≡ Some (record { what = Literal false var; kids = kids }) → known_at words var ≡ None → Useful k → FalseAt var
   useful-literal k var kids e open_ useful =
       let is : C k ≡ Some (price var) = costs-at k _ e ∙ (λ i. literal_cost (leaf_of false (open_ i)) (price var) false) in
       let r = (is_cost k).reached (price var) is in
@@ -339,7 +339,7 @@ module _ (graph : Graph) (words costs : List ℕ) (ok : IsGraph graph) where
       pub record MarkedLiteral : Type 0 where
         pub node : ℕ
         pub kids : List ℕ
-        pub is : slice_get graph.nodes node ≡ Some (record { what = Literal p false; kids = kids })
+        pub is : slice_get graph.nodes node ≡ Some (record { what = Literal false p; kids = kids })
         pub marked : Marked node
 
       got : (nodes : List Node) (k : ℕ) → k < length nodes → (node : Node) × (slice_get nodes k ≡ Some node)
@@ -351,9 +351,9 @@ module _ (graph : Graph) (words costs : List ℕ) (ok : IsGraph graph) where
       descend zero k h mark on = absurd (omega arith)
       descend (suc fuel) k h mark on = let x = got graph.nodes k (node-there k a on.holds) in by_kind (descend fuel) x.0.what x.0.kids x.1 where
         by_kind : ((j : ℕ) → j < fuel → Marked j → OnFault j → MarkedLiteral) → (what : NodeKind) (kids : List ℕ) → slice_get graph.nodes k ≡ Some (record { what = what; kids = kids }) → MarkedLiteral
-        by_kind more (Literal var positive) kids e =
+        by_kind more (Literal positive var) kids e =
             let at : var ≡ p = eqb-true _ _ (sym (mention-at k _ e p) ∙ on.has) in
-            record { node = k; kids = kids; is = e ∙ (λ i. Some (record { what = Literal (at i) (says positive (a var) (sym (true-at k _ e a) ∙ on.holds) (ap a at ∙ false_at) i); kids = kids })); marked = mark } where
+            record { node = k; kids = kids; is = e ∙ (λ i. Some (record { what = Literal (says positive (a var) (sym (true-at k _ e a) ∙ on.holds) (ap a at ∙ false_at) i) (at i); kids = kids })); marked = mark } where
               says : (b x : Bool) → same_bit b x ≡ true → x ≡ false → b ≡ false
               says true true q r = absurd (cc)
               says true false q r = absurd (cc)

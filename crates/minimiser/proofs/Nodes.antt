@@ -60,7 +60,7 @@ module _ (known : ℕ → Option Bool) (price : ℕ → ℕ) (parts : ℕ) (none
 
     node_is : (kind : NodeKind) (kids : List ℕ) → ((v : ℕ) → apart_at (bit_in (M v)) kind kids ≡ true)
         → IsCost known price parts (λ a. truth_by a kind (map (bit_in (T a)) kids)) (λ v. mention_by v kind (map (bit_in (M v)) kids)) (cost_by known price kind (map (cost_at C) kids))
-    node_is (Literal var positive) kids apart = literal_is known price parts none var positive
+    node_is (Literal positive var) kids apart = literal_is known price parts none var positive
     node_is And kids apart = kids_and kids apart
     node_is Or kids apart = kids_or kids
 

@@ -1,5 +1,5 @@
 -- One more node, and all of them.
-use Rattle.std.proofs.Common.{◌≡◌, ℕ, zero, suc, ◌+◌, ◌-◌, ◌<◌, ◌≤◌, ◌^◌, Bool, true, false, cond, List, [], ◌∷◌, ◌++◌, map, length, take, set, get_or, All, Option, Some, None, refl, ap, sym, ◌∙◌, subst, arith, add-one}
+use Rattle.std.proofs.Common.{◌≡◌, ℕ, zero, suc, ◌+◌, ◌-◌, ◌<◌, ◌≤◌, ◌^◌, Bool, true, false, cond, List, [], ◌∷◌, ◌++◌, map, length, take, set, get_or, All, Option, Some, None, ◌⊎◌, inl, inr, refl, ap, sym, ◌∙◌, subst, arith, add-one}
 use Rattle.std.specs.Prelude.{slice_get, IfSome}
 use Rattle.std.proofs.Math.ListN.{length-map}
 use Rattle.std.proofs.Math.Seq.{take-length}
@@ -10,7 +10,7 @@ use Rattle.ranking.specs.Values.{values_after, values}
 use Rattle.ranking.proofs.Values.{length-values_after, values_after-append}
 use Rattle.ranking.proofs.Members.{AtMost}
 use Rattle.graph_rules.specs.declared.NodeKind.{NodeKind}
-use Rattle.graph_rules.specs.declared.NodeKind.TheVariants.{Literal, And}
+use Rattle.graph_rules.specs.declared.NodeKind.TheVariants.{Literal, And, Or}
 use Rattle.graph_rules.specs.Graphs.{Node, Graph, mention, true_node, node_at, IsGraph}
 use Rattle.graph_rules.proofs.NodeValues.{below-each}
 use Rattle.graph_rules.proofs.NodesFit.{fits-get, literal}
@@ -71,9 +71,15 @@ cost_small graph words costs i k ok n e =
 pub kids_below : (graph : Graph) (i : ℕ) (n : Node) → IsGraph graph → slice_get graph.nodes i ≡ Some n → All (λ k. k < i) n.kids
 kids_below graph i n ok e = below-each i n.kids (fits-get graph.vars graph.nodes i n ok.nodes.fit e).below
 
-pub literal_at : (graph : Graph) (i var : ℕ) (positive : Bool) (kids : List ℕ) → IsGraph graph → slice_get graph.nodes i ≡ Some (record { what = Literal var positive; kids = kids }) → (1 ≤ var) × (var ≤ graph.vars)
+pub literal_at : (graph : Graph) (i var : ℕ) (positive : Bool) (kids : List ℕ) → IsGraph graph → slice_get graph.nodes i ≡ Some (record { what = Literal positive var; kids = kids }) → (1 ≤ var) × (var ≤ graph.vars)
 literal_at graph i var positive kids ok e =
     let is = literal graph.vars var positive kids (fits-get graph.vars graph.nodes i _ ok.nodes.fit e).kind in (is.low, is.high)
+
+-- a node with kids is no literal
+pub gate_of : (graph : Graph) (i : ℕ) (w : NodeKind) (kids : List ℕ) → IsGraph graph → slice_get graph.nodes i ≡ Some (record { what = w; kids = kids }) → 0 < length kids → (w ≡ And) ⊎ (w ≡ Or)
+gate_of graph i (Literal positive var) kids ok e h = absurd (omega (arith, ap length (literal graph.vars var positive kids (fits-get graph.vars graph.nodes i _ ok.nodes.fit e).kind).alone))
+gate_of graph i And kids ok e h = inl refl
+gate_of graph i Or kids ok e h = inr refl
 
 pub few_kids : (graph : Graph) (i : ℕ) (kids : List ℕ) → IsGraph graph → slice_get graph.nodes i ≡ Some (record { what = And; kids = kids }) → length kids < 2 ^ 32
 few_kids graph i kids ok e = and_few graph.vars kids (fits-get graph.vars graph.nodes i _ ok.nodes.fit e).kind

@@ -1,5 +1,6 @@
 -- Costs of kids, one after another.
-use Rattle.std.proofs.Common.{◌≡◌, ℕ, zero, suc, ◌+◌, ◌<◌, ◌≤◌, min, Bool, true, false, cond, eqb, List, [], ◌∷◌, map, length, get_or, drop, Option, Some, None, refl, ap, sym, ◌∙◌, arith}
+use Rattle.std.proofs.Common.{◌≡◌, ℕ, zero, suc, ◌+◌, ◌<◌, ◌≤◌, min, Bool, true, false, cond, eqb, List, [], ◌∷◌, map, length, get_or, drop, All, Option, Some, None, refl, ap, sym, ◌∙◌, subst, arith}
+use Rattle.std.specs.Prelude.{IfSome}
 use Rattle.std.proofs.lemmas.Bool.{eqb-true, eqb-false}
 use Rattle.std.proofs.lemmas.List.{drop_more}
 use Rattle.minimiser.specs.Costs.{add_costs, min_costs, cost_at, sum_costs, cheapest}
@@ -31,21 +32,51 @@ cost_in-some v h = by_test (eqb v 4294967295) refl where
   by_test true e = absurd (h (eqb-true _ _ e))
   by_test false e = refl
 
-cost_in-none : (v : ℕ) → v ≡ 4294967295 → cost_in v ≡ None
-cost_in-none v e = ap cost_in e
+add_costs-none : (c : Option ℕ) → None ≡ add_costs c None
+add_costs-none None = refl
+add_costs-none (Some n) = refl
 
-add-again : (t v : ℕ) (c : Option ℕ) → add_costs (Some t) (add_costs (Some v) c) ≡ add_costs (Some (t + v)) c
-add-again t v None = refl
-add-again t v (Some n) = ap Some (omega arith)
+add_costs-zero : (c : Option ℕ) → c ≡ add_costs c (Some 0)
+add_costs-zero None = refl
+add_costs-zero (Some n) = ap Some (omega arith)
 
-pub none_step : (values kids : List ℕ) (i total : ℕ) (all : Option ℕ) → i < length kids → get_or kids i 0 < length values → get_or values (get_or kids i 0) 0 ≡ 4294967295
-    → add_costs (Some total) (sum_costs (kid_costs values (drop i kids))) ≡ all → None ≡ all
-none_step values kids i total all h g e is = sym (ap (add_costs (Some total)) (sum-drop values kids i h g ∙ (λ j. add_costs (cost_in-none _ e j) (sum_costs (kid_costs values (drop (i + 1) kids)))))) ∙ is
+min_costs-none : (c : Option ℕ) → c ≡ min_costs c None
+min_costs-none None = refl
+min_costs-none (Some n) = refl
 
-pub more_step : (values kids : List ℕ) (i total : ℕ) → i < length kids → get_or kids i 0 < length values → (get_or values (get_or kids i 0) 0 ≡ 4294967295 → ⊥)
-    → add_costs (Some (total + get_or values (get_or kids i 0) 0)) (sum_costs (kid_costs values (drop (i + 1) kids))) ≡ add_costs (Some total) (sum_costs (kid_costs values (drop i kids)))
-more_step values kids i total h g e = sym (ap (add_costs (Some total)) (sum-drop values kids i h g ∙ (λ j. add_costs (cost_in-some _ e j) (sum_costs (kid_costs values (drop (i + 1) kids)))))
-    ∙ add-again total (here values kids i) (sum_costs (kid_costs values (drop (i + 1) kids))))
+-- What stands for no cost is the greatest number: a sum that is cut there stands for none just where one of both does, unless the whole sum is none.
+cut_sum : (a b : ℕ) (c all : Option ℕ) → a ≤ 4294967295 → b ≤ 4294967295 → IfSome all (λ n. n < 2147483647)
+    → add_costs (cost_in a) (add_costs (cost_in b) c) ≡ all → add_costs (cost_in (min (a + b) 4294967295)) c ≡ all
+cut_sum a b c all h g small is = by_tests (eqb a 4294967295) (eqb b 4294967295) c refl refl is where
+  -- where the greatest number is met
+  at_end : (c : Option ℕ) → min (a + b) 4294967295 ≡ 4294967295 → None ≡ all → add_costs (cost_in (min (a + b) 4294967295)) c ≡ all
+  at_end c e is = ap (λ n. add_costs (cost_in n) c) e ∙ is
+
+  by_tests : (x y : Bool) (c : Option ℕ) → eqb a 4294967295 ≡ x → eqb b 4294967295 ≡ y → add_costs (cond x None (Some a)) (add_costs (cond y None (Some b)) c) ≡ all
+      → add_costs (cost_in (min (a + b) 4294967295)) c ≡ all
+  by_tests true y c p q is = let e : a ≡ 4294967295 = eqb-true _ _ p in at_end c (omega arith) is
+  by_tests false true c p q is = let e : b ≡ 4294967295 = eqb-true _ _ q in at_end c (omega arith) is
+  by_tests false false None p q is = sym (add_costs-none (cost_in (min (a + b) 4294967295))) ∙ is
+  by_tests false false (Some n) p q is =
+      let few : a + (b + n) < 2147483647 = subst (λ o. IfSome o (λ n. n < 2147483647)) (sym is) small in
+      let e : min (a + b) 4294967295 ≡ a + b = omega arith in
+      (λ i. add_costs (cost_in (e i)) (Some n)) ∙ (λ i. add_costs (cost_in-some (a + b) (λ f. omega arith) i) (Some n)) ∙ ap Some (omega arith) ∙ is
+
+pub sum_step : (values kids : List ℕ) (i total : ℕ) (all : Option ℕ) → i < length kids → get_or kids i 0 < length values → total ≤ 4294967295 → get_or values (get_or kids i 0) 0 ≤ 4294967295
+    → IfSome all (λ n. n < 2147483647) → add_costs (cost_in total) (sum_costs (kid_costs values (drop i kids))) ≡ all
+    → add_costs (cost_in (min (total + get_or values (get_or kids i 0) 0) 4294967295)) (sum_costs (kid_costs values (drop (i + 1) kids))) ≡ all
+sum_step values kids i total all h g x y small is = cut_sum total (here values kids i) (sum_costs (kid_costs values (drop (i + 1) kids))) all x y small
+    (ap (add_costs (cost_in total)) (sym (sum-drop values kids i h g)) ∙ is)
+
+pub two_kids : (values kids : List ℕ) → length kids ≡ 2 → All (λ k. k < length values) kids → kid_costs values kids ≡ cost_in (here values kids 0) ∷ cost_in (here values kids 1) ∷ []
+two_kids values [] e h = absurd (omega arith)
+two_kids values (k ∷ []) e h = absurd (omega arith)
+two_kids values (k ∷ m ∷ []) e h = λ j. cost_at-map values k (h 0 0 (omega arith)) j ∷ cost_at-map values m (h 1 0 (omega arith)) j ∷ []
+two_kids values (k ∷ m ∷ n ∷ kids) e h = absurd (omega arith)
+
+pub sum_two : (a b : ℕ) → a ≤ 4294967295 → b ≤ 4294967295 → IfSome (sum_costs (cost_in a ∷ cost_in b ∷ [])) (λ n. n < 2147483647)
+    → cost_in (min (a + b) 4294967295) ≡ sum_costs (cost_in a ∷ cost_in b ∷ [])
+sum_two a b x y small = add_costs-zero (cost_in (min (a + b) 4294967295)) ∙ cut_sum a b (Some 0) (sum_costs (cost_in a ∷ cost_in b ∷ [])) x y small refl
 
 min-again : (a b c : Option ℕ) → min_costs a (min_costs b c) ≡ min_costs (min_costs a b) c
 min-again None b c = refl
@@ -66,3 +97,6 @@ pub least_step : (values kids : List ℕ) (i best : ℕ) → i < length kids →
     → min_costs (cost_in (min best (get_or values (get_or kids i 0) 0))) (cheapest (kid_costs values (drop (i + 1) kids))) ≡ min_costs (cost_in best) (cheapest (kid_costs values (drop i kids)))
 least_step values kids i best h g x y = (λ j. min_costs (cost_in-min best (here values kids i) x y j) (cheapest (kid_costs values (drop (i + 1) kids))))
     ∙ sym (min-again (cost_in best) (cost_in (here values kids i)) (cheapest (kid_costs values (drop (i + 1) kids)))) ∙ ap (min_costs (cost_in best)) (sym (least-drop values kids i h g))
+
+pub least_two : (a b : ℕ) → a ≤ 4294967295 → b ≤ 4294967295 → cost_in (min a b) ≡ cheapest (cost_in a ∷ cost_in b ∷ [])
+least_two a b x y = cost_in-min a b x y ∙ ap (min_costs (cost_in a)) (min_costs-none (cost_in b))

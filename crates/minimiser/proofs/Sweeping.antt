@@ -245,8 +245,8 @@ module _ (graph : Graph) (words costs : List ℕ) (ok : IsGraph graph) (long : l
         → Useful graph words costs ok p → Useful graph words costs ok k
     kid-useful p k hp hk mp mk kid cheap useful = by_kind (node_at graph.nodes p).what (node_at graph.nodes p).kids (slice_get-get_or graph.nodes p true_node hp) kid where
       by_kind : (what : NodeKind) (kids : List ℕ) → slice_get graph.nodes p ≡ Some (record { what = what; kids = kids }) → is_kid kids k ≡ true → Useful graph words costs ok k
-      by_kind (Literal var positive) [] e i = absurd (cc)
-      by_kind (Literal var positive) (x ∷ kids) e i = absurd (omega (arith, ap length (literal graph.vars var positive (x ∷ kids) (fits-get graph.vars graph.nodes p _ ok.nodes.fit e).kind).alone))
+      by_kind (Literal positive var) [] e i = absurd (cc)
+      by_kind (Literal positive var) (x ∷ kids) e i = absurd (omega (arith, ap length (literal graph.vars var positive (x ∷ kids) (fits-get graph.vars graph.nodes p _ ok.nodes.fit e).kind).alone))
       by_kind And kids e i = useful-and graph words costs ok p kids (get_or cs p 0) e (cost-of p hp mp) useful k (kid-out kids k i)
       by_kind Or kids e i =
           let least : get_or cs p 0 ≤ get_or cs k 0 = subst (λ o. AtMost o (get_or cs k 0)) (sym (costs-at graph words costs ok p _ e) ∙ cost-of p hp mp)
@@ -264,7 +264,7 @@ module _ (graph : Graph) (words costs : List ℕ) (ok : IsGraph graph) (long : l
         (s.up k h m)
 
     -- a marked literal is of a suspect
-    literal-suspect : (k var : ℕ) (kids : List ℕ) → slice_get graph.nodes k ≡ Some (record { what = Literal var false; kids = kids }) → Useful graph words costs ok k
+    literal-suspect : (k var : ℕ) (kids : List ℕ) → slice_get graph.nodes k ≡ Some (record { what = Literal false var; kids = kids }) → Useful graph words costs ok k
         → 1 ≤ var → var ≤ length costs → get_or words (var - 1) 0 ≡ 0 → Suspect graph words costs (var - 1)
     literal-suspect k var kids e useful low high open_ =
         let f = useful-literal graph words costs ok k var kids e (ap known_of open_) useful in
@@ -286,8 +286,8 @@ module _ (graph : Graph) (words costs : List ℕ) (ok : IsGraph graph) (long : l
     pub suspect-sound : (k part : ℕ) → k < length graph.nodes → suspect_at graph.nodes words (length costs) xs k ≡ Some part → Suspect graph words costs part
     suspect-sound k part h e = by_mark (has_mark (get_or xs k 0)) refl e where
       by_kind : IsMarked xs k → (what : NodeKind) (kids : List ℕ) → slice_get graph.nodes k ≡ Some (record { what = what; kids = kids }) → suspect_of words (length costs) what ≡ Some part → Suspect graph words costs part
-      by_kind m (Literal var true) kids f q = absurd (cc)
-      by_kind m (Literal var false) kids f q = by_test (nat_le var (length costs) && (get_or words (var - 1) 0 == 0)) refl q where
+      by_kind m (Literal true var) kids f q = absurd (cc)
+      by_kind m (Literal false var) kids f q = by_test (nat_le var (length costs) && (get_or words (var - 1) 0 == 0)) refl q where
         by_test : (b : Bool) → (nat_le var (length costs) && (get_or words (var - 1) 0 == 0)) ≡ b → cond b (Some (var - 1)) None ≡ Some part → Suspect graph words costs part
         by_test true t r =
             let same : var - 1 ≡ part = same_Some (var - 1) part r in
@@ -330,7 +330,7 @@ module _ (graph : Graph) (words costs : List ℕ) (ok : IsGraph graph) (long : l
         (λ k kids c f g m j i t. kid-swept k j c c _ f g m i t (omega arith))
         (length graph.nodes) (length graph.nodes - 1) (omega (arith, ok.some)) s.root on in
         (x.node, slice_get_within graph.nodes x.node _ x.is, found x.node x.kids x.is x.marked) where
-          found : (k : ℕ) (kids : List ℕ) → slice_get graph.nodes k ≡ Some (record { what = Literal (suc part) false; kids = kids }) → IsMarked xs k → suspect_at graph.nodes words (length costs) xs k ≡ Some part
+          found : (k : ℕ) (kids : List ℕ) → slice_get graph.nodes k ≡ Some (record { what = Literal false (suc part); kids = kids }) → IsMarked xs k → suspect_at graph.nodes words (length costs) xs k ≡ Some part
           found k kids e m =
               let fits : (nat_le (suc part) (length costs) && (get_or words (suc part - 1) 0 == 0)) ≡ true = and_from _ _ (le-leb _ _ (omega arith)) (eq-eqb _ 0 (ap (λ j. get_or words j 0) (one_less part) ∙ open_)) in
               (λ i. cond (m i) (suspect_of words (length costs) (get_or_from_slice_get graph.nodes k _ true_node e i).what) None)

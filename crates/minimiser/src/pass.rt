@@ -1,6 +1,6 @@
-ghost use Rattle.std.specs.Prelude.{◌≡◌, ◌+◌, ◌-◌, ◌<◌, ◌≤◌, ◌^◌, [], ◌∷◌, ◌++◌, map, length, All, IfSome};
+ghost use Rattle.std.specs.Prelude.{◌≡◌, ℕ, ◌+◌, ◌-◌, ◌<◌, ◌≤◌, ◌⊎◌, Bool, Option, [], ◌∷◌, ◌++◌, map, length, All, IfSome};
 ghost use Rattle.conditioner.specs.Models.{least_under, total_cost};
-ghost use Rattle.minimiser.specs.Costs.{part_cost, literal_cost, cost_at, sum_costs, cheapest};
+ghost use Rattle.minimiser.specs.Costs.{part_cost, literal_cost, cost_at, cost_by, sum_costs, cheapest};
 ghost use Rattle.minimiser.specs.Held.{held_cost};
 ghost use Rattle.minimiser.specs.Stored.{cost_in, costs_to, AreLeastCosts};
 
@@ -39,26 +39,8 @@ pub fn least<L: Ledger>(
     ensures values { AreLeastCosts graph.now words.now costs.now values.new }
     ensures steps { steps.new ≡ steps.old + 1 }
 {
-    steps.tick();
-    least_cost(graph, words, costs, values)
-}
-
-// The same, where the pass is counted already.
-fn least_cost(graph: &Graph, words: &[u32], costs: &[u32], values: &mut [u32]) -> Option<u32>
-    requires long { length words.now ≡ graph.now.vars }
-    requires words { All (λ w. w < 3) words.now }
-    requires parts { length costs.now ≤ graph.now.vars }
-    requires total { total_cost costs.now < TOTAL_LIMIT }
-    requires room { length values.old ≡ length graph.now.nodes }
-    ensures least { result ≡ least_under graph.now words.now costs.now }
-    ensures values { AreLeastCosts graph.now words.now costs.now values.new }
-{
-    let count = graph.len();
-    for at in 0..count {
-        let value = node_value(graph, words, costs, &values[..at as usize], at);
-        values[at as usize] = value;
-    }
-    let root = values[count as usize - 1];
+    put_least_costs(graph, words, costs, values, steps);
+    let root = values[graph.len() as usize - 1];
     if root == NONE {
         None
     } else {
@@ -66,8 +48,80 @@ fn least_cost(graph: &Graph, words: &[u32], costs: &[u32], values: &mut [u32]) -
     }
 }
 
+/// The pass that [`least`] makes, for one who needs the least cost at each node alone.
+pub fn put_least_costs<L: Ledger>(
+    graph: &Graph,
+    words: &[u32],
+    costs: &[u32],
+    values: &mut [u32],
+    steps: &mut Steps<L>,
+)
+    requires long { length words.now ≡ graph.now.vars }
+    requires words { All (λ w. w < 3) words.now }
+    requires parts { length costs.now ≤ graph.now.vars }
+    requires total { total_cost costs.now < TOTAL_LIMIT }
+    requires room { length values.old ≡ length graph.now.nodes }
+
+    ensures values { AreLeastCosts graph.now words.now costs.now values.new }
+    ensures steps { steps.new ≡ steps.old + 1 }
+{
+    steps.tick();
+    for at in 0..graph.len() {
+        let value = node_value(graph, words, costs, &values[..at as usize], at);
+        values[at as usize] = value;
+    }
+}
+
 // The least cost at a node, from those of the nodes before it.
 fn node_value(graph: &Graph, words: &[u32], costs: &[u32], values: &[u32], at: u32) -> u32
+    requires at { at < length graph.now.nodes }
+    requires long { length words.now ≡ graph.now.vars }
+    requires words { All (λ w. w < 3) words.now }
+    requires parts { length costs.now ≤ graph.now.vars }
+    requires total { total_cost costs.now < TOTAL_LIMIT }
+    requires earlier { map cost_in values.now ≡ costs_to graph.now words.now costs.now at }
+    ensures { map cost_in values.now ++ cost_in result ∷ [] ≡ costs_to graph.now words.now costs.now (at + 1) }
+{
+    // Its contract says that this is a graph.
+    let _vars = graph.vars();
+    if let [one, other] = graph.kids(at) {
+        return pair_value(
+            graph.what(at),
+            values[*one as usize],
+            values[*other as usize],
+        );
+    }
+    value_by_kind(graph, words, costs, values, at)
+}
+
+// That of a gate over two kids, as most are.
+//
+// What stands for no cost is the greatest number, so that a sum with it is not below it.
+fn pair_value(what: NodeKind, one: u32, other: u32) -> u32
+    requires gate { (what ≡ NodeKind.And) ⊎ (what ≡ NodeKind.Or) }
+    requires small { what ≡ NodeKind.And → IfSome (sum_costs (cost_in one ∷ cost_in other ∷ [])) (λ n. n < TOTAL_LIMIT) }
+    ensures { (known : ℕ → Option Bool) (price : ℕ → ℕ)
+        → cost_in result ≡ cost_by known price what (cost_in one ∷ cost_in other ∷ []) }
+{
+    let sum = u64::from(one) + u64::from(other);
+    let value = either(what, sum, u64::from(one.min(other)));
+    value.min(u64::from(NONE)) as u32
+}
+
+// One of two numbers, by what a gate is. Both are worked out before, since a branch is guessed wrongly half of the time.
+fn either(what: NodeKind, of_and: u64, of_or: u64) -> u64
+    requires gate { (what ≡ NodeKind.And) ⊎ (what ≡ NodeKind.Or) }
+    ensures and { what ≡ NodeKind.And → result ≡ of_and }
+    ensures or { what ≡ NodeKind.Or → result ≡ of_or }
+{
+    match what {
+        NodeKind::Or => of_or,
+        NodeKind::And | NodeKind::Literal { .. } => of_and,
+    }
+}
+
+// That of any node.
+fn value_by_kind(graph: &Graph, words: &[u32], costs: &[u32], values: &[u32], at: u32) -> u32
     requires at { at < length graph.now.nodes }
     requires long { length words.now ≡ graph.now.vars }
     requires words { All (λ w. w < 3) words.now }
@@ -112,19 +166,14 @@ fn literal_value(leaf: Leaf, positive: bool, cost: u32) -> u32
 
 fn and_value(values: &[u32], kids: &[u32]) -> u32
     requires kids { All (λ k. k < length values.now) kids.now }
-    requires few { length kids.now < 2 ^ 32 }
     requires small { IfSome (sum_costs (map (cost_at (map cost_in values.now)) kids.now)) (λ n. n < TOTAL_LIMIT) }
     ensures { cost_in result ≡ sum_costs (map (cost_at (map cost_in values.now)) kids.now) }
 {
-    let mut total: u64 = 0;
+    let mut total: u32 = 0;
     for k in kids {
-        let value = values[*k as usize];
-        if value == NONE {
-            return NONE;
-        }
-        total += u64::from(value);
+        total = total.saturating_add(values[*k as usize]);
     }
-    total as u32
+    total
 }
 
 fn or_value(values: &[u32], kids: &[u32]) -> u32

@@ -133,7 +133,7 @@ fn suspect_at(graph: &Graph, words: &[u32], parts: u32, values: &[u32], at: u32)
 fn suspect_of(var: u32, positive: bool, words: &[u32], parts: u32) -> Option<u32>
     requires var { 1 ≤ var }
     requires parts { parts ≤ length words.now }
-    ensures suspect { result ≡ suspect_of words.now parts (NodeKind.Literal var positive) }
+    ensures suspect { result ≡ suspect_of words.now parts (NodeKind.Literal positive var) }
     ensures within { IfSome result (λ part. part < parts) }
 {
     if !positive && var <= parts && words[var as usize - 1] == 0 {

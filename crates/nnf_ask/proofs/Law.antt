@@ -9,12 +9,11 @@ use Rattle.graph_rules.specs.GraphTexts.{Parsed, parsed}
 use Rattle.device_model.specs.declared.component.Component.{Component}
 use Rattle.device_model.specs.Devices.{Device, part_names, part_costs}
 use Rattle.device_model.specs.Diagnosis.{device_system}
-use Rattle.dnnf_compiler.specs.Compiled.{IsGraphOf}
 use Rattle.conditioner.specs.Models.{models}
 use Rattle.session_rules.specs.CaseSizes.{IsCaseOf}
 use Rattle.session_rules.specs.GraphSystems.{word_of_known, case_words}
 use Rattle.session_rules.specs.Items.{Whole}
-use Rattle.session_rules.specs.Spelling.{Spelled, IsWholeOf}
+use Rattle.session_rules.specs.Spelling.{Spelled, IsWholeOf, IsGraphOf}
 use Rattle.session_rules.proofs.Meaning.{same_consistent}
 use Rattle.nnf_ask.specs.Asking.{asked_system}
 use Rattle.nnf_ask.specs.Alike.{case_among, AreAlike}

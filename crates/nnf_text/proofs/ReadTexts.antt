@@ -22,12 +22,12 @@ use Rattle.nnf_text.proofs.Options.{chosen, none≢some}
 -- a literal has no kids, and no node has more than a count can say
 record IsShaped (node : Node) : Type 0 where
   few : length node.kids < CHILD_LIMIT
-  literal : (v : ℕ) (positive : Bool) → node.what ≡ Literal v positive → node.kids ≡ []
+  literal : (v : ℕ) (positive : Bool) → node.what ≡ Literal positive v → node.kids ≡ []
 
 IsShaped-literal : (positive : Bool) (o : Option ℕ) (node : Node) → literal_with positive o ≡ Some node → IsShaped node
 IsShaped-literal positive None node e = absurd (none≢some node e)
 IsShaped-literal positive (Some v) node e =
-    let same : record { what = Literal v positive; kids = [] } ≡ node = cc in
+    let same : record { what = Literal positive v; kids = [] } ≡ node = cc in
     subst IsShaped same (record { few = omega arith; literal = λ u p f. refl })
 
 IsShaped-word : (word : List ℕ) (node : Node) → literal_of word ≡ Some node → IsShaped node
@@ -49,7 +49,7 @@ numbers-first (w ∷ ws) c kids e = by_word (small_number w) refl (numbers ws) e
       let small = number_in-most 10 0 (2 ^ 32 - 1) w n s in
       omega (arith, small, same)
 
-IsShaped-counted : (kind : NodeKind) → ((v : ℕ) (positive : Bool) → kind ≡ Literal v positive → ⊥) → (o : Option (List ℕ)) → ((c : ℕ) (kids : List ℕ) → o ≡ Some (c ∷ kids) → c < 2 ^ 32) → (node : Node) → counted kind o ≡ Some node → IsShaped node
+IsShaped-counted : (kind : NodeKind) → ((v : ℕ) (positive : Bool) → kind ≡ Literal positive v → ⊥) → (o : Option (List ℕ)) → ((c : ℕ) (kids : List ℕ) → o ≡ Some (c ∷ kids) → c < 2 ^ 32) → (node : Node) → counted kind o ≡ Some node → IsShaped node
 IsShaped-counted kind other None small node e = absurd (none≢some node e)
 IsShaped-counted kind other (Some []) small node e = absurd (none≢some node e)
 IsShaped-counted kind other (Some (c ∷ kids)) small node e = elim (chosen (c == length kids) (Some (record { what = kind; kids = kids })) None (Some node) e) [
@@ -61,10 +61,10 @@ IsShaped-counted kind other (Some (c ∷ kids)) small node e = elim (chosen (c =
   | inr wrong ↦ absurd (none≢some node wrong.1)
 ]
 
-and-other : (v : ℕ) (positive : Bool) → And ≡ Literal v positive → ⊥
+and-other : (v : ℕ) (positive : Bool) → And ≡ Literal positive v → ⊥
 and-other v positive e = let no : ⊥ = cc in no
 
-or-other : (v : ℕ) (positive : Bool) → Or ≡ Literal v positive → ⊥
+or-other : (v : ℕ) (positive : Bool) → Or ≡ Literal positive v → ⊥
 or-other v positive e = let no : ⊥ = cc in no
 
 IsShaped-or : (o : Option ℕ) (ws : List (List ℕ)) (node : Node) → or_of o ws ≡ Some node → IsShaped node
@@ -92,7 +92,7 @@ IsShaped-line (word ∷ first ∷ second ∷ rest) node e = elim (chosen (same_n
 -- ---- lines without a fault
 
 kind-from : (vars : ℕ) (kind : NodeKind) (kids : List ℕ) → IsShaped (record { what = kind; kids = kids }) → variable_fits vars kind ≡ true → kind_fits vars kind kids ≡ true
-kind-from vars (Literal var positive) kids shaped fits = and_from _ _ (eq-eqb (length kids) 0 (ap length (shaped.literal var positive refl))) fits
+kind-from vars (Literal positive var) kids shaped fits = and_from _ _ (eq-eqb (length kids) 0 (ap length (shaped.literal var positive refl))) fits
 kind-from vars And kids shaped fits = lt-ltb (length kids) CHILD_LIMIT shaped.few
 kind-from vars Or kids shaped fits = lt-ltb (length kids) CHILD_LIMIT shaped.few
 

@@ -87,7 +87,7 @@ literal_of-digits (b ∷ w) some all =
     let low = leb-true 48 b digit.0 in
     cond-false _ _ _ (ne_eqb b 45 (λ e. omega arith))
 
-literal_of-word : (positive : Bool) (var : ℕ) → var < 2 ^ 32 → literal_of (literal_word positive var) ≡ Some (record { what = Literal var positive; kids = [] })
+literal_of-word : (positive : Bool) (var : ℕ) → var < 2 ^ 32 → literal_of (literal_word positive var) ≡ Some (record { what = Literal positive var; kids = [] })
 literal_of-word true var small =
     literal_of-digits (decimal var) (decimal_nonempty var (omega arith)) (decimal_digits var (omega arith)) ∙ ap (literal_with true) (small_number-decimal var small)
 literal_of-word false var small = ap (literal_with false) (small_number-decimal var small)
@@ -99,24 +99,24 @@ small-from own kids few below =
       lt_small kid h = le-leb (suc kid) (2 ^ 32) (omega arith)
 
 few-kids : (vars : ℕ) (kind : NodeKind) (kids : List ℕ) → kind_fits vars kind kids ≡ true → length kids < CHILD_LIMIT
-few-kids vars (Literal var positive) kids is =
+few-kids vars (Literal positive var) kids is =
     let none = eqb-true (length kids) 0 (and_parts (length kids == 0) (nat_le 1 var && nat_le var vars) is).0 in omega arith
 few-kids vars And kids is = ltb-true (length kids) CHILD_LIMIT is
 few-kids vars Or kids is = ltb-true (length kids) CHILD_LIMIT is
 
 module _ (vars own : ℕ) (few : own < 2 ^ 32) (vars_fit : vars < 2 ^ 32) where
   kind-read : (kind : NodeKind) (kids : List ℕ) → are_below own kids ≡ true → kind_fits vars kind kids ≡ true → node_of (kind_words kind kids) ≡ Some (record { what = kind; kids = kids })
-  kind-read (Literal var positive) kids below is =
+  kind-read (Literal positive var) kids below is =
       let parts = and_parts (length kids == 0) (nat_le 1 var && nat_le var vars) is in
       let range = and_parts (nat_le 1 var) (nat_le var vars) parts.1 in
       let small = leb-true var vars range.1 in
       literal_of-word positive var (omega arith)
-      ∙ ap (λ ks. Some (record { what = Literal var positive; kids = ks })) (sym (nil_from_length kids (eqb-true (length kids) 0 parts.0)))
+      ∙ ap (λ ks. Some (record { what = Literal positive var; kids = ks })) (sym (nil_from_length kids (eqb-true (length kids) 0 parts.0)))
   kind-read And kids below is = let many = few-kids vars And kids is in node_of-and kids ∙ counted-kids And kids (omega arith) (small-from own kids few below)
   kind-read Or kids below is = let many = few-kids vars Or kids is in counted-kids Or kids (omega arith) (small-from own kids few below)
 
   kind-right : (kind : NodeKind) (kids : List ℕ) → are_below own kids ≡ true → kind_fits vars kind kids ≡ true → node_fault vars own (Some (record { what = kind; kids = kids })) ≡ None
-  kind-right (Literal var positive) kids below is = cond-false _ _ _ (ap not below) ∙ cond-true _ _ _ (and_parts (length kids == 0) (nat_le 1 var && nat_le var vars) is).1
+  kind-right (Literal positive var) kids below is = cond-false _ _ _ (ap not below) ∙ cond-true _ _ _ (and_parts (length kids == 0) (nat_le 1 var && nat_le var vars) is).1
   kind-right And kids below is = cond-false _ _ _ (ap not below)
   kind-right Or kids below is = cond-false _ _ _ (ap not below)
 
@@ -164,7 +164,7 @@ kids-are_words kids few small = and_from _ _ (decimal-is_line_word (length kids)
 
 module _ (vars own : ℕ) (few : own < 2 ^ 32) (vars_fit : vars < 2 ^ 32) where
   kind-is_line : (kind : NodeKind) (kids : List ℕ) → are_below own kids ≡ true → kind_fits vars kind kids ≡ true → is_word_line (kind_words kind kids) ≡ true
-  kind-is_line (Literal var positive) kids below is =
+  kind-is_line (Literal positive var) kids below is =
       let parts = and_parts (length kids == 0) (nat_le 1 var && nat_le var vars) is in
       let range = and_parts (nat_le 1 var) (nat_le var vars) parts.1 in
       let small = leb-true var vars range.1 in
@@ -249,7 +249,7 @@ module _ (vars : ℕ) (nodes : List Node) (is : IsList vars nodes) where
 -- ---- a graph, over more variables than it has
 
 kind-wider : (vars more : ℕ) (kind : NodeKind) (kids : List ℕ) → vars ≤ more → kind_fits vars kind kids ≡ true → kind_fits more kind kids ≡ true
-kind-wider vars more (Literal var positive) kids le is =
+kind-wider vars more (Literal positive var) kids le is =
     let parts = and_parts (length kids == 0) (nat_le 1 var && nat_le var vars) is in
     let range = and_parts (nat_le 1 var) (nat_le var vars) parts.1 in
     let small = leb-true var vars range.1 in

@@ -105,7 +105,7 @@ module _ (vars : ℕ) (nodes : List Node) (marks : List Bool) (copies : List Nod
     kids_within (k ∷ ks) lt m = λ j. lt-ltb (slice_index numbers k) (length copies) (is.same k (lt 0 0 (omega arith)) (m 0 0 (omega arith))).within j && kids_within ks (λ i d h. lt (suc i) d (omega arith)) (λ i d h. m (suc i) d (omega arith)) j
 
     kind_same : (what : NodeKind) (ks : List ℕ) → kind_fits vars what ks ≡ true → kind_fits vars what (map (slice_index numbers) ks) ≡ true
-    kind_same (Literal var positive) ks e = ap (λ n. (n == 0) && (nat_le 1 var && nat_le var vars)) (length-map ks (slice_index numbers)) ∙ e
+    kind_same (Literal positive var) ks e = ap (λ n. (n == 0) && (nat_le 1 var && nat_le var vars)) (length-map ks (slice_index numbers)) ∙ e
     kind_same And ks e = ap (λ n. nat_lt n CHILD_LIMIT) (length-map ks (slice_index numbers)) ∙ e
     kind_same Or ks e = ap (λ n. nat_lt n CHILD_LIMIT) (length-map ks (slice_index numbers)) ∙ e
 
@@ -124,7 +124,7 @@ module _ (vars : ℕ) (nodes : List Node) (marks : List Bool) (copies : List Nod
         let maps : map (mentions nodes v) node.kids ≡ map (mentions copies v) kids = sym (ap (map (mentions copies v)) renumbered ∙ kids_same node.kids (mentions copies v) (mentions nodes v) lt_at marked_kids (λ k h m. (is.same k h m).variables v)) in
         by node.what maps (apart-get (mentions nodes v) nodes at node (are.apart v) there) where
           by : (what : NodeKind) → map (mentions nodes v) node.kids ≡ map (mentions copies v) kids → apart_at (mentions nodes v) what node.kids ≡ true → apart_at (mentions copies v) what kids ≡ true
-          by (Literal var positive) e h = refl
+          by (Literal positive var) e h = refl
           by And e h = subst (λ bs. at_most_one bs ≡ true) e h
           by Or e h = refl
 
@@ -329,7 +329,7 @@ module _ (store : Stored) (root : ℕ) (marks : List Bool) (copies : List Node) 
       ]
 
   bare_same : (what : NodeKind) (ks : List ℕ) → is_bare what (map (slice_index numbers) ks) ≡ is_bare what ks
-  bare_same (Literal var positive) ks = refl
+  bare_same (Literal positive var) ks = refl
   bare_same And ks = ap (λ n. n == 0) (length-map ks (slice_index numbers))
   bare_same Or ks = ap (λ n. n == 0) (length-map ks (slice_index numbers))
 

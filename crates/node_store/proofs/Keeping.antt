@@ -1,5 +1,5 @@
 -- Two nodes are equal where the kept ones are.
-use Rattle.std.proofs.Common.{◌≡◌, ℕ, zero, suc, Bool, true, false, ◌&&◌, List, [], ◌∷◌, map, Some, ap, refl, sym, ◌∙◌, subst}
+use Rattle.std.proofs.Common.{◌≡◌, ℕ, zero, suc, Bool, true, false, List, [], ◌∷◌, map, Some, ap, refl, sym, ◌∙◌, subst}
 use Rattle.std.specs.Prelude.{slice_get, nat_eq}
 use Rattle.std.specs.List.{IsDistinct, AllByRecursion}
 use Rattle.std.specs.Cmp.Lexicographic.{pointwise, same_text}
@@ -17,35 +17,29 @@ use Rattle.node_store.specs.contracts.store.KeptPartialEq.TheImpl.{eq-value}
 abbrev kept : NodeKind → SmallVec ℕ → Kept
 kept what kids = record { what = what; kids = kids }
 
-literals_same : (var var' : ℕ) (positive positive' : Bool) (k l : SmallVec ℕ) → eq-value.it (kept (Literal var positive) k) (kept (Literal var' positive') l) ≡ true → shown (kept (Literal var positive) k) ≡ shown (kept (Literal var' positive') l)
+literals_same : (var var' : ℕ) (positive positive' : Bool) (k l : SmallVec ℕ) → eq-value.it (kept (Literal positive var) k) (kept (Literal positive' var') l) ≡ true → shown (kept (Literal positive var) k) ≡ shown (kept (Literal positive' var') l)
 literals_same var var' true true k l e =
-    let parts = and_parts (nat_eq var var' && true) (pointwise nat_eq k.items l.items) e in
-    let v = eqb-true var var' (and_parts (nat_eq var var') true parts.0).0 in
+    let parts = and_parts (nat_eq var var') (pointwise nat_eq k.items l.items) e in
+    let v = eqb-true var var' parts.0 in
     let ks = same_text k.items l.items (sym parts.1) in
-    λ i. record { what = Literal (v i) true; kids = ks i }
+    λ i. record { what = Literal true (v i); kids = ks i }
 literals_same var var' false false k l e =
-    let parts = and_parts (nat_eq var var' && true) (pointwise nat_eq k.items l.items) e in
-    let v = eqb-true var var' (and_parts (nat_eq var var') true parts.0).0 in
+    let parts = and_parts (nat_eq var var') (pointwise nat_eq k.items l.items) e in
+    let v = eqb-true var var' parts.0 in
     let ks = same_text k.items l.items (sym parts.1) in
-    λ i. record { what = Literal (v i) false; kids = ks i }
-literals_same var var' true false k l e = absurd (no (nat_eq var var') e) where
-  no : (b : Bool) → ((b && false) && pointwise nat_eq k.items l.items) ≡ true → ⊥
-  no true e = (cc)
-  no false e = (cc)
-literals_same var var' false true k l e = absurd (no (nat_eq var var') e) where
-  no : (b : Bool) → ((b && false) && pointwise nat_eq k.items l.items) ≡ true → ⊥
-  no true e = (cc)
-  no false e = (cc)
+    λ i. record { what = Literal false (v i); kids = ks i }
+literals_same var var' true false k l e = absurd (cc)
+literals_same var var' false true k l e = absurd (cc)
 
 same_of : (w z : NodeKind) (k l : SmallVec ℕ) → eq-value.it (kept w k) (kept z l) ≡ true → shown (kept w k) ≡ shown (kept z l)
-same_of (Literal var positive) (Literal var' positive') k l e = literals_same var var' positive positive' k l e
+same_of (Literal positive var) (Literal positive' var') k l e = literals_same var var' positive positive' k l e
 same_of And And k l e = let ks = same_text k.items l.items (sym e) in λ i. record { what = And; kids = ks i }
 same_of Or Or k l e = let ks = same_text k.items l.items (sym e) in λ i. record { what = Or; kids = ks i }
-same_of (Literal var positive) And k l e = absurd (cc)
-same_of (Literal var positive) Or k l e = absurd (cc)
-same_of And (Literal var' positive') k l e = absurd (cc)
+same_of (Literal positive var) And k l e = absurd (cc)
+same_of (Literal positive var) Or k l e = absurd (cc)
+same_of And (Literal positive' var') k l e = absurd (cc)
 same_of And Or k l e = absurd (cc)
-same_of Or (Literal var' positive') k l e = absurd (cc)
+same_of Or (Literal positive' var') k l e = absurd (cc)
 same_of Or And k l e = absurd (cc)
 
 pub same_shown : (x y : Kept) → eq-value.it x y ≡ true → shown x ≡ shown y
@@ -55,23 +49,23 @@ items_eq : (xs ys : List ℕ) → xs ≡ ys → pointwise nat_eq xs ys ≡ true
 items_eq xs ys e = subst (λ zs. pointwise nat_eq xs zs ≡ true) e (nat_list_eq_equiv.refl xs)
 
 eq_of : (w z : NodeKind) (k l : SmallVec ℕ) → shown (kept w k) ≡ shown (kept z l) → eq-value.it (kept w k) (kept z l) ≡ true
-eq_of (Literal var true) (Literal var' true) k l e =
-    let what : Literal var true ≡ Literal var' true = ap (λ (n : Node). n.what) e in
+eq_of (Literal true var) (Literal true var') k l e =
+    let what : Literal true var ≡ Literal true var' = ap (λ (n : Node). n.what) e in
     let kids : k.items ≡ l.items = ap (λ (n : Node). n.kids) e in
-    and_from (nat_eq var var' && true) (pointwise nat_eq k.items l.items) (and_from (nat_eq var var') true (eq-eqb var var' (cc)) refl) (items_eq k.items l.items kids)
-eq_of (Literal var false) (Literal var' false) k l e =
-    let what : Literal var false ≡ Literal var' false = ap (λ (n : Node). n.what) e in
+    and_from (nat_eq var var') (pointwise nat_eq k.items l.items) (eq-eqb var var' (cc)) (items_eq k.items l.items kids)
+eq_of (Literal false var) (Literal false var') k l e =
+    let what : Literal false var ≡ Literal false var' = ap (λ (n : Node). n.what) e in
     let kids : k.items ≡ l.items = ap (λ (n : Node). n.kids) e in
-    and_from (nat_eq var var' && true) (pointwise nat_eq k.items l.items) (and_from (nat_eq var var') true (eq-eqb var var' (cc)) refl) (items_eq k.items l.items kids)
-eq_of (Literal var true) (Literal var' false) k l e = let what : Literal var true ≡ Literal var' false = ap (λ (n : Node). n.what) e in absurd (cc)
-eq_of (Literal var false) (Literal var' true) k l e = let what : Literal var false ≡ Literal var' true = ap (λ (n : Node). n.what) e in absurd (cc)
+    and_from (nat_eq var var') (pointwise nat_eq k.items l.items) (eq-eqb var var' (cc)) (items_eq k.items l.items kids)
+eq_of (Literal true var) (Literal false var') k l e = let what : Literal true var ≡ Literal false var' = ap (λ (n : Node). n.what) e in absurd (cc)
+eq_of (Literal false var) (Literal true var') k l e = let what : Literal false var ≡ Literal true var' = ap (λ (n : Node). n.what) e in absurd (cc)
 eq_of And And k l e = items_eq k.items l.items (ap (λ (n : Node). n.kids) e)
 eq_of Or Or k l e = items_eq k.items l.items (ap (λ (n : Node). n.kids) e)
-eq_of (Literal var positive) And k l e = let what : Literal var positive ≡ And = ap (λ (n : Node). n.what) e in absurd (cc)
-eq_of (Literal var positive) Or k l e = let what : Literal var positive ≡ Or = ap (λ (n : Node). n.what) e in absurd (cc)
-eq_of And (Literal var' positive') k l e = let what : And ≡ Literal var' positive' = ap (λ (n : Node). n.what) e in absurd (cc)
+eq_of (Literal positive var) And k l e = let what : Literal positive var ≡ And = ap (λ (n : Node). n.what) e in absurd (cc)
+eq_of (Literal positive var) Or k l e = let what : Literal positive var ≡ Or = ap (λ (n : Node). n.what) e in absurd (cc)
+eq_of And (Literal positive' var') k l e = let what : And ≡ Literal positive' var' = ap (λ (n : Node). n.what) e in absurd (cc)
 eq_of And Or k l e = let what : And ≡ Or = ap (λ (n : Node). n.what) e in absurd (cc)
-eq_of Or (Literal var' positive') k l e = let what : Or ≡ Literal var' positive' = ap (λ (n : Node). n.what) e in absurd (cc)
+eq_of Or (Literal positive' var') k l e = let what : Or ≡ Literal positive' var' = ap (λ (n : Node). n.what) e in absurd (cc)
 eq_of Or And k l e = let what : Or ≡ And = ap (λ (n : Node). n.what) e in absurd (cc)
 
 eq_shown : (x y : Kept) → shown x ≡ shown y → eq-value.it x y ≡ true

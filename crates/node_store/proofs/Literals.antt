@@ -33,7 +33,7 @@ slice_get-parts (y ∷ xs) ys zero x e = inl e
 slice_get-parts (y ∷ xs) ys (suc i) x e = slice_get-parts xs ys i x e
 
 abbrev var_in : NodeKind → ℕ
-var_in (Literal var positive) = var
+var_in (Literal positive var) = var
 var_in And = 0
 var_in Or = 0
 
@@ -61,7 +61,7 @@ second_new n i e = by (slice_get-parts (literals n) (literal_node (n + 1) true �
   differ : Some (literal_node (n + 1) true) ≡ Some (literal_node (n + 1) false) → ⊥
   differ f =
       let s : literal_node (n + 1) true ≡ literal_node (n + 1) false = cc in
-      let w : Literal (n + 1) true ≡ Literal (n + 1) false = ap (λ (x : Node). x.what) s in
+      let w : Literal true (n + 1) ≡ Literal false (n + 1) = ap (λ (x : Node). x.what) s in
       (cc)
 
   last : (j : ℕ) → slice_get (literal_node (n + 1) true ∷ []) j ≡ Some (literal_node (n + 1) false) → ⊥

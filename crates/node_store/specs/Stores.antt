@@ -65,7 +65,7 @@ IsUsed nodes number = (parent : ℕ) × (node : Node) × (slice_get nodes parent
 
 -- an and or an or without kids, which is a constant
 abbrev pub is_bare : NodeKind → List ℕ → Bool
-is_bare (Literal var positive) kids = false
+is_bare (Literal positive var) kids = false
 is_bare And kids = length kids == 0
 is_bare Or kids = length kids == 0
 

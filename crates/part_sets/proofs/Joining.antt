@@ -115,7 +115,7 @@ module _ (graph : Graph) (at parts : ℕ) (kids : List ℕ) (ok : IsGraph graph)
       joined n h ∙ ap (λ m. one_has sets m n kids) long ∙ any_below graph parts at n sets kids below (kid-below graph at kids ok inside are)
       ∙ ap (λ b. nat_lt n parts && b) (sym (mention-is graph at kids ok inside are (n + 1) ∙ what (n + 1))))
 
-  pub variable_parts : (var : ℕ) (positive : Bool) (set : List ℕ) → Literal var positive ≡ (node_at graph.nodes at).what → ArePartsOf parts (λ v. var == v) set → ArePartsOf parts (λ v. mentions graph.nodes v at) set
+  pub variable_parts : (var : ℕ) (positive : Bool) (set : List ℕ) → Literal positive var ≡ (node_at graph.nodes at).what → ArePartsOf parts (λ v. var == v) set → ArePartsOf parts (λ v. mentions graph.nodes v at) set
   variable_parts var positive set what is n = is n ∙ ap (λ b. nat_lt n parts && b) (sym (mention-is graph at kids ok inside are (n + 1) ∙ ap (λ w. mention_by (n + 1) w (map (mentions graph.nodes (n + 1)) kids)) (sym what)))
 
 -- ---- one node after the other

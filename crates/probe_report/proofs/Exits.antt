@@ -209,7 +209,7 @@ module _ (graph : Graph) (words costs : List ℕ) (ok : IsGraph graph) (var : �
   unmentioned zero k f h m = absurd (omega arith)
   unmentioned (suc fuel) k f h m = by_kind (unmentioned fuel) (node_at graph.nodes k).what (node_at graph.nodes k).kids (slice_get-get_or graph.nodes k true_node h) where
     by_kind : ((j : ℕ) → j < fuel → j < n → M j ≡ false → D j ≡ C j) → (what : NodeKind) (kids : List ℕ) → slice_get graph.nodes k ≡ Some (record { what = what; kids = kids }) → D k ≡ C k
-    by_kind more (Literal v positive) kids e =
+    by_kind more (Literal positive v) kids e =
         let other = known-other v (literal_at graph k v positive kids ok e).0 (eqb-false v var (sym (M-at k _ e) ∙ m)) in
         costs-at graph fixed costs ok k _ e ∙ (λ i. literal_cost (leaf_of positive (other i)) (part_cost costs v) positive) ∙ sym (costs-at graph words costs ok k _ e)
     by_kind more And kids e = costs-at graph fixed costs ok k _ e
@@ -257,8 +257,8 @@ module _ (graph : Graph) (words costs : List ℕ) (ok : IsGraph graph) (var : �
           by_kind : ((j c : ℕ) → n ≤ j + fuel → j < n → M j ≡ true → O j < 2147483647 → D j ≡ Some c → AtMost (D root) (O j + c))
               → (p : ℕ) → p < n → (what : NodeKind) (kids : List ℕ) → slice_get graph.nodes p ≡ Some (record { what = what; kids = kids }) → In k kids
               → outside_kid vs what kids (O p) k ≤ O k → AtMost (D root) (O k + d)
-          by_kind more p g (Literal v positive) [] x i c = absurd i
-          by_kind more p g (Literal v positive) (y ∷ kids) x i c = absurd (omega (arith, ap length (literal graph.vars v positive (y ∷ kids) (fits-get graph.vars graph.nodes p _ ok.nodes.fit x).kind).alone))
+          by_kind more p g (Literal positive v) [] x i c = absurd i
+          by_kind more p g (Literal positive v) (y ∷ kids) x i c = absurd (omega (arith, ap length (literal graph.vars v positive (y ∷ kids) (fits-get graph.vars graph.nodes p _ ok.nodes.fit x).kind).alone))
           by_kind more p g And kids x i c =
               let in_sum = in-total M D vs kids k i in
               let r : ℕ = total_value vs kids - W k in
@@ -281,7 +281,7 @@ module _ (graph : Graph) (words costs : List ℕ) (ok : IsGraph graph) (var : �
         let k : ℕ = w.0 in
         let a = w.1 in
         let e = slice_get-get_or graph.nodes k true_node a.within in
-        let e' : slice_get graph.nodes k ≡ Some (record { what = Literal var bit; kids = (node_at graph.nodes k).kids }) = e ∙ (λ i. Some (record { what = a.literal i; kids = (node_at graph.nodes k).kids })) in
+        let e' : slice_get graph.nodes k ≡ Some (record { what = Literal bit var; kids = (node_at graph.nodes k).kids }) = e ∙ (λ i. Some (record { what = a.literal i; kids = (node_at graph.nodes k).kids })) in
         let is : D k ≡ Some 0 = costs-at graph fixed costs ok k _ e' ∙ (λ i. literal_cost (leaf_of bit (known-var i)) (part_cost costs var) bit) ∙ own-literal bit (part_cost costs var) in
         AtMost-le (D root) (O k + 0) c (bound n k 0 (omega arith) a.within (M-at k _ e' ∙ eq-eqb var var refl) (omega (arith, a.is)) is) (omega (arith, a.is))
     sound c q (inl (inl w)) =
@@ -306,12 +306,12 @@ module _ (graph : Graph) (words costs : List ℕ) (ok : IsGraph graph) (var : �
     reached (suc fuel) k d c f h m e g q = by_kind (reached fuel) (node_at graph.nodes k).what (node_at graph.nodes k).kids (slice_get-get_or graph.nodes k true_node h) refl refl where
       by_kind : ((j d c : ℕ) → j < fuel → j < n → M j ≡ true → D j ≡ Some d → O j + d ≤ c → c < 2147483647 → Found c)
           → (what : NodeKind) (kids : List ℕ) → slice_get graph.nodes k ≡ Some (record { what = what; kids = kids }) → (node_at graph.nodes k).what ≡ what → (node_at graph.nodes k).kids ≡ kids → Found c
-      by_kind more (Literal v positive) kids x w ks =
+      by_kind more (Literal positive v) kids x w ks =
           let same : v ≡ var = eqb-true v var (sym (M-at k _ x) ∙ m) in
           let is : literal_cost (leaf_of positive (Some bit)) (part_cost costs v) positive ≡ Some d =
           sym (ap (λ o. literal_cost (leaf_of positive o) (part_cost costs v) positive) (ap (known_at fixed) same ∙ known-var)) ∙ sym (costs-at graph fixed costs ok k _ x) ∙ e in
           let sign : positive ≡ bit = only-literal positive bit (part_cost costs v) d is in
-          record { cost = O k; le = omega (arith, g); exit = inr (k, record { within = h; literal = w ∙ (λ i. Literal (same i) (sign i)); is = refl }) }
+          record { cost = O k; le = omega (arith, g); exit = inr (k, record { within = h; literal = w ∙ (λ i. Literal (sign i) (same i)); is = refl }) }
       by_kind more And kids x w ks =
           let j = kid-with M kids (sym (M-at k _ x) ∙ m) in
           let below_it = kid-below k _ x j.item j.is_in in

@@ -113,13 +113,13 @@ module _ (graph : Graph) (ok : IsGraph graph) (first at : ℕ) (lt : at < length
       (λ (ne : node ≢ at). before node b (omega arith) small)
       (same_or_not node at)
 
-  pub none-literal : (var mark : ℕ) (positive : Bool) → Literal var positive ≡ (node_at graph.nodes at).what → ((b : ℕ) → b < 64 → has_bit mark b ≡ (var == first + b)) → mark ≡ 0 → NoneMarked graph.nodes first (at + 1)
+  pub none-literal : (var mark : ℕ) (positive : Bool) → Literal positive var ≡ (node_at graph.nodes at).what → ((b : ℕ) → b < 64 → has_bit mark b ≡ (var == first + b)) → mark ≡ 0 → NoneMarked graph.nodes first (at + 1)
   none-literal var mark positive e is none = none-more (λ b small. ap (λ w. mention_by (first + b) w (map (λ (k : ℕ). false) (node_at graph.nodes at).kids)) (sym e) ∙ sym (is b small) ∙ ap (λ m. has_bit m b) none ∙ has_bit-zero b)
 
-  pub none-gate : ((var : ℕ) (positive : Bool) → (node_at graph.nodes at).what ≡ Literal var positive → ⊥) → NoneMarked graph.nodes first (at + 1)
+  pub none-gate : ((var : ℕ) (positive : Bool) → (node_at graph.nodes at).what ≡ Literal positive var → ⊥) → NoneMarked graph.nodes first (at + 1)
   none-gate other = none-more (λ b small. by_what (node_at graph.nodes at).what (node_at graph.nodes at).kids (first + b) other) where
-    by_what : (what : NodeKind) (kids : List ℕ) (v : ℕ) → ((var : ℕ) (positive : Bool) → what ≡ Literal var positive → ⊥) → mention_by v what (map (λ (k : ℕ). false) kids) ≡ false
-    by_what (Literal var positive) kids v none = absurd (none var positive refl)
+    by_what : (what : NodeKind) (kids : List ℕ) (v : ℕ) → ((var : ℕ) (positive : Bool) → what ≡ Literal positive var → ⊥) → mention_by v what (map (λ (k : ℕ). false) kids) ≡ false
+    by_what (Literal positive var) kids v none = absurd (none var positive refl)
     by_what And kids v none = any-false kids
     by_what Or kids v none = any-false kids
 
@@ -232,17 +232,17 @@ module _ (nodes : List Node) (outers : List ℕ) (var : ℕ) (bit : Bool) (at : 
       (λ (ne : m.0 ≢ at). inl (m.0, omega (arith, m.1), m.2))
       (same_or_not m.0 at)
 
-  pub literal-more : (a b c v : ℕ) (positive : Bool) → at < length nodes → IsLowered (λ x. (node : ℕ) × (node < at) × AtLiteral nodes outers var bit node x) a b → Literal v positive ≡ (node_at nodes at).what → positive ≡ bit
+  pub literal-more : (a b c v : ℕ) (positive : Bool) → at < length nodes → IsLowered (λ x. (node : ℕ) × (node < at) × AtLiteral nodes outers var bit node x) a b → Literal positive v ≡ (node_at nodes at).what → positive ≡ bit
       → c ≡ lowered (v == var) (get_or outers at 0) b → IsLowered (λ x. (node : ℕ) × (node < at + 1) × AtLiteral nodes outers var bit node x) a c
   literal-more a b c v positive h before is sign e = lowered-then {P = Said at} {Q = λ x. ((v == var) ≡ true) × (x ≡ get_or outers at 0)} {R = Said (at + 1)} a b c before
       (subst (IsLowered (λ x. ((v == var) ≡ true) × (x ≡ get_or outers at 0)) b) (sym e) (lowered-is (v == var) (get_or outers at 0) b))
       (λ x m. (m.0, omega (arith, m.1), m.2))
-      (λ x q. (at, omega arith, record { within = h; literal = sym is ∙ (λ i. Literal (eqb-true v var q.0 i) (sign i)); is = q.1 }))
+      (λ x q. (at, omega arith, record { within = h; literal = sym is ∙ (λ i. Literal (sign i) (eqb-true v var q.0 i)); is = q.1 }))
       (λ x m. ⊎_elim (λ w. inl w) (λ w. inr (eq-eqb v var (same_var (is ∙ w.literal)), w.is)) (not-here x m)) where
-        same_var : {p q : Bool} → Literal v p ≡ Literal var q → v ≡ var
+        same_var : {p q : Bool} → Literal p v ≡ Literal q var → v ≡ var
         same_var e = cc
 
-  pub literal-same : (a b : ℕ) → IsLowered (λ x. (node : ℕ) × (node < at) × AtLiteral nodes outers var bit node x) a b → ((node_at nodes at).what ≡ Literal var bit → ⊥)
+  pub literal-same : (a b : ℕ) → IsLowered (λ x. (node : ℕ) × (node < at) × AtLiteral nodes outers var bit node x) a b → ((node_at nodes at).what ≡ Literal bit var → ⊥)
       → IsLowered (λ x. (node : ℕ) × (node < at + 1) × AtLiteral nodes outers var bit node x) a b
   literal-same a b before other = lowered-as {P = Said at} {R = Said (at + 1)} a b before (λ x m. (m.0, omega (arith, m.1), m.2))
       (λ x m. ⊎_elim (λ w. w) (λ w. absurd (other w.literal)) (not-here x m))
@@ -264,5 +264,5 @@ beq-false true false e f = cc
 beq-false false true e f = cc
 beq-false false false e f = let absurdity : true ≡ false = e in cc
 
-pub same_sign : {v w : ℕ} {p q : Bool} → Literal v p ≡ Literal w q → p ≡ q
+pub same_sign : {v w : ℕ} {p q : Bool} → Literal p v ≡ Literal q w → p ≡ q
 same_sign e = cc

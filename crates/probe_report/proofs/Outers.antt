@@ -10,7 +10,7 @@ use Rattle.probe_report.specs.inner.Outside.{lowered, IsLowered, is_kid, outside
 use Rattle.probe_report.proofs.Lowering.{lowered-is, kid-out}
 
 outside-le : (values : List ℕ) (what : NodeKind) (kids : List ℕ) (a b j : ℕ) → a ≤ b → outside_kid values what kids a j ≤ outside_kid values what kids b j
-outside-le values (Literal var positive) kids a b j h = h
+outside-le values (Literal positive var) kids a b j h = h
 outside-le values And kids a b j h = omega (arith, h)
 outside-le values Or kids a b j h = h
 
@@ -51,7 +51,7 @@ module _ (nodes : List Node) (values xs ys : List ℕ) (at : ℕ) (lt : at < len
   }
 
 -- a literal has no kids
-pub no-kids : (graph : Graph) (at var : ℕ) (positive : Bool) (cost old j : ℕ) → IsGraph graph → at < length graph.nodes → Literal var positive ≡ (node_at graph.nodes at).what → old ≡ lowered (is_kid (node_at graph.nodes at).kids j) cost old
+pub no-kids : (graph : Graph) (at var : ℕ) (positive : Bool) (cost old j : ℕ) → IsGraph graph → at < length graph.nodes → Literal positive var ≡ (node_at graph.nodes at).what → old ≡ lowered (is_kid (node_at graph.nodes at).kids j) cost old
 no-kids graph at var positive cost old j ok h e =
     let alone = (literal graph.vars var positive (node_at graph.nodes at).kids (subst (λ w. kind_fits graph.vars w (node_at graph.nodes at).kids ≡ true) (sym e) (fits-at graph.vars graph.nodes at ok.nodes.fit h).kind)).alone in
     sym (ap (λ ks. lowered (is_kid ks j) cost old) alone)

@@ -1,7 +1,8 @@
 ghost use Rattle.std.specs.Prelude.{◌≡◌, ◌↔◌, ℕ, ◌+◌, ◌-◌, ◌*◌, ◌<◌, ◌≤◌, length, All, false, true, Some, IsTrue, [], slice_get, slice_index, slice_index_or};
 ghost use Rattle.conditioner.specs.Models.{least_under, least_with, diagnoses_under, total_cost};
 ghost use Rattle.minimiser.specs.Suspects.{Passes};
-ghost use Rattle.diagnosis_lister.specs.Listing.{bits_of, fault_count};
+ghost use Rattle.diagnosis_lister.specs.Listing.{fault_count};
+ghost use Rattle.conditioner.specs.Words.{bits_of};
 ghost use Rattle.probe_report.specs.Verdicts.{blame_of};
 ghost use Rattle.probe_report.specs.inner.Presumed.{presumed, IsPresumed};
 

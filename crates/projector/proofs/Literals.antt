@@ -15,7 +15,7 @@ use Rattle.conditioner.specs.Words.{leaf_of}
 use Rattle.projector.specs.Projecting.{projected_literal}
 
 pub variable_fits-from : (vars : ℕ) (kind : NodeKind) (kids : List ℕ) → kind_fits vars kind kids ≡ true → variable_fits vars kind ≡ true
-variable_fits-from vars (Literal var positive) kids fits = (and_parts (length kids == 0) (nat_le 1 var && nat_le var vars) fits).1
+variable_fits-from vars (Literal positive var) kids fits = (and_parts (length kids == 0) (nat_le 1 var && nat_le var vars) fits).1
 variable_fits-from vars And kids fits = refl
 variable_fits-from vars Or kids fits = refl
 
@@ -31,7 +31,7 @@ module _ (parts var : ℕ) (positive : Bool) where
 
   -- one of which nothing is known, and one of which something is
   abbrev kept : Bool → NodeKind
-  kept part = cond part (Literal var positive) And
+  kept part = cond part (Literal positive var) And
 
   abbrev fixed : Bool → NodeKind
   fixed b = projected_literal parts var positive (cond b True False)

@@ -127,7 +127,7 @@ module _ (wanted : ℕ → Option Bool) where
 
   -- whether it can be true
   abbrev pub can_by : NodeKind → List Bool → Bool
-  can_by (Literal var positive) kids = agrees_at (wanted var) positive
+  can_by (Literal positive var) kids = agrees_at (wanted var) positive
   can_by And kids = list_all (λ b. b) kids
   can_by Or kids = list_any (λ b. b) kids
 
@@ -150,6 +150,6 @@ module _ (wanted : ℕ → Option Bool) where
 
     pub node_is : (kind : NodeKind) (kids : List ℕ) → are_below own kids ≡ true → ((v : ℕ) → apart_at (λ k. M k v) kind kids ≡ true)
         → Meets (λ a. truth_by a kind (map (λ k. T k a) kids)) (λ v. mention_by v kind (map (λ k. M k v) kids)) (can_by kind (map C kids))
-    node_is (Literal var positive) kids below apart = literal_is var positive
+    node_is (Literal positive var) kids below apart = literal_is var positive
     node_is And kids below apart = kids_and kids below apart
     node_is Or kids below apart = kids_or kids below

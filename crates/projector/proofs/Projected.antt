@@ -74,9 +74,9 @@ module _ (words : List ℕ) (parts : ℕ) where
   -- a projected node is true where the node can be
   kind-truth : (a : Assignment) (vars : ℕ) (kind : NodeKind) (kids : List ℕ) → kind_fits vars kind kids ≡ true → (c : ℕ → Bool)
       → truth_by a (projected_kind words parts kind) (map c kids) ≡ can_by (wanted a) kind (map c kids)
-  kind-truth a vars (Literal var positive) kids fits c =
+  kind-truth a vars (Literal positive var) kids fits c =
       let is = literal vars var positive kids fits in
-      ap (λ ks. truth_by a (projected_kind words parts (Literal var positive)) (map c ks)) is.alone ∙ literal-truth parts var positive a (known_of_var words var) is.low
+      ap (λ ks. truth_by a (projected_kind words parts (Literal positive var)) (map c ks)) is.alone ∙ literal-truth parts var positive a (known_of_var words var) is.low
   kind-truth a vars And kids fits c = refl
   kind-truth a vars Or kids fits c = refl
 
@@ -84,30 +84,30 @@ module _ (words : List ℕ) (parts : ℕ) where
   kind-mentions : (v vars own : ℕ) (f g : ℕ → Bool) (kind : NodeKind) (kids : List ℕ) → kind_fits vars kind kids ≡ true → are_below own kids ≡ true
       → ((k : ℕ) → k < own → f k ≡ true → (g k ≡ true) × (known_of_var words v ≡ None))
       → mention_by v (projected_kind words parts kind) (map f kids) ≡ true → (mention_by v kind (map g kids) ≡ true) × (known_of_var words v ≡ None)
-  kind-mentions v vars own f g (Literal var positive) kids fits below more e =
+  kind-mentions v vars own f g (Literal positive var) kids fits below more e =
       let is = literal vars var positive kids fits in
-      let r = literal-mentions parts var positive v (known_of_var words var) (ap (λ ks. mention_by v (projected_kind words parts (Literal var positive)) (map f ks)) (sym is.alone) ∙ e) in
+      let r = literal-mentions parts var positive v (known_of_var words var) (ap (λ ks. mention_by v (projected_kind words parts (Literal positive var)) (map f ks)) (sym is.alone) ∙ e) in
       (eq-eqb var v r.0, ap (known_of_var words) (sym r.0) ∙ r.1)
   kind-mentions v vars own f g And kids fits below more e = any_more (known_of_var words v ≡ None) f g own kids below more e
   kind-mentions v vars own f g Or kids fits below more e = any_more (known_of_var words v ≡ None) f g own kids below more e
 
   alone-apart : (f : ℕ → Bool) (kind : NodeKind) → apart_at f kind [] ≡ true
-  alone-apart f (Literal var positive) = refl
+  alone-apart f (Literal positive var) = refl
   alone-apart f And = refl
   alone-apart f Or = refl
 
   kind-apart : (vars own : ℕ) (f g : ℕ → Bool) (kind : NodeKind) (kids : List ℕ) → kind_fits vars kind kids ≡ true → are_below own kids ≡ true → ((k : ℕ) → k < own → f k ≡ true → g k ≡ true)
       → apart_at g kind kids ≡ true → apart_at f (projected_kind words parts kind) kids ≡ true
-  kind-apart vars own f g (Literal var positive) kids fits below less apart =
-      let become : NodeKind = projected_kind words parts (Literal var positive) in
+  kind-apart vars own f g (Literal positive var) kids fits below less apart =
+      let become : NodeKind = projected_kind words parts (Literal positive var) in
       ap (apart_at f become) (literal vars var positive kids fits).alone ∙ alone-apart f become
   kind-apart vars own f g And kids fits below less apart = at_most_one-less f g own kids below less apart
   kind-apart vars own f g Or kids fits below less apart = refl
 
   kind-fits : (vars : ℕ) (kind : NodeKind) (kids : List ℕ) → kind_fits vars kind kids ≡ true → kind_fits parts (projected_kind words parts kind) kids ≡ true
-  kind-fits vars (Literal var positive) kids fits =
+  kind-fits vars (Literal positive var) kids fits =
       let is = literal vars var positive kids fits in
-      ap (kind_fits parts (projected_kind words parts (Literal var positive))) is.alone ∙ literal-fits parts var positive (known_of_var words var) is.low
+      ap (kind_fits parts (projected_kind words parts (Literal positive var))) is.alone ∙ literal-fits parts var positive (known_of_var words var) is.low
   kind-fits vars And kids fits = fits
   kind-fits vars Or kids fits = fits
 

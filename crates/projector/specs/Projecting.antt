@@ -17,11 +17,11 @@ use Rattle.conditioner.specs.Words.{known_of, known, leaf_of}
 abbrev pub projected_literal : ℕ → ℕ → Bool → Leaf → NodeKind
 projected_literal parts var positive True = And
 projected_literal parts var positive False = Or
-projected_literal parts var positive Open = if nat_le var parts then Literal var positive else And
+projected_literal parts var positive Open = if nat_le var parts then Literal positive var else And
 
 -- what a node becomes under the words
 abbrev pub projected_kind : List ℕ → ℕ → NodeKind → NodeKind
-projected_kind words parts (Literal var positive) =
+projected_kind words parts (Literal positive var) =
     projected_literal parts var positive (leaf_of positive (known_of (slice_index words (var - 1))))
 projected_kind words parts And = And
 projected_kind words parts Or = Or

@@ -14,7 +14,7 @@ use Rattle.device_model.specs.Devices.{place_of}
 use Rattle.device_model.specs.Building.{place_in}
 use Rattle.device_model.proofs.Naming.{same_name-other}
 use Rattle.device_model.proofs.CallerLemmas.{place_in-names_rise}
-use Rattle.diagnosis_lister.specs.Listing.{bits_of}
+use Rattle.conditioner.specs.Words.{bits_of}
 use Rattle.session_rules.specs.Sessions.{state_of}
 
 -- a name that has a place is among the names, and one that has none is not

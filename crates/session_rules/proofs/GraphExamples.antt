@@ -6,7 +6,7 @@ use Rattle.graph_rules.specs.declared.NodeKind.TheVariants.{And, Or}
 use Rattle.graph_rules.specs.Graphs.{Graph, literal_node}
 use Rattle.device_model.specs.declared.component.Kind.TheVariants.{Buff}
 use Rattle.device_model.specs.Devices.{Device}
-use Rattle.dnnf_compiler.specs.Compiled.{holds_for}
+use Rattle.graph_rules.specs.GraphsOver.{holds_for}
 use Rattle.conditioner.specs.Models.{models}
 use Rattle.session_rules.specs.Items.{line, Projected}
 use Rattle.session_rules.specs.Sessions.{replies}

@@ -6,7 +6,8 @@ use Rattle.ranking.specs.Systems.{System, with_extras}
 use Rattle.graph_rules.specs.Graphs.{Graph}
 use Rattle.device_model.specs.Devices.{Device, part_names, part_costs, fits}
 use Rattle.device_model.specs.Diagnosis.{fitting_system, device_system}
-use Rattle.dnnf_compiler.specs.Compiled.{IsGraphOver, IsGraphOf}
+use Rattle.session_rules.specs.Spelling.{IsGraphOf}
+use Rattle.graph_rules.specs.GraphsOver.{IsGraphOver}
 use Rattle.session_rules.specs.Sessions.{Table, replies}
 use Rattle.session_rules.specs.Moves.{line_moves, script_moves}
 use Rattle.session_rules.specs.CaseSizes.{HasCasesOf}

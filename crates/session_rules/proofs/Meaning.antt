@@ -11,7 +11,8 @@ use Rattle.graph_rules.specs.Graphs.{Graph, holds}
 use Rattle.device_model.specs.declared.component.Component.{Component}
 use Rattle.device_model.specs.Devices.{Device, part_names, part_costs, fits}
 use Rattle.device_model.specs.Diagnosis.{is_consistent, fitting_system, device_system}
-use Rattle.dnnf_compiler.specs.Compiled.{IsGraphOver, IsGraphOf}
+use Rattle.session_rules.specs.Spelling.{IsGraphOf}
+use Rattle.graph_rules.specs.GraphsOver.{IsGraphOver}
 use Rattle.conditioner.specs.Words.{known_of}
 use Rattle.conditioner.specs.Models.{has_model, fits_words}
 use Rattle.session_rules.specs.GraphSystems.{word_of_known, case_words, graph_system, compiled_system}

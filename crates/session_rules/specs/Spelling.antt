@@ -6,9 +6,13 @@ use Rattle.graph_rules.specs.Graphs.{Graph, Decomposable}
 use Rattle.graph_rules.specs.GraphTexts.{Parsed, parsed}
 use Rattle.graph_rules.specs.WrittenGraphs.{graph_text}
 use Rattle.graph_rules.specs.StateGraphs.{IsGraphOfStates, IsSmoothGraphOfStates}
-use Rattle.device_model.specs.Devices.{Device}
-use Rattle.dnnf_compiler.specs.Compiled.{IsGraphOf}
+use Rattle.device_model.specs.Devices.{Device, fits}
+use Rattle.graph_rules.specs.GraphsOver.{IsGraphOver}
 use Rattle.session_rules.specs.Items.{Item, Plain, Projected, LeastText, Whole}
+
+-- a graph is true exactly where the device fits
+abbrev pub IsGraphOf : Device → Graph → Type 0
+IsGraphOf device graph = IsGraphOver (length device.parts) (length device.wires) (fits device) graph
 
 -- a graph over so many variables, decomposable, with at most so many nodes, that means a device
 abbrev pub IsWholeOf : Device → ℕ → ℕ → Parsed → Type 0

@@ -1,6 +1,6 @@
 ghost use Rattle.std.specs.Prelude.{◌≡◌, ◌<◌, length, All, IfSome};
 ghost use Rattle.std.specs.Option.{option_map};
-ghost use Rattle.diagnosis_lister.specs.Listing.{bits_of};
+ghost use Rattle.conditioner.specs.Words.{bits_of};
 ghost use Rattle.session_rules.specs.GraphSystems.{word_of_known};
 ghost use Rattle.session_rules.specs.Sessions.{with_seen, with_held};
 ghost use Rattle.session_table.specs.inner.Blocks.{known_in, entry_in, noted, with_point, IsLaidOut};

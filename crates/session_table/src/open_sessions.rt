@@ -1,7 +1,7 @@
 ghost use Rattle.std.specs.Prelude.{◌≡◌, ◌+◌, ◌*◌, ◌<◌, ◌≤◌, [], Some, None, true, length, nat_le, All, IfOk, IfSome, IfNone};
 ghost use Rattle.std.specs.Option.{option_map};
 ghost use Rattle.text_rules.specs.Names.{Name, is_short_name};
-ghost use Rattle.diagnosis_lister.specs.Listing.{bits_of};
+ghost use Rattle.conditioner.specs.Words.{bits_of};
 ghost use Rattle.scratch_pool.specs.declared.pool.TheConstants.{POOL_LIMIT};
 ghost use Rattle.session_rules.specs.Sessions.{Entry, entry_of, with_entry, without, with_seen, with_held};
 ghost use Rattle.session_rules.specs.CaseWords.{case_of_words, AreWords};

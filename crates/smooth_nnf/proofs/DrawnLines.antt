@@ -229,7 +229,7 @@ module _ (graph : Graph) (words costs : List ℕ) (ok : IsGraph graph) (dear : A
         (λ c e. absurd (let no : None ≡ Some c = sym none ∙ e in cc))
 
     -- a literal
-    module _ (var : ℕ) (positive : Bool) (kids : List ℕ) (e : slice_get graph.nodes i ≡ Some (record { what = Literal var positive; kids = kids })) (cost : ℕ) (cost_is : Ck i ≡ Some cost) (at : own i ≡ length before) where
+    module _ (var : ℕ) (positive : Bool) (kids : List ℕ) (e : slice_get graph.nodes i ≡ Some (record { what = Literal positive var; kids = kids })) (cost : ℕ) (cost_is : Ck i ≡ Some cost) (at : own i ≡ length before) where
       low : 1 ≤ var
       low = (literal graph.vars var positive kids (fits-get graph.vars graph.nodes i _ ok.nodes.fit e).kind).low
 
@@ -412,7 +412,7 @@ module _ (graph : Graph) (words costs : List ℕ) (ok : IsGraph graph) (dear : A
     -- the lines of a node, whatever it is
     by_kind : (what : NodeKind) (kids : List ℕ) → slice_get graph.nodes i ≡ Some (record { what = what; kids = kids }) → (cost : ℕ) → Ck i ≡ Some cost
         → own i ≡ length before + lines_before least cost what kids → Adds (lines_by L i cost what kids)
-    by_kind (Literal var positive) kids e cost cost_is at = literal-adds var positive kids e cost cost_is (omega (arith, at))
+    by_kind (Literal positive var) kids e cost cost_is at = literal-adds var positive kids e cost cost_is (omega (arith, at))
     by_kind And kids e cost cost_is at = and-adds kids e cost cost_is (omega (arith, at))
     by_kind Or kids e cost cost_is at = or-adds kids e cost cost_is at
 
@@ -438,7 +438,7 @@ module _ (graph : Graph) (words costs : List ℕ) (ok : IsGraph graph) (dear : A
   length-lines i node None = refl
   length-lines i node (Some cost) = by_what node.what node.kids where
     by_what : (what : NodeKind) (kids : List ℕ) → length (lines_by L i cost what kids) ≡ lines_before least cost what kids + 1
-    by_what (Literal var positive) kids = refl
+    by_what (Literal positive var) kids = refl
     by_what And kids = refl
     by_what Or kids = omega (arith, length-append (map (kid_line L i) (cheapest_kids least cost kids)) (or_behind (own i) (length (cheapest_kids least cost kids)) ∷ []), length-map (cheapest_kids least cost kids) (kid_line L i))
 

@@ -101,7 +101,7 @@ module _ (parts : ℕ) (more : List Node) where
   abbrev lines : List Node
   lines = literal_pairs parts ++ more
 
-  pub literal-value : (by : NodeKind → List Bool → Bool) (p : ℕ) (b : Bool) → 1 ≤ p → p ≤ parts → literal_line p b < length (literal_pairs parts ++ more) → value_of by (literal_pairs parts ++ more) (literal_line p b) ≡ by (Literal p b) []
+  pub literal-value : (by : NodeKind → List Bool → Bool) (p : ℕ) (b : Bool) → 1 ≤ p → p ≤ parts → literal_line p b < length (literal_pairs parts ++ more) → value_of by (literal_pairs parts ++ more) (literal_line p b) ≡ by (Literal b p) []
   literal-value by p b low high inside =
       let at : node_at lines (literal_line p b) ≡ literal_node p b = ap (node_at lines) (line-as_pair p b) ∙ pair-at 1 parts p b more low (omega arith) in
       value_of-at by lines (literal_line p b) inside (subst (λ (n : Node). are_below (literal_line p b) n.kids ≡ true) (sym at) refl)
@@ -122,17 +122,17 @@ module _ (parts : ℕ) (more : List Node) where
     chosen-has : (p : ℕ) → 1 ≤ p → p ≤ parts → missing p ≡ true → In p chosen
     chosen-has p low high is = In-filtered missing p (range_with_len 1 parts) (range_has 1 parts p low (omega arith)) is
 
-    filler-value : (by : NodeKind → List Bool → Bool) (p : ℕ) → In p chosen → value_of by lines (filler words p) ≡ by (Literal p (filling (known_at words p))) []
+    filler-value : (by : NodeKind → List Bool → Bool) (p : ℕ) → In p chosen → value_of by lines (filler words p) ≡ by (Literal (filling (known_at words p)) p) []
     filler-value by p m =
         let is = chosen-is p m in
         literal-value by p (filling (known_at words p)) is.0 is.1 (omega (arith, literal_line-lt parts p (filling (known_at words p)) is.0 is.1, room))
 
-    each-filler : (by : NodeKind → List Bool → Bool) (ps : List ℕ) → ((p : ℕ) → In p ps → In p chosen) → map (value_of by lines) (map (filler words) ps) ≡ map (λ p. by (Literal p (filling (known_at words p))) []) ps
+    each-filler : (by : NodeKind → List Bool → Bool) (ps : List ℕ) → ((p : ℕ) → In p ps → In p chosen) → map (value_of by lines) (map (filler words) ps) ≡ map (λ p. by (Literal (filling (known_at words p)) p) []) ps
     each-filler by [] are = refl
     each-filler by (p ∷ ps) are = λ i. filler-value by p (are p (inl refl)) i ∷ each-filler by ps (λ q m. are q (inr m)) i
 
     pub fillers-values : (by : NodeKind → List Bool → Bool)
-        → map (value_of by (literal_pairs parts ++ more)) (fillers words parts missing) ≡ map (λ p. by (Literal p (filling (known_at words p))) []) (filter missing (range_with_len 1 parts))
+        → map (value_of by (literal_pairs parts ++ more)) (fillers words parts missing) ≡ map (λ p. by (Literal (filling (known_at words p)) p) []) (filter missing (range_with_len 1 parts))
     fillers-values by = each-filler by chosen (λ p m. m)
 
     -- they stand before all that fills parts in

@@ -126,5 +126,5 @@ module _ (d : Drawing) (is : IsDrawing d) (valid : IsGraph d.graph) (node : ℕ)
       (λ j. lines_to least (at j) (cost_at least (first j))) ∙ ap (lines_to least (record { what = what; kids = kids })) e ∙ ap (λ w. lines_before least cost w kids) or in
       omega arith
 
-  pub literal-low : (var : ℕ) (positive : Bool) → what ≡ Literal var positive → 1 ≤ var
+  pub literal-low : (var : ℕ) (positive : Bool) → what ≡ Literal positive var → 1 ≤ var
   literal-low var positive e = (literal d.graph.vars var positive kids (ap (λ w. kind_fits d.graph.vars w kids) (sym e) ∙ fit.kind)).low

@@ -45,7 +45,7 @@ pub lines_to-le : (least : List (Option ℕ)) (node : Node) (o : Option ℕ) →
 lines_to-le least node None = omega arith
 lines_to-le least node (Some cost) = before-le node.what node.kids where
   before-le : (what : NodeKind) (kids : List ℕ) → lines_before least cost what kids ≤ length kids
-  before-le (Literal var positive) kids = omega arith
+  before-le (Literal positive var) kids = omega arith
   before-le And kids = omega arith
   before-le Or kids = length-filter-le _ kids
 

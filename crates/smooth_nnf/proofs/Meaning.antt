@@ -151,7 +151,7 @@ module _ (graph : Graph) (words costs : List ℕ) (ok : IsGraph graph) (dear : A
 
   -- ---- a literal
 
-  module _ (k var : ℕ) (positive : Bool) (kids : List ℕ) (e : slice_get graph.nodes k ≡ Some (record { what = Literal var positive; kids = kids })) (c : ℕ) (cost_is : Ck k ≡ Some c) where
+  module _ (k var : ℕ) (positive : Bool) (kids : List ℕ) (e : slice_get graph.nodes k ≡ Some (record { what = Literal positive var; kids = kids })) (c : ℕ) (cost_is : Ck k ≡ Some c) where
     of_var : (v : ℕ) → M v k ≡ true → var ≡ v
     of_var v m = eqb-true var v (sym (mention-at graph words costs ok k _ e v) ∙ m)
 

@@ -48,7 +48,7 @@ module _ (by : NodeKind → List Bool → Bool) where
 -- ---- smooth nodes
 
 smooth_at-below : (f g : ℕ → Bool) (own : ℕ) (kind : NodeKind) (kids : List ℕ) → are_below own kids ≡ true → ((k : ℕ) → k < own → f k ≡ g k) → smooth_at f kind kids ≡ smooth_at g kind kids
-smooth_at-below f g own (Literal var positive) kids below same = refl
+smooth_at-below f g own (Literal positive var) kids below same = refl
 smooth_at-below f g own And kids below same = refl
 smooth_at-below f g own Or kids below same = ap all_same (map-below f g own kids below same)
 

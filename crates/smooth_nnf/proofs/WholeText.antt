@@ -169,7 +169,7 @@ module _ (graph : Graph) (words costs : List ℕ) (ok : IsGraph graph) (long : l
     lines-le (i + 1) nodes,
   ) where
     before-le : (cost : ℕ) (what : NodeKind) (kids : List ℕ) → lines_before L.least cost what kids ≤ length kids
-    before-le cost (Literal var positive) kids = omega arith
+    before-le cost (Literal positive var) kids = omega arith
     before-le cost And kids = omega arith
     before-le cost Or kids = length-filter-le _ kids
 

@@ -54,7 +54,7 @@ cheapest_kids least cost kids = filter (λ kid. costs_just cost (cost_at least k
 
 -- an or has a line for each of its kids of least cost before its own
 abbrev pub lines_before : List (Option ℕ) → ℕ → NodeKind → List ℕ → ℕ
-lines_before least cost (Literal var positive) kids = 0
+lines_before least cost (Literal positive var) kids = 0
 lines_before least cost And kids = 0
 lines_before least cost Or kids = length (cheapest_kids least cost kids)
 
@@ -114,7 +114,7 @@ or_lines layout number cheapest =
     map (kid_line layout number) cheapest ++ or_behind (own_line layout number) (length cheapest) ∷ []
 
 abbrev pub lines_by : Layout → ℕ → ℕ → NodeKind → List ℕ → List Node
-lines_by layout number cost (Literal var positive) kids = and_over (literal_kids layout.parts var positive) ∷ []
+lines_by layout number cost (Literal positive var) kids = and_over (literal_kids layout.parts var positive) ∷ []
 lines_by layout number cost And kids = and_over (map (own_line layout) kids) ∷ []
 lines_by layout number cost Or kids = or_lines layout number (cheapest_kids layout.least cost kids)
 

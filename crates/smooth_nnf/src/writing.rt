@@ -17,7 +17,7 @@ use crate::edges::edge_count;
 use crate::lines::{add_last, add_literals, add_nodes};
 use crate::places::place_lines;
 use diag_edge::{Chunk, Sink, WriteFailed};
-use minimiser::{Steps, TOTAL_LIMIT, least};
+use minimiser::{Steps, TOTAL_LIMIT, put_least_costs};
 use nnf_text::add_header;
 use node_store::Graph;
 use part_sets::PartSets;
@@ -102,7 +102,7 @@ fn write_in<O: Sink, L: Ledger>(
     let parts = costs.len() as u32;
     let nodes = graph.len() as usize;
     let (values, lines) = scratch.split_at_mut(nodes);
-    least(graph, words, costs, values, &mut Steps::<L>::new(blank));
+    put_least_costs(graph, words, costs, values, &mut Steps::<L>::new(blank));
     let count = place_lines(graph, parts, values, lines);
     let drawing = Drawing {
         graph,

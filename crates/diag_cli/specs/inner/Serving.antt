@@ -8,7 +8,8 @@ use Rattle.bench_reader.specs.declared.sequential.Sequential.{Sequential}
 use Rattle.frame_unroller.specs.declared.unrolling.UnrollError.{UnrollError}
 use Rattle.frame_unroller.specs.declared.unrolling.UnrollError.TheVariants.{Memory as NoMemory}
 use Rattle.frame_unroller.specs.Diagnosis.{frame_wires, fits_over}
-use Rattle.dnnf_compiler.specs.Compiled.{IsGraphOver, IsGraphOf}
+use Rattle.session_rules.specs.Spelling.{IsGraphOf}
+use Rattle.graph_rules.specs.GraphsOver.{IsGraphOver}
 use Rattle.diag_cli.specs.declared.words.ServeOptions.{ServeOptions}
 use Rattle.device_files.specs.Output.{Output}
 use Rattle.diag_cli.specs.Frames.{not_unrolled}

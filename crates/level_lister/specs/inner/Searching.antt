@@ -1,5 +1,5 @@
 -- What holds while the lister fixes one part after the other.
-use Rattle.std.specs.Prelude.{◌≡◌, ◌≢◌, ℕ, ◌+◌, ◌<◌, ◌≤◌, Bool, true, false, List, length, ◌⊎◌, Option, Some, None, MatchOption, slice_index, slice_set}
+use Rattle.std.specs.Prelude.{◌≡◌, ◌≢◌, ℕ, ◌+◌, ◌<◌, ◌≤◌, Bool, true, false, List, length, ◌⊎◌, Option, Some, None, MatchOption, slice_index}
 use Rattle.ranking.specs.Bits.{bit_in}
 use Rattle.ranking.specs.Ranking.{cost, is_before}
 use Rattle.graph_rules.specs.Graphs.{Graph}
@@ -19,12 +19,6 @@ pub record OfCost (graph : Graph) (words costs : List ℕ) (c : ℕ) (h : List B
 pub record HasCost (graph : Graph) (words costs : List ℕ) (c : ℕ) : Type 0 where
   pub state : List Bool
   pub is : OfCost graph words costs c state
-
--- one part was settled: it was fixed before; or it is faulty in some state; or it is in none
-pub data Settled (graph : Graph) (costs : List ℕ) (c : ℕ) (old new : List ℕ) (part : ℕ) : Type 0 where
-  WasFixed : slice_index old part ≢ 0 → new ≡ old → Settled graph costs c old new part
-  IsFaulty : slice_index old part ≡ 0 → new ≡ slice_set old part 2 → HasCost graph (slice_set old part 2) costs c → Settled graph costs c old new part
-  IsOk : slice_index old part ≡ 0 → new ≡ slice_set old part 1 → (HasCost graph (slice_set old part 2) costs c → ⊥) → Settled graph costs c old new part
 
 -- no state of the cost has the point's first bits and comes after the point
 abbrev pub NoneAfter : Graph → List ℕ → List ℕ → ℕ → List Bool → ℕ → Type 0

@@ -44,7 +44,7 @@ pub record IsSwept (nodes : List Node) (costs values : List ℕ) (from : ℕ) : 
 
 -- the part of an open literal that says faulty
 abbrev pub suspect_of : List ℕ → ℕ → NodeKind → Option ℕ
-suspect_of words parts (Literal var positive) =
+suspect_of words parts (Literal positive var) =
     if not positive && (nat_le var parts && (slice_index words (var - 1) == 0)) then Some (var - 1) else None
 suspect_of words parts And = None
 suspect_of words parts Or = None

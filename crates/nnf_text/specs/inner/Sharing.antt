@@ -10,14 +10,14 @@ use Rattle.graph_rules.specs.GraphTexts.{shares}
 
 -- the variable of a literal was added
 abbrev pub AddsVariable : List ℕ → NodeKind → List ℕ → Type 0
-AddsVariable old (Literal var positive) new = new ≡ old ++ var ∷ []
+AddsVariable old (Literal positive var) new = new ≡ old ++ var ∷ []
 AddsVariable old And new = new ≡ old
 AddsVariable old Or new = new ≡ old
 
 -- in order and each once, and all that literals of these nodes have
 pub record AreVariables (nodes : List Node) (variables : List ℕ) : Type 0 where
   pub rise : IsStrictlyIncreasing variables
-  pub all : (k var : ℕ) (positive : Bool) → k < length nodes → (node_at nodes k).what ≡ Literal var positive → Contains variables var
+  pub all : (k var : ℕ) (positive : Bool) → k < length nodes → (node_at nodes k).what ≡ Literal positive var → Contains variables var
 
 abbrev pub has_bit : ℕ → ℕ → Bool
 has_bit word b = bit_at word b == 1

@@ -27,7 +27,7 @@ total_value values kids = sum_by (λ k. slice_index values k) kids
 
 -- What a derivation costs outside of a kid, if it costs so much outside of the kid's parent: the other kids of an and are true too.
 abbrev pub outside_kid : List ℕ → NodeKind → List ℕ → ℕ → ℕ → ℕ
-outside_kid values (Literal var positive) kids outer kid = outer
+outside_kid values (Literal positive var) kids outer kid = outer
 outside_kid values And kids outer kid = outer + total_value values kids - slice_index values kid
 outside_kid values Or kids outer kid = outer
 
@@ -55,7 +55,7 @@ pub record AreOuter (nodes : List Node) (values outers : List ℕ) (from : ℕ) 
 -- at a literal of the variable with the bit
 pub record AtLiteral (nodes : List Node) (outers : List ℕ) (var : ℕ) (bit : Bool) (node cost : ℕ) : Type 0 where
   pub within : node < length nodes
-  pub literal : (node_at nodes node).what ≡ Literal var bit
+  pub literal : (node_at nodes node).what ≡ Literal bit var
   pub is : cost ≡ slice_index outers node
 
 -- at a kid that does not mention the variable, of an or that does

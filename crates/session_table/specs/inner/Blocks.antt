@@ -1,6 +1,6 @@
 -- What a block of a session holds: a word for each variable, one that says whether there is a point, and the words of the point.
 use Rattle.std.specs.Prelude.{◌≡◌, ℕ, zero, suc, ◌+◌, ◌<◌, Bool, List, take, drop, length, slice_index, slice_set, All, Option, Some, None}
-use Rattle.diagnosis_lister.specs.Listing.{bits_of}
+use Rattle.conditioner.specs.Words.{bits_of}
 use Rattle.session_rules.specs.Sessions.{Entry}
 use Rattle.session_rules.specs.GraphSystems.{word_of_known}
 use Rattle.session_rules.specs.CaseWords.{case_of_words, AreWords}

@@ -1,6 +1,6 @@
 use Rattle.std.proofs.Common.{◌≡◌, ◌-◌, ◌<◌, ◌≤◌, [], length, All, get_or}
 use Rattle.conditioner.specs.Models.{diagnoses_under}
-use Rattle.diagnosis_lister.specs.Listing.{bits_of}
+use Rattle.conditioner.specs.Words.{bits_of}
 use Rattle.fault_graph.specs.Distilled.{Serves}
 use Rattle.adder_load.proofs.sampling.list_on.Given as goal
 

@@ -1,6 +1,6 @@
 use Rattle.std.proofs.Common.{◌≡◌, ◌<◌, ℕ, List, length, get_or, [], sym, ◌∙◌, subst, ap}
 use Rattle.conditioner.specs.Models.{diagnoses_under}
-use Rattle.diagnosis_lister.specs.Listing.{bits_of}
+use Rattle.conditioner.specs.Words.{bits_of}
 use Rattle.adder_load.proofs.Listing.{some_diagnosis, same_first}
 use Rattle.adder_load.proofs.sampling.sample.Goals as goal
 

@@ -2,7 +2,7 @@ use Rattle.std.proofs.Common.{◌≡◌, ◌<◌, ◌-◌, ℕ, Bool, List, [], 
 use Rattle.std.specs.Vec.{with_items}
 use Rattle.device_model.specs.Devices.{part_costs}
 use Rattle.conditioner.specs.Models.{diagnoses_under}
-use Rattle.diagnosis_lister.specs.Listing.{bits_of}
+use Rattle.conditioner.specs.Words.{bits_of}
 use Rattle.adder_load.specs.Readings.{adder_case}
 use Rattle.session_rules.specs.GraphSystems.{case_words}
 use Rattle.diag_cli.specs.declared.loading.Summary.{Summary}

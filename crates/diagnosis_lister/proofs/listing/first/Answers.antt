@@ -1,5 +1,6 @@
 use Rattle.std.proofs.Common.{◌≡◌, length, sym, ◌∙◌, ap, arith}
-use Rattle.diagnosis_lister.specs.Listing.{bits_of, fault_count}
+use Rattle.diagnosis_lister.specs.Listing.{fault_count}
+use Rattle.conditioner.specs.Words.{bits_of}
 use Rattle.diagnosis_lister.specs.inner.Working.{fixed_bits}
 use Rattle.diagnosis_lister.proofs.Faults.{faults-few}
 use Rattle.diagnosis_lister.proofs.Fixing.{first-passes}

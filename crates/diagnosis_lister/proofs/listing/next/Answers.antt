@@ -1,5 +1,6 @@
 use Rattle.std.proofs.Common.{◌≡◌, ◌<◌, ℕ, Bool, List, length, get_or, All, sym, ◌∙◌, ap, subst, arith}
-use Rattle.diagnosis_lister.specs.Listing.{bits_of, fault_count}
+use Rattle.diagnosis_lister.specs.Listing.{fault_count}
+use Rattle.conditioner.specs.Words.{bits_of}
 use Rattle.diagnosis_lister.specs.inner.Working.{NoneAfter, Leaves, fixed_bits}
 use Rattle.diagnosis_lister.proofs.Faults.{faults-few}
 use Rattle.diagnosis_lister.proofs.Fixing.{first-passes}

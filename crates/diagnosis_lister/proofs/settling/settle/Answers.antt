@@ -34,8 +34,8 @@ loop-part-preserved g c =
       small = All-set (λ w. w < 3) mid part 2 (lit< tt) c.fix_ok.ensures.words;
       settles = λ most e. Settles-suspect graph costs c.requires.parts c.args.words.now old mid most from part c.requires.long (omega arith)
           (c.loop-part.invariant.settles most e) fixes ok le u _ last;
-      values = c.least.ensures.values;
-      steps = omega (arith, c.least.ensures.steps, c.loop-part.invariant.steps, kept, faults-added (length costs) mid part within room still);
+      values = c.put_least_costs.ensures.values;
+      steps = omega (arith, c.put_least_costs.ensures.steps, c.loop-part.invariant.steps, kept, faults-added (length costs) mid part within room still);
       within = omega arith;
     }
 

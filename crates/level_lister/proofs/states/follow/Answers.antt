@@ -1,8 +1,7 @@
 use Rattle.std.proofs.Common.{◌≡◌, ◌+◌, ◌<◌, length, All, List, ℕ, sym, ◌∙◌, ap, subst, arith}
 use Rattle.std.proofs.lemmas.List.Elements.{All-set}
 use Rattle.ranking.specs.Bits.{bit_in}
-use Rattle.conditioner.specs.Words.{word_of}
-use Rattle.diagnosis_lister.specs.Listing.{bits_of}
+use Rattle.conditioner.specs.Words.{word_of, bits_of}
 use Rattle.diagnosis_lister.proofs.Marking.{length-bits}
 use Rattle.diagnosis_lister.proofs.Points.{FollowsTo, FollowsTo-set, FollowsTo-stay, Follows-all}
 use Rattle.level_lister.proofs.StateBits.{is_ok, is_faulty}

@@ -1,5 +1,5 @@
 use Rattle.std.proofs.Common.{◌<◌, All}
-use Rattle.diagnosis_lister.specs.Listing.{bits_of}
+use Rattle.conditioner.specs.Words.{bits_of}
 use Rattle.diagnosis_lister.proofs.Points.{FollowsTo}
 use Rattle.level_lister.proofs.states.follow.Given as goal
 

@@ -1,38 +1,28 @@
-use Rattle.std.proofs.Common.{◌∙◌, arith}
-use Rattle.minimiser.specs.Costs.{literal_cost}
-use Rattle.minimiser.proofs.Held.{part_cost-le}
-use Rattle.minimiser.proofs.Passes.{the_node, goes_on, and_small, kids_within, few_kids, literal_at}
+use Rattle.std.proofs.Common.{◌<◌, All, length, refl, ap, sym, ◌∙◌, subst, arith}
+use Rattle.std.specs.Prelude.{IfSome}
+use Rattle.minimiser.specs.Costs.{cost_by, known_at, part_cost, sum_costs}
+use Rattle.minimiser.proofs.Passes.{the_node, goes_on, and_small, gate_of, kids_within}
+use Rattle.minimiser.proofs.Sums.{two_kids}
 use Rattle.minimiser.proofs.pass.node_value.Goals as goal
 
-pub and_value-requires-clause-kids : goal.and_value-requires-clause-kids
-and_value-requires-clause-kids c = kids_within _ _ _ _ _ _ _ c.vars-vars.ensures.valid c.requires.at (the_node _ _ _ _ c.requires.at c.in-And.ensures c.kids-kids.ensures) c.requires.earlier
+pub bounds-values-one : goal.bounds-values-one
+bounds-values-one c = kids_within _ _ _ _ _ _ _ c.vars-vars.ensures.valid c.requires.at (the_node _ _ _ _ c.requires.at refl c.kids.ensures) c.requires.earlier 0 0 (omega (arith, c.in-len2.len_at_least))
 
-pub and_value-requires-clause-small : goal.and_value-requires-clause-small
-and_value-requires-clause-small c = and_small _ _ _ _ _ _ _ c.vars-vars.ensures.valid c.requires.total c.requires.at (the_node _ _ _ _ c.requires.at c.in-And.ensures c.kids-kids.ensures) c.requires.earlier
+pub bounds-values-other : goal.bounds-values-other
+bounds-values-other c = kids_within _ _ _ _ _ _ _ c.vars-vars.ensures.valid c.requires.at (the_node _ _ _ _ c.requires.at refl c.kids.ensures) c.requires.earlier 1 0 (omega (arith, c.in-len2.len_at_least))
 
-pub or_value-requires : goal.or_value-requires
-or_value-requires c = kids_within _ _ _ _ _ _ _ c.vars-vars.ensures.valid c.requires.at (the_node _ _ _ _ c.requires.at c.in-Or.ensures c.kids-kids.ensures) c.requires.earlier
+pub pair_value-requires-clause-gate : goal.pair_value-requires-clause-gate
+pair_value-requires-clause-gate c = gate_of _ _ _ _ c.vars-vars.ensures.valid (the_node _ _ _ _ c.requires.at c.what.ensures c.kids.ensures) (omega (arith, c.in-len2.len_at_least))
 
-pub returns-in-And : goal.returns-in-And
-returns-in-And c = goes_on _ _ _ _ _ _ _ (the_node _ _ _ _ c.requires.at c.in-And.ensures c.kids-kids.ensures) c.requires.earlier c.and_value.ensures
+pub pair_value-requires-clause-small : goal.pair_value-requires-clause-small
+pair_value-requires-clause-small c and =
+    let within : All (λ k. k < length c.args.values.now) c.kids.result.now = kids_within _ _ _ _ _ _ _ c.vars-vars.ensures.valid c.requires.at (the_node _ _ _ _ c.requires.at c.what.ensures c.kids.ensures) c.requires.earlier in
+    subst (λ cs. IfSome (sum_costs cs) (λ n. n < 2147483647)) (two_kids c.args.values.now c.kids.result.now (omega (arith, c.in-len2.len_at_least, c.in-len2.len_below)) within)
+    (and_small _ _ _ _ _ _ _ c.vars-vars.ensures.valid c.requires.total c.requires.at (the_node _ _ _ _ c.requires.at (sym and ∙ c.what.ensures) c.kids.ensures) c.requires.earlier)
 
-pub returns-in-Or : goal.returns-in-Or
-returns-in-Or c = goes_on _ _ _ _ _ _ _ (the_node _ _ _ _ c.requires.at c.in-Or.ensures c.kids-kids.ensures) c.requires.earlier c.or_value.ensures
-
-pub returns-in-Literal : goal.returns-in-Literal
-returns-in-Literal c = goes_on _ _ _ _ _ _ _ (the_node _ _ _ _ c.requires.at c.in-Literal.ensures c.kids-kids.ensures) c.requires.earlier
-    (c.literal_value.ensures ∙ (λ i. literal_cost (c.leaf.ensures i) (c.part_cost.ensures i) c.in-Literal.positive))
-
-pub leaf-requires-clause-var : goal.leaf-requires-clause-var
-leaf-requires-clause-var c =
-    let range = literal_at _ _ _ _ _ c.vars-vars.ensures.valid (the_node _ _ _ _ c.requires.at c.in-Literal.ensures c.kids-kids.ensures) in
-    (range.0, omega (arith, range.1, c.requires.long))
-
-pub part_cost-requires : goal.part_cost-requires
-part_cost-requires c = (literal_at _ _ _ _ _ c.vars-vars.ensures.valid (the_node _ _ _ _ c.requires.at c.in-Literal.ensures c.kids-kids.ensures)).0
-
-pub literal_value-requires : goal.literal_value-requires
-literal_value-requires c = omega (arith, c.part_cost.ensures, part_cost-le c.args.costs.now c.in-Literal.var)
-
-pub and_value-requires-clause-few : goal.and_value-requires-clause-few
-and_value-requires-clause-few c = few_kids _ _ _ c.vars-vars.ensures.valid (the_node _ _ _ _ c.requires.at c.in-And.ensures c.kids-kids.ensures)
+pub returns-in-len2 : goal.returns-in-len2
+returns-in-len2 c =
+    let within : All (λ k. k < length c.args.values.now) c.kids.result.now = kids_within _ _ _ _ _ _ _ c.vars-vars.ensures.valid c.requires.at (the_node _ _ _ _ c.requires.at c.what.ensures c.kids.ensures) c.requires.earlier in
+    goes_on _ _ _ _ _ _ _ (the_node _ _ _ _ c.requires.at c.what.ensures c.kids.ensures) c.requires.earlier
+    (c.pair_value.ensures (known_at c.args.words.now) (part_cost c.args.costs.now)
+    ∙ ap (cost_by (known_at c.args.words.now) (part_cost c.args.costs.now) c.what.result) (sym (two_kids c.args.values.now c.kids.result.now (omega (arith, c.in-len2.len_at_least, c.in-len2.len_below)) within)))

@@ -13,12 +13,12 @@ use Rattle.nnf_text.specs.inner.Sharing.{AddsVariable}
 use Rattle.nnf_text.proofs.sharing.variables_of.Goals as goal
 
 stays : (old new : List ℕ) (what : NodeKind) (v : ℕ) → AddsVariable old what new → Contains old v → Contains new v
-stays old new (Literal var positive) v e h = subst (λ xs. Contains xs v) (sym e) (Contains-append_left old (var ∷ []) v h)
+stays old new (Literal positive var) v e h = subst (λ xs. Contains xs v) (sym e) (Contains-append_left old (var ∷ []) v h)
 stays old new And v e h = subst (λ xs. Contains xs v) (sym e) h
 stays old new Or v e h = subst (λ xs. Contains xs v) (sym e) h
 
-comes : (old new : List ℕ) (what : NodeKind) (v : ℕ) (positive : Bool) → AddsVariable old what new → what ≡ Literal v positive → Contains new v
-comes old new (Literal var positive) v p e is =
+comes : (old new : List ℕ) (what : NodeKind) (v : ℕ) (positive : Bool) → AddsVariable old what new → what ≡ Literal positive v → Contains new v
+comes old new (Literal positive var) v p e is =
     let same : var ≡ v = cc in
     subst (λ xs. Contains xs v) (sym e) (Contains-append_right old (var ∷ []) v (0, omega arith, same))
 comes old new And v p e is = absurd (let no : ⊥ = cc in no)

@@ -7,6 +7,6 @@ use Rattle.nnf_text.proofs.sharing.variables_of.Given as goal
 -- those of the literals before this node are there
 abbrev pub invariant-loop-node : goal.invariant-loop-node
 invariant-loop-node l = record {
-  all : (k var : ℕ) (positive : Bool) → k < l.node → (node_at l.nodes k).what ≡ Literal var positive → Contains l.variables.items var;
+  all : (k var : ℕ) (positive : Bool) → k < l.node → (node_at l.nodes k).what ≡ Literal positive var → Contains l.variables.items var;
   end : l.node-end ≡ length l.nodes;
 }

@@ -4,7 +4,8 @@ use Rattle.std.proofs.lemmas.List.{get_or-replicate, length-replicate}
 use Rattle.std.proofs.lemmas.Option.{slice_get-get_or}
 use Rattle.conditioner.specs.Models.{diagnoses_under}
 use Rattle.minimiser.specs.Suspects.{Passes}
-use Rattle.diagnosis_lister.specs.Listing.{bits_of, fault_count}
+use Rattle.diagnosis_lister.specs.Listing.{fault_count}
+use Rattle.conditioner.specs.Words.{bits_of}
 use Rattle.diagnosis_lister.proofs.Faults.{faults-few}
 use Rattle.probe_report.specs.declared.verdicts.Blame.TheVariants.{Inconsistent}
 use Rattle.probe_report.specs.inner.Presumed.{IsPresumed}

@@ -3,8 +3,8 @@ use Rattle.std.specs.Prelude.{slice_get}
 use Rattle.std.proofs.lemmas.List.Sums.{count_by_more_yes, sum_by_more, sum_by-take-le}
 use borrow.Author.Count.{below_more}
 use Rattle.ranking.specs.Bits.{bit_in}
+use Rattle.conditioner.specs.Words.{bits_of}
 use Rattle.conditioner.specs.Models.{least_with}
-use Rattle.diagnosis_lister.specs.Listing.{bits_of}
 use Rattle.diagnosis_lister.proofs.Marking.{length-bits}
 use Rattle.probe_report.specs.Verdicts.{blame_of}
 use Rattle.probe_report.proofs.With.{bit-in}

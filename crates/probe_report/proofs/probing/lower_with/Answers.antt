@@ -27,7 +27,7 @@ loop-at-preserved c i h =
           (ap (λ ys. get_or ys i 0) w.list-is ∙ w.lower_wire.ensures i inside)
       | in-Literal+else-positive-bit w ↦ subst Said (sym (ap (λ ys. get_or ys i 0) w.list-is)) (literal-same nodes os var c.args.bit at old mid before
           (λ e. beq-false _ _ w.if-positive-bit.false (same_sign (w.in-Literal.ensures ∙ e))))
-      | in_default w ↦ subst Said (sym (ap (λ ys. get_or ys i 0) w.list-is)) (literal-same nodes os var c.args.bit at old mid before (λ e. w.in_default.not-Literal var c.args.bit (c.what.ensures ∙ e)))
+      | in_default w ↦ subst Said (sym (ap (λ ys. get_or ys i 0) w.list-is)) (literal-same nodes os var c.args.bit at old mid before (λ e. w.in_default.not-Literal c.args.bit var (c.what.ensures ∙ e)))
     ]
 
 pub returns : goal.returns

@@ -8,20 +8,20 @@ use Rattle.smooth_nnf.proofs.writing.write_in.Goals as goal
 
 pub overflow_add-count : goal.overflow_add-count
 overflow_add-count g c =
-    let fits = count-fits c.args.graph.now c.args.costs.now (map cost_in c.least.new.values) c.requires.few in
+    let fits = count-fits c.args.graph.now c.args.costs.now (map cost_in c.put_least_costs.new.values) c.requires.few in
     omega (arith, c.place_lines-count.ensures.count, fits)
 
 pub put_lines-requires-clause-count : goal.put_lines-requires-clause-count
 put_lines-requires-clause-count g c =
-    counted c.args.graph.now c.args.words.now c.args.costs.now c.len-nodes.ensures.valid c.requires.words c.requires.parts c.requires.dear c.requires.few _ _ _ c.least.ensures.values c.place_lines-count.ensures.places c.place_lines-count.ensures.count
+    counted c.args.graph.now c.args.words.now c.args.costs.now c.len-nodes.ensures.valid c.requires.words c.requires.parts c.requires.dear c.requires.few _ _ _ c.put_least_costs.ensures.values c.place_lines-count.ensures.places c.place_lines-count.ensures.count
 
 pub put_lines-requires-clause-edges : goal.put_lines-requires-clause-edges
 put_lines-requires-clause-edges g c =
-    edges-fit c.args.graph.now c.args.words.now c.args.costs.now c.len-nodes.ensures.valid c.requires.words c.requires.parts c.requires.dear c.requires.few _ _ c.least.ensures.values c.place_lines-count.ensures.places
+    edges-fit c.args.graph.now c.args.words.now c.args.costs.now c.len-nodes.ensures.valid c.requires.words c.requires.parts c.requires.dear c.requires.few _ _ c.put_least_costs.ensures.values c.place_lines-count.ensures.places
 
 pub returns-clause-bytes : goal.returns-clause-bytes
 returns-clause-bytes g c =
-    let same = laid c.args.graph.now c.args.words.now c.args.costs.now c.len-nodes.ensures.valid c.requires.words c.requires.parts c.requires.dear c.requires.few c.least.new.values c.place_lines-count.new.lines
-    c.least.ensures.values c.place_lines-count.ensures.places in
+    let same = laid c.args.graph.now c.args.words.now c.args.costs.now c.len-nodes.ensures.valid c.requires.words c.requires.parts c.requires.dear c.requires.few c.put_least_costs.new.values c.place_lines-count.new.lines
+    c.put_least_costs.ensures.values c.place_lines-count.ensures.places in
     subst (λ t. Puts (g.O.Sink.got c.args.out.now) (g.O.Sink.got c.put_lines.new.out) c.put_lines.result t)
     (ap (λ (l : Layout). graph_text (record { nodes = all_lines l; vars = length c.args.costs.now })) same) c.put_lines.ensures.bytes

@@ -1,5 +1,5 @@
 use Rattle.std.proofs.Common.{◌≡◌, ◌++◌, drop, length, get_or, sym, ◌∙◌, ap, arith}
-use Rattle.diagnosis_lister.specs.Listing.{bits_of}
+use Rattle.conditioner.specs.Words.{bits_of}
 use Rattle.diagnosis_lister.specs.inner.Working.{fixed_bits}
 use Rattle.level_lister.specs.Listing.{point_if}
 use Rattle.level_lister.specs.Passes.{fixing_passes}
@@ -52,7 +52,7 @@ pub returns-in-Some-clause-steps : goal.returns-in-Some-clause-steps
 returns-in-Some-clause-steps g c search h =
     let kept = c.args.self.now in
     let same : bits_of c.read_state.new.state ≡ fixed_bits (length kept.costs) c.find.new.words = c.read_state.ensures.bits ∙ ap (λ n. fixed_bits n c.find.new.words) c.requires.state in
-    omega (arith, c.has_state.ensures.steps, c.in-Some.ensures.steps search h, ap (fixing_passes (length kept.costs) kept.top search) same)
+    omega (arith, c.has_state.ensures.steps, c.in-Some.ensures.steps search h, ap (fixing_passes search) same)
 
 pub returns-in-None-clause-steps : goal.returns-in-None-clause-steps
 returns-in-None-clause-steps g c search h = omega (arith, c.has_state.ensures.steps, c.in-None.ensures.steps)

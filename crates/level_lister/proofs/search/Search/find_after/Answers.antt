@@ -1,7 +1,7 @@
 use Rattle.std.specs.Prelude.{MatchOption}
 use Rattle.std.proofs.Common.{◌≡◌, ◌+◌, ℕ, Option, Some, None, true, length, refl, ◌∙◌, ap, subst, arith}
 use Rattle.ranking.specs.Ranking.{cost, is_before}
-use Rattle.diagnosis_lister.specs.Listing.{bits_of}
+use Rattle.conditioner.specs.Words.{bits_of}
 use Rattle.diagnosis_lister.specs.inner.Working.{IsFirst, fixed_bits}
 use Rattle.diagnosis_lister.proofs.Marking.{length-bits}
 use Rattle.level_lister.specs.inner.Searching.{OfCost, NoneAfter, FindsFirst, IsListed}

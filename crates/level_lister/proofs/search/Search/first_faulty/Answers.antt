@@ -1,12 +1,7 @@
-use Rattle.std.proofs.Common.{◌≡◌, ℕ, ◌+◌, ◌-◌, ◌*◌, ◌/◌, ◌≤◌, length, ap, subst, sym, arith}
-use Rattle.level_lister.specs.Passes.{group_count}
+use Rattle.std.proofs.Common.{◌≡◌, ℕ, ◌+◌, ◌-◌, ◌/◌, ◌≤◌, length, ap, subst, sym, arith}
+use Rattle.level_lister.specs.Passes.{told_groups}
 use Rattle.level_lister.proofs.Narrowing.{range_start, range_next, IsRange, PassesLeft, left_next, range_small, size_some}
 use Rattle.level_lister.proofs.search.Search.first_faulty.Goals as goal
-
-few_groups : (count top : ℕ) → count * (top + 1) ≤ 32 → count ≤ 32
-few_groups count top h = omega (arith, h, product count top) where
-  product : (count top : ℕ) → count * (top + 1) ≡ count * top + count
-  product count top = grind arith
 
 pub loop-span-init : goal.loop-span-init
 loop-span-init g c =
@@ -22,17 +17,17 @@ loop-span-init g c =
 pub loop-span-preserved : goal.loop-span-preserved
 loop-span-preserved g c =
     let top = c.args.self.now.levels.now.top in
-    let count = c.group_count-count.result in
+    let count = c.told_groups-count.result in
     let low = c.loop-span.low in
     let span = c.loop-span.span in
     let group = c.faulty_group-group.result in
-    let same : c.group_count-count.result ≡ group_count top = c.group_count-count.ensures.count in
+    let same : c.told_groups-count.result ≡ told_groups top = c.told_groups-count.ensures.count in
     let le : group ≤ count = omega (arith, c.faulty_group-group.ensures.few, same) in
     record {
       range = range_next c.args.self.now.graph.now c.args.words.now c.args.self.now.levels.now.costs c.args.cost c.args.from low span count group le c.loop-span.invariant.some
           (λ h. c.faulty_group-group.ensures.found (omega (arith, h, same))) c.faulty_group-group.ensures.before c.loop-span.invariant.range;
       some = size_some span count c.loop-span.invariant.some;
-      small = omega (arith, range_small low span count group le (few_groups count top c.group_count-count.ensures.room) c.group_count-count.ensures.some c.loop-span-test.true, c.loop-span.invariant.small);
-      passes = λ k h. subst (λ n. PassesLeft (group_count top) ((span + n) / (n + 1)) c.tick.new.self (c.args.steps.now + k)) (sym same)
-          (subst (λ n. PassesLeft (group_count top) ((span + group_count top) / (group_count top + 1)) n (c.args.steps.now + k)) (sym c.tick.ensures) (left_next (group_count top) span c.loop-span.steps (c.args.steps.now + k) c.loop-span-test.true (c.loop-span.invariant.passes k h)));
+      small = omega (arith, range_small low span count group le c.told_groups-count.ensures.few c.told_groups-count.ensures.some c.loop-span-test.true, c.loop-span.invariant.small);
+      passes = λ k h. subst (λ n. PassesLeft (told_groups top) ((span + n) / (n + 1)) c.tick.new.self (c.args.steps.now + k)) (sym same)
+          (subst (λ n. PassesLeft (told_groups top) ((span + told_groups top) / (told_groups top + 1)) n (c.args.steps.now + k)) (sym c.tick.ensures) (left_next (told_groups top) span c.loop-span.steps (c.args.steps.now + k) c.loop-span-test.true (c.loop-span.invariant.passes k h)));
     }

@@ -1,5 +1,5 @@
 use Rattle.std.proofs.Common.{ℕ, ◌+◌, ◌*◌, ◌^◌, ◌<◌, ◌≤◌, length}
-use Rattle.level_lister.specs.Passes.{group_count}
+use Rattle.level_lister.specs.Passes.{told_groups}
 use Rattle.level_lister.proofs.Narrowing.{IsRange, PassesLeft}
 use Rattle.level_lister.proofs.search.Search.first_faulty.Given as goal
 
@@ -9,7 +9,7 @@ invariant-loop-span g l = record {
   range : IsRange l.self.graph.now l.words l.self.levels.now.costs l.cost l.from l.low l.span;
   some : 0 < l.span;
   small : l.low + 33 * l.span ≤ 34 * (length l.self.levels.now.costs + 1);
-  passes : (k : ℕ) → length l.self.levels.now.costs < (group_count l.self.levels.now.top + 1) ^ k → PassesLeft (group_count l.self.levels.now.top) l.span l.steps (l.fn.steps + k);
+  passes : (k : ℕ) → length l.self.levels.now.costs < (told_groups l.self.levels.now.top + 1) ^ k → PassesLeft (told_groups l.self.levels.now.top) l.span l.steps (l.fn.steps + k);
 }
 
 abbrev pub decreases-loop-span : goal.decreases-loop-span

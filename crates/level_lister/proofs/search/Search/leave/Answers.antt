@@ -5,7 +5,8 @@ use Rattle.std.proofs.lemmas.Grind.{same_number_lists}
 use Rattle.std.proofs.lemmas.List.{get_or-set_same, get_or-set_other}
 use Rattle.std.proofs.lemmas.List.Elements.{All-set}
 use Rattle.ranking.specs.Bits.{bit_in}
-use Rattle.diagnosis_lister.specs.Listing.{bits_of, fault_count}
+use Rattle.conditioner.specs.Words.{bits_of}
+use Rattle.diagnosis_lister.specs.Listing.{fault_count}
 use Rattle.diagnosis_lister.proofs.Faults.{faults-at, faults-back, faults-all}
 use Rattle.diagnosis_lister.proofs.Marking.{length-bits}
 use Rattle.level_lister.proofs.StateBits.{is_ok, is_faulty}

@@ -1,4 +1,4 @@
-use Rattle.std.proofs.Common.{refl, ◌∙◌, ap, arith}
+use Rattle.std.proofs.Common.{get_or, refl, sym, ◌∙◌, ap, arith}
 use Rattle.minimiser.specs.Costs.{part_cost}
 use Rattle.part_sets.proofs.Kids.{literal-fits}
 use Rattle.level_lister.proofs.Kids.{literal_set}
@@ -15,3 +15,7 @@ part_cost-requires c = (literal-fits c.args.self.now.graph.now c.args.at _ c.var
 pub returns-in-Literal : goal.returns-in-Literal
 returns-in-Literal c = literal_set c.args.self.now.graph.now c.args.at _ c.vars-vars.ensures.valid c.requires.at refl c.args.words.now c.args.self.now.levels.now.costs c.in-Literal.var c.part_cost.result c.in-Literal.positive c.leaf.result c.put_literal.new.set
     c.in-Literal.ensures c.leaf.ensures (c.part_cost.ensures ∙ ap (λ cs. part_cost cs c.in-Literal.var) c.costs.ensures) c.put_literal.ensures.ruled_out (λ p n h. c.put_literal.ensures.allowed p n (omega arith))
+
+pub returns-then-lacking-at-eq0 : goal.returns-then-lacking-at-eq0
+returns-then-lacking-at-eq0 c = c.put_full.ensures.all c.args.words.now c.args.self.now.levels.now.costs
+    ((c.args.self.now.for_graph.lacking.nodes c.args.at c.requires.at).0 (sym (ap (λ xs. get_or xs c.args.at 0) c.lacking.ensures) ∙ c.if-lacking-at-eq0.true) (sym c.in-Or.ensures)) c.requires.earlier

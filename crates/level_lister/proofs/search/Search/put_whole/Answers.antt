@@ -1,9 +1,10 @@
-use Rattle.std.proofs.Common.{◌≡◌, ◌+◌, ◌-◌, ◌<◌, List, ℕ, true, length, ap, sym, ◌∙◌, refl, subst, arith}
+use Rattle.std.proofs.Common.{◌≡◌, ◌+◌, ◌-◌, ◌<◌, List, ℕ, true, length, get_or, ap, sym, ◌∙◌, refl, subst, arith}
 use Rattle.graph_rules.specs.Graphs.{is_true, mentions}
 use Rattle.level_lister.specs.inner.CostSets.{IsCostSet}
 use Rattle.level_lister.specs.inner.NodeSets.{IsNodeSet, IsWholeSet}
 use Rattle.part_sets.specs.Numbers.{part_words, set_at}
 use Rattle.part_sets.specs.PartSets.{ArePartsOf}
+use Rattle.level_lister.proofs.FaultNodes.{whole_set_full}
 use Rattle.level_lister.proofs.search.Search.put_whole.Goals as goal
 
 pub returns : goal.returns
@@ -30,3 +31,16 @@ returns c =
     (λ v e. refl)
     (subst (IsCostSet words c.costs-costs.result.now (λ a. is_true graph.nodes (length graph.nodes - 1) a) (λ v. mentions graph.nodes v (length graph.nodes - 1)))
     (sym (c.copy_from_slice.ensures.after ∙ c.set_at.ensures.set ∙ (λ i. set_at c.put_sets.new.sets (place i) (long i)))) is))
+
+pub returns-then-lacking-root-eq0 : goal.returns-then-lacking-root-eq0
+returns-then-lacking-root-eq0 c =
+    let graph = c.args.self.now.graph.now in
+    let kept = c.args.self.now.levels.now in
+    let words = c.args.words.now in
+    let inside : length graph.nodes - 1 < length graph.nodes = omega (arith, c.len.ensures.valid.some) in
+    let place : c.len.result - 1 ≡ length graph.nodes - 1 = omega (arith, c.len.ensures.len) in
+    let next : c.len.result - 1 + 1 ≡ length graph.nodes = omega (arith, c.len.ensures.len, c.len.ensures.valid.some) in
+    let long : length c.put_sets.new.spare ≡ length c.args.whole.now = omega arith in
+    let full : get_or kept.lacking (length graph.nodes) 0 ≡ 0 = sym (λ i. get_or (c.lacking.ensures i) (next i) 0) ∙ c.if-lacking-root-eq0.true in
+    whole_set_full graph words kept.costs (c.args.self.now.for_graph.lacking.all.0 full) c.copy_from_slice.new.self
+    (subst (IsNodeSet graph words kept.costs (length graph.nodes - 1)) (sym (c.copy_from_slice.ensures.after ∙ c.set_at.ensures.set ∙ (λ i. set_at c.put_sets.new.sets (place i) (long i)))) (c.put_sets.ensures (length graph.nodes - 1) inside))

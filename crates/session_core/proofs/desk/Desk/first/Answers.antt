@@ -1,5 +1,5 @@
 use Rattle.std.proofs.Common.{◌∙◌, List, Bool, get_or, ap, sym}
-use Rattle.diagnosis_lister.specs.Listing.{bits_of}
+use Rattle.conditioner.specs.Words.{bits_of}
 use Rattle.session_core.specs.inner.Desks.{OnDesk, agreeing, least_asked, diagnoses_asked}
 use Rattle.session_core.proofs.Desks.{least-asked, diagnoses-asked}
 use Rattle.session_core.proofs.Holding.{written_back}

@@ -3,7 +3,7 @@ use Rattle.std.specs.Prelude.{IfSome}
 use Rattle.std.specs.Option.{option_map}
 use Rattle.ranking.specs.Levels.{levels, levels_rest}
 use Rattle.conditioner.specs.Models.{models}
-use Rattle.diagnosis_lister.specs.Listing.{bits_of}
+use Rattle.conditioner.specs.Words.{bits_of}
 use Rattle.level_lister.specs.Listing.{Kept, IsFor, level_step, later_levels, point_if}
 use Rattle.session_rules.specs.GraphSystems.{Subject, system_of}
 use Rattle.session_rules.proofs.CaseWords.{models-by_words}

@@ -1,7 +1,7 @@
 use Rattle.std.proofs.Common.{◌≡◌, ◌∙◌, ℕ, List, Bool, Option, Some, [], get_or, sym, ap, subst}
 use Rattle.text_rules.specs.Names.{Name}
 use Rattle.ranking.specs.Cases.{Case}
-use Rattle.diagnosis_lister.specs.Listing.{bits_of}
+use Rattle.conditioner.specs.Words.{bits_of}
 use Rattle.level_lister.specs.declared.levels.LevelStep.{LevelStep}
 use Rattle.level_lister.specs.declared.levels.LevelStep.TheVariants.{Found}
 use Rattle.level_lister.specs.Listing.{level_step}

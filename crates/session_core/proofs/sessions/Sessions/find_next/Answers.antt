@@ -5,7 +5,8 @@ use Rattle.ranking.specs.Ranking.{rest}
 use Rattle.ranking.specs.Systems.{all_diagnoses}
 use Rattle.diagnosis_lister.specs.declared.listing.Step.{Step}
 use Rattle.diagnosis_lister.specs.declared.listing.Step.TheVariants.{Found}
-use Rattle.diagnosis_lister.specs.Listing.{bits_of, step_of}
+use Rattle.diagnosis_lister.specs.Listing.{step_of}
+use Rattle.conditioner.specs.Words.{bits_of}
 use Rattle.session_rules.specs.GraphSystems.{Subject, system_of}
 use Rattle.session_rules.specs.Replies.{diagnosis_line}
 use Rattle.session_rules.specs.Sessions.{Entry, Table, with_entry}

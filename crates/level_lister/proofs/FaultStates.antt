@@ -1,0 +1,63 @@
+-- The states in which an open part of a group is faulty, and the assignments that are behind them.
+use Rattle.std.proofs.Common.{◌≡◌, ℕ, ◌+◌, ◌-◌, ◌*◌, ◌/◌, ◌<◌, ◌≤◌, true, List, length, get_or, refl, ap, sym, ◌∙◌, subst, arith}
+use Rattle.graph_rules.specs.Graphs.{Graph, IsGraph, is_true}
+use Rattle.minimiser.proofs.Whole.{state_of, assignment_of}
+use Rattle.part_sets.specs.Numbers.{has_number}
+use Rattle.level_lister.specs.declared.pairs.Groups.{Groups}
+use Rattle.level_lister.specs.inner.Pairs.{Meets, HasFault, FaultOf, group_in}
+use Rattle.level_lister.specs.inner.FaultSets.{IsWholeFaults}
+use Rattle.level_lister.proofs.Whole.{among-all}
+use Rattle.level_lister.proofs.PairNodes.{IsGrouped, grouped, in_group}
+
+module _ (graph : Graph) (words costs : List ℕ) (groups : Groups) (ok : IsGraph graph) (long : length words ≡ graph.vars) (within : length costs ≤ graph.vars) where
+  -- the last node is true, and a part of a group faulty
+  abbrev pub HasWholeFault : ℕ → ℕ → Type 0
+  HasWholeFault g c = Meets words costs (λ v. true) (λ a. (is_true graph.nodes (length graph.nodes - 1) a ≡ true) × HasFault (group_in words (length costs) groups g) (λ v. true) a) c
+
+  pub fault_state : (g c : ℕ) → HasWholeFault g c → FaultOf graph words costs c groups g
+  fault_state g c r =
+      let s = state_of graph words costs ok long within r.by r.follows r.holds.0 in
+      let fault = r.holds.1 in
+      let is = grouped words (length costs) groups g fault.var fault.of_group in
+      let inside : fault.var - 1 < length costs = omega (arith, is.low, is.high) in
+      let place : 1 + (fault.var - 1) ≡ fault.var = omega (arith, is.low) in
+      record {
+        state = s.state;
+        is = record { long = s.long_state; model = s.model; cost_is = among-all r.by 1 costs s.state s.long_state s.bits ∙ r.cost_is };
+        part = fault.var - 1;
+        within = inside;
+        open_ = is.open_;
+        faulty = s.bits (fault.var - 1) inside ∙ ap r.by place ∙ fault.faulty;
+        low = omega (arith, is.low);
+        group = is.group;
+      }
+
+  pub state_fault : (g c : ℕ) → FaultOf graph words costs c groups g → HasWholeFault g c
+  state_fault g c f =
+      let h = f.state in
+      let a = assignment_of graph words costs ok long within h f.is.long f.is.model in
+      let back : f.part + 1 - 1 ≡ f.part = omega arith in
+      let place : 1 + f.part ≡ f.part + 1 = omega arith in
+      let is : IsGrouped words (length costs) groups g (f.part + 1) = record {
+        low = omega (arith, f.low);
+        high = omega (arith, f.within);
+        open_ = ap (λ k. get_or words k 0) back ∙ f.open_;
+        group = ap (λ k. (k - groups.low) / groups.size) back ∙ f.group;
+      } in
+      let fault : HasFault (group_in words (length costs) groups g) (λ v. true) a.by = record {
+        var = f.part + 1;
+        among = refl;
+        of_group = in_group words (length costs) groups g (f.part + 1) is;
+        faulty = ap a.by (sym place) ∙ sym (a.bits f.part f.within) ∙ f.faulty;
+      } in
+      record { by = a.by; follows = a.agrees; holds = (a.holds, fault); cost_is = sym (among-all a.by 1 costs h f.is.long a.bits) ∙ f.is.cost_is }
+
+  -- the set of the whole graph with a fault
+  module _ (set : List ℕ) (is : IsWholeFaults graph words costs groups set) where
+    pub first_sound : (c : ℕ) → has_number set c ≡ true → FaultOf graph words costs c groups 0
+    first_sound c e = fault_state 0 c (is.sound c e)
+
+    pub first_whole : (c : ℕ) → c < 32 * length set → FaultOf graph words costs c groups 0 → has_number set c ≡ true
+    first_whole c lt f =
+        let r = state_fault 0 c f in
+        subst (λ n. has_number set n ≡ true) r.cost_is (is.whole r.by r.follows r.holds (omega (arith, r.cost_is)))

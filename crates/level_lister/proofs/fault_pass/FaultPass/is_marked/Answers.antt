@@ -1,0 +1,7 @@
+use Rattle.std.proofs.Common.{length, ap, arith}
+use Rattle.level_lister.proofs.FaultNodes.{first_is}
+use Rattle.level_lister.proofs.fault_pass.FaultPass.is_marked.Goals as goal
+
+pub returns-clause-marked : goal.returns-clause-marked
+returns-clause-marked c = first_is c.args.self.now.words.now (length c.args.self.now.levels.now.costs) c.args.self.now.groups c.args.part c.args.self.now.some
+    (omega (arith, c.if-part-costs.false, ap length c.costs.ensures)) c.if-part-self.false c.if-self-part-ne0.false

@@ -1,0 +1,55 @@
+use Rattle.std.proofs.Common.{◌*◌, ◌<◌, length, get_or, sym, ◌∙◌, ap, subst, arith}
+use Rattle.part_sets.specs.Numbers.{set_at}
+use Rattle.part_sets.proofs.Kids.{room_for, kid-below}
+use Rattle.level_lister.specs.inner.NodeSets.{IsNodeSet}
+use Rattle.level_lister.specs.inner.FaultSets.{in_first, IsNodeFaults}
+use Rattle.level_lister.proofs.FaultNodes.{both_zero, and_faults_apart, and_faults_more, and_faults_all}
+use Rattle.level_lister.proofs.fault_pass.FaultPass.put_and_faults.Goals as goal
+
+pub loop-kid-init : goal.loop-kid-init
+loop-kid-init c = both_zero c.args.self.now.words.now c.args.self.now.levels.now.costs _ c.put_one.new.set c.clear.new.set (λ n h. c.put_one.ensures n (omega arith)) c.clear.ensures
+
+pub set_at-own-requires : goal.set_at-own-requires
+set_at-own-requires c =
+    let graph = c.args.self.now.graph.now in
+    let kids = c.kids-kid-items.result.now in
+    let below = kid-below graph c.args.at kids c.vars-vars.ensures.valid c.requires.at c.kids-kid-items.ensures c.loop-kid.kid-index c.loop-kid-test.true in
+    omega (
+      arith,
+      c.args.self.now.room,
+      room_for (get_or kids c.loop-kid.kid-index 0) (length graph.nodes) c.size-size.result (omega (arith, below, c.requires.at)),
+      ap (λ n. length graph.nodes * n) c.size-size.ensures,
+    )
+
+pub set_at-faults-requires : goal.set_at-faults-requires
+set_at-faults-requires c =
+    let graph = c.args.self.now.graph.now in
+    let kids = c.kids-kid-items.result.now in
+    let below = kid-below graph c.args.at kids c.vars-vars.ensures.valid c.requires.at c.kids-kid-items.ensures c.loop-kid.kid-index c.loop-kid-test.true in
+    omega (arith, c.requires.sets, room_for (get_or kids c.loop-kid.kid-index 0) c.args.at c.size-size.result below, ap (λ n. c.args.at * n) c.size-size.ensures)
+
+pub loop-kid-preserved : goal.loop-kid-preserved
+loop-kid-preserved c =
+    let graph = c.args.self.now.graph.now in
+    let at = c.args.at in
+    let words = c.args.self.now.words.now in
+    let costs = c.args.self.now.levels.now.costs in
+    let groups = c.args.self.now.groups in
+    let kids = c.kids-kid-items.result.now in
+    let j = c.loop-kid.kid-index in
+    let kid = get_or kids j 0 in
+    let ok = c.vars-vars.ensures.valid in
+    let lt = c.loop-kid-test.true in
+    let below = kid-below graph at kids ok c.requires.at c.kids-kid-items.ensures j lt in
+    let inside : kid < length graph.nodes = omega (arith, below, c.requires.at) in
+    let own : IsNodeSet graph words costs kid c.set_at-own.result.now =
+    subst (IsNodeSet graph words costs kid) (sym (c.set_at-own.ensures.set ∙ ap (λ n. set_at c.args.self.now.sets.now kid n) c.size-size.ensures)) (c.requires.are kid inside) in
+    let faults : IsNodeFaults graph words costs groups kid c.set_at-faults.result.now =
+    subst (IsNodeFaults graph words costs groups kid) (sym (c.set_at-faults.ensures.set ∙ ap (λ n. set_at c.args.earlier.now kid n) c.size-size.ensures)) (c.requires.earlier kid below) in
+    and_faults_more graph at kids ok c.requires.at c.kids-kid-items.ensures words costs groups j c.put_both_sums.new.all c.put_both_sums.new.set lt
+    (c.put_both_sums.ensures words costs (in_first words costs groups) _ _ _ _ (and_faults_apart graph at kids ok c.requires.at c.kids-kid-items.ensures words costs groups j c.requires.what lt)
+    c.loop-kid.invariant (record { all = own; faulty = faults }))
+
+pub returns : goal.returns
+returns c = and_faults_all c.args.self.now.graph.now c.args.at c.kids-kid-items.result.now c.vars-vars.ensures.valid c.requires.at c.kids-kid-items.ensures c.args.self.now.words.now c.args.self.now.levels.now.costs c.args.self.now.groups
+    c.loop-kid.kid-index c.loop-kid.all c.loop-kid.set c.requires.what (omega arith) c.loop-kid.invariant

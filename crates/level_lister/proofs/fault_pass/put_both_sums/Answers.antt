@@ -1,0 +1,27 @@
+use Rattle.std.proofs.Common.{◌≡◌, ℕ, ◌*◌, ◌||◌, List, length, sym, ◌∙◌, ap, subst, arith}
+use Rattle.part_sets.specs.Numbers.{has_number}
+use Rattle.level_lister.specs.inner.CostSets.{AreSums}
+use Rattle.level_lister.proofs.Kids.{shifted_none}
+use Rattle.level_lister.proofs.Faulting.{both_and}
+use Rattle.level_lister.proofs.fault_pass.put_both_sums.Goals as goal
+
+pub returns : goal.returns
+returns c words costs group test more_test some more apart is_all is_own =
+    let set = c.args.set.now in
+    let all = c.args.all.now in
+    let own = c.args.own.now in
+    let faults = c.args.faults.now in
+    let one = c.put_sums.new.set in
+    let other = c.put_sums-2.new.set in
+    let new_all = c.put_sums-3.new.set in
+    let one_long : length c.put_sums.new.set ≡ length c.args.set.now = omega arith in
+    let other_long : length c.put_sums-2.new.set ≡ length c.args.other.now = omega arith in
+    let all_long : length c.put_sums-3.new.set ≡ length c.args.all.now = omega arith in
+    let sums_one : AreSums set own (32 * length c.put_sums.new.set) one =
+    subst (λ n. AreSums set own (32 * n) one) (sym one_long) (subst (λ (xs : List ℕ). AreSums xs own (32 * length c.args.set.now) one) c.copy_from_slice.ensures.after c.put_sums.ensures) in
+    let sums_other : AreSums all faults (32 * length c.put_sums-2.new.set) other = subst (λ n. AreSums all faults (32 * n) other) (sym other_long) c.put_sums-2.ensures in
+    let sums_all : AreSums all own (32 * length c.put_sums-3.new.set) new_all =
+    subst (λ n. AreSums all own (32 * n) new_all) (sym all_long) (subst (λ (xs : List ℕ). AreSums xs own (32 * length c.args.all.now) new_all) c.copy_from_slice-2.ensures.after c.put_sums-3.ensures) in
+    both_and words costs group test more_test some more all set own faults one other new_all c.add_shifted.new.set
+    (omega arith) (omega arith) (omega arith) (omega arith) (omega arith) (omega arith) (omega arith) apart sums_all sums_one sums_other
+    (λ n h. c.add_shifted.ensures n (omega arith) ∙ ap (λ b. has_number c.put_sums.new.set n || b) (shifted_none other n)) is_all is_own

@@ -1,0 +1,18 @@
+use Rattle.std.proofs.Common.{ℕ, ◌+◌, ◌-◌, ◌*◌, ◌^◌, ◌<◌, ◌≤◌, All, length}
+use Rattle.diagnosis_lister.specs.Listing.{fault_count}
+use Rattle.diagnosis_lister.specs.inner.Working.{fixed_bits}
+use Rattle.level_lister.specs.Passes.{told_groups}
+use Rattle.level_lister.proofs.Exact.{Settling}
+use Rattle.level_lister.proofs.search.Search.settle.Given as goal
+
+-- the parts before one are fixed, and each fault was searched
+abbrev pub invariant-loop-part : goal.invariant-loop-part
+invariant-loop-part g l = record {
+  small : All (λ w. w < 3) l.words;
+  settles : Settling l.self.graph.now l.self.levels.now.costs l.cost l.fn.words l.words l.from;
+  steps : (search : ℕ) → length l.self.levels.now.costs < (told_groups l.self.levels.now.top + 1) ^ search → l.steps ≤ l.fn.steps + fault_count (fixed_bits (length l.self.levels.now.costs) l.words) * search;
+  within : l.from ≤ length l.self.levels.now.costs;
+}
+
+abbrev pub decreases-loop-part : goal.decreases-loop-part
+decreases-loop-part g l = length l.self.levels.now.costs - l.from

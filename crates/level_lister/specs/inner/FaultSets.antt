@@ -1,0 +1,41 @@
+-- The sets of the costs at which, besides, an open part of a group is faulty.
+use Rattle.std.specs.Prelude.{◌≡◌, ℕ, ◌-◌, ◌*◌, ◌<◌, Bool, true, List, length}
+use Rattle.ranking.specs.Assignments.{Assignment}
+use Rattle.graph_rules.specs.Graphs.{Graph, is_true, mentions}
+use Rattle.part_sets.specs.Numbers.{has_number, set_at}
+use Rattle.level_lister.specs.declared.pairs.Groups.{Groups}
+use Rattle.level_lister.specs.inner.CostSets.{Follows, cost_among, IsCostSet}
+use Rattle.level_lister.specs.inner.Pairs.{Meets, HasFault, group_in}
+
+-- The set has just the costs at which a condition is met, so far as it has room.
+pub record AreCostsOf (words costs : List ℕ) (some : ℕ → Bool) (P : Assignment → Type 0) (set : List ℕ) : Type 0 where
+  pub sound : (n : ℕ) → has_number set n ≡ true → Meets words costs some P n
+  pub whole : (a : Assignment) → Follows words a → P a → cost_among some a 1 costs < 32 * length set
+      → has_number set (cost_among some a 1 costs) ≡ true
+
+-- the costs at which a test is true, and a part of a group is faulty
+abbrev pub IsFaultSet : List ℕ → List ℕ → (ℕ → Bool) → (Assignment → Bool) → (ℕ → Bool) → List ℕ → Type 0
+IsFaultSet words costs group test some set = AreCostsOf words costs some (λ a. (test a ≡ true) × HasFault group some a) set
+
+-- the variables of the open parts of the first group
+abbrev pub in_first : List ℕ → List ℕ → Groups → ℕ → Bool
+in_first words costs groups v = group_in words (length costs) groups 0 v
+
+-- both sets of a test, of some variables: its costs, and those with a fault
+pub record AreBothSets (words costs : List ℕ) (group : ℕ → Bool) (test : Assignment → Bool) (some : ℕ → Bool) (set faults : List ℕ) : Type 0 where
+  pub all : IsCostSet words costs test some set
+  pub faulty : IsFaultSet words costs group test some faults
+
+-- the set of the costs at which a node can be true and an open part of the first group below it faulty
+abbrev pub IsNodeFaults : Graph → List ℕ → List ℕ → Groups → ℕ → List ℕ → Type 0
+IsNodeFaults graph words costs groups k set =
+    IsFaultSet words costs (in_first words costs groups) (λ a. is_true graph.nodes k a) (λ v. mentions graph.nodes v k) set
+
+-- those of the first nodes
+abbrev pub AreNodeFaults : Graph → List ℕ → List ℕ → Groups → ℕ → List ℕ → ℕ → Type 0
+AreNodeFaults graph words costs groups size sets n = (k : ℕ) → k < n → IsNodeFaults graph words costs groups k (set_at sets k size)
+
+-- the set of the costs at which the last node can be true and any open part of the first group faulty
+abbrev pub IsWholeFaults : Graph → List ℕ → List ℕ → Groups → List ℕ → Type 0
+IsWholeFaults graph words costs groups set =
+    IsFaultSet words costs (in_first words costs groups) (λ a. is_true graph.nodes (length graph.nodes - 1) a) (λ v. true) set

@@ -1,0 +1,302 @@
+//! One pass over the nodes, which brings for each the set of the costs at which an open part of a group is faulty.
+ghost use Rattle.std.specs.Prelude.{◌≡◌, ℕ, ◌+◌, ◌*◌, ◌<◌, ◌≤◌, Bool, true, false, ◌&&◌, ◌||◌, List, length, All, ◌==◌};
+ghost use Rattle.ranking.specs.Assignments.{Assignment};
+ghost use Rattle.ranking.specs.Bits.{same_bit};
+ghost use Rattle.graph_rules.specs.declared.NodeKind.TheVariants.{And, Or};
+ghost use Rattle.graph_rules.specs.Graphs.{node_at};
+ghost use Rattle.part_sets.specs.Numbers.{part_words, set_at};
+ghost use Rattle.part_sets.specs.PartSets.{ArePartsOf};
+ghost use Rattle.level_lister.specs.Listing.{IsFor, cost_words};
+ghost use Rattle.level_lister.specs.inner.NodeSets.{AreNodeSets};
+ghost use Rattle.level_lister.specs.inner.FaultSets.{in_first, IsFaultSet, AreBothSets, IsNodeFaults, AreNodeFaults, IsWholeFaults};
+
+use crate::choices::add_part;
+use crate::levels::Levels;
+use crate::pairs::Groups;
+use crate::pass::put_full;
+use crate::sets::{SET_LIMIT, add_shifted, put_sums};
+use graph_rules::NodeKind;
+use node_store::Graph;
+use part_sets::{clear, next_missing, part_words, put_one, set_at};
+
+// What the sets are put from: a graph, words, groups, and the sets of the costs of all nodes.
+#[derive(Drop)]
+pub(crate) struct FaultPass<'a> {
+    pub(crate) levels: &'a Levels,
+    pub(crate) graph: &'a Graph,
+    pub(crate) words: &'a [u32],
+    pub(crate) groups: Groups,
+    pub(crate) sets: &'a [u32],
+    ghost for_graph: { IsFor graph.now levels.now },
+    ghost long: { length words.now ≡ graph.now.vars },
+    ghost small: { All (λ w. w < 3) words.now },
+    ghost some: { 0 < groups.size },
+    ghost room: { length sets.now ≡ length graph.now.nodes * cost_words levels.now.top },
+}
+
+impl FaultPass<'_> {
+    // Brings the set of each node, and that of the last node for all parts.
+    pub(crate) fn put_all(
+        &self,
+        faults: &mut [u32],
+        whole: &mut [u32],
+        all: &mut [u32],
+        spare: &mut [u32],
+    )
+        requires are { AreNodeSets self.now.graph.now self.now.words.now self.now.levels.now.costs (cost_words self.now.levels.now.top)
+            self.now.sets.now (length self.now.graph.now.nodes) }
+        requires faults { length faults.old ≡ length self.now.graph.now.nodes * cost_words self.now.levels.now.top }
+        requires whole { length whole.old ≡ cost_words self.now.levels.now.top }
+        requires all { length all.old ≡ cost_words self.now.levels.now.top }
+        requires spare { length spare.old ≡ cost_words self.now.levels.now.top }
+        ensures { IsWholeFaults self.now.graph.now self.now.words.now self.now.levels.now.costs self.now.groups whole.new }
+    {
+        self.put_faults(faults, whole, all, spare);
+        let root = self.graph.len() as usize - 1;
+        let size = self.levels.size();
+        whole.copy_from_slice(set_at(faults, root, size));
+        if self.levels.lacking()[root + 1] == 0 {
+            return;
+        }
+        all.copy_from_slice(set_at(self.sets, root, size));
+        self.widen_both(root, root + 1, all, whole, spare);
+    }
+
+    fn put_faults(&self, faults: &mut [u32], own: &mut [u32], all: &mut [u32], spare: &mut [u32])
+        requires are { AreNodeSets self.now.graph.now self.now.words.now self.now.levels.now.costs (cost_words self.now.levels.now.top)
+            self.now.sets.now (length self.now.graph.now.nodes) }
+        requires faults { length faults.old ≡ length self.now.graph.now.nodes * cost_words self.now.levels.now.top }
+        requires own { length own.old ≡ cost_words self.now.levels.now.top }
+        requires all { length all.old ≡ cost_words self.now.levels.now.top }
+        requires spare { length spare.old ≡ cost_words self.now.levels.now.top }
+        ensures { AreNodeFaults self.now.graph.now self.now.words.now self.now.levels.now.costs self.now.groups (cost_words self.now.levels.now.top)
+            faults.new (length self.now.graph.now.nodes) }
+    {
+        let size = self.levels.size();
+        for at in 0..self.graph.len() {
+            let (earlier, rest) = faults.split_at_mut(at as usize * size);
+            let (set, _) = rest.split_at_mut(size);
+            self.put_node(earlier, at, set, own, all, spare);
+        }
+    }
+
+    // The set of a node, from those of the nodes before it.
+    fn put_node(
+        &self,
+        earlier: &[u32],
+        at: u32,
+        set: &mut [u32],
+        own: &mut [u32],
+        all: &mut [u32],
+        spare: &mut [u32],
+    )
+        requires are { AreNodeSets self.now.graph.now self.now.words.now self.now.levels.now.costs (cost_words self.now.levels.now.top)
+            self.now.sets.now (length self.now.graph.now.nodes) }
+        requires at { at < length self.now.graph.now.nodes }
+        requires sets { length earlier.now ≡ at * cost_words self.now.levels.now.top }
+        requires earlier { AreNodeFaults self.now.graph.now self.now.words.now self.now.levels.now.costs self.now.groups
+            (cost_words self.now.levels.now.top) earlier.now at }
+        requires set { length set.old ≡ cost_words self.now.levels.now.top }
+        requires own { length own.old ≡ cost_words self.now.levels.now.top }
+        requires all { length all.old ≡ cost_words self.now.levels.now.top }
+        requires spare { length spare.old ≡ cost_words self.now.levels.now.top }
+        ensures { IsNodeFaults self.now.graph.now self.now.words.now self.now.levels.now.costs self.now.groups at set.new }
+    {
+        // Its contract says that this is a graph.
+        let _vars = self.graph.vars();
+        match self.graph.what(at) {
+            NodeKind::Literal { var, positive } => self.put_literal_faults(var, positive, set),
+            NodeKind::And => self.put_and_faults(earlier, at, set, own, all, spare),
+            NodeKind::Or => {
+                if self.levels.lacking()[at as usize] == 0 {
+                    put_full(self.graph, earlier, at, set)
+                } else {
+                    self.put_or_faults(earlier, at, set, own, all, spare)
+                }
+            }
+        }
+    }
+
+    // Whether a part is open and of the first group. There may be no such part.
+    fn is_marked(&self, part: usize) -> bool
+        ensures marked { result ≡ in_first self.now.words.now self.now.levels.now.costs self.now.groups (part + 1) }
+        ensures within { result ≡ true → part < length self.now.levels.now.costs }
+    {
+        if part >= self.levels.costs().len() || self.words[part] != 0 || part < self.groups.low {
+            return false;
+        }
+        part - self.groups.low < self.groups.size
+    }
+
+    // The set of a literal: a part that it says to be faulty is open.
+    fn put_literal_faults(&self, var: u32, positive: bool, set: &mut [u32])
+        requires var { 1 ≤ var }
+        ensures { IsFaultSet self.now.words.now self.now.levels.now.costs (in_first self.now.words.now self.now.levels.now.costs self.now.groups)
+            (λ a. same_bit positive (a var)) (λ v. var == v) set.new }
+    {
+        clear(set);
+        if positive {
+            return;
+        }
+        let part = var as usize - 1;
+        if !self.is_marked(part) {
+            return;
+        }
+        put_one(set, self.levels.costs()[part] as usize);
+    }
+
+    // The set of an And: a part of one kid is faulty. Its kids share no variable.
+    fn put_and_faults(
+        &self,
+        earlier: &[u32],
+        at: u32,
+        set: &mut [u32],
+        other: &mut [u32],
+        all: &mut [u32],
+        spare: &mut [u32],
+    )
+        requires are { AreNodeSets self.now.graph.now self.now.words.now self.now.levels.now.costs (cost_words self.now.levels.now.top)
+            self.now.sets.now (length self.now.graph.now.nodes) }
+        requires at { at < length self.now.graph.now.nodes }
+        requires what { (node_at self.now.graph.now.nodes at).what ≡ And }
+        requires sets { length earlier.now ≡ at * cost_words self.now.levels.now.top }
+        requires earlier { AreNodeFaults self.now.graph.now self.now.words.now self.now.levels.now.costs self.now.groups
+            (cost_words self.now.levels.now.top) earlier.now at }
+        requires set { length set.old ≡ cost_words self.now.levels.now.top }
+        requires other { length other.old ≡ cost_words self.now.levels.now.top }
+        requires all { length all.old ≡ cost_words self.now.levels.now.top }
+        requires spare { length spare.old ≡ cost_words self.now.levels.now.top }
+        ensures { IsNodeFaults self.now.graph.now self.now.words.now self.now.levels.now.costs self.now.groups at set.new }
+    {
+        // Its contract says that this is a graph.
+        let _vars = self.graph.vars();
+        let size = self.levels.size();
+        clear(set);
+        put_one(all, 0);
+        for kid in self.graph.kids(at) {
+            let own = set_at(self.sets, *kid as usize, size);
+            let faults = set_at(earlier, *kid as usize, size);
+            put_both_sums(set, other, all, spare, own, faults);
+        }
+    }
+
+    // The set of an Or: parts that a kid does not mention are free where it is true.
+    fn put_or_faults(
+        &self,
+        earlier: &[u32],
+        at: u32,
+        set: &mut [u32],
+        own: &mut [u32],
+        all: &mut [u32],
+        spare: &mut [u32],
+    )
+        requires are { AreNodeSets self.now.graph.now self.now.words.now self.now.levels.now.costs (cost_words self.now.levels.now.top)
+            self.now.sets.now (length self.now.graph.now.nodes) }
+        requires at { at < length self.now.graph.now.nodes }
+        requires what { (node_at self.now.graph.now.nodes at).what ≡ Or }
+        requires sets { length earlier.now ≡ at * cost_words self.now.levels.now.top }
+        requires earlier { AreNodeFaults self.now.graph.now self.now.words.now self.now.levels.now.costs self.now.groups
+            (cost_words self.now.levels.now.top) earlier.now at }
+        requires set { length set.old ≡ cost_words self.now.levels.now.top }
+        requires own { length own.old ≡ cost_words self.now.levels.now.top }
+        requires all { length all.old ≡ cost_words self.now.levels.now.top }
+        requires spare { length spare.old ≡ cost_words self.now.levels.now.top }
+        ensures { IsNodeFaults self.now.graph.now self.now.words.now self.now.levels.now.costs self.now.groups at set.new }
+    {
+        // Its contract says that this is a graph.
+        let _vars = self.graph.vars();
+        let size = self.levels.size();
+        clear(set);
+        for kid in self.graph.kids(at) {
+            all.copy_from_slice(set_at(self.sets, *kid as usize, size));
+            own.copy_from_slice(set_at(earlier, *kid as usize, size));
+            self.widen_both(*kid as usize, at as usize, all, own, spare);
+            add_shifted(set, own, 0);
+        }
+    }
+
+    // Lets each part be free that is below the one node and not below the other, in the set of all costs and in that of those with a
+    // fault.
+    fn widen_both(
+        &self,
+        inner: usize,
+        outer: usize,
+        all: &mut [u32],
+        faults: &mut [u32],
+        spare: &mut [u32],
+    )
+        requires inner { inner ≤ length self.now.graph.now.nodes }
+        requires outer { outer ≤ length self.now.graph.now.nodes }
+        requires faults { length faults.old ≡ length all.old }
+        requires spare { length spare.old ≡ length all.old }
+        ensures { (test : Assignment → Bool) (some more : ℕ → Bool)
+            → ArePartsOf (length self.now.levels.now.costs) some (set_at self.now.levels.now.below inner (part_words (length self.now.levels.now.costs)))
+            → ArePartsOf (length self.now.levels.now.costs) more (set_at self.now.levels.now.below outer (part_words (length self.now.levels.now.costs)))
+            → ((v : ℕ) → some v ≡ true → more v ≡ true)
+            → AreBothSets self.now.words.now self.now.levels.now.costs (in_first self.now.words.now self.now.levels.now.costs self.now.groups)
+            test some all.old faults.old
+            → AreBothSets self.now.words.now self.now.levels.now.costs (in_first self.now.words.now self.now.levels.now.costs self.now.groups)
+            test more all.new faults.new }
+    {
+        let parts = self.levels.costs().len();
+        let size = part_words(parts);
+        let below = set_at(self.levels.below(), outer, size);
+        let own = set_at(self.levels.below(), inner, size);
+        let mut part = next_missing(below, own, 0);
+        while part < parts {
+            self.add_free(part, all, faults, spare);
+            part = next_missing(below, own, part + 1);
+        }
+    }
+
+    // Adds to both sets the costs with one part more.
+    fn add_free(&self, part: usize, all: &mut [u32], faults: &mut [u32], spare: &mut [u32])
+        requires part { part < length self.now.levels.now.costs }
+        requires faults { length faults.old ≡ length all.old }
+        requires spare { length spare.old ≡ length all.old }
+        ensures { (test : Assignment → Bool) (some : ℕ → Bool) → some (part + 1) ≡ false
+            → AreBothSets self.now.words.now self.now.levels.now.costs (in_first self.now.words.now self.now.levels.now.costs self.now.groups)
+            test some all.old faults.old
+            → AreBothSets self.now.words.now self.now.levels.now.costs (in_first self.now.words.now self.now.levels.now.costs self.now.groups)
+            test (λ v. some v || (part + 1 == v)) all.new faults.new }
+    {
+        let word = self.words[part];
+        let cost = self.levels.costs()[part];
+        // The faults come first: they go by the costs without the part.
+        add_part(word, cost, faults, spare);
+        if self.is_marked(part) {
+            add_shifted(faults, all, cost as usize);
+        }
+        add_part(word, cost, all, spare);
+    }
+}
+
+// Joins to both sets those of a test that shares no variable: a part of the one or of the other is faulty.
+fn put_both_sums(
+    set: &mut [u32],
+    other: &mut [u32],
+    all: &mut [u32],
+    spare: &mut [u32],
+    own: &[u32],
+    faults: &[u32],
+)
+    requires few { length set.old ≤ SET_LIMIT }
+    requires other { length other.old ≡ length set.old }
+    requires all { length all.old ≡ length set.old }
+    requires spare { length spare.old ≡ length set.old }
+    requires own { length own.now ≡ length set.old }
+    requires faults { length faults.now ≡ length set.old }
+    ensures { (words costs : List ℕ) (group : ℕ → Bool) (test more_test : Assignment → Bool) (some more : ℕ → Bool)
+        → ((v : ℕ) → (some v && more v) ≡ false)
+        → AreBothSets words costs group test some all.old set.old
+        → AreBothSets words costs group more_test more own.now faults.now
+        → AreBothSets words costs group (λ a. test a && more_test a) (λ v. some v || more v) all.new set.new }
+{
+    // The costs come last: both sums of the faults go by what they were.
+    spare.copy_from_slice(set);
+    put_sums(set, spare, own);
+    put_sums(other, all, faults);
+    add_shifted(set, other, 0);
+    spare.copy_from_slice(all);
+    put_sums(all, spare, own);
+}

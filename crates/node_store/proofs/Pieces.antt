@@ -13,7 +13,7 @@ length-nodes_of kids start [] ends e = refl
 length-nodes_of kids start (kind ∷ kinds) [] e = absurd (omega arith)
 length-nodes_of kids start (kind ∷ kinds) (end ∷ ends) e = ap suc (length-nodes_of kids end kinds ends (omega arith))
 
-EndAt-start : (len start : ℕ) (ends : List ℕ) → EndAt len start ends → start ≤ len
+pub EndAt-start : (len start : ℕ) (ends : List ℕ) → EndAt len start ends → start ≤ len
 EndAt-start len start [] e = omega arith
 EndAt-start len start (end ∷ ends) h = omega (arith, h.0, EndAt-start len end ends h.1)
 

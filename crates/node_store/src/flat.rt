@@ -3,6 +3,7 @@ ghost use Rattle.graph_rules.specs.Graphs.{node_at};
 ghost use Rattle.graph_rules.specs.GraphTexts.{edges};
 ghost use Rattle.node_store.specs.inner.Flat.{start_at};
 
+use crate::walk::Walk;
 use graph_rules::NodeKind;
 use std::alloc::{AllocError, Global};
 use std::marker::Model;
@@ -77,6 +78,13 @@ impl Nodes {
         let start = start_at(&self.ends, node);
         let end = self.ends[node];
         &self.kids[start..end]
+    }
+
+    /// Walks the nodes in order.
+    pub fn walk(&self) -> Walk<'_>
+        ensures { result ≡ self.now }
+    {
+        Walk::new(&self.kinds, &self.ends, &self.kids)
     }
 
     /// Takes memory for so many more nodes, which have so many children in all.

@@ -3,6 +3,7 @@ ghost use Rattle.graph_rules.specs.Graphs.{node_at, mentions, apart_at, node_fit
 ghost use Rattle.graph_rules.specs.GraphTexts.{edges};
 
 use crate::flat::Nodes;
+use crate::walk::Walk;
 use graph_rules::NodeKind;
 use std::alloc::{AllocError, Global};
 use std::marker::Model;
@@ -66,6 +67,14 @@ impl Graph {
         ensures valid { IsGraph self.now }
     {
         self.vars
+    }
+
+    /// Walks the nodes in order, the root last.
+    pub fn walk(&self) -> Walk<'_>
+        ensures nodes { result ≡ self.now.nodes }
+        ensures valid { IsGraph self.now }
+    {
+        self.nodes.walk()
     }
 
     /// What a node is.

@@ -5,7 +5,9 @@ mod flat;
 mod graph;
 mod nearby;
 mod store;
+mod walk;
 
 pub use flat::Nodes;
 pub use graph::{Graph, GraphBuilder, NODE_LIMIT};
 pub use store::{MADE_LIMIT, Store, VARIABLE_LIMIT};
+pub use walk::{NodeRef, Walk};

@@ -15,10 +15,13 @@ abbrev pub EndAt : ℕ → ℕ → List ℕ → Type 0
 EndAt len start [] = start ≡ len
 EndAt len start (end ∷ ends) = (start ≤ end) × EndAt len end ends
 
--- as many ends as kinds, of which the last is where the kids end
-pub record AreFlat (kinds : List NodeKind) (ends kids : List ℕ) : Type 0 where
+-- as many ends as kinds, of which the last is where the kids end; those of the first begin at a place
+pub record AreFlatFrom (start : ℕ) (kinds : List NodeKind) (ends kids : List ℕ) : Type 0 where
   pub long : length ends ≡ length kinds
-  pub cut : EndAt (length kids) 0 ends
+  pub cut : EndAt (length kids) start ends
+
+abbrev pub AreFlat : List NodeKind → List ℕ → List ℕ → Type 0
+AreFlat = AreFlatFrom 0
 
 -- where the kids of the node at a place begin
 abbrev pub start_at : ℕ → List ℕ → ℕ → ℕ

@@ -1,5 +1,5 @@
 //! Bytes that are gathered before they are put.
-ghost use Rattle.std.specs.Prelude.{◌≡◌, ◌⊎◌, ◌≤◌, ◌+◌, ◌++◌, ◌∷◌, [], length, map, take, OnOk, OnErr};
+ghost use Rattle.std.specs.Prelude.{◌≡◌, ◌⊎◌, ◌<◌, ◌≤◌, ◌+◌, ◌++◌, ◌∷◌, [], length, map, take, OnOk, OnErr};
 ghost use Rattle.std.specs.List.{flat_map};
 ghost use Rattle.text_rules.specs.Tokens.{spaced};
 ghost use Rattle.diag_edge.specs.Edge.{HasCause, Puts};
@@ -90,7 +90,7 @@ impl Chunk {
         }
         // Room is made for both at once, since most words are short numbers.
         self.make_room(out, word.len() + 1)?;
-        self.push(b" ");
+        self.push_byte(b' ');
         self.push(word);
         Ok(())
     }
@@ -167,6 +167,14 @@ impl Chunk {
         self.put(out)?;
         self.len = 0;
         out.put(text)
+    }
+
+    fn push_byte(&mut self, byte: u8)
+        requires { length self.old < CHUNK_LIMIT }
+        ensures { self.new ≡ self.old ++ byte ∷ [] }
+    {
+        self.bytes[self.len] = byte;
+        self.len += 1;
     }
 
     fn push(&mut self, text: &[u8])

@@ -8,4 +8,4 @@ returns-in_err-make_room-clause-bytes g c = adds_first _ _ _ _ _ [] (32 ∷ c.ar
 pub returns-clause-bytes : goal.returns-clause-bytes
 returns-clause-bytes g c =
     grown_more _ _ _ _ _ _ [] (32 ∷ c.args.word.now) c.in_ok-make_room.ensures.bytes
-    (grown_here _ _ _ _ (c.push-2.ensures ∙ ap (λ bytes. bytes ++ c.args.word.now) c.push.ensures ∙ append_assoc _ (codes " ") c.args.word.now))
+    (grown_here _ _ _ _ (c.push.ensures ∙ ap (λ bytes. bytes ++ c.args.word.now) c.push_byte.ensures ∙ append_assoc _ (codes " ") c.args.word.now))

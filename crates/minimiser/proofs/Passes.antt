@@ -1,19 +1,19 @@
 -- One more node, and all of them.
-use Rattle.std.proofs.Common.{◌≡◌, ℕ, zero, suc, ◌+◌, ◌-◌, ◌<◌, ◌≤◌, ◌^◌, Bool, true, false, cond, List, [], ◌∷◌, ◌++◌, map, length, take, set, get_or, All, Option, Some, None, ◌⊎◌, inl, inr, refl, ap, sym, ◌∙◌, subst, arith, add-one}
+use Rattle.std.proofs.Common.{◌≡◌, ℕ, zero, suc, ◌+◌, ◌-◌, ◌<◌, ◌≤◌, ◌^◌, Bool, true, false, cond, List, [], ◌∷◌, ◌++◌, map, length, take, drop, set, get_or, All, Option, Some, None, refl, ap, sym, ◌∙◌, subst, arith, add-one, zero-add}
 use Rattle.std.specs.Prelude.{slice_get, IfSome}
 use Rattle.std.proofs.Math.ListN.{length-map}
 use Rattle.std.proofs.Math.Seq.{take-length}
-use Rattle.std.proofs.lemmas.List.{length-take-le}
-use Rattle.std.proofs.lemmas.Option.{slice_get-get_or}
+use Rattle.std.proofs.lemmas.List.{length-take-le, length-drop, take_all}
+use Rattle.std.proofs.lemmas.Option.{slice_get-get_or, get_or_from_slice_get, slice_get_within}
 use Rattle.ranking.specs.Bits.{bit_in}
 use Rattle.ranking.specs.Values.{values_after, values}
 use Rattle.ranking.proofs.Values.{length-values_after, values_after-append}
 use Rattle.ranking.proofs.Members.{AtMost}
 use Rattle.graph_rules.specs.declared.NodeKind.{NodeKind}
-use Rattle.graph_rules.specs.declared.NodeKind.TheVariants.{Literal, And, Or}
-use Rattle.graph_rules.specs.Graphs.{Node, Graph, mention, true_node, node_at, IsGraph}
+use Rattle.graph_rules.specs.declared.NodeKind.TheVariants.{Literal, And}
+use Rattle.graph_rules.specs.Graphs.{Node, Graph, mention, true_node, node_at, node_fits, IsGraph}
 use Rattle.graph_rules.proofs.NodeValues.{below-each}
-use Rattle.graph_rules.proofs.NodesFit.{fits-get, literal}
+use Rattle.graph_rules.proofs.NodesFit.{nodes_fit-at, fits-get, literal}
 use Rattle.conditioner.specs.Models.{least_under, total_cost}
 use Rattle.minimiser.specs.Costs.{part_cost, known_at, cost_at, sum_costs, node_cost}
 use Rattle.minimiser.specs.Held.{held_cost}
@@ -71,22 +71,16 @@ cost_small graph words costs i k ok n e =
 pub kids_below : (graph : Graph) (i : ℕ) (n : Node) → IsGraph graph → slice_get graph.nodes i ≡ Some n → All (λ k. k < i) n.kids
 kids_below graph i n ok e = below-each i n.kids (fits-get graph.vars graph.nodes i n ok.nodes.fit e).below
 
-pub literal_at : (graph : Graph) (i var : ℕ) (positive : Bool) (kids : List ℕ) → IsGraph graph → slice_get graph.nodes i ≡ Some (record { what = Literal positive var; kids = kids }) → (1 ≤ var) × (var ≤ graph.vars)
-literal_at graph i var positive kids ok e =
-    let is = literal graph.vars var positive kids (fits-get graph.vars graph.nodes i _ ok.nodes.fit e).kind in (is.low, is.high)
-
--- a node with kids is no literal
-pub gate_of : (graph : Graph) (i : ℕ) (w : NodeKind) (kids : List ℕ) → IsGraph graph → slice_get graph.nodes i ≡ Some (record { what = w; kids = kids }) → 0 < length kids → (w ≡ And) ⊎ (w ≡ Or)
-gate_of graph i (Literal positive var) kids ok e h = absurd (omega (arith, ap length (literal graph.vars var positive kids (fits-get graph.vars graph.nodes i _ ok.nodes.fit e).kind).alone))
-gate_of graph i And kids ok e h = inl refl
-gate_of graph i Or kids ok e h = inr refl
-
 pub few_kids : (graph : Graph) (i : ℕ) (kids : List ℕ) → IsGraph graph → slice_get graph.nodes i ≡ Some (record { what = And; kids = kids }) → length kids < 2 ^ 32
 few_kids graph i kids ok e = and_few graph.vars kids (fits-get graph.vars graph.nodes i _ ok.nodes.fit e).kind
 
 pub the_node : (nodes : List Node) (i : ℕ) (w : NodeKind) (ks : List ℕ) → i < length nodes → w ≡ (node_at nodes i).what → ks ≡ (node_at nodes i).kids
     → slice_get nodes i ≡ Some (record { what = w; kids = ks })
 the_node nodes i w ks h a b = slice_get-get_or nodes i true_node h ∙ (λ j. Some (record { what = sym a j; kids = sym b j }))
+
+pub literal_at : (graph : Graph) (i var : ℕ) (positive : Bool) (kids : List ℕ) → IsGraph graph → slice_get graph.nodes i ≡ Some (record { what = Literal positive var; kids = kids }) → (1 ≤ var) × (var ≤ graph.vars)
+literal_at graph i var positive kids ok e =
+    let is = literal graph.vars var positive kids (fits-get graph.vars graph.nodes i _ ok.nodes.fit e).kind in (is.low, is.high)
 
 -- the values of the nodes so far, and of one more
 pub goes_on : (graph : Graph) (words costs : List ℕ) (i : ℕ) (n : Node) (values : List (Option ℕ)) (c : Option ℕ) → slice_get graph.nodes i ≡ Some n
@@ -110,13 +104,33 @@ and_small graph words costs i most kids values ok few lt e v =
       same = ap (λ cs. cost_at cs i) (sym (goes_on graph words costs i (record { what = And; kids = kids }) values (sum_costs (map (cost_at values) kids)) e v refl))
           ∙ (λ j. cost_at (values ++ sum_costs (map (cost_at values) kids) ∷ []) (sym (ap length v ∙ length-costs_to graph words costs i (omega arith)) j)) ∙ cost_at-last values _
 
-pub kids_within : (graph : Graph) (words costs : List ℕ) (i : ℕ) (w : NodeKind) (kids : List ℕ) (values : List ℕ) → IsGraph graph → i < length graph.nodes
-    → slice_get graph.nodes i ≡ Some (record { what = w; kids = kids }) → map cost_in values ≡ costs_to graph words costs i → All (λ k. k < length values) kids
-kids_within graph words costs i w kids values ok lt e v =
-    let long : length values ≡ i = sym (length-map values cost_in) ∙ ap length v ∙ length-costs_to graph words costs i (omega arith) in
-    subst (λ b. All (λ k. k < b) kids) (sym long) (kids_below graph i _ ok e)
+pub and_fits : (graph : Graph) (words costs : List ℕ) (i most : ℕ) (n : Node) (values : List (Option ℕ)) → IsGraph graph → total_cost costs < most
+    → slice_get graph.nodes i ≡ Some n → values ≡ costs_to graph words costs i → n.what ≡ And → IfSome (cost_under words costs n values) (λ n. n < most)
+and_fits graph words costs i most n values ok few e v and =
+    let is : n ≡ record { what = And; kids = n.kids } = λ j. record { what = and j; kids = n.kids } in
+    subst (λ (m : Node). IfSome (cost_under words costs m values) (λ n. n < most)) (sym is)
+    (and_small graph words costs i most n.kids values ok few (slice_get_within graph.nodes i n e) (e ∙ ap Some is) v)
 
 -- ---- the whole pass
+
+-- A node stands at a place, and others behind it.
+pub record StandsAt (graph : Graph) (i : ℕ) (n : Node) (others : List Node) : Type 0 where
+  pub there : slice_get graph.nodes i ≡ Some n
+  pub behind : drop (i + 1) graph.nodes ≡ others
+
+next_is : (nodes : List Node) (i : ℕ) (n : Node) (rest : List Node) → drop i nodes ≡ n ∷ rest → (slice_get nodes i ≡ Some n) × (drop (suc i) nodes ≡ rest)
+next_is [] zero n rest e = absurd (cc)
+next_is [] (suc i) n rest e = absurd (cc)
+next_is (m ∷ nodes) zero n rest e = (cc, cc)
+next_is (m ∷ nodes) (suc i) n rest e = next_is nodes i n rest e
+
+pub walked : (graph : Graph) (i : ℕ) (n : Node) (left rest : List Node) → drop i graph.nodes ≡ left → left ≡ n ∷ rest → StandsAt graph i n rest
+walked graph i n left rest d e = let is = next_is graph.nodes i n rest (d ∙ e) in record { there = is.0; behind = rw (add-one i) is.1 }
+
+pub fits_here : (graph : Graph) (i vars before : ℕ) (n : Node) → IsGraph graph → slice_get graph.nodes i ≡ Some n → vars ≡ graph.vars → before ≡ i → node_fits vars before n ≡ true
+fits_here graph i vars before n ok there v b =
+    (λ j. node_fits (v j) ((b ∙ sym (zero-add i)) j) n) ∙ ap (node_fits graph.vars (0 + i)) (sym (get_or_from_slice_get graph.nodes i n true_node there))
+    ∙ nodes_fit-at graph.vars 0 graph.nodes i ok.nodes.fit (slice_get_within graph.nodes i n there)
 
 pub length-least_costs : (graph : Graph) (words costs xs : List ℕ) → AreLeastCosts graph words costs xs → length xs ≡ length graph.nodes
 length-least_costs graph words costs xs v = sym (length-map xs cost_in) ∙ ap length v ∙ length-costs_to graph words costs (length graph.nodes) (omega arith)
@@ -142,9 +156,13 @@ written values i v h = rw (add-one i) (go values i h) where
   go (x ∷ xs) zero h = refl
   go (x ∷ xs) (suc i) h = λ j. cost_in x ∷ go xs i (omega arith) j
 
-pub all_valued : (graph : Graph) (words costs : List ℕ) (i : ℕ) (xs : List ℕ) → i ≡ length graph.nodes → length xs ≡ length graph.nodes
+pub all_valued : (graph : Graph) (words costs : List ℕ) (i : ℕ) (left : List Node) (xs : List ℕ) → length xs ≡ length graph.nodes → drop i graph.nodes ≡ left → left ≡ []
     → map cost_in (take i xs) ≡ costs_to graph words costs i → AreLeastCosts graph words costs xs
-all_valued graph words costs i xs e long v = (λ j. map cost_in (sym (ap (λ k. take k xs) (e ∙ sym long) ∙ take-length xs) j)) ∙ v ∙ ap (costs_to graph words costs) e
+unfolding costs_to
+all_valued graph words costs i left xs long d none v =
+    let past : length graph.nodes ≤ i = omega (arith, length-drop i graph.nodes, ap length (d ∙ none)) in
+    (λ j. map cost_in (sym (take_all i xs (omega (arith, long))) j)) ∙ v
+    ∙ ap (values (cost_under words costs)) (take_all i graph.nodes past ∙ sym (take-length graph.nodes))
 
 pub none_yet : (graph : Graph) (words costs : List ℕ) → [] ≡ costs_to graph words costs 0
 unfolding costs_to

@@ -1,13 +1,14 @@
-ghost use Rattle.std.specs.Prelude.{◌≡◌, ℕ, ◌+◌, ◌-◌, ◌<◌, ◌≤◌, ◌⊎◌, Bool, Option, [], ◌∷◌, ◌++◌, map, length, All, IfSome};
+ghost use Rattle.std.specs.Prelude.{◌≡◌, ℕ, ◌+◌, ◌-◌, ◌<◌, ◌≤◌, ◌⊎◌, Bool, true, Option, [], ◌∷◌, map, length, All, IfSome};
 ghost use Rattle.conditioner.specs.Models.{least_under, total_cost};
-ghost use Rattle.minimiser.specs.Costs.{part_cost, literal_cost, cost_at, cost_by, sum_costs, cheapest};
+ghost use Rattle.graph_rules.specs.Graphs.{node_fits};
+ghost use Rattle.minimiser.specs.Costs.{part_cost, known_at, node_cost, literal_cost, cost_at, cost_by, sum_costs, cheapest};
 ghost use Rattle.minimiser.specs.Held.{held_cost};
-ghost use Rattle.minimiser.specs.Stored.{cost_in, costs_to, AreLeastCosts};
+ghost use Rattle.minimiser.specs.Stored.{cost_in, AreLeastCosts};
 
 use crate::steps::Steps;
 use conditioner::{Leaf, leaf};
 use graph_rules::NodeKind;
-use node_store::Graph;
+use node_store::{Graph, NodeRef};
 use std::sync::ledger::Ledger;
 
 /// All parts together cost less than this, so that a cost leaves the highest bit of its number free.
@@ -66,32 +67,33 @@ pub fn put_least_costs<L: Ledger>(
     ensures steps { steps.new ≡ steps.old + 1 }
 {
     steps.tick();
-    for at in 0..graph.len() {
-        let value = node_value(graph, words, costs, &values[..at as usize], at);
-        values[at as usize] = value;
+    let mut at = 0;
+    for node in graph.walk() {
+        let value = node_value(&node, words, costs, &values[..at]);
+        values[at] = value;
+        at += 1;
     }
 }
 
 // The least cost at a node, from those of the nodes before it.
-fn node_value(graph: &Graph, words: &[u32], costs: &[u32], values: &[u32], at: u32) -> u32
-    requires at { at < length graph.now.nodes }
-    requires long { length words.now ≡ graph.now.vars }
+fn node_value(node: &NodeRef<'_>, words: &[u32], costs: &[u32], values: &[u32]) -> u32
+    requires fits { node_fits (length words.now) (length values.now) node.now ≡ true }
     requires words { All (λ w. w < 3) words.now }
-    requires parts { length costs.now ≤ graph.now.vars }
     requires total { total_cost costs.now < TOTAL_LIMIT }
-    requires earlier { map cost_in values.now ≡ costs_to graph.now words.now costs.now at }
-    ensures { map cost_in values.now ++ cost_in result ∷ [] ≡ costs_to graph.now words.now costs.now (at + 1) }
+    requires small { node.now.what ≡ NodeKind.And
+        → IfSome (node_cost (known_at words.now) (part_cost costs.now) node.now (map cost_in values.now)) (λ n. n < TOTAL_LIMIT) }
+    ensures { cost_in result ≡ node_cost (known_at words.now) (part_cost costs.now) node.now (map cost_in values.now) }
 {
-    // Its contract says that this is a graph.
-    let _vars = graph.vars();
-    if let [one, other] = graph.kids(at) {
-        return pair_value(
-            graph.what(at),
-            values[*one as usize],
-            values[*other as usize],
-        );
+    if let [one, other] = node.kids {
+        return pair_value(node.what, values[*one as usize], values[*other as usize]);
     }
-    value_by_kind(graph, words, costs, values, at)
+    match node.what {
+        NodeKind::Literal { var, positive } => {
+            literal_value(leaf(words, var, positive), positive, part_cost(var, costs))
+        }
+        NodeKind::And => and_value(values, node.kids),
+        NodeKind::Or => or_value(values, node.kids),
+    }
 }
 
 // That of a gate over two kids, as most are.
@@ -108,7 +110,7 @@ fn pair_value(what: NodeKind, one: u32, other: u32) -> u32
     value.min(u64::from(NONE)) as u32
 }
 
-// One of two numbers, by what a gate is. Both are worked out before, since a branch is guessed wrongly half of the time.
+// One of two numbers, by what a gate is. Both are worked out before, so that no branch hangs on it.
 fn either(what: NodeKind, of_and: u64, of_or: u64) -> u64
     requires gate { (what ≡ NodeKind.And) ⊎ (what ≡ NodeKind.Or) }
     ensures and { what ≡ NodeKind.And → result ≡ of_and }
@@ -117,28 +119,6 @@ fn either(what: NodeKind, of_and: u64, of_or: u64) -> u64
     match what {
         NodeKind::Or => of_or,
         NodeKind::And | NodeKind::Literal { .. } => of_and,
-    }
-}
-
-// That of any node.
-fn value_by_kind(graph: &Graph, words: &[u32], costs: &[u32], values: &[u32], at: u32) -> u32
-    requires at { at < length graph.now.nodes }
-    requires long { length words.now ≡ graph.now.vars }
-    requires words { All (λ w. w < 3) words.now }
-    requires parts { length costs.now ≤ graph.now.vars }
-    requires total { total_cost costs.now < TOTAL_LIMIT }
-    requires earlier { map cost_in values.now ≡ costs_to graph.now words.now costs.now at }
-    ensures { map cost_in values.now ++ cost_in result ∷ [] ≡ costs_to graph.now words.now costs.now (at + 1) }
-{
-    // Its contract says that this is a graph.
-    let _vars = graph.vars();
-    let kids = graph.kids(at);
-    match graph.what(at) {
-        NodeKind::Literal { var, positive } => {
-            literal_value(leaf(words, var, positive), positive, part_cost(var, costs))
-        }
-        NodeKind::And => and_value(values, kids),
-        NodeKind::Or => or_value(values, kids),
     }
 }
 

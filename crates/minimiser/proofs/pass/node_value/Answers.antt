@@ -1,28 +1,32 @@
-use Rattle.std.proofs.Common.{◌<◌, All, length, refl, ap, sym, ◌∙◌, subst, arith}
-use Rattle.std.specs.Prelude.{IfSome}
-use Rattle.minimiser.specs.Costs.{cost_by, known_at, part_cost, sum_costs}
-use Rattle.minimiser.proofs.Passes.{the_node, goes_on, and_small, gate_of, kids_within}
+use Rattle.std.proofs.Common.{◌≡◌, ◌<◌, ◌∷◌, [], true, map, length, ap, sym, ◌∙◌, subst, arith}
+use Rattle.std.specs.Prelude.{IfSome, slice_index}
+use Rattle.graph_rules.specs.Graphs.{Node, node_fits}
+use Rattle.graph_rules.specs.declared.NodeKind.TheVariants.{And}
+use Rattle.graph_rules.proofs.NodeValues.{below-each}
+use Rattle.graph_rules.proofs.NodesFit.{fits}
+use Rattle.minimiser.specs.Costs.{cost_at, cost_by, node_cost, known_at, part_cost, sum_costs}
+use Rattle.minimiser.specs.Stored.{cost_in}
 use Rattle.minimiser.proofs.Sums.{two_kids}
 use Rattle.minimiser.proofs.pass.node_value.Goals as goal
+use Rattle.minimiser.proofs.pass.node_value.Goals.{In-len2}
 
-pub bounds-values-one : goal.bounds-values-one
-bounds-values-one c = kids_within _ _ _ _ _ _ _ c.vars-vars.ensures.valid c.requires.at (the_node _ _ _ _ c.requires.at refl c.kids.ensures) c.requires.earlier 0 0 (omega (arith, c.in-len2.len_at_least))
-
-pub bounds-values-other : goal.bounds-values-other
-bounds-values-other c = kids_within _ _ _ _ _ _ _ c.vars-vars.ensures.valid c.requires.at (the_node _ _ _ _ c.requires.at refl c.kids.ensures) c.requires.earlier 1 0 (omega (arith, c.in-len2.len_at_least))
-
-pub pair_value-requires-clause-gate : goal.pair_value-requires-clause-gate
-pair_value-requires-clause-gate c = gate_of _ _ _ _ c.vars-vars.ensures.valid (the_node _ _ _ _ c.requires.at c.what.ensures c.kids.ensures) (omega (arith, c.in-len2.len_at_least))
+-- what its two kids cost
+both : (c : In-len2) → map (cost_at (map cost_in c.args.values.now)) c.node.inside.kids.now
+    ≡ cost_in (slice_index c.args.values.now (slice_index c.node.inside.kids.now 0)) ∷ cost_in (slice_index c.args.values.now (slice_index c.node.inside.kids.now 1)) ∷ []
+both c =
+    let fit = subst (λ (n : Node). node_fits (length c.args.words.now) (length c.args.values.now) n ≡ true) (sym c.node.view_is) c.requires.fits in
+    two_kids c.args.values.now c.node.inside.kids.now (omega (arith, c.in-len2.len_at_least, c.in-len2.len_below))
+    (below-each (length c.args.values.now) c.node.inside.kids.now (fits (length c.args.words.now) (length c.args.values.now) _ fit).below)
 
 pub pair_value-requires-clause-small : goal.pair_value-requires-clause-small
 pair_value-requires-clause-small c and =
-    let within : All (λ k. k < length c.args.values.now) c.kids.result.now = kids_within _ _ _ _ _ _ _ c.vars-vars.ensures.valid c.requires.at (the_node _ _ _ _ c.requires.at c.what.ensures c.kids.ensures) c.requires.earlier in
-    subst (λ cs. IfSome (sum_costs cs) (λ n. n < 2147483647)) (two_kids c.args.values.now c.kids.result.now (omega (arith, c.in-len2.len_at_least, c.in-len2.len_below)) within)
-    (and_small _ _ _ _ _ _ _ c.vars-vars.ensures.valid c.requires.total c.requires.at (the_node _ _ _ _ c.requires.at (sym and ∙ c.what.ensures) c.kids.ensures) c.requires.earlier)
+    let is : c.args.node.now ≡ record { what = And; kids = c.node.inside.kids.now } = sym c.node.view_is ∙ (λ i. record { what = and i; kids = c.node.inside.kids.now }) in
+    subst (λ cs. IfSome (sum_costs cs) (λ n. n < 2147483647)) (both (goal.at.pair_value-requires-clause-small c).In-len2)
+    (subst (λ (n : Node). IfSome (node_cost (known_at c.args.words.now) (part_cost c.args.costs.now) n (map cost_in c.args.values.now)) (λ n. n < 2147483647)) is
+    (c.requires.small (ap (λ (n : Node). n.what) is)))
 
 pub returns-in-len2 : goal.returns-in-len2
 returns-in-len2 c =
-    let within : All (λ k. k < length c.args.values.now) c.kids.result.now = kids_within _ _ _ _ _ _ _ c.vars-vars.ensures.valid c.requires.at (the_node _ _ _ _ c.requires.at c.what.ensures c.kids.ensures) c.requires.earlier in
-    goes_on _ _ _ _ _ _ _ (the_node _ _ _ _ c.requires.at c.what.ensures c.kids.ensures) c.requires.earlier
-    (c.pair_value.ensures (known_at c.args.words.now) (part_cost c.args.costs.now)
-    ∙ ap (cost_by (known_at c.args.words.now) (part_cost c.args.costs.now) c.what.result) (sym (two_kids c.args.values.now c.kids.result.now (omega (arith, c.in-len2.len_at_least, c.in-len2.len_below)) within)))
+    c.pair_value.ensures (known_at c.args.words.now) (part_cost c.args.costs.now)
+    ∙ ap (cost_by (known_at c.args.words.now) (part_cost c.args.costs.now) c.node.inside.what) (sym (both (goal.at.returns-in-len2 c).In-len2))
+    ∙ ap (λ (n : Node). node_cost (known_at c.args.words.now) (part_cost c.args.costs.now) n (map cost_in c.args.values.now)) c.node.view_is

@@ -1,9 +1,32 @@
-use Rattle.std.proofs.Common.{arith}
-use Rattle.minimiser.proofs.Passes.{all_valued, none_yet}
+use Rattle.std.proofs.Common.{◌<◌, length, sym, ◌∙◌, arith}
+use Rattle.std.proofs.lemmas.List.{length-take-le}
+use Rattle.std.proofs.lemmas.Option.{slice_get_within}
+use Rattle.minimiser.proofs.Passes.{walked, fits_here, and_fits, goes_on, written, all_valued, none_yet}
 use Rattle.minimiser.proofs.pass.put_least_costs.Goals as goal
 
-pub loop-at-init : goal.loop-at-init
-loop-at-init g c = none_yet c.args.graph.now c.args.words.now c.args.costs.now
+pub loop-node-init : goal.loop-node-init
+loop-node-init g c = (sym (c.into_iter-node-iterator.ensures.into_iter_gives ∙ c.walk-node-items.ensures.nodes), none_yet c.args.graph.now c.args.words.now c.args.costs.now)
+
+pub node_value-value-requires-clause-fits : goal.node_value-value-requires-clause-fits
+node_value-value-requires-clause-fits g c =
+    let at = walked c.args.graph.now c.loop-node.at c.in-Some.node c.loop-node.node-iterator c.next.new.self c.loop-node.invariant.0 c.in-Some.ensures.steps in
+    let inside : c.loop-node.at < length c.args.graph.now.nodes = slice_get_within c.args.graph.now.nodes c.loop-node.at c.in-Some.node at.there in
+    let front = length-take-le c.loop-node.at c.loop-node.values (omega (arith, inside, c.loop-node.auto.values, c.requires.room)) in
+    fits_here _ _ _ _ _ c.walk-node-items.ensures.valid at.there c.requires.long front
+
+pub node_value-value-requires-clause-small : goal.node_value-value-requires-clause-small
+node_value-value-requires-clause-small g c and =
+    let at = walked c.args.graph.now c.loop-node.at c.in-Some.node c.loop-node.node-iterator c.next.new.self c.loop-node.invariant.0 c.in-Some.ensures.steps in
+    and_fits _ _ _ _ _ _ _ c.walk-node-items.ensures.valid c.requires.total at.there c.loop-node.invariant.1 and
+
+pub loop-node-preserved : goal.loop-node-preserved
+loop-node-preserved g c =
+    let at = walked c.args.graph.now c.loop-node.at c.in-Some.node c.loop-node.node-iterator c.next.new.self c.loop-node.invariant.0 c.in-Some.ensures.steps in
+    let inside : c.loop-node.at < length c.args.graph.now.nodes = slice_get_within c.args.graph.now.nodes c.loop-node.at c.in-Some.node at.there in (
+      at.behind,
+      written c.loop-node.values c.loop-node.at c.node_value-value.result (omega (arith, inside, c.loop-node.auto.values, c.requires.room))
+          ∙ goes_on _ _ _ _ _ _ _ at.there c.loop-node.invariant.1 c.node_value-value.ensures,
+    )
 
 pub returns-clause-values : goal.returns-clause-values
-returns-clause-values g c = all_valued c.args.graph.now c.args.words.now c.args.costs.now c.loop-at.at c.loop-at.values (omega (arith, c.len-at-end.ensures.len)) (omega arith) c.loop-at.invariant
+returns-clause-values g c = all_valued _ _ _ _ _ _ (omega (arith, c.loop-node.auto.values, c.requires.room)) c.loop-node.invariant.0 c.in-None.ensures.steps.0 c.loop-node.invariant.1

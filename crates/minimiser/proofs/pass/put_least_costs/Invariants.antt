@@ -1,7 +1,7 @@
-use Rattle.std.proofs.Common.{◌≡◌, map, take}
+use Rattle.std.proofs.Common.{◌≡◌, map, take, drop}
 use Rattle.minimiser.specs.Stored.{cost_in, costs_to}
 use Rattle.minimiser.proofs.pass.put_least_costs.Given as goal
 
--- the values of the nodes so far
-abbrev pub invariant-loop-at : goal.invariant-loop-at
-invariant-loop-at g l = map cost_in (take l.at l.values) ≡ costs_to l.graph l.words l.costs l.at
+-- the nodes that are left, and the values of those before them
+abbrev pub invariant-loop-node : goal.invariant-loop-node
+invariant-loop-node g l = (drop l.at l.graph.nodes ≡ l.node-iterator) × (map cost_in (take l.at l.values) ≡ costs_to l.graph l.words l.costs l.at)

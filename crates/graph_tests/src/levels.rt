@@ -15,7 +15,7 @@ use std::test::Fail;
 type Row = ([u32; 3], [u32; 3], u32, &'static [([u32; 3], u32)]);
 
 // The first or the second part is faulty. No node mentions the third, which is free to be so too.
-const ROWS: [Row; 7] = [
+const ROWS: [Row; 8] = [
     (
         [0, 0, 0],
         [1, 1, 1],
@@ -52,6 +52,13 @@ const ROWS: [Row; 7] = [
             ([1, 1, 0], 110),
             ([1, 1, 1], 143),
         ],
+    ),
+    // the third is held to be faulty
+    (
+        [0, 0, 2],
+        [40, 70, 33],
+        143,
+        &[([1, 0, 1], 73), ([0, 1, 1], 103), ([1, 1, 1], 143)],
     ),
     // the greatest cost of a part; of two states that cost as much the one comes first in which the first part is faulty
     (

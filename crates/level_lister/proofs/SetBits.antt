@@ -1,9 +1,10 @@
 -- Words whose numbers are greater.
-use Rattle.std.proofs.Common.{◌≡◌, ℕ, zero, suc, ◌+◌, ◌-◌, ◌*◌, ◌/◌, ◌%◌, ◌^◌, ◌<◌, ◌≤◌, false, ◌&&◌, List, length, get_or, set, refl, ap, sym, ◌∙◌, arith, ⊎_elim, bit_and, bit_or}
+use Rattle.std.proofs.Common.{◌≡◌, ℕ, zero, suc, ◌+◌, ◌-◌, ◌*◌, ◌/◌, ◌%◌, ◌^◌, ◌<◌, ◌≤◌, false, ◌&&◌, List, length, get_or, set, refl, ap, sym, ◌∙◌, subst, arith, ⊎_elim, bit_and, bit_or}
 use Rattle.std.specs.Prelude.{◌==◌, nat_le}
 use Rattle.std.specs.Int.{bit_at}
-use Rattle.std.proofs.lemmas.Nat.{or_shifted, shl_whole, shr-shr}
-use Rattle.std.proofs.lemmas.Nat.Bits.{bit_at-zero, bit_at_and, bit_at_ones, bit_at-lt, bit_at_cat_low, bit_at_cat_high}
+use Rattle.std.proofs.lemmas.Nat.{pow_pos, or_shifted, shl_whole, shr-shr}
+use Rattle.std.proofs.lemmas.Nat.Bits.{bit_at-zero, bit_at_and, bit_at_ones, bit_at-lt, bit_at_cat_low, bit_at_cat_high, bit_at_above}
+use Rattle.std.proofs.Math.Nat.{lt-div-mul-add}
 use Rattle.std.proofs.Math.ListN.{length-set}
 use Rattle.std.proofs.lemmas.Bool.{cases_eq, cases_lt, le-leb, lt-leb}
 use Rattle.std.proofs.lemmas.List.{get_or-set_same, get_or-set_other}
@@ -36,6 +37,12 @@ pub joined_above : (high low more b : ℕ) → high < 2 ^ 32 → low < 2 ^ 32 �
     → bit_at (bit_and (bit_or (high * 4294967296 % 18446744073709551616) low / 2 ^ (32 - more)) 4294967295) b ≡ bit_at high (b - more)
 joined_above high low more b h l m le lt =
     joined high low more b h l lt ∙ bit_at_cat_high high 32 low (32 - more + b) l (omega arith) ∙ ap (bit_at high) (omega arith)
+
+-- no bit is left from one on
+pub no_high : (x s b : ℕ) → x / 2 ^ s ≡ 0 → s ≤ b → (bit_at x b == 1) ≡ false
+no_high x s b none le = ap (λ y. y == 1) (bit_at_above x s b small le) where
+  small : x < 2 ^ s
+  small = let below : x < 0 * 2 ^ s + 2 ^ s = subst (λ d. x < d * 2 ^ s + 2 ^ s) none (lt-div-mul-add (pow_pos s)) in omega (arith, below)
 
 -- ---- the numbers of a set
 

@@ -1,13 +1,13 @@
 -- The bits of one word, moved by those of another.
-use Rattle.std.proofs.Common.{◌≡◌, ℕ, subst, ◌+◌, ◌-◌, ◌*◌, ◌/◌, ◌%◌, ◌^◌, ◌<◌, ◌≤◌, true, false, ap, sym, ◌∙◌, arith, inl, inr, ⊎_elim, bit_or}
+use Rattle.std.proofs.Common.{◌≡◌, ℕ, ◌+◌, ◌-◌, ◌*◌, ◌/◌, ◌%◌, ◌^◌, ◌<◌, ◌≤◌, true, false, ap, sym, ◌∙◌, arith, inl, inr, ⊎_elim, bit_or}
 use Rattle.std.specs.Prelude.{◌⊎◌, ◌==◌}
 use Rattle.std.specs.Int.{bit_at}
 use Rattle.std.proofs.lemmas.Nat.{pow_pos, one_shl}
 use Rattle.std.proofs.lemmas.Nat.Bits.{bit_at-zero, bit_at-pow_same, bit_at-pow_other, bit_at_cat_low, bit_at_cat_high, bit_at_above}
-use Rattle.std.proofs.Math.Nat.{lt-div-mul-add}
 use Rattle.std.proofs.lemmas.Bool.{cases_eq, cases_lt, or_cases, or_left, or_right, eq-eqb, ne_eqb, false≢true}
 use Rattle.level_lister.specs.inner.Pairs.{has_bit, SpreadOf, IsSpread}
 use Rattle.part_sets.proofs.SetBits.{or-bit}
+use Rattle.level_lister.proofs.SetBits.{no_high}
 
 pub no_bit : (n : ℕ) → has_bit 0 n ≡ false
 no_bit n = ap (λ b. b == 1) (bit_at-zero n)
@@ -64,11 +64,9 @@ module _ (left right step : ℕ) where
     sound = λ m e. let s = is.sound m e in record { first = s.first; times = s.times; on_left = s.on_left; few = omega (arith, s.few, le); on_right = s.on_right; sum_is = s.sum_is };
     whole = λ m j e lt f h. ⊎_elim
         (λ (p : j < times). is.whole m j e p f h)
-        (λ (p : times ≤ j). absurd (false≢true (sym (ap (λ b. b == 1) (bit_at_above right times j small p)) ∙ f)))
+        (λ (p : times ≤ j). absurd (false≢true (sym (no_high right times j none p) ∙ f)))
         (cases_lt j times);
-  } where
-    small : right < 2 ^ times
-    small = let below : right < 0 * 2 ^ times + 2 ^ times = subst (λ d. right < d * 2 ^ times + 2 ^ times) none (lt-div-mul-add (pow_pos times)) in omega (arith, below)
+  }
 
   pub spread_more : (count set : ℕ) → has_bit right count ≡ true → IsSpread left right step count set
       → IsSpread left right step (count + 1) (bit_or set (left * 2 ^ (step * count) % 4294967296))

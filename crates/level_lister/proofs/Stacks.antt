@@ -19,3 +19,11 @@ module _ (Is : ℕ → List ℕ → Type 0) (size : ℕ) where
   pub sets_before : (sets front back : List ℕ) (at : ℕ) → sets ≡ front ++ back → length front ≡ at * size → ((k : ℕ) → k < at → Is k (set_at sets k size)) → (k : ℕ) → k < at → Is k (set_at front k size)
   sets_before sets front back at e h are k lt =
       subst (Is k) (ap (λ xs. set_at xs k size) e ∙ set_at-front front back k size (omega (arith, h, room_for k at size lt))) (are k lt)
+
+  -- words may come behind them
+  pub sets_front : (front back : List ℕ) (n : ℕ) → length front ≡ n * size → ((k : ℕ) → k < n → Is k (set_at front k size)) → (k : ℕ) → k < n → Is k (set_at (front ++ back) k size)
+  sets_front front back n h are k lt = subst (Is k) (sym (set_at-front front back k size (omega (arith, h, room_for k n size lt)))) (are k lt)
+
+  -- and other words than before
+  pub sets_stay : (sets front back other : List ℕ) (n : ℕ) → sets ≡ front ++ back → length front ≡ n * size → ((k : ℕ) → k < n → Is k (set_at sets k size)) → (k : ℕ) → k < n → Is k (set_at (front ++ other) k size)
+  sets_stay sets front back other n e h are = sets_front front other n h (sets_before sets front back n e h are)

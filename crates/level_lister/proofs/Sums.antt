@@ -1,10 +1,12 @@
 -- Sums of the costs of two sets.
-use Rattle.std.proofs.Common.{◌≡◌, ℕ, ◌+◌, ◌-◌, ◌*◌, ◌<◌, ◌≤◌, true, false, ◌||◌, List, length, ap, sym, ◌∙◌, arith, ⊎_elim}
-use Rattle.std.specs.Prelude.{nat_le}
+use Rattle.std.proofs.Common.{◌≡◌, ℕ, ◌+◌, ◌-◌, ◌*◌, ◌/◌, ◌%◌, ◌^◌, ◌<◌, ◌≤◌, true, false, ◌||◌, List, length, get_or, ap, sym, ◌∙◌, subst, arith, ⊎_elim}
+use Rattle.std.specs.Prelude.{nat_le, ◌==◌}
+use Rattle.std.specs.Int.{bit_at}
 use Rattle.std.proofs.lemmas.Bool.{cases_lt, and_parts, and_from, or_cases, or_left, or_right, le-leb, leb-true, false≢true}
 use Rattle.part_sets.specs.Numbers.{has_number}
 use Rattle.level_lister.specs.inner.CostSets.{has_shifted, SumOf, AreSums}
 use Rattle.part_sets.proofs.SetBits.{has-within}
+use Rattle.level_lister.proofs.SetBits.{no_high}
 
 -- no sum is added where the right set has not the cost
 pub sums_skip : (left right set : List ℕ) (cost : ℕ) → AreSums left right cost set → has_number right cost ≡ false → AreSums left right (cost + 1) set
@@ -35,3 +37,26 @@ sums_add left right old new cost long are e added = record {
   by_sum n p =
       let parts = and_parts (nat_le cost n) (has_number left (n - cost)) p in
       record { first = n - cost; second = cost; on_left = parts.1; on_right = e; sum_is = omega (arith, leb-true cost n parts.0) }
+
+-- no sum is added where the word has no bit from one on
+pub sums_end : (left right set : List ℕ) (i bit : ℕ) → bit < 32 → get_or right i 0 / 2 ^ bit ≡ 0 → AreSums left right (32 * i + bit) set → AreSums left right (32 * (i + 1)) set
+sums_end left right set i bit few e are = record {
+  sound = are.sound;
+  whole = λ j k f g lt h. ⊎_elim
+      (λ (p : k < 32 * i + bit). are.whole j k f g p h)
+      (λ (p : 32 * i + bit ≤ k). absurd (false≢true (sym (no_more k p lt) ∙ g)))
+      (cases_lt k (32 * i + bit));
+} where
+  no_more : (k : ℕ) → 32 * i + bit ≤ k → k < 32 * (i + 1) → has_number right k ≡ false
+  no_more k p lt =
+      let place : k / 32 ≡ i = omega arith in
+      let high : bit ≤ k % 32 = omega arith in
+      ap (λ m. bit_at (get_or right m 0) (k % 32) == 1) place ∙ no_high (get_or right i 0) bit (k % 32) e high
+
+-- they are the same, whichever set is moved by the other
+pub sums_flip : (left right set : List ℕ) (from to : ℕ) → 32 * length left ≤ from → AreSums right left from set → AreSums left right to set
+sums_flip left right set from to all are = record {
+  sound = λ n e. let s = are.sound n e in record { first = s.second; second = s.first; on_left = s.on_right; on_right = s.on_left; sum_is = omega (arith, s.sum_is) };
+  whole = λ j k f g lt h. let same : k + j ≡ j + k = omega arith in
+      subst (λ n. has_number set n ≡ true) same (are.whole k j g f (omega (arith, has-within left j f)) (omega arith));
+}

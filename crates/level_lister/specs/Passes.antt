@@ -1,5 +1,5 @@
 -- How many passes over the graph a call makes.
-use Rattle.std.specs.Prelude.{ℕ, ◌+◌, ◌*◌, ◌/◌, ◌^◌, ◌<◌, max, Bool, List, Option, Some, None}
+use Rattle.std.specs.Prelude.{ℕ, ◌+◌, ◌*◌, ◌/◌, ◌^◌, ◌<◌, ◌≤◌, nat_le, max, if◌then◌else◌, Bool, List, Option, Some, None}
 use Rattle.diagnosis_lister.specs.Listing.{fault_count}
 
 -- a word has room for so many groups of parts at each cost that is listed
@@ -11,9 +11,13 @@ group_count top = 32 / (top + 1)
 abbrev pub told_groups : ℕ → ℕ
 told_groups top = max 1 (group_count top)
 
+-- where costs of 32 and more are listed a search begins with a pass that brings the costs of all nodes
+abbrev pub first_passes : ℕ → ℕ
+first_passes top = if nat_le 32 top then 1 else 0
+
 -- so many passes find the first fault among the parts, or that there is none
 abbrev pub AreEnough : ℕ → ℕ → ℕ → Type 0
-AreEnough parts top search = parts < (told_groups top + 1) ^ search
+AreEnough parts top search = (divisions : ℕ) × (parts < (told_groups top + 1) ^ divisions) × (first_passes top + divisions ≤ search)
 
 -- what it takes to fix the parts as a state has them: each fault is searched, and at last that there is no other
 abbrev pub fixing_passes : ℕ → List Bool → ℕ

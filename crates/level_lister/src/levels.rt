@@ -2,7 +2,7 @@ ghost use Rattle.std.specs.Prelude.{◌≡◌, ℕ, ◌+◌, ◌*◌, ◌<◌, �
 ghost use Rattle.conditioner.specs.Models.{models, total_cost};
 ghost use Rattle.conditioner.specs.Words.{bits_of};
 ghost use Rattle.level_lister.specs.Listing.{IsFor, cost_words, point_if, later_levels, level_step};
-ghost use Rattle.level_lister.specs.Passes.{AreEnough, most_passes};
+ghost use Rattle.level_lister.specs.Passes.{AreEnough, most_passes, told_groups};
 
 use crate::search::Search;
 use crate::states::{keep, put_back, read_state};
@@ -73,6 +73,16 @@ impl Levels {
         ensures { result ≡ self.now.top }
     {
         self.top
+    }
+
+    // In how many groups of parts a pass tells the first fault.
+    pub(crate) fn told_groups(&self) -> u32
+        requires { self.now.top ≤ TOP_LIMIT }
+        ensures count { result ≡ told_groups self.now.top }
+        ensures some { 0 < result }
+        ensures few { result ≤ 32 }
+    {
+        (32 / (self.top() + 1)).max(1)
     }
 
     pub(crate) fn costs(&self) -> &[u32]

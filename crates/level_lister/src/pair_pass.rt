@@ -6,12 +6,12 @@ ghost use Rattle.ranking.specs.Cases.{agrees_at};
 ghost use Rattle.graph_rules.specs.declared.NodeKind.TheVariants.{And, Or};
 ghost use Rattle.graph_rules.specs.Graphs.{node_at};
 ghost use Rattle.minimiser.specs.Costs.{known_at};
-ghost use Rattle.level_lister.specs.Passes.{group_count, told_groups};
+ghost use Rattle.level_lister.specs.Passes.{group_count};
 ghost use Rattle.part_sets.specs.Numbers.{part_words, set_at};
 ghost use Rattle.part_sets.specs.PartSets.{ArePartsOf, SameBelow};
 ghost use Rattle.level_lister.specs.inner.Pairs.{has_bit, Tells, TellsNode, TellNodes, TellsWhole, group_in, pair_at};
 
-use crate::levels::{Levels, TOP_LIMIT};
+use crate::levels::Levels;
 use crate::pairs::{Groups, Pair, either, joined, one};
 use crate::search::Search;
 use conditioner::{Leaf, leaf};
@@ -42,16 +42,6 @@ fn pair_at(values: &[u32], k: usize) -> Pair
 }
 
 impl Levels {
-    // In how many groups of parts a pass tells the first fault.
-    pub(crate) fn told_groups(&self) -> u32
-        requires { self.now.top ≤ TOP_LIMIT }
-        ensures count { result ≡ told_groups self.now.top }
-        ensures some { 0 < result }
-        ensures few { result ≤ 32 }
-    {
-        (32 / (self.top() + 1)).max(1)
-    }
-
     // How many groups a word tells apart at each cost.
     pub(crate) fn group_count(&self) -> u32
         requires { self.now.top < 32 }

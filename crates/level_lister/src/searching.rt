@@ -1,7 +1,8 @@
 //! The first part that is faulty in some state of a cost.
 ghost use Rattle.std.specs.Prelude.{◌≡◌, ℕ, ◌+◌, ◌*◌, ◌<◌, ◌≤◌, length, All, MatchOption};
 ghost use Rattle.level_lister.specs.Listing.{cost_words};
-ghost use Rattle.level_lister.specs.Passes.{AreEnough, group_count, told_groups};
+ghost use Rattle.level_lister.specs.Passes.{AreEnough, first_passes, group_count, told_groups};
+ghost use Rattle.level_lister.specs.inner.NodeSets.{BeginWithSets, AreReady};
 ghost use Rattle.level_lister.specs.inner.Pairs.{FaultOf, FaultIn, OkAmong};
 
 use crate::fault_pass::FaultPass;
@@ -12,18 +13,40 @@ use part_sets::has_number;
 use std::sync::ledger::Ledger;
 
 impl Search<'_> {
+    // Puts the sets of the costs of all nodes in front, where costs of 32 and more are listed, by one pass. While the words are the
+    // same, each pass that looks for a fault goes by them.
+    fn prepare<L: Ledger>(&self, words: &[u32], work: &mut [u32], steps: &mut Steps<L>)
+        requires long { length words.now ≡ self.now.graph.now.vars }
+        requires words { All (λ w. w < 3) words.now }
+        requires work { length work.old ≡ (length self.now.graph.now.nodes + 2) * (2 * cost_words self.now.levels.now.top) }
+        ensures ready { AreReady self.now.graph.now words.now self.now.levels.now work.new }
+        ensures steps { steps.new ≡ steps.old + first_passes self.now.levels.now.top }
+    {
+        if self.levels.top() < 32 {
+            return;
+        }
+        steps.tick();
+        let size = self.levels.size();
+        let (sets, rest) = work.split_at_mut(self.graph.len() as usize * size);
+        let (spare, rest) = rest.split_at_mut(size);
+        let (other, _) = rest.split_at_mut(size);
+        self.put_sets(words, sets, spare, other);
+    }
+
     // The first of the groups that are told in which an open part is faulty in some state of this cost, or the number of them where
-    // there is none. It takes one pass.
+    // there is none. It takes one pass, and leaves what was prepared.
     fn faulty_group(&self, words: &[u32], work: &mut [u32], cost: u32, groups: Groups) -> u32
         requires long { length words.now ≡ self.now.graph.now.vars }
         requires words { All (λ w. w < 3) words.now }
         requires size { 0 < groups.size }
         requires work { length work.old ≡ (length self.now.graph.now.nodes + 2) * (2 * cost_words self.now.levels.now.top) }
         requires cost { cost ≤ self.now.levels.now.top }
+        requires ready { AreReady self.now.graph.now words.now self.now.levels.now work.old }
         ensures few { result ≤ told_groups self.now.levels.now.top }
         ensures found { result < told_groups self.now.levels.now.top
             → FaultOf self.now.graph.now words.now self.now.levels.now.costs cost groups result }
         ensures before { (g : ℕ) → g < result → FaultOf self.now.graph.now words.now self.now.levels.now.costs cost groups g → ⊥ }
+        ensures ready { AreReady self.now.graph.now words.now self.now.levels.now work.new }
     {
         if self.levels.top() < 32 {
             self.faulty_group_by_pairs(words, work, cost, groups)
@@ -64,7 +87,7 @@ impl Search<'_> {
     }
 
     // The first group alone: 0 where an open part of it is faulty in some state of this cost, and else 1. The pass goes over the nodes
-    // twice, for their costs and then for those with a fault.
+    // once, for the costs with a fault: the sets of all costs are there.
     fn faulty_group_by_sets(
         &self,
         words: &[u32],
@@ -77,9 +100,11 @@ impl Search<'_> {
         requires size { 0 < groups.size }
         requires work { length work.old ≡ (length self.now.graph.now.nodes + 2) * (2 * cost_words self.now.levels.now.top) }
         requires cost { cost ≤ self.now.levels.now.top }
+        requires sets { BeginWithSets self.now.graph.now words.now self.now.levels.now work.old }
         ensures few { result ≤ 1 }
         ensures found { result < 1 → FaultOf self.now.graph.now words.now self.now.levels.now.costs cost groups result }
         ensures before { (g : ℕ) → g < result → FaultOf self.now.graph.now words.now self.now.levels.now.costs cost groups g → ⊥ }
+        ensures sets { BeginWithSets self.now.graph.now words.now self.now.levels.now work.new }
     {
         let size = self.levels.size();
         let all = self.graph.len() as usize * size;
@@ -88,7 +113,6 @@ impl Search<'_> {
         let (whole, rest) = rest.split_at_mut(size);
         let (other, rest) = rest.split_at_mut(size);
         let (spare, _) = rest.split_at_mut(size);
-        self.put_sets(words, sets, other, spare);
         let pass = FaultPass {
             levels: self.levels,
             graph: self.graph,
@@ -124,9 +148,14 @@ impl Search<'_> {
             × OkAmong self.now.graph.now words.now self.now.levels.now.costs cost from part)) }
         ensures steps { (search : ℕ) → AreEnough (length self.now.levels.now.costs) self.now.levels.now.top search → steps.new ≤ steps.old + search }
     {
+        let parts = self.levels.costs().len();
+        if from == parts {
+            return None;
+        }
+        self.prepare(words, work, steps);
         let count = self.levels.told_groups() as usize;
         let mut low = from;
-        let mut span = self.levels.costs().len() - from + 1;
+        let mut span = parts - from + 1;
         while span > 1 {
             let size = (span + count) / (count + 1);
             steps.tick();
@@ -134,10 +163,6 @@ impl Search<'_> {
             low += group * size;
             span = size;
         }
-        if low < self.levels.costs().len() {
-            Some(low)
-        } else {
-            None
-        }
+        if low < parts { Some(low) } else { None }
     }
 }

@@ -1,5 +1,5 @@
 //! Sets of costs, as bits of words.
-ghost use Rattle.std.specs.Prelude.{◌≡◌, ℕ, ◌+◌, ◌-◌, ◌*◌, ◌/◌, ◌%◌, ◌<◌, ◌≤◌, ◌||◌, length, ◌==◌};
+ghost use Rattle.std.specs.Prelude.{◌≡◌, ℕ, ◌+◌, ◌-◌, ◌*◌, ◌/◌, ◌%◌, ◌<◌, ◌≤◌, true, false, ◌||◌, length, ◌==◌};
 ghost use Rattle.std.specs.Int.{bit_at};
 ghost use Rattle.part_sets.specs.Numbers.{has_number};
 ghost use Rattle.level_lister.specs.inner.CostSets.{has_shifted, word_before, AreSums};
@@ -62,7 +62,7 @@ fn joined_word(high: u32, low: u32, more: usize) -> u32
     ((both >> (WIDTH - more)) & 0xFFFF_FFFF) as u32
 }
 
-// Makes a set of the sums of a number of one set and a number of another.
+// Makes a set of the sums of a number of one set and a number of another. The first is to have few: the other is moved by each.
 pub(crate) fn put_sums(set: &mut [u32], left: &[u32], right: &[u32])
     requires few { length set.old ≤ SET_LIMIT }
     requires left { length left.now ≡ length set.old }
@@ -70,9 +70,38 @@ pub(crate) fn put_sums(set: &mut [u32], left: &[u32], right: &[u32])
     ensures { AreSums left.now right.now (32 * length set.old) set.new }
 {
     clear(set);
-    for cost in 0..WIDTH * right.len() {
-        if has_number(right, cost) {
-            add_shifted(set, left, cost);
+    if is_empty(right) {
+        return;
+    }
+    for i in 0..left.len() {
+        add_moved(set, right, left, i);
+    }
+}
+
+// Whether a set has no number.
+fn is_empty(set: &[u32]) -> bool
+    ensures { result ≡ true → (n : ℕ) → has_number set.now n ≡ false }
+{
+    set.iter().all(|word| *word == 0)
+}
+
+// Adds to a set the numbers of another, moved by each number of a word of a third.
+fn add_moved(set: &mut [u32], other: &[u32], moves: &[u32], i: usize)
+    requires few { length set.old ≤ SET_LIMIT }
+    requires other { length other.now ≡ length set.old }
+    requires moves { length moves.now ≡ length set.old }
+    requires i { i < length moves.now }
+    requires before { AreSums other.now moves.now (32 * i) set.old }
+    ensures { AreSums other.now moves.now (32 * (i + 1)) set.new }
+{
+    for bit in 0..WIDTH {
+        // Most words are 0, or have low bits alone.
+        if moves[i] >> bit == 0 {
+            return;
+        }
+        let number = WIDTH * i + bit;
+        if has_number(moves, number) {
+            add_shifted(set, other, number);
         }
     }
 }

@@ -23,7 +23,7 @@ const NO_GROUPS: Groups = Groups {
 
 impl Search<'_> {
     // Whether some state that agrees with the words has this cost. It takes one pass.
-    pub(crate) fn reaches<L: Ledger>(
+    fn reaches<L: Ledger>(
         &self,
         words: &[u32],
         work: &mut [u32],

@@ -1,7 +1,8 @@
 -- The sets of the costs that the nodes of a graph can have.
-use Rattle.std.specs.Prelude.{ℕ, ◌-◌, ◌<◌, true, List, length}
+use Rattle.std.specs.Prelude.{ℕ, ◌-◌, ◌<◌, ◌≤◌, true, List, length}
 use Rattle.graph_rules.specs.Graphs.{Graph, is_true, mentions}
 use Rattle.part_sets.specs.Numbers.{set_at}
+use Rattle.level_lister.specs.Listing.{Kept, cost_words}
 use Rattle.level_lister.specs.inner.CostSets.{IsCostSet}
 
 -- the set of the costs at which a node can be true, of the faulty parts below it
@@ -16,3 +17,11 @@ AreNodeSets graph words costs size sets n = (k : ℕ) → k < n → IsNodeSet gr
 abbrev pub IsWholeSet : Graph → List ℕ → List ℕ → List ℕ → Type 0
 IsWholeSet graph words costs set =
     IsCostSet words costs (λ a. is_true graph.nodes (length graph.nodes - 1) a) (λ v. true) set
+
+-- Some words begin with those of all nodes, as many words each as the costs need.
+abbrev pub BeginWithSets : Graph → List ℕ → Kept → List ℕ → Type 0
+BeginWithSets graph words levels work = AreNodeSets graph words levels.costs (cost_words levels.top) work (length graph.nodes)
+
+-- They are there where a pass goes by them: where costs of 32 and more are listed.
+abbrev pub AreReady : Graph → List ℕ → Kept → List ℕ → Type 0
+AreReady graph words levels work = 32 ≤ levels.top → BeginWithSets graph words levels work

@@ -1,15 +1,17 @@
-use Rattle.std.proofs.Common.{◌≡◌, length, sym, ◌∙◌, subst, arith}
+use Rattle.std.proofs.Common.{◌≡◌, ◌*◌, length, sym, ◌∙◌, subst, arith}
 use Rattle.std.proofs.lemmas.Bool.{false≢true}
 use Rattle.level_lister.specs.Listing.{cost_words}
-use Rattle.level_lister.specs.inner.NodeSets.{AreNodeSets}
+use Rattle.level_lister.specs.inner.NodeSets.{IsNodeSet}
 use Rattle.level_lister.specs.inner.Pairs.{FaultOf}
 use Rattle.level_lister.proofs.FaultStates.{first_sound, first_whole}
+use Rattle.level_lister.proofs.Stacks.{sets_before, sets_stay}
 use Rattle.level_lister.proofs.search.Search.faulty_group_by_sets.Goals as goal
 
 pub put_all-requires-clause-are : goal.put_all-requires-clause-are
 put_all-requires-clause-are c =
-    let size : length c.split_at_mut-other.result.0.now ≡ cost_words c.args.self.now.levels.now.top = omega (arith, c.split_at_mut-other.ensures.front_len, c.size-size.ensures) in
-    subst (λ n. AreNodeSets c.args.self.now.graph.now c.args.words.now c.args.self.now.levels.now.costs n c.put_sets.new.sets (length c.args.self.now.graph.now.nodes)) size c.put_sets.ensures
+    let graph = c.args.self.now.graph.now in
+    sets_before (IsNodeSet graph c.args.words.now c.args.self.now.levels.now.costs) (cost_words c.args.self.now.levels.now.top) c.args.work.now c.split_at_mut-sets.result.0.now c.split_at_mut-sets.result.1.now (length graph.nodes)
+    c.split_at_mut-sets.ensures.value (c.split_at_mut-sets.ensures.front_len ∙ (λ i. c.len.ensures.len i * c.size-size.ensures i)) c.requires.sets
 
 pub returns-then-has_number-clause-found : goal.returns-then-has_number-clause-found
 returns-then-has_number-clause-found c lt =
@@ -22,3 +24,15 @@ returns-else-has_number-clause-before c g lt f =
     false≢true (sym (sym c.has_number.ensures ∙ c.if-has_number.false) ∙ first_whole c.args.self.now.graph.now c.args.words.now c.args.self.now.levels.now.costs c.args.groups c.len.ensures.valid c.requires.long c.args.self.now.for_graph.parts
     c.put_all.new.whole c.put_all.ensures c.args.cost (omega (arith, c.split_at_mut-whole.ensures.front_len, c.size-size.ensures, c.requires.cost))
     (subst (FaultOf c.args.self.now.graph.now c.args.words.now c.args.self.now.levels.now.costs c.args.cost c.args.groups) first f))
+
+pub returns-then-has_number-clause-sets : goal.returns-then-has_number-clause-sets
+returns-then-has_number-clause-sets c =
+    let graph = c.args.self.now.graph.now in
+    sets_stay (IsNodeSet graph c.args.words.now c.args.self.now.levels.now.costs) (cost_words c.args.self.now.levels.now.top) c.args.work.now c.split_at_mut-sets.result.0.now c.split_at_mut-sets.result.1.now _ (length graph.nodes)
+    c.split_at_mut-sets.ensures.value (c.split_at_mut-sets.ensures.front_len ∙ (λ i. c.len.ensures.len i * c.size-size.ensures i)) c.requires.sets
+
+pub returns-else-has_number-clause-sets : goal.returns-else-has_number-clause-sets
+returns-else-has_number-clause-sets c =
+    let graph = c.args.self.now.graph.now in
+    sets_stay (IsNodeSet graph c.args.words.now c.args.self.now.levels.now.costs) (cost_words c.args.self.now.levels.now.top) c.args.work.now c.split_at_mut-sets.result.0.now c.split_at_mut-sets.result.1.now _ (length graph.nodes)
+    c.split_at_mut-sets.ensures.value (c.split_at_mut-sets.ensures.front_len ∙ (λ i. c.len.ensures.len i * c.size-size.ensures i)) c.requires.sets

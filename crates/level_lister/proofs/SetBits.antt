@@ -1,4 +1,4 @@
--- Words whose numbers are greater.
+-- Bits of words, and words whose numbers are greater.
 use Rattle.std.proofs.Common.{◌≡◌, ℕ, zero, suc, ◌+◌, ◌-◌, ◌*◌, ◌/◌, ◌%◌, ◌^◌, ◌<◌, ◌≤◌, false, ◌&&◌, List, length, get_or, set, refl, ap, sym, ◌∙◌, subst, arith, ⊎_elim, bit_and, bit_or}
 use Rattle.std.specs.Prelude.{◌==◌, nat_le}
 use Rattle.std.specs.Int.{bit_at}

@@ -15,7 +15,7 @@ told_groups top = max 1 (group_count top)
 abbrev pub first_passes : ℕ → ℕ
 first_passes top = if nat_le 32 top then 1 else 0
 
--- so many passes find the first fault among the parts, or that there is none
+-- so many passes find the first fault among the parts, or that there is none: those that come first, and those that divide the parts
 abbrev pub AreEnough : ℕ → ℕ → ℕ → Type 0
 AreEnough parts top search = (divisions : ℕ) × (parts < (told_groups top + 1) ^ divisions) × (first_passes top + divisions ≤ search)
 

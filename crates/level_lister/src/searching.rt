@@ -13,8 +13,8 @@ use part_sets::has_number;
 use std::sync::ledger::Ledger;
 
 impl Search<'_> {
-    // Puts the sets of the costs of all nodes in front, where costs of 32 and more are listed, by one pass. While the words are the
-    // same, each pass that looks for a fault goes by them.
+    // Puts the sets of the costs of all nodes at the front of the work, where costs of 32 and more are listed, by one pass. While the
+    // words are the same, each pass that looks for a fault goes by them.
     fn prepare<L: Ledger>(&self, words: &[u32], work: &mut [u32], steps: &mut Steps<L>)
         requires long { length words.now ≡ self.now.graph.now.vars }
         requires words { All (λ w. w < 3) words.now }
@@ -128,8 +128,8 @@ impl Search<'_> {
         }
     }
 
-    // The first open part from one on that is faulty in some state of this cost. Each pass tells in which of some groups it is, or
-    // behind them.
+    // The first open part from one on that is faulty in some state of this cost. Behind what is prepared each pass tells in which of
+    // some groups it is, or behind them.
     pub(crate) fn first_faulty<L: Ledger>(
         &self,
         words: &[u32],

@@ -18,7 +18,7 @@ abbrev pub IsWholeSet : Graph → List ℕ → List ℕ → List ℕ → Type 0
 IsWholeSet graph words costs set =
     IsCostSet words costs (λ a. is_true graph.nodes (length graph.nodes - 1) a) (λ v. true) set
 
--- Some words begin with those of all nodes, as many words each as the costs need.
+-- Some words begin with the sets of all nodes, as many words each as the costs need.
 abbrev pub BeginWithSets : Graph → List ℕ → Kept → List ℕ → Type 0
 BeginWithSets graph words levels work = AreNodeSets graph words levels.costs (cost_words levels.top) work (length graph.nodes)
 

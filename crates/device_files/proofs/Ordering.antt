@@ -7,6 +7,7 @@ use Rattle.branch_states.specs.Branches.{sum_of}
 use Rattle.clause_order.specs.Orders.{IsReordered, IsNarrowed, SameTruth}
 use Rattle.clause_order.proofs.Orders.{narrowed-given, reordered-holds}
 use Rattle.clause_order.proofs.Choosing.{order_of, order_narrows, order_finds}
+use Rattle.device_files.specs.declared.status.Status.TheVariants.{AboveBudget}
 use Rattle.device_files.specs.Output.{says}
 use Rattle.device_files.specs.Orders.{list_by, put_into, ByOrder, ByClauses, IsInOrder, IsListOf}
 use Rattle.device_files.specs.Planning.{within, sum_line}
@@ -47,7 +48,7 @@ kept_within budget found few = rw not_above
     not_above : nat_lt budget (sum_of found.clauses) ≡ false
     not_above = grind arith
 
-pub refused_above : (budget : ℕ) (found : ClauseList) → budget < sum_of found.clauses → within budget (Ok found) ≡ Err (says (sum_line budget) 3)
+pub refused_above : (budget : ℕ) (found : ClauseList) → budget < sum_of found.clauses → within budget (Ok found) ≡ Err (says (sum_line budget) AboveBudget)
 refused_above budget found many = rw above
   where
     above : nat_lt budget (sum_of found.clauses) ≡ true

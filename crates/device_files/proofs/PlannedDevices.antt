@@ -5,6 +5,7 @@ use Rattle.text_rules.specs.Expected.{IsExpectedFault}
 use Rattle.device_model.specs.Devices.{Device}
 use Rattle.clause_encoder.specs.declared.encoding.EncodeError.{EncodeError}
 use Rattle.clause_encoder.specs.Clauses.{ClauseList}
+use Rattle.device_files.specs.declared.status.Status.{Status}
 use Rattle.device_files.specs.declared.planning.Sizes.{Sizes}
 use Rattle.device_files.specs.Output.{Output, Gives, GivesUnlessMemory}
 use Rattle.device_files.specs.Describing.{described, device_in}
@@ -20,7 +21,7 @@ pub refused_sizes : (fault : Option Output) (path file : List ℕ) (clauses : De
 refused_sizes None path file clauses short is = tt
 refused_sizes (Some output) path file clauses short is = ap (sizes_in clauses) (short_file path file short ∙ is)
 
-pub not_planned : (fault : Option Output) (sizes : Result Sizes Output) (status : ℕ) (a b : Option (List ℕ)) → IsExpectedFault fault sizes
+pub not_planned : (fault : Option Output) (sizes : Result Sizes Output) (status : Status) (a b : Option (List ℕ)) → IsExpectedFault fault sizes
     → Gives (or_memory fault) status a b → GivesUnlessMemory (planned sizes) status a b
 not_planned None sizes status a b is said = inl said
 not_planned (Some output) sizes status a b is said = inr (subst (λ (o : Output). Gives o status a b) (sym (ap planned is)) said)

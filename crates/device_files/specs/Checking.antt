@@ -6,6 +6,7 @@ use Rattle.text_rules.specs.Tokens.{spaced}
 use Rattle.graph_rules.specs.declared.TheConstants.{BITS_LIMIT}
 use Rattle.graph_rules.specs.Graphs.{Graph}
 use Rattle.graph_rules.specs.GraphTexts.{Refusal, NoHeader, AtLine, Counts, TooLarge, Shared, edges, verdict}
+use Rattle.device_files.specs.declared.status.Status.TheVariants.{Done, Refused}
 use Rattle.device_files.specs.Output.{Output, says}
 use Rattle.device_files.specs.declared.graph_fault.GraphFault.{GraphFault}
 use Rattle.device_files.specs.declared.graph_fault.GraphFault.TheVariants as faults
@@ -31,11 +32,11 @@ graph_fault_line (Shared node variable) =
 -- the graph of a text, or the output that refuses it
 abbrev pub graph_by_verdict : Result Graph Refusal → Result Graph Output
 graph_by_verdict (Ok graph) = Ok graph
-graph_by_verdict (Err refusal) = Err (says (graph_fault_line refusal) 1)
+graph_by_verdict (Err refusal) = Err (says (graph_fault_line refusal) Refused)
 
 -- the same of a file, which may be too long
 abbrev pub graph_in : List ℕ → Result Graph Output
-graph_in file = if nat_le (length file) TEXT_LIMIT then graph_by_verdict (verdict file) else Err (says long_file_line 1)
+graph_in file = if nat_le (length file) TEXT_LIMIT then graph_by_verdict (verdict file) else Err (says long_file_line Refused)
 
 -- the line that tells a decomposable graph: how many nodes, children and variables it has
 abbrev pub decomposable_line : Graph → List ℕ
@@ -43,5 +44,5 @@ decomposable_line graph =
     spaced (codes "decomposable" ∷ decimal (length graph.nodes) ∷ decimal (edges graph.nodes) ∷ decimal graph.vars ∷ [])
 
 abbrev pub checked : Result Graph Output → Output
-checked (Ok graph) = says (decomposable_line graph) 0
+checked (Ok graph) = says (decomposable_line graph) Done
 checked (Err output) = output

@@ -14,6 +14,7 @@ use Rattle.flattener.specs.declared.flattening.TheConstants.{INSTANCE_LIMIT}
 use Rattle.flattener.specs.Flat.{flattened}
 use Rattle.diag_edge.specs.ErrorLines.{fault_line, above_line}
 use Rattle.device_files.specs.Paths.{is_design_path}
+use Rattle.device_files.specs.declared.status.Status.TheVariants.{Refused}
 use Rattle.device_files.specs.Output.{Output, says, too_long_line, no_memory_line}
 
 abbrev pub netlist_line : NetlistFault → List ℕ
@@ -35,11 +36,11 @@ long_file_line = too_long_line (codes "file") TEXT_LIMIT
 -- a device, or the line that refuses its file
 abbrev pub or_line : {A F : Type 0} → (F → List ℕ) → Result A F → Result A Output
 or_line line (Ok device) = Ok device
-or_line line (Err fault) = Err (says (line fault) 1)
+or_line line (Err fault) = Err (says (line fault) Refused)
 
 abbrev pub design_device : Result Design DesignFault → Result Device Output
 design_device (Ok made) = or_line flatten_line (flattened made)
-design_device (Err fault) = Err (says (design_line fault) 1)
+design_device (Err fault) = Err (says (design_line fault) Refused)
 
 -- the device that a text describes, by the path of its file
 abbrev pub described : List ℕ → List ℕ → Result Device Output
@@ -47,4 +48,4 @@ described path text = if is_design_path path then design_device (design text) el
 
 -- the same of a file, which may be too long
 abbrev pub device_in : List ℕ → List ℕ → Result Device Output
-device_in path file = if nat_le (length file) TEXT_LIMIT then described path file else Err (says long_file_line 1)
+device_in path file = if nat_le (length file) TEXT_LIMIT then described path file else Err (says long_file_line Refused)

@@ -1,8 +1,9 @@
-pub mod Paths
-pub mod Output
-pub mod GraphFaults
-pub mod Describing
 pub mod Checking
+pub mod Describing
+pub mod GraphFaults
 pub mod Orders
+pub mod Output
+pub mod Paths
 pub mod Planning
 pub mod Refusals
+pub mod Statuses

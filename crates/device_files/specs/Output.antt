@@ -2,15 +2,17 @@
 use Rattle.std.specs.Prelude.{◌≡◌, ◌≢◌, ◌⊎◌, ℕ, List, [], ◌∷◌, Option, codes}
 use Rattle.std.specs.Fmt.{decimal}
 use Rattle.text_rules.specs.Tokens.{spaced}
+use Rattle.device_files.specs.declared.status.Status.{Status}
+use Rattle.device_files.specs.declared.status.Status.TheVariants.{WriteFailed, NoMemory}
 use Rattle.session_rules.specs.Items.{Item, Plain}
 use Rattle.session_rules.specs.Spelling.{Writes, WritesPart}
 
 pub record Output : Type 0 where
   pub items : List Item
-  pub status : ℕ
+  pub status : Status
 
 -- one line and a status
-abbrev pub says : List ℕ → ℕ → Output
+abbrev pub says : List ℕ → Status → Output
 says text status = record { items = Plain text ∷ []; status = status }
 
 -- the line that tells that something has more bytes than may be
@@ -22,14 +24,14 @@ no_memory_line = codes "error: memory\n"
 
 -- memory ran out
 abbrev pub no_memory : Output
-no_memory = says no_memory_line 6
+no_memory = says no_memory_line NoMemory
 
 -- A run that is to give an output ends with its status, and what it writes, where the sink tells, spells the items of the
 -- output. Where a write failed, what it wrote begins such a text.
-pub record Gives (output : Output) (status : ℕ) (before after : Option (List ℕ)) : Type 0 where
-  pub whole : status ≢ 5 → (status ≡ output.status) × Writes before after output.items
-  pub broken : status ≡ 5 → WritesPart before after output.items
+pub record Gives (output : Output) (status : Status) (before after : Option (List ℕ)) : Type 0 where
+  pub whole : status ≢ WriteFailed → (status ≡ output.status) × Writes before after output.items
+  pub broken : status ≡ WriteFailed → WritesPart before after output.items
 
 -- memory ran out, or the output was given
-abbrev pub GivesUnlessMemory : Output → ℕ → Option (List ℕ) → Option (List ℕ) → Type 0
+abbrev pub GivesUnlessMemory : Output → Status → Option (List ℕ) → Option (List ℕ) → Type 0
 GivesUnlessMemory output status before after = Gives no_memory status before after ⊎ Gives output status before after

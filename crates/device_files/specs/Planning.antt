@@ -11,6 +11,7 @@ use Rattle.branch_states.specs.declared.measuring.TheConstants.{BUDGET_LIMIT}
 use Rattle.branch_states.specs.Branches.{sum_of}
 use Rattle.session_rules.specs.Items.{Item, line}
 use Rattle.device_files.specs.declared.planning.Sizes.{Sizes}
+use Rattle.device_files.specs.declared.status.Status.TheVariants.{Done, Refused, AboveBudget}
 use Rattle.device_files.specs.Output.{Output, says, no_memory}
 use Rattle.diag_edge.specs.ErrorLines.{above_line}
 
@@ -28,12 +29,12 @@ sum_line budget = spaced (codes "error:" ∷ codes "sum" ∷ codes "above" ∷ d
 
 -- too many clauses
 abbrev pub not_encoded : EncodeError → Output
-not_encoded (TooManyClauses count) = says (above_line (codes "clauses") count CLAUSE_LIMIT) 1
+not_encoded (TooManyClauses count) = says (above_line (codes "clauses") count CLAUSE_LIMIT) Refused
 not_encoded Memory = no_memory
 
 -- the clauses of a device, whose sum is within a budget
 abbrev pub within : ℕ → Result ClauseList EncodeError → Result ClauseList Output
-within budget (Ok cnf) = if nat_lt budget (sum_of cnf.clauses) then Err (says (sum_line budget) 3) else Ok cnf
+within budget (Ok cnf) = if nat_lt budget (sum_of cnf.clauses) then Err (says (sum_line budget) AboveBudget) else Ok cnf
 within budget (Err error) = Err (not_encoded error)
 
 -- the numbers of parts, wires and clauses, and the sum of the clauses
@@ -48,5 +49,5 @@ sizes_in clauses (Ok device) = sizes_by device (within BUDGET_LIMIT (clauses dev
 sizes_in clauses (Err output) = Err output
 
 abbrev pub planned : Result Sizes Output → Output
-planned (Ok sizes) = record { items = size_lines sizes; status = 0 }
+planned (Ok sizes) = record { items = size_lines sizes; status = Done }
 planned (Err output) = output

@@ -3,6 +3,8 @@ use Rattle.std.specs.Prelude.{ℕ, List, Option, Some, None, Result}
 use Rattle.text_rules.specs.Expected.{Fulfils}
 use Rattle.device_files.specs.declared.refusal.Refusal.{Refusal}
 use Rattle.device_files.specs.declared.refusal.Refusal.TheVariants.{Fault, Header, Counts, Bits, Shared, Above, Sum, Memory}
+use Rattle.device_files.specs.declared.status.Status.{Status}
+use Rattle.device_files.specs.declared.status.Status.TheVariants.{Refused, AboveBudget, NoMemory}
 use Rattle.device_files.specs.Output.{Output, says, no_memory, no_memory_line}
 use Rattle.graph_rules.specs.GraphTexts as graphs
 use Rattle.diag_edge.specs.ErrorLines.{fault_line, above_line}
@@ -21,10 +23,10 @@ refusal_line (Sum budget) = sum_line budget
 refusal_line Memory = no_memory_line
 
 -- and the status that goes with it
-abbrev pub refusal_status : Refusal → ℕ
-refusal_status (Sum budget) = 3
-refusal_status Memory = 6
-refusal_status refusal = 1
+abbrev pub refusal_status : Refusal → Status
+refusal_status (Sum budget) = AboveBudget
+refusal_status Memory = NoMemory
+refusal_status refusal = Refused
 
 -- the output that tells a refusal; want of memory is no refusal of the file
 abbrev pub told_by : Refusal → Option Output

@@ -10,6 +10,7 @@ ghost use Rattle.device_files.specs.Refusals.{Finds, told_by};
 
 use crate::graph_fault::GraphFault;
 use crate::refusal::{Refusal, tell};
+use crate::status::Status;
 use diag_edge::{Sink, put_line};
 use itoa::Buffer;
 use nnf_text::{NnfError, read_nnf};
@@ -19,7 +20,7 @@ use text_rules::TEXT_LIMIT;
 
 // The refusal that tells a fault of a line.
 fn at_line(line: u32, fault: GraphFault) -> Refusal
-    ensures { told_by result ≡ Some (says (fault_line line (graph_fault_number fault) (graph_fault_name fault)) 1) }
+    ensures { told_by result ≡ Some (says (fault_line line (graph_fault_number fault) (graph_fault_name fault)) Status.Refused) }
 {
     Refusal::Fault {
         line,
@@ -30,7 +31,7 @@ fn at_line(line: u32, fault: GraphFault) -> Refusal
 
 // The refusal that tells why a text gives no decomposable graph.
 fn refused(error: NnfError) -> Refusal
-    ensures { told_by result ≡ option_map (λ refusal. says (graph_fault_line refusal) 1) (told error) }
+    ensures { told_by result ≡ option_map (λ refusal. says (graph_fault_line refusal) Status.Refused) (told error) }
 {
     match error {
         NnfError::Header => Refusal::Header,
@@ -59,12 +60,12 @@ pub fn graph_in(alloc: Global, file: &[u8]) -> Result<Graph, Refusal>
     }
 }
 
-// Tells the sizes of a decomposable graph and answers 0, or 5 where the write failed.
+// Tells the sizes of a decomposable graph and answers `Done`, or `WriteFailed`.
 #[tactic(auto, using(crate::proofs::Failing::gives_line))]
-fn tell_graph<O: Sink>(out: &mut O, graph: &Graph) -> u8
+fn tell_graph<O: Sink>(out: &mut O, graph: &Graph) -> Status
     requires faults { O.faults out.old < 2 ^ 64 - 1 }
-    ensures write_fault { RoseExactly (O.faults out.old) (O.faults out.new) (result ≡ 5) }
-    ensures either { (result ≡ 0) ⊎ (result ≡ 5) }
+    ensures write_fault { RoseExactly (O.faults out.old) (O.faults out.new) (result ≡ Status.WriteFailed) }
+    ensures either { (result ≡ Status.Done) ⊎ (result ≡ Status.WriteFailed) }
     ensures said { Gives (checked (Ok graph.now)) result (O.got out.old) (O.got out.new) }
 {
     match put_line(
@@ -76,20 +77,19 @@ fn tell_graph<O: Sink>(out: &mut O, graph: &Graph) -> u8
             Buffer::new().format(graph.vars()).as_bytes(),
         ],
     ) {
-        Ok(()) => 0,
-        Err(_) => 5,
+        Ok(()) => Status::Done,
+        Err(_) => Status::WriteFailed,
     }
 }
 
 /// Tells whether the text of a file is a decomposable graph, and answers the status.
-pub fn check_file<O: Sink>(alloc: Global, file: &[u8], out: &mut O) -> u8
+pub fn check_file<O: Sink>(alloc: Global, file: &[u8], out: &mut O) -> Status
     requires short { length file.now ≤ TEXT_LIMIT }
     requires faults { O.faults out.old < 2 ^ 64 - 1 }
-    ensures write_fault { RoseExactly (O.faults out.old) (O.faults out.new) (result ≡ 5) }
-    ensures not_usage { result ≢ 2 }
-    ensures not_read { result ≢ 4 }
-    ensures not_cut { result ≢ 7 }
-    ensures few { result ≤ 7 }
+    ensures write_fault { RoseExactly (O.faults out.old) (O.faults out.new) (result ≡ Status.WriteFailed) }
+    ensures not_usage { result ≢ Status.Usage }
+    ensures not_read { result ≢ Status.ReadFailed }
+    ensures not_cut { result ≢ Status.CutShort }
     ensures said { GivesUnlessMemory (checked (graph_in file.now)) result (O.got out.old) (O.got out.new) }
 {
     match graph_in(alloc, file) {

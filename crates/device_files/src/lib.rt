@@ -7,6 +7,7 @@ mod graph_fault;
 mod paths;
 mod planning;
 mod refusal;
+mod status;
 mod weighing;
 
 pub use checking::{check_file, graph_in};
@@ -15,4 +16,5 @@ pub use graph_fault::GraphFault;
 pub use paths::{is_design_path, is_device_path, is_graph_path, is_netlist_path};
 pub use planning::{Sizes, plan_file, put_count};
 pub use refusal::{Refusal, above, tell};
+pub use status::Status;
 pub use weighing::{in_order, ordered_clauses, sum_within};

@@ -9,6 +9,7 @@ ghost use Rattle.device_files.specs.Refusals.{Finds};
 
 use crate::describing::described;
 use crate::refusal::{Refusal, tell};
+use crate::status::Status;
 use crate::weighing::clauses_within;
 use branch_states::BUDGET_LIMIT;
 use device_model::Device;
@@ -70,17 +71,17 @@ fn put_sizes<O: Sink>(out: &mut O, sizes: Sizes) -> Result<(), WriteFailed>
     put_count(out, b"sum", sizes.sum)
 }
 
-// Tells the sizes of a device and answers 0, or 5 where a write failed.
+// Tells the sizes of a device and answers `Done`, or `WriteFailed`.
 #[tactic(auto, using(crate::proofs::Failing::gives_items))]
-fn tell_sizes<O: Sink>(out: &mut O, sizes: Sizes) -> u8
+fn tell_sizes<O: Sink>(out: &mut O, sizes: Sizes) -> Status
     requires faults { O.faults out.old < 2 ^ 64 - 1 }
-    ensures write_fault { RoseExactly (O.faults out.old) (O.faults out.new) (result ≡ 5) }
-    ensures either { (result ≡ 0) ⊎ (result ≡ 5) }
+    ensures write_fault { RoseExactly (O.faults out.old) (O.faults out.new) (result ≡ Status.WriteFailed) }
+    ensures either { (result ≡ Status.Done) ⊎ (result ≡ Status.WriteFailed) }
     ensures said { Gives (planned (Ok sizes)) result (O.got out.old) (O.got out.new) }
 {
     match put_sizes(out, sizes) {
-        Ok(()) => 0,
-        Err(_) => 5,
+        Ok(()) => Status::Done,
+        Err(_) => Status::WriteFailed,
     }
 }
 
@@ -91,14 +92,13 @@ pub fn plan_file<O: Sink>(
     file: &[u8],
     is_narrow: bool,
     out: &mut O,
-) -> u8
+) -> Status
     requires short { length file.now ≤ TEXT_LIMIT }
     requires faults { O.faults out.old < 2 ^ 64 - 1 }
-    ensures write_fault { RoseExactly (O.faults out.old) (O.faults out.new) (result ≡ 5) }
-    ensures not_usage { result ≢ 2 }
-    ensures not_read { result ≢ 4 }
-    ensures not_cut { result ≢ 7 }
-    ensures few { result ≤ 7 }
+    ensures write_fault { RoseExactly (O.faults out.old) (O.faults out.new) (result ≡ Status.WriteFailed) }
+    ensures not_usage { result ≢ Status.Usage }
+    ensures not_read { result ≢ Status.ReadFailed }
+    ensures not_cut { result ≢ Status.CutShort }
     ensures said { ByClauses is_narrow (λ clauses.
         GivesUnlessMemory (planned (sizes_in clauses (device_in path.now file.now))) result (O.got out.old) (O.got out.new)) }
 {

@@ -9,6 +9,7 @@ ghost use Rattle.device_files.specs.Output.{Gives, says};
 ghost use Rattle.device_files.specs.Refusals.{refusal_line, refusal_status, told_by, or_memory};
 
 use crate::graph_fault::GraphFault;
+use crate::status::Status;
 use diag_edge::{Sink, WriteFailed, put_above, put_fault, put_line};
 use graph_rules::BITS_LIMIT;
 use itoa::Buffer;
@@ -63,21 +64,21 @@ impl From<AllocError> for Refusal {
 
 impl Refusal {
     // The status that goes with it.
-    fn status(self) -> u8
+    fn status(self) -> Status
         ensures value { result ≡ refusal_status self }
-        ensures few { (result ≡ 1) ⊎ ((result ≡ 3) ⊎ (result ≡ 6)) }
+        ensures few { (result ≡ Status.Refused) ⊎ ((result ≡ Status.AboveBudget) ⊎ (result ≡ Status.NoMemory)) }
     {
         match self {
-            Refusal::Sum { budget: _ } => 3,
-            Refusal::Memory => 6,
-            _ => 1,
+            Refusal::Sum { budget: _ } => Status::AboveBudget,
+            Refusal::Memory => Status::NoMemory,
+            _ => Status::Refused,
         }
     }
 }
 
 /// The refusal that tells a count above its limit.
 pub fn above(what: &'static str, count: u64, limit: usize) -> Refusal
-    ensures { told_by result ≡ Some (says (above_line what.now count limit) 1) }
+    ensures { told_by result ≡ Some (says (above_line what.now count limit) Status.Refused) }
 {
     Refusal::Above {
         what,
@@ -192,19 +193,18 @@ fn put_refusal<O: Sink>(out: &mut O, refusal: Refusal) -> Result<(), WriteFailed
     }
 }
 
-/// Tells a refusal and answers the status, or 5 where the write failed.
+/// Tells a refusal and answers the status, `WriteFailed` where the write failed.
 #[tactic(auto, using(crate::proofs::Failing::gives_refusal))]
-pub fn tell<O: Sink>(out: &mut O, refusal: Refusal) -> u8
+pub fn tell<O: Sink>(out: &mut O, refusal: Refusal) -> Status
     requires faults { O.faults out.old < 2 ^ 64 - 1 }
-    ensures write_fault { RoseExactly (O.faults out.old) (O.faults out.new) (result ≡ 5) }
-    ensures not_usage { result ≢ 2 }
-    ensures not_read { result ≢ 4 }
-    ensures not_cut { result ≢ 7 }
-    ensures few { result ≤ 7 }
+    ensures write_fault { RoseExactly (O.faults out.old) (O.faults out.new) (result ≡ Status.WriteFailed) }
+    ensures not_usage { result ≢ Status.Usage }
+    ensures not_read { result ≢ Status.ReadFailed }
+    ensures not_cut { result ≢ Status.CutShort }
     ensures said { Gives (or_memory (told_by refusal)) result (O.got out.old) (O.got out.new) }
 {
     match put_refusal(out, refusal) {
         Ok(()) => refusal.status(),
-        Err(_) => 5,
+        Err(_) => Status::WriteFailed,
     }
 }

@@ -12,8 +12,9 @@ fn main(rt: HostRuntime) -> ExitCode {
     let mut out = StdSink::new(io::writer(&rt));
     let mut input = StdSource::new(rt.reader());
     let Ok(words) = words_of(&rt, alloc) else {
-        return ExitCode::from(tell(&mut out, Refusal::Memory));
+        return ExitCode::from(tell(&mut out, Refusal::Memory).number());
     };
     let mut shelf = FileShelf::new(rt);
-    ExitCode::from(diag(alloc, &words, &mut shelf, &mut input, &mut out))
+    let status = diag(alloc, &words, &mut shelf, &mut input, &mut out);
+    ExitCode::from(status.number())
 }

@@ -5,6 +5,7 @@ use Rattle.session_rules.specs.Items.{Item, Plain}
 use Rattle.ranking.specs.Systems.{no_extras}
 use Rattle.diag_cli.specs.declared.words.ServeOptions.{ServeOptions}
 use Rattle.diag_cli.specs.Words.{Load, Over, Serve, ServeFrames, Ask, Plan, Check, Compile, form_of}
+use Rattle.device_files.specs.declared.status.Status.TheVariants.{Done, ReadFailed, CutShort}
 use Rattle.device_files.specs.Describing.{long_file_line}
 use Rattle.diag_cli.specs.Besides.{levels_bits, least_bits, bits_line}
 use Rattle.diag_cli.specs.Courses.{Ended, Failed, Cut, read_error, script_too_long, served}
@@ -240,14 +241,14 @@ abbrev itself : List (List ℕ) → List Item
 itself lines = map Plain lines
 
 -- at the end of the input the last line is answered too
-ended : served itself half Ended ≡ record { items = Plain (codes "open S") ∷ Plain (codes "min") ∷ []; status = 0 }
+ended : served itself half Ended ≡ record { items = Plain (codes "open S") ∷ Plain (codes "min") ∷ []; status = Done }
 ended = refl
 
 -- where a read fails, or at the limit, only those that a line feed had ended
-failed : served itself half Failed ≡ record { items = Plain (codes "open S") ∷ Plain read_error ∷ []; status = 4 }
+failed : served itself half Failed ≡ record { items = Plain (codes "open S") ∷ Plain read_error ∷ []; status = ReadFailed }
 failed = refl
 
-cut : served itself half Cut ≡ record { items = Plain (codes "open S") ∷ Plain script_too_long ∷ []; status = 7 }
+cut : served itself half Cut ≡ record { items = Plain (codes "open S") ∷ Plain script_too_long ∷ []; status = CutShort }
 cut = refl
 
 -- ---- lines that tell a limit

@@ -1,5 +1,5 @@
 -- What is told besides, where it takes few bits.
-use Rattle.std.proofs.Common.{◌≡◌, ◌∙◌, ◌+◌, ◌*◌, ◌/◌, ◌^◌, ◌<◌, ◌≤◌, ℕ, Bool, true, false, not, length, Option, Some, None, IfSome, inl, inr, refl, ap, sym, arith, nat_lt, if◌then◌else◌}
+use Rattle.std.proofs.Common.{◌≡◌, ◌∙◌, ◌+◌, ◌*◌, ◌/◌, ◌^◌, ◌<◌, ◌≤◌, ℕ, Bool, true, false, length, Option, Some, None, IfSome, inl, inr, refl, ap, sym, arith, nat_lt, if◌then◌else◌}
 use Rattle.std.specs.Prelude.{Result, Ok, Err, IfOk}
 use Rattle.std.proofs.Math.Nat.{mul-le-mul_right, le_trans}
 use Rattle.std.proofs.lemmas.Bool.{lt-ltb, ltb-true, cases_lt}
@@ -17,6 +17,7 @@ use Rattle.part_sets.specs.declared.kept.TheConstants.{PART_LIMIT}
 use Rattle.level_lister.specs.declared.levels.TheConstants.{TOP_LIMIT}
 use Rattle.session_core.specs.declared.limits.TheConstants.{SERVED_BITS}
 use Rattle.session_core.specs.Services.{CanList, CanDraw}
+use Rattle.device_files.specs.declared.status.Status.TheVariants.{Refused}
 use Rattle.device_files.specs.declared.refusal.Refusal.{Refusal}
 use Rattle.diag_cli.specs.Besides.{levels_bits, least_bits, bits_line, if_few, in_few_bits}
 use Rattle.device_files.specs.Output.{Output, says}
@@ -58,7 +59,7 @@ not_many bits few = elim (cases_lt SERVED_BITS bits) [
 pub few_pass : (bits : ℕ) (other : Result ClauseList Output) → bits ≤ SERVED_BITS → if_few bits other ≡ other
 few_pass bits other few = by (nat_lt SERVED_BITS bits) refl
   where
-    by : (b : Bool) → nat_lt SERVED_BITS bits ≡ b → (if b then Err (says (bits_line bits) 1) else other) ≡ other
+    by : (b : Bool) → nat_lt SERVED_BITS bits ≡ b → (if b then Err (says (bits_line bits) Refused) else other) ≡ other
     by false is = refl
     by true is = absurd (let less = ltb-true SERVED_BITS bits is in omega (arith, less, few))
 
@@ -66,7 +67,7 @@ few_pass bits other few = by (nat_lt SERVED_BITS bits) refl
 passed : (bits : ℕ) (other : Result ClauseList Output) (cnf : ClauseList) → if_few bits other ≡ Ok cnf → (bits ≤ SERVED_BITS) × (other ≡ Ok cnf)
 passed bits other cnf is = by (nat_lt SERVED_BITS bits) refl is
   where
-    by : (b : Bool) → nat_lt SERVED_BITS bits ≡ b → (if b then Err (says (bits_line bits) 1) else other) ≡ Ok cnf → (bits ≤ SERVED_BITS) × (other ≡ Ok cnf)
+    by : (b : Bool) → nat_lt SERVED_BITS bits ≡ b → (if b then Err (says (bits_line bits) Refused) else other) ≡ Ok cnf → (bits ≤ SERVED_BITS) × (other ≡ Ok cnf)
     by true test is = absurd (let no : ⊥ = cc in no)
     by false test is = (not_many bits test, is)
 

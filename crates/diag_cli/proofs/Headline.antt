@@ -4,7 +4,6 @@ use Rattle.std.specs.Prelude.{Result, Ok, Err}
 use Rattle.std.specs.Io.KnownBytes.{Consumes, IsAtEnd}
 use Rattle.std.specs.Option.{IsSome}
 use Rattle.std.proofs.lemmas.List.{length-replicate}
-use Rattle.std.proofs.lemmas.Bool.{cases_eq}
 use Rattle.text_rules.specs.declared.text_lines.TheConstants.{TEXT_LIMIT}
 use Rattle.text_rules.specs.TextLines.{whole_lines}
 use Rattle.text_rules.specs.Expected.{IsExpectedFault}
@@ -21,6 +20,9 @@ use Rattle.bench_reader.specs.SequentialNetlists.{sequential_netlist}
 use Rattle.diag_cli.specs.declared.serving.TheConstants.{SCRIPT_LIMIT}
 use Rattle.diag_cli.specs.declared.words.ServeOptions.{ServeOptions}
 use Rattle.diag_cli.specs.Words.{Form, Load, Over, Command, Serve, ServeFrames, Ask, Plan, Check, Compile, asks_script}
+use Rattle.device_files.proofs.Statuses.{cases_status}
+use Rattle.device_files.specs.declared.status.Status.{Status}
+use Rattle.device_files.specs.declared.status.Status.TheVariants.{Done, Refused, Usage, ReadFailed, WriteFailed, NoMemory, CutShort}
 use Rattle.device_files.specs.Describing.{netlist_line, long_file_line, or_line, described, device_in}
 use Rattle.diag_cli.specs.Frames.{sequential_in, if_unrolled}
 use Rattle.device_files.specs.Output.{Output, Gives, says, no_memory, GivesUnlessMemory}
@@ -56,7 +58,7 @@ refused_frames None file frames options put short is = tt
 refused_frames (Some output) file frames options put short is = ap (if_unrolled frames options put) (short_netlist file short ∙ is)
 
 -- words with a form may run out of memory
-with_form : (form : Form) {output : Output} {status : ℕ} {a b : Option (List ℕ)} → GivesUnlessMemory output status a b → GivesUnlessShort (Some form) output status a b
+with_form : (form : Form) {output : Output} {status : Status} {a b : Option (List ℕ)} → GivesUnlessMemory output status a b → GivesUnlessShort (Some form) output status a b
 with_form form (inl memory) = inl (refl, memory)
 with_form form (inr given) = inr given
 
@@ -70,37 +72,37 @@ some_all (Some a) f = f a
 
 -- ---- an output that was given is complete where nothing failed
 
-module _ (form : Option Form) (shelf new_shelf input new_input : Reading) (out new_out : Writing) (status : ℕ) where
+module _ (form : Option Form) (shelf new_shelf input new_input : Reading) (out new_out : Writing) (status : Status) where
   abbrev IsGiven : Output → Type 0
   IsGiven output = new_shelf.faults ≡ shelf.faults → new_input.faults ≡ input.faults → GivesUnlessShort form output status out.got new_out.got
 
   abbrev IsComplete : Output → Type 0
-  IsComplete output = output.status ≡ 0 → new_shelf.faults ≡ shelf.faults → new_input.faults ≡ input.faults → new_out.faults ≡ out.faults
-      → ((status ≡ 0) × Writes out.got new_out.got output.items) ⊎ ((status ≡ 6) × Writes out.got new_out.got no_memory.items)
+  IsComplete output = output.status ≡ Done → new_shelf.faults ≡ shelf.faults → new_input.faults ≡ input.faults → new_out.faults ≡ out.faults
+      → ((status ≡ Done) × Writes out.got new_out.got output.items) ⊎ ((status ≡ NoMemory) × Writes out.got new_out.got no_memory.items)
 
-  completes : RoseExactly out.faults new_out.faults (status ≡ 5) → (output : Output) → IsGiven output → IsComplete output
+  completes : RoseExactly out.faults new_out.faults (status ≡ WriteFailed) → (output : Output) → IsGiven output → IsComplete output
   completes writes output given zero shelf_kept input_kept wrote = by (given shelf_kept input_kept)
     where
-      whole : status ≢ 5
+      whole : status ≢ WriteFailed
       whole five = absurd (omega (arith, writes.rose five, wrote))
 
-      by : GivesUnlessShort form output status out.got new_out.got → ((status ≡ 0) × Writes out.got new_out.got output.items) ⊎ ((status ≡ 6) × Writes out.got new_out.got no_memory.items)
+      by : GivesUnlessShort form output status out.got new_out.got → ((status ≡ Done) × Writes out.got new_out.got output.items) ⊎ ((status ≡ NoMemory) × Writes out.got new_out.got no_memory.items)
       by (inl memory) = inr (memory.1.whole whole)
       by (inr gives) = let done = gives.whole whole in inl (done.0 ∙ zero, done.1)
 
-  all_complete : RoseExactly out.faults new_out.faults (status ≡ 5) → (told : Option (List ℕ)) (of : List ℕ → Option Output)
+  all_complete : RoseExactly out.faults new_out.faults (status ≡ WriteFailed) → (told : Option (List ℕ)) (of : List ℕ → Option Output)
       → IfSome told (λ file. IfSome (of file) IsGiven) → IfSome told (λ file. IfSome (of file) IsComplete)
   all_complete writes told of given = some_map told (λ file. some_map (of file) (completes writes)) given
 
-module _ (input new_input : Reading) (out new_out : Writing) (status : ℕ) where
+module _ (input new_input : Reading) (out new_out : Writing) (status : Status) where
   -- ---- what was found is served, or refused
 
-  zero_is_not_six : Gives no_memory status out.got new_out.got → status ≡ 0 → IsAtEnd new_input.left
-  zero_is_not_six said zero = absurd (omega (arith, zero, (said.whole (λ five. omega (arith, zero, five))).0))
+  done_is_not_no_memory : Gives no_memory status out.got new_out.got → status ≡ Done → IsAtEnd new_input.left
+  done_is_not_no_memory said zero = let six = (said.whole (λ five. let never : ⊥ = cc in never)).0 in absurd (let never : ⊥ = cc in never)
 
   by_memory : {A : Type 0} (system : A → System) (sessions : ℕ) (expected : Result A Output) → IsIdle input new_input → Gives no_memory status out.got new_out.got
       → Follows (served_or_refused system sessions expected) input new_input out new_out status
-  by_memory system sessions (Ok found) idle said = record { answer = inl (idle, said); all_read = zero_is_not_six said }
+  by_memory system sessions (Ok found) idle said = record { answer = inl (idle, said); all_read = done_is_not_no_memory said }
   by_memory system sessions (Err output) idle said = (idle, inl said)
 
   pub follows_refusal : {A : Type 0} (system : A → System) (sessions : ℕ) (expected : Result A Output) (fault : Option Output) → IsExpectedFault fault expected → IsIdle input new_input
@@ -164,7 +166,7 @@ module _ (input new_input : Reading) (out new_out : Writing) (status : ℕ) wher
       by (inr (inr broken)) = absurd (never broken.1.reads)
 
   -- a write failed, after bytes were taken
-  stopped_of : (answers : List (List ℕ) → List Item) → status ≡ 5 → input.taken < new_input.taken → IsServed answers input new_input out new_out status
+  stopped_of : (answers : List (List ℕ) → List Item) → status ≡ WriteFailed → input.taken < new_input.taken → IsServed answers input new_input out new_out status
       → (bytes : List ℕ) × (new_input.taken ≡ input.taken + length bytes) × Consumes input.left new_input.left bytes × IsStopped answers bytes out.got new_out.got
   stopped_of answers five moved done = by done.answer
     where
@@ -198,36 +200,35 @@ module _ (input new_input : Reading) (out new_out : Writing) (status : ℕ) wher
       by (inr (inr broken)) = omega (arith, broken.1.counted, few_lines broken.1.lines broken.1.bytes broken.1.are)
 
   -- memory ran out before the script was begun
-  idle_at_six : status ≡ 6 → (course : Course) → Follows course input new_input out new_out status → IsIdle input new_input
-  idle_at_six six (Tells output) done = done.0
-  idle_at_six six (Serves answers) done = by done.answer
+  idle_without_memory : status ≡ NoMemory → (course : Course) → Follows course input new_input out new_out status → IsIdle input new_input
+  idle_without_memory six (Tells output) done = done.0
+  idle_without_memory six (Serves answers) done = by done.answer
     where
-      other : (output : Output) → output.status ≢ 6 → Gives output status out.got new_out.got → ⊥
-      other output no6 gives = no6 (sym (gives.whole (λ five. omega (arith, six, five))).0 ∙ six)
+      other : (output : Output) → output.status ≢ NoMemory → Gives output status out.got new_out.got → ⊥
+      other output has_memory gives = has_memory (sym (gives.whole (λ five. let never : ⊥ = cc in never)).0 ∙ six)
 
       at : (bytes : List ℕ) (end : End) → Gives (served answers bytes end) status out.got new_out.got → ⊥
-      at bytes Ended gives = other (served answers bytes Ended) (λ e. omega (arith, e)) gives
-      at bytes Failed gives = other (served answers bytes Failed) (λ e. omega (arith, e)) gives
-      at bytes Cut gives = other (served answers bytes Cut) (λ e. omega (arith, e)) gives
+      at bytes Ended gives = other (served answers bytes Ended) (λ e. let never : ⊥ = cc in never) gives
+      at bytes Failed gives = other (served answers bytes Failed) (λ e. let never : ⊥ = cc in never) gives
+      at bytes Cut gives = other (served answers bytes Cut) (λ e. let never : ⊥ = cc in never) gives
 
       by : CameTo answers input new_input out new_out status → IsIdle input new_input
       by (inl memory) = memory.0
       by (inr (inl answered)) = absurd (at answered.bytes answered.end answered.gives)
-      by (inr (inr broken)) = absurd (omega (arith, six, broken.0))
+      by (inr (inr broken)) = let five = broken.0 in absurd (let never : ⊥ = cc in never)
 
   -- ---- runs
 
   module _ (order : ClauseList → ClauseList) (path : List ℕ) (command : Command) (held : List ℕ → Holding) (shelf new_shelf : Reading) where
     -- The file was read.
     pub run_loaded : (file : List ℕ) → IfSome (told_bytes (held path)) (λ bytes. file ≡ bytes) → held path ≢ absent → new_shelf.faults ≡ shelf.faults
-        → new_shelf.taken ≡ shelf.taken + length file → length file ≤ TEXT_LIMIT → status ≤ 7
-        → RoseExactly out.faults new_out.faults (status ≡ 5) → (status ≢ 5 → RoseExactly input.faults new_input.faults (status ≡ 4)) → status ≢ 2
-        → Follows (course_by order path command file) input new_input out new_out status → (status ≡ 7 → new_input.taken ≡ input.taken + SCRIPT_LIMIT)
-        → (status ≢ 5 → status ≢ 7 → new_input.taken < input.taken + SCRIPT_LIMIT)
+        → new_shelf.taken ≡ shelf.taken + length file → length file ≤ TEXT_LIMIT
+        → RoseExactly out.faults new_out.faults (status ≡ WriteFailed) → (status ≢ WriteFailed → RoseExactly input.faults new_input.faults (status ≡ ReadFailed)) → status ≢ Usage
+        → Follows (course_by order path command file) input new_input out new_out status → (status ≡ CutShort → new_input.taken ≡ input.taken + SCRIPT_LIMIT)
+        → (status ≢ WriteFailed → status ≢ CutShort → new_input.taken < input.taken + SCRIPT_LIMIT)
         → IsRun order (Some (Over path command)) held shelf new_shelf input new_input out new_out status
-    run_loaded file is there kept taken small few writes reads other done cut short = record {
+    run_loaded file is there kept taken small writes reads other done cut short = record {
       done = λ _. inl (record { file = file; is_told = is; taken = omega (arith, taken, small); follows = done });
-      few = few;
       write_fault = writes;
       read_fault = λ whole. ((λ four. inr ((reads whole).rose four)), λ rises. elim rises [ inl moves ↦ absurd (omega (arith, kept, moves)) | inr moves ↦ four_of whole moves ]);
       no_fault = λ not_four whole. (kept, (reads whole).stayed not_four);
@@ -246,11 +247,11 @@ module _ (input new_input : Reading) (out new_out : Writing) (status : ℕ) wher
           fault_of answers rises (served_of (course_by order path command file) answers (ap (course_by order path command) same ∙ course) done)) is;
       stopped = some_map (told_bytes (held path)) (λ bytes same answers course five moved.
           stopped_of answers five moved (served_of (course_by order path command file) answers (ap (course_by order path command) same ∙ course) done)) is;
-      memory = λ six. idle_at_six six (course_by order path command file) done;
+      memory = λ six. idle_without_memory six (course_by order path command file) done;
       all_read = some_map (told_bytes (held path)) (λ bytes same answers course zero.
           (served_of (course_by order path command file) answers (ap (course_by order path command) same ∙ course) done).all_read zero) is;
       script_taken = few_taken (course_by order path command file) done;
-      cut = λ whole. (cut, λ taken. elim (cases_eq status 7) [ inl seven ↦ seven | inr other ↦ absurd (omega (arith, short whole other, taken)) ]);
+      cut = λ whole. (cut, λ taken. elim (cases_status status CutShort) [ inl seven ↦ seven | inr other ↦ absurd (omega (arith, short whole other, taken)) ]);
     }
       where
         idle_by : (any : Command) → Follows (course_by order path any file) input new_input out new_out status → asks_script (Some (Over path any)) ≡ false → IsIdle input new_input
@@ -261,8 +262,8 @@ module _ (input new_input : Reading) (out new_out : Writing) (status : ℕ) wher
         idle_by Check done asks = done.0
         idle_by (Compile budget narrow) done asks = done.0
 
-        four_of : status ≢ 5 → input.faults < new_input.faults → status ≡ 4
-        four_of whole moves = elim (cases_eq status 4) [ inl four ↦ four | inr not_four ↦ absurd (omega (arith, (reads whole).stayed not_four, moves)) ]
+        four_of : status ≢ WriteFailed → input.faults < new_input.faults → status ≡ ReadFailed
+        four_of whole moves = elim (cases_status status ReadFailed) [ inl four ↦ four | inr not_four ↦ absurd (omega (arith, (reads whole).stayed not_four, moves)) ]
 
         given : IfSome (told_bytes (held path)) (λ bytes. IfSome (whole_output (course_by order path command bytes) input.left) (IsGiven (Some (Over path command)) shelf new_shelf input new_input out new_out status))
         given = some_map (told_bytes (held path)) (λ bytes same.
@@ -276,13 +277,13 @@ abbrev pub IsRight : (ClauseList → ClauseList) → List ℕ → Command → Ou
 IsRight order path command output file = (output ≡ no_memory) ⊎ (course_by order path command file ≡ Tells output)
 
 -- a file that is too long has this output
-long_course : (order : ClauseList → ClauseList) (path : List ℕ) (command : Command) (file : List ℕ) → TEXT_LIMIT < length file → course_by order path command file ≡ Tells (says long_file_line 1)
+long_course : (order : ClauseList → ClauseList) (path : List ℕ) (command : Command) (file : List ℕ) → TEXT_LIMIT < length file → course_by order path command file ≡ Tells (says long_file_line Refused)
 long_course order path command file long = by command
   where
     no_more : nat_le (length file) TEXT_LIMIT ≡ false
     no_more = grind arith
 
-    by : (any : Command) → course_by order path any file ≡ Tells (says long_file_line 1)
+    by : (any : Command) → course_by order path any file ≡ Tells (says long_file_line Refused)
     by (Serve options) = rw no_more
     by (ServeFrames frames options) = rw no_more
     by (Ask health sessions) = rw no_more
@@ -299,27 +300,21 @@ long_file limit None long = let some = too_many limit in (some.0, tt, some.1)
 long_file limit (Some file) long = (file, refl, long)
 
 -- and so it is right to tell that
-long_is_right : (order : ClauseList → ClauseList) (path : List ℕ) (command : Command) (told : Option (List ℕ)) → IfSome told (λ file. TEXT_LIMIT < length file) → IfSome told (IsRight order path command (says long_file_line 1))
+long_is_right : (order : ClauseList → ClauseList) (path : List ℕ) (command : Command) (told : Option (List ℕ)) → IfSome told (λ file. TEXT_LIMIT < length file) → IfSome told (IsRight order path command (says long_file_line Refused))
 long_is_right order path command None long = tt
 long_is_right order path command (Some file) long = inr (long_course order path command file long)
 
 -- ---- runs in which the script is not begun
 
-module _ (order : ClauseList → ClauseList) (held : List ℕ → Holding) (shelf new_shelf input : Reading) (out new_out : Writing) (status : ℕ) where
+module _ (order : ClauseList → ClauseList) (held : List ℕ → Holding) (shelf new_shelf input : Reading) (out new_out : Writing) (status : Status) where
   idle : IsIdle input input
   idle = record { left = refl; taken = refl; faults = refl }
 
   never_rises : {P : Type 0} → input.faults < input.faults → P
   never_rises moves = absurd (omega (arith, moves))
 
-  known : (output : Output) → Gives output status out.got new_out.got → (s : ℕ) → status ≡ s → s ≢ 5 → output.status ≢ s → ⊥
+  known : (output : Output) → Gives output status out.got new_out.got → (s : Status) → status ≡ s → s ≢ WriteFailed → output.status ≢ s → ⊥
   known output said s is whole other = other (sym ((said.whole (λ five. whole (sym is ∙ five))).0) ∙ is)
-
-  few_of : (output : Output) → output.status ≤ 7 → Gives output status out.got new_out.got → status ≤ 7
-  few_of output small said = elim (cases_eq status 5) [
-    | inl five ↦ omega (arith, five)
-    | inr whole ↦ omega (arith, (said.whole whole).0, small)
-  ]
 
   module _ (path : List ℕ) (command : Command) where
     abbrev output_by : List ℕ → Option Output
@@ -328,7 +323,7 @@ module _ (order : ClauseList → ClauseList) (held : List ℕ → Holding) (shel
     abbrev OutputsGiven : Type 0
     OutputsGiven = IfSome (told_bytes (held path)) (λ file. IfSome (output_by file) (IsGiven (Some (Over path command)) shelf new_shelf input input out new_out status))
 
-    completed : RoseExactly out.faults new_out.faults (status ≡ 5) → OutputsGiven → IfSome (told_bytes (held path)) (λ file. IfSome (output_by file) (IsComplete (Some (Over path command)) shelf new_shelf input input out new_out status))
+    completed : RoseExactly out.faults new_out.faults (status ≡ WriteFailed) → OutputsGiven → IfSome (told_bytes (held path)) (λ file. IfSome (output_by file) (IsComplete (Some (Over path command)) shelf new_shelf input input out new_out status))
     completed writes given = all_complete (Some (Over path command)) shelf new_shelf input input out new_out status writes (told_bytes (held path)) output_by given
 
     -- no byte of the file was taken twice
@@ -341,7 +336,7 @@ module _ (order : ClauseList → ClauseList) (held : List ℕ → Holding) (shel
 
     -- a file that is too long
     long_done : (told : Option (List ℕ)) → IfSome told (λ bytes. TEXT_LIMIT < length bytes) → new_shelf.taken ≡ shelf.taken + TEXT_LIMIT + 1
-        → Gives (says long_file_line 1) status out.got new_out.got → IsDone order (Some (Over path command)) told shelf new_shelf input input out new_out status
+        → Gives (says long_file_line Refused) status out.got new_out.got → IsDone order (Some (Over path command)) told shelf new_shelf input input out new_out status
     long_done told long taken said =
         let some = long_file TEXT_LIMIT told long in
         record {
@@ -356,15 +351,14 @@ module _ (order : ClauseList → ClauseList) (held : List ℕ → Holding) (shel
     not_cut taken = absurd (omega (arith, taken))
 
     -- The file could not be read.
-    run_failed : shelf.faults < new_shelf.faults → new_shelf.taken ≤ shelf.taken + TEXT_LIMIT + 1 → TakenOnce → RoseExactly out.faults new_out.faults (status ≡ 5)
-        → Gives (says read_error 4) status out.got new_out.got → IsRun order (Some (Over path command)) held shelf new_shelf input input out new_out status
+    run_failed : shelf.faults < new_shelf.faults → new_shelf.taken ≤ shelf.taken + TEXT_LIMIT + 1 → TakenOnce → RoseExactly out.faults new_out.faults (status ≡ WriteFailed)
+        → Gives (says read_error ReadFailed) status out.got new_out.got → IsRun order (Some (Over path command)) held shelf new_shelf input input out new_out status
     run_failed moves bounded once writes said = record {
       done = λ kept. absurd (omega (arith, kept, moves));
-      few = few_of (says read_error 4) (omega arith) said;
       write_fault = writes;
       read_fault = λ whole. ((λ four. inl moves), λ rises. (said.whole whole).0);
       no_fault = λ not_four whole. absurd (not_four (said.whole whole).0);
-      usage = λ whole. ((λ two. absurd (known (says read_error 4) said 2 two (λ e. absurd (omega (arith, e))) (λ e. absurd (omega (arith, e))))), λ none. absurd (let never : ⊥ = cc in never));
+      usage = λ whole. ((λ two. absurd (known (says read_error ReadFailed) said Usage two (λ e. let never : ⊥ = cc in never) (λ e. let never : ⊥ = cc in never))), λ none. absurd (let never : ⊥ = cc in never));
       no_name = λ none. absurd (let never : ⊥ = cc in never);
       file_taken = bounded;
       file_once = once;
@@ -377,25 +371,24 @@ module _ (order : ClauseList → ClauseList) (held : List ℕ → Holding) (shel
       script_fault = some_all (told_bytes (held path)) (λ file answers course rises. never_rises rises);
       stopped = some_all (told_bytes (held path)) (λ file answers course five moved. absurd (omega (arith, moved)));
       memory = λ six. idle;
-      all_read = some_all (told_bytes (held path)) (λ file answers course zero. absurd (known (says read_error 4) said 0 zero (λ e. absurd (omega (arith, e))) (λ e. absurd (omega (arith, e)))));
+      all_read = some_all (told_bytes (held path)) (λ file answers course zero. absurd (known (says read_error ReadFailed) said Done zero (λ e. let never : ⊥ = cc in never) (λ e. let never : ⊥ = cc in never)));
       script_taken = omega arith;
-      cut = λ whole. ((λ seven. absurd (known (says read_error 4) said 7 seven (λ e. absurd (omega (arith, e))) (λ e. absurd (omega (arith, e))))), not_cut);
+      cut = λ whole. ((λ seven. absurd (known (says read_error ReadFailed) said CutShort seven (λ e. let never : ⊥ = cc in never) (λ e. let never : ⊥ = cc in never))), not_cut);
     }
       where
         given : OutputsGiven
         given = some_all (told_bytes (held path)) (λ file. some_all (output_by file) (λ output kept same. absurd (omega (arith, kept, moves))))
 
     -- One output was given without a look at the script.
-    run_told : (output : Output) → output.status ≤ 7 → DoneOrShort → output.status ≢ 0 → output.status ≢ 2 → output.status ≢ 4 → output.status ≢ 7 → IfSome (told_bytes (held path)) (IsRight order path command output)
-        → held path ≢ absent → new_shelf.faults ≡ shelf.faults → new_shelf.taken ≤ shelf.taken + TEXT_LIMIT + 1 → TakenOnce → RoseExactly out.faults new_out.faults (status ≡ 5)
+    run_told : (output : Output) → DoneOrShort → output.status ≢ Done → output.status ≢ Usage → output.status ≢ ReadFailed → output.status ≢ CutShort → IfSome (told_bytes (held path)) (IsRight order path command output)
+        → held path ≢ absent → new_shelf.faults ≡ shelf.faults → new_shelf.taken ≤ shelf.taken + TEXT_LIMIT + 1 → TakenOnce → RoseExactly out.faults new_out.faults (status ≡ WriteFailed)
         → Gives output status out.got new_out.got → IsRun order (Some (Over path command)) held shelf new_shelf input input out new_out status
-    run_told output small done no0 no2 no4 no7 right there kept bounded once writes said = record {
+    run_told output done not_done not_usage not_read not_cut_short right there kept bounded once writes said = record {
       done = λ _. done;
-      few = few_of output small said;
       write_fault = writes;
-      read_fault = λ whole. ((λ four. absurd (no4 (sym (said.whole whole).0 ∙ four))), λ rises. elim rises [ inl moves ↦ absurd (omega (arith, kept, moves)) | inr moves ↦ never_rises moves ]);
+      read_fault = λ whole. ((λ four. absurd (not_read (sym (said.whole whole).0 ∙ four))), λ rises. elim rises [ inl moves ↦ absurd (omega (arith, kept, moves)) | inr moves ↦ never_rises moves ]);
       no_fault = λ not_four whole. (kept, refl);
-      usage = λ whole. ((λ two. absurd (no2 (sym (said.whole whole).0 ∙ two))), λ none. absurd (let never : ⊥ = cc in never));
+      usage = λ whole. ((λ two. absurd (not_usage (sym (said.whole whole).0 ∙ two))), λ none. absurd (let never : ⊥ = cc in never));
       no_name = λ none. absurd (let never : ⊥ = cc in never);
       file_taken = bounded;
       file_once = once;
@@ -408,9 +401,9 @@ module _ (order : ClauseList → ClauseList) (held : List ℕ → Holding) (shel
       script_fault = some_all (told_bytes (held path)) (λ file answers course rises. never_rises rises);
       stopped = some_all (told_bytes (held path)) (λ file answers course five moved. absurd (omega (arith, moved)));
       memory = λ six. idle;
-      all_read = some_all (told_bytes (held path)) (λ file answers course zero. absurd (known output said 0 zero (λ e. absurd (omega (arith, e))) no0));
+      all_read = some_all (told_bytes (held path)) (λ file answers course zero. absurd (known output said Done zero (λ e. let never : ⊥ = cc in never) not_done));
       script_taken = omega arith;
-      cut = λ whole. ((λ seven. absurd (known output said 7 seven (λ e. absurd (omega (arith, e))) no7)), not_cut);
+      cut = λ whole. ((λ seven. absurd (known output said CutShort seven (λ e. let never : ⊥ = cc in never) not_cut_short)), not_cut);
     }
       where
         given_by : (file : List ℕ) → IsRight order path command output file → IfSome (output_by file) (IsGiven (Some (Over path command)) shelf new_shelf input input out new_out status)
@@ -424,24 +417,23 @@ module _ (order : ClauseList → ClauseList) (held : List ℕ → Holding) (shel
     -- The file was not read.
     pub run_unread : (error : LoadError) → IsUnread error (held path) shelf.faults new_shelf.faults → new_shelf.taken ≤ shelf.taken + TEXT_LIMIT + 1
         → IfSome (told_bytes (held path)) (λ file. new_shelf.taken ≤ shelf.taken + length file)
-        → ((limit : ℕ) → error ≡ Long limit → new_shelf.taken ≡ shelf.taken + TEXT_LIMIT + 1) → RoseExactly out.faults new_out.faults (status ≡ 5)
+        → ((limit : ℕ) → error ≡ Long limit → new_shelf.taken ≡ shelf.taken + TEXT_LIMIT + 1) → RoseExactly out.faults new_out.faults (status ≡ WriteFailed)
         → Gives (not_loaded error) status out.got new_out.got → IsRun order (Some (Over path command)) held shelf new_shelf input input out new_out status
     run_unread LoadFailed rises bounded once taken writes said = run_failed rises bounded once writes said
     run_unread (Long limit) is bounded once taken writes said =
-        run_told (says long_file_line 1) (omega arith) (inl (long_done (told_bytes (held path)) is.0 (taken limit refl) said)) (λ e. omega (arith, e)) (λ e. omega (arith, e)) (λ e. omega (arith, e)) (λ e. omega (arith, e))
+        run_told (says long_file_line Refused) (inl (long_done (told_bytes (held path)) is.0 (taken limit refl) said)) (λ e. let never : ⊥ = cc in never) (λ e. let never : ⊥ = cc in never) (λ e. let never : ⊥ = cc in never) (λ e. let never : ⊥ = cc in never)
         (long_is_right order path command (told_bytes (held path)) is.0) is.1 is.2 bounded once writes said
     run_unread Memory is bounded once taken writes said =
-        run_told no_memory (omega arith) (inr (refl, idle, said)) (λ e. omega (arith, e)) (λ e. omega (arith, e)) (λ e. omega (arith, e)) (λ e. omega (arith, e))
+        run_told no_memory (inr (refl, idle, said)) (λ e. let never : ⊥ = cc in never) (λ e. let never : ⊥ = cc in never) (λ e. let never : ⊥ = cc in never) (λ e. let never : ⊥ = cc in never)
         (some_all (told_bytes (held path)) (λ file. inl refl)) is.0 is.1 bounded once writes said
 
   -- The words have no form.
-  pub run_usage : RoseExactly out.faults new_out.faults (status ≡ 5) → Gives (says usage_line 2) status out.got new_out.got
+  pub run_usage : RoseExactly out.faults new_out.faults (status ≡ WriteFailed) → Gives (says usage_line Usage) status out.got new_out.got
       → IsRun order None held shelf shelf input input out new_out status
   run_usage writes said = record {
     done = λ _. inl (record { file = []; is_told = refl; taken = omega arith; follows = (idle, inr said) });
-    few = few_of (says usage_line 2) (omega arith) said;
     write_fault = writes;
-    read_fault = λ whole. ((λ four. absurd (let two = (said.whole whole).0 in omega (arith, four, two))), λ rises. elim rises [ inl moves ↦ absurd (omega (arith, moves)) | inr moves ↦ never_rises moves ]);
+    read_fault = λ whole. ((λ four. absurd (let two = (said.whole whole).0 in let never : ⊥ = cc in never)), λ rises. elim rises [ inl moves ↦ absurd (omega (arith, moves)) | inr moves ↦ never_rises moves ]);
     no_fault = λ not_four whole. (refl, refl);
     usage = λ whole. ((λ two. refl), λ none. (said.whole whole).0);
     no_name = λ none. record { left = refl; taken = refl; faults = refl };
@@ -452,25 +444,24 @@ module _ (order : ClauseList → ClauseList) (held : List ℕ → Holding) (shel
     not_asked = λ asks. idle;
     no_script = λ output course. idle;
     output = λ read taken. inr said;
-    complete = completes None shelf shelf input input out new_out status writes (says usage_line 2) (λ read taken. inr said);
+    complete = completes None shelf shelf input input out new_out status writes (says usage_line Usage) (λ read taken. inr said);
     script_fault = λ answers course rises. never_rises rises;
     stopped = λ answers course five moved. absurd (omega (arith, moved));
     memory = λ six. idle;
     all_read = λ answers course zero. absurd (let never : ⊥ = cc in never);
     script_taken = omega arith;
-    cut = λ whole. ((λ seven. absurd (known (says usage_line 2) said 7 seven (λ e. absurd (omega (arith, e))) (λ e. absurd (omega (arith, e))))), λ taken. absurd (omega (arith, taken)));
+    cut = λ whole. ((λ seven. absurd (known (says usage_line Usage) said CutShort seven (λ e. let never : ⊥ = cc in never) (λ e. let never : ⊥ = cc in never))), λ taken. absurd (omega (arith, taken)));
   }
 
   -- An adder is made, and no file is named.
-  pub run_load : (places : ℕ) → status ≤ 7 → RoseExactly out.faults new_out.faults (status ≡ 5) → status ≢ 2 → status ≢ 4 → status ≢ 7 → GivesUnlessMemory (loaded places) status out.got new_out.got
+  pub run_load : (places : ℕ) → RoseExactly out.faults new_out.faults (status ≡ WriteFailed) → status ≢ Usage → status ≢ ReadFailed → status ≢ CutShort → GivesUnlessMemory (loaded places) status out.got new_out.got
       → IsRun order (Some (Load places)) held shelf shelf input input out new_out status
-  run_load places few writes no2 no4 no7 said = record {
+  run_load places writes not_usage not_read not_cut_short said = record {
     done = λ _. inl (record { file = []; is_told = refl; taken = omega arith; follows = (idle, said) });
-    few = few;
     write_fault = writes;
-    read_fault = λ whole. ((λ four. absurd (no4 four)), λ rises. elim rises [ inl moves ↦ absurd (omega (arith, moves)) | inr moves ↦ never_rises moves ]);
+    read_fault = λ whole. ((λ four. absurd (not_read four)), λ rises. elim rises [ inl moves ↦ absurd (omega (arith, moves)) | inr moves ↦ never_rises moves ]);
     no_fault = λ not_four whole. (refl, refl);
-    usage = λ whole. ((λ two. absurd (no2 two)), λ none. absurd (let never : ⊥ = cc in never));
+    usage = λ whole. ((λ two. absurd (not_usage two)), λ none. absurd (let never : ⊥ = cc in never));
     no_name = λ none. record { left = refl; taken = refl; faults = refl };
     file_taken = omega arith;
     file_once = omega arith;
@@ -485,5 +476,5 @@ module _ (order : ClauseList → ClauseList) (held : List ℕ → Holding) (shel
     memory = λ six. idle;
     all_read = λ answers course zero. absurd (let never : ⊥ = cc in never);
     script_taken = omega arith;
-    cut = λ whole. ((λ seven. absurd (no7 seven)), λ taken. absurd (omega (arith, taken)));
+    cut = λ whole. ((λ seven. absurd (not_cut_short seven)), λ taken. absurd (omega (arith, taken)));
   }

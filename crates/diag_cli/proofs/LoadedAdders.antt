@@ -22,6 +22,7 @@ use Rattle.session_rules.proofs.Begun.{HaveSpellings}
 use Rattle.session_rules.proofs.Meaning.{same_consistent}
 use Rattle.diag_cli.specs.declared.loading.TheConstants.{LISTED_LIMIT}
 use Rattle.diag_cli.specs.declared.loading.Summary.{Summary}
+use Rattle.device_files.specs.declared.status.Status.{Status}
 use Rattle.device_files.specs.Output.{Output, Gives, GivesUnlessMemory}
 use Rattle.device_files.specs.Planning.{count_line}
 use Rattle.diag_cli.specs.Loads.{names_line, listed_lines}
@@ -94,9 +95,9 @@ have_found parts (Some f) first last = ((_, refl), ((_, refl), ((_, refl), ((_, 
 -- ---- what is told of a device, or of none
 
 -- a refusal of an output that is told
-pub gives_told : (fault : Option Output) (output : Output) (status : ℕ) (a b : Option (List ℕ)) → IfSome fault (λ said. output ≡ said) → Gives (or_memory fault) status a b → GivesUnlessMemory output status a b
+pub gives_told : (fault : Option Output) (output : Output) (status : Status) (a b : Option (List ℕ)) → IfSome fault (λ said. output ≡ said) → Gives (or_memory fault) status a b → GivesUnlessMemory output status a b
 gives_told None output status a b is said = inl said
 gives_told (Some other) output status a b is said = inr (subst (λ (o : Output). Gives o status a b) (sym is) said)
 
-pub gives_summary : (output expected : Output) (status : ℕ) (a b : Option (List ℕ)) → expected ≡ output → Gives output status a b → GivesUnlessMemory expected status a b
+pub gives_summary : (output expected : Output) (status : Status) (a b : Option (List ℕ)) → expected ≡ output → Gives output status a b → GivesUnlessMemory expected status a b
 gives_summary output expected status a b is said = inr (subst (λ (o : Output). Gives o status a b) (sym is) said)

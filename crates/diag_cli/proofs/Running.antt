@@ -24,6 +24,7 @@ use Rattle.session_core.specs.Serving.{FailsBehind, FailsAtOnce}
 use Rattle.session_core.proofs.Exact.{makes_over, breaks_over, parted}
 use Rattle.diag_edge.specs.Edge.{AppendsPrefix}
 use Rattle.diag_edge.proofs.Growing.{grows_more}
+use Rattle.device_files.specs.declared.status.Status.{Status}
 use Rattle.device_files.specs.Output.{Output, Gives}
 use Rattle.diag_cli.specs.Courses.{ready_line, answers_of}
 use Rattle.diag_cli.specs.Following.{WritesFirst, IsStopped}
@@ -32,7 +33,7 @@ use Rattle.device_files.proofs.Failing.{given_grows}
 -- ---- nothing is read after a write that failed
 
 -- items were written, and then an output was given or begun
-pub first_given : (items : List Item) (output : Output) (status : ℕ) (a b c : Option (List ℕ)) → Writes a b items → Gives output status b c → WritesFirst a c items
+pub first_given : (items : List Item) (output : Output) (status : Status) (a b c : Option (List ℕ)) → Writes a b items → Gives output status b c → WritesFirst a c items
 first_given items output status a b c written said =
     let grown = given_grows output status b c said in
     record { middle = b; written = written; text = grown.0; more = grown.1 }

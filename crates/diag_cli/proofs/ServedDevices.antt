@@ -20,6 +20,7 @@ use Rattle.session_rules.proofs.GraphReplies.{graph_replies}
 use Rattle.session_rules.proofs.Keeping.{HasCases-empty}
 use Rattle.session_core.specs.Services.{Shown}
 use Rattle.diag_cli.specs.declared.words.ServeOptions.{ServeOptions}
+use Rattle.device_files.specs.declared.status.Status.{Status}
 use Rattle.device_files.specs.Output.{Output}
 use Rattle.diag_cli.specs.Courses.{ready_line, answers_of, if_within, served_device, served_or_refused}
 use Rattle.diag_cli.specs.Following.{Reading, Writing, IsServed, Follows}
@@ -48,7 +49,7 @@ same_answers device graph is extras sessions = λ k lines. ready_line (device_sy
 
 -- What the service of a device answers is what the device's system does. So it follows the course of the device, where it may be
 -- served.
-pub device_served : (options : ServeOptions) (clauses : Device → Result ClauseList EncodeError) (device : Device) (service : Shown) (input new_input : Reading) (out new_out : Writing) (status : ℕ) → IsServiceOf device options service
+pub device_served : (options : ServeOptions) (clauses : Device → Result ClauseList EncodeError) (device : Device) (service : Shown) (input new_input : Reading) (out new_out : Writing) (status : Status) → IsServiceOf device options service
     → if_within options clauses (Ok device) ≡ Ok device → IsServed (answers_of (system_of service.subject) service.limit) input new_input out new_out status
     → Follows (served_or_refused (served_device options) options.sessions (if_within options clauses (Ok device))) input new_input out new_out status
 device_served options clauses device service input new_input out new_out status of within_it done =

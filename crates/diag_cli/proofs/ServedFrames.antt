@@ -1,6 +1,6 @@
 -- A service over a netlist and several times answers as its system does.
-use Rattle.std.proofs.Common.{◌≡◌, ◌≤◌, ◌<◌, ◌+◌, ◌*◌, ◌^◌, ℕ, Bool, List, [], ◌∷◌, length, ap, sym, subst, ◌∙◌, arith}
-use Rattle.std.specs.Prelude.{Result, Ok, Err, Option}
+use Rattle.std.proofs.Common.{◌≡◌, ◌≤◌, ◌+◌, ◌*◌, ℕ, List, [], ◌∷◌, length, ap, sym, subst, ◌∙◌, arith}
+use Rattle.std.specs.Prelude.{Result, Ok, Option}
 use Rattle.text_rules.specs.Expected.{IsExpectedFault}
 use Rattle.branch_states.specs.Branches.{sum_of}
 use Rattle.frame_unroller.specs.declared.unrolling.Unrolled.{Unrolled}
@@ -13,6 +13,8 @@ use Rattle.clause_order.specs.Orders.{SameTruth}
 use Rattle.frame_unroller.specs.Unrolling.{unrolled, reason, IsUnrolled}
 use Rattle.frame_unroller.proofs.Refusing.{unrolled-names}
 use Rattle.dnnf_compiler.proofs.Laws.{graph_over}
+use Rattle.device_files.specs.declared.status.Status.{Status}
+use Rattle.device_files.specs.declared.status.Status.TheVariants.{NoMemory}
 use Rattle.device_files.specs.Planning.{within}
 use Rattle.device_files.specs.Orders.{list_by, ByOrder, IsInOrder}
 use Rattle.std.proofs.lemmas.List.{length-map, length-replicate}
@@ -29,7 +31,6 @@ use Rattle.session_rules.specs.GraphSystems.{system_of}
 use Rattle.session_rules.proofs.GraphReplies.{fitting_replies}
 use Rattle.session_rules.proofs.Keeping.{HasCases-empty}
 use Rattle.session_core.specs.Services.{Shown}
-use Rattle.ranking.specs.Systems.{with_extras}
 use Rattle.diag_cli.specs.declared.words.ServeOptions.{ServeOptions}
 use Rattle.device_files.specs.Output.{Output}
 use Rattle.diag_cli.specs.Besides.{in_few_bits}
@@ -54,7 +55,7 @@ module _ (seq : Sequential) (frames : ℕ) (options : ServeOptions) where
         ∷ fitting_replies (part_names seq.device.parts) (frame_wires seq frames) (plain_costs (length seq.device.parts)) (fits_over seq frames) of.graph over_names options.extras options.sessions [] (HasCases-empty (frame_system seq frames)) lines k)
 
     -- so it follows the course of the netlist, where it may be served
-    pub frames_served : (put : ClauseList → ClauseList) (input new_input : Reading) (out new_out : Writing) (status : ℕ) → if_unrolled frames options put (Ok seq) ≡ Ok seq
+    pub frames_served : (put : ClauseList → ClauseList) (input new_input : Reading) (out new_out : Writing) (status : Status) → if_unrolled frames options put (Ok seq) ≡ Ok seq
         → IsServed (answers_of (system_of service.subject) service.limit) input new_input out new_out status
         → Follows (served_or_refused (served_frames frames options) options.sessions (if_unrolled frames options put (Ok seq))) input new_input out new_out status
     frames_served put input new_input out new_out status within_it done =

@@ -1,5 +1,5 @@
 -- What is given where a device is compiled.
-use Rattle.std.proofs.Common.{◌≡◌, ℕ, ◌+◌, ◌*◌, ◌≤◌, true, List, [], ◌∷◌, length, Option, None, Some, Result, Ok, refl, sym, ◌∙◌, ap, subst, arith, inl, inr}
+use Rattle.std.proofs.Common.{◌≡◌, ℕ, ◌+◌, ◌*◌, ◌≤◌, true, List, [], ◌∷◌, length, Option, None, Some, Result, Ok, refl, sym, ◌∙◌, ap, subst, inl, inr}
 use Rattle.std.specs.Prelude.{MatchResult}
 use Rattle.text_rules.specs.declared.text_lines.TheConstants.{TEXT_LIMIT}
 use Rattle.text_rules.specs.Expected.{IsExpectedFault}
@@ -15,6 +15,8 @@ use Rattle.branch_states.specs.Branches.{sum_of}
 use Rattle.session_rules.specs.Items.{Whole}
 use Rattle.session_rules.specs.Spelling.{IsWholeOf}
 use Rattle.session_rules.proofs.Spellings.{replies_one}
+use Rattle.device_files.specs.declared.status.Status.{Status}
+use Rattle.device_files.specs.declared.status.Status.TheVariants.{Done, WriteFailed}
 use Rattle.device_files.specs.Output.{Output, Gives, GivesUnlessMemory}
 use Rattle.device_files.specs.Describing.{described, device_in}
 use Rattle.device_files.specs.Planning.{within}
@@ -29,18 +31,18 @@ in_file : (path file : List ℕ) (device : Device) → length file ≤ TEXT_LIMI
 in_file path file device short is = short_file path file short ∙ is
 
 -- there are too many clauses, or their sum is above the budget
-pub not_compiled : (fault : Option Output) (path file : List ℕ) (budget : ℕ) (clauses : Device → Result ClauseList EncodeError) (device : Device) (status : ℕ) (a b : Option (List ℕ)) → length file ≤ TEXT_LIMIT → described path file ≡ Ok device
+pub not_compiled : (fault : Option Output) (path file : List ℕ) (budget : ℕ) (clauses : Device → Result ClauseList EncodeError) (device : Device) (status : Status) (a b : Option (List ℕ)) → length file ≤ TEXT_LIMIT → described path file ≡ Ok device
     → IsExpectedFault fault (within budget (clauses device)) → Gives (or_memory fault) status a b → GivesUnlessMemory (compiled budget clauses (device_in path file)) status a b
 not_compiled None path file budget clauses device status a b short is fault said = inl said
 not_compiled (Some output) path file budget clauses device status a b short is fault said =
     inr (subst (λ (o : Output). Gives o status a b) (sym (ap (compiled budget clauses) (in_file path file device short is) ∙ ap (graph_by device) fault)) said)
 
-module _ (path file : List ℕ) (budget : ℕ) (clauses : Device → Result ClauseList EncodeError) (device : Device) (cnf : ClauseList) (graph : Graph) (status : ℕ) (a b : Option (List ℕ)) where
+module _ (path file : List ℕ) (budget : ℕ) (clauses : Device → Result ClauseList EncodeError) (device : Device) (cnf : ClauseList) (graph : Graph) (status : Status) (a b : Option (List ℕ)) where
   abbrev most : ℕ
   most = 3 * sum_of cnf.clauses + 2 * cnf.vars + 2
 
   abbrev output : Output
-  output = record { items = Whole device cnf.vars most ∷ []; status = 0 }
+  output = record { items = Whole device cnf.vars most ∷ []; status = Done }
 
   output_is : length file ≤ TEXT_LIMIT → described path file ≡ Ok device → within budget (clauses device) ≡ Ok cnf → compiled budget clauses (device_in path file) ≡ output
   output_is short is list = ap (compiled budget clauses) (in_file path file device short is) ∙ ap (graph_by device) list
@@ -53,17 +55,17 @@ module _ (path file : List ℕ) (budget : ℕ) (clauses : Device → Result Clau
       → length file ≤ TEXT_LIMIT → described path file ≡ Ok device → within budget (clauses device) ≡ Ok cnf
       → IsServable device graph → graph.vars ≡ cnf.vars → length graph.nodes ≤ most
       → is_neat (graph_text (record graph { vars = vars })) ≡ true → parsed (graph_text (record graph { vars = vars })) ≡ Ok (record graph { vars = vars })
-      → Puts a b result (graph_text (record graph { vars = vars })) → MatchResult result (λ _. status ≡ 0) (λ _. status ≡ 5)
+      → Puts a b result (graph_text (record graph { vars = vars })) → MatchResult result (λ _. status ≡ Done) (λ _. status ≡ WriteFailed)
       → GivesUnlessMemory (compiled budget clauses (device_in path file)) status a b
   graph_gives result vars same short is list servable of_cnf few_nodes neat reads puts ends =
       inr (subst (λ (o : Output). Gives o status a b) (sym (output_is short is list))
-      (replies_give output status a b result (λ five. absurd (omega (arith, five))) (replies_one a b result (Whole device cnf.vars most) _ ((neat, (record graph { vars = vars }, refl)), spelled) puts) ends))
+      (replies_give output status a b result (λ five. let never : ⊥ = cc in never) (replies_one a b result (Whole device cnf.vars most) _ ((neat, (record graph { vars = vars }, refl)), spelled) puts) ends))
     where
       spelled : IsWholeOf device cnf.vars most (parsed (graph_text (record graph { vars = vars })))
       spelled = subst (IsWholeOf device cnf.vars most) (sym (reads ∙ ap (λ n. Ok (record graph { vars = n })) same)) (is_whole servable of_cnf few_nodes)
 
 -- what is told where a file cannot be compiled
-pub not_described : (fault : Option Output) (path file : List ℕ) (budget : ℕ) (clauses : Device → Result ClauseList EncodeError) (status : ℕ) (a b : Option (List ℕ))
+pub not_described : (fault : Option Output) (path file : List ℕ) (budget : ℕ) (clauses : Device → Result ClauseList EncodeError) (status : Status) (a b : Option (List ℕ))
     → length file ≤ TEXT_LIMIT → IsExpectedFault fault (described path file) → Gives (or_memory fault) status a b → GivesUnlessMemory (compiled budget clauses (device_in path file)) status a b
 not_described None path file budget clauses status a b short is said = inl said
 not_described (Some output) path file budget clauses status a b short is said =

@@ -1,6 +1,6 @@
 -- Laws of what the words ask for.
 use Rattle.std.proofs.Common.{◌≡◌, ℕ, ◌<◌, ◌≤◌, ◌-◌, Bool, true, false, ◌&&◌, nat_le, List, [], ◌∷◌, length, map, take, drop, get_or, take_all, Option, Some, None, IfSome, refl, sym, ◌∙◌, ap, subst, codes, unwrap_or, lit≤, arith, if◌then◌else◌}
-use Rattle.std.specs.Prelude.{option_and_then, is_none}
+use Rattle.std.specs.Prelude.{option_and_then}
 use Rattle.std.specs.Option.{option_map}
 use Rattle.std.proofs.lemmas.Bool.{and_parts, leb-true}
 use Rattle.text_rules.specs.Names.{same_name}

@@ -8,6 +8,7 @@ use Rattle.nnf_ask.specs.declared.names.AskError.TheVariants.{Health, Wires, Mem
 use Rattle.nnf_ask.specs.Asking.{asked_names, asked_subject}
 use Rattle.session_rules.specs.GraphSystems.{Subject}
 use Rattle.diag_edge.specs.ErrorLines.{above_line}
+use Rattle.device_files.specs.declared.status.Status.TheVariants.{Refused}
 use Rattle.device_files.specs.Output.{Output, says, no_memory_line}
 
 -- the line that tells why the variables have no names
@@ -19,7 +20,7 @@ asking_line Memory = no_memory_line
 -- what is asked over a graph, where its variables have names
 abbrev pub subject_by : ℕ → Graph → Result (List Name × List Name) AskError → Result Subject Output
 subject_by health graph (Ok names) = Ok (asked_subject health graph)
-subject_by health graph (Err error) = Err (says (asking_line error) 1)
+subject_by health graph (Err error) = Err (says (asking_line error) Refused)
 
 -- what is asked over a graph with so many parts, or the output that refuses it
 abbrev pub asked : ℕ → Result Graph Output → Result Subject Output

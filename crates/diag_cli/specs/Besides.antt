@@ -7,6 +7,7 @@ use Rattle.branch_states.specs.Branches.{sum_of}
 use Rattle.level_lister.specs.Bits.{level_bits}
 use Rattle.smooth_nnf.specs.Sizes.{drawing_bits}
 use Rattle.session_core.specs.declared.limits.TheConstants.{SERVED_BITS}
+use Rattle.device_files.specs.declared.status.Status.TheVariants.{Refused}
 use Rattle.device_files.specs.Output.{Output, says}
 
 -- the bits of states by rising cost, where these are told, over the greatest graph that is compiled from clauses of this sum
@@ -24,7 +25,7 @@ bits_line bits = above_line (codes "bits") bits SERVED_BITS
 
 -- too many bits are refused
 abbrev pub if_few : ℕ → Result ClauseList Output → Result ClauseList Output
-if_few bits other = if nat_lt SERVED_BITS bits then Err (says (bits_line bits) 1) else other
+if_few bits other = if nat_lt SERVED_BITS bits then Err (says (bits_line bits) Refused) else other
 
 -- clauses over so many parts, where what is told besides takes few bits: first states by rising cost, then the graph
 abbrev pub in_few_bits : Extras → ℕ → Result ClauseList Output → Result ClauseList Output

@@ -16,6 +16,7 @@ use Rattle.session_rules.specs.GraphSystems.{system_of}
 use Rattle.diag_cli.specs.declared.serving.TheConstants.{SCRIPT_LIMIT}
 use Rattle.diag_cli.specs.declared.words.ServeOptions.{ServeOptions}
 use Rattle.diag_cli.specs.Words.{Form, Load, Over, Command, Serve, ServeFrames, Ask, Plan, Check, Compile}
+use Rattle.device_files.specs.declared.status.Status.TheVariants.{Done, Refused, Usage, ReadFailed, CutShort}
 use Rattle.device_files.specs.Output.{Output, says, too_long_line, no_memory}
 use Rattle.device_files.specs.Describing.{long_file_line, device_in}
 use Rattle.device_files.specs.Orders.{list_by, clauses_by}
@@ -38,8 +39,8 @@ read_error = codes "error: read\n"
 
 -- the output by why the file was not read
 abbrev pub not_loaded : LoadError → Output
-not_loaded LoadFailed = says read_error 4
-not_loaded (Long limit) = says long_file_line 1
+not_loaded LoadFailed = says read_error ReadFailed
+not_loaded (Long limit) = says long_file_line Refused
 not_loaded Memory = no_memory
 
 -- ---- a script is answered
@@ -63,9 +64,9 @@ answers_of system sessions lines = ready_line system ∷ replies system sessions
 
 -- the output where lines are answered so, by how the script ends
 abbrev pub served : (List (List ℕ) → List Item) → List ℕ → End → Output
-served answers script Ended = record { items = answers (all_lines script); status = 0 }
-served answers script Failed = record { items = answers (whole_lines script) ++ Plain read_error ∷ []; status = 4 }
-served answers script Cut = record { items = answers (whole_lines script) ++ Plain script_too_long ∷ []; status = 7 }
+served answers script Ended = record { items = answers (all_lines script); status = Done }
+served answers script Failed = record { items = answers (whole_lines script) ++ Plain read_error ∷ []; status = ReadFailed }
+served answers script Cut = record { items = answers (whole_lines script) ++ Plain script_too_long ∷ []; status = CutShort }
 
 -- a script of the limit or more is cut
 abbrev pub end_of : List ℕ → End
@@ -80,7 +81,7 @@ wholly_served answers script = served answers (take SCRIPT_LIMIT script) (end_of
 -- its graph, over the variables of the clauses, with at most so many nodes
 abbrev pub graph_by : Device → Result ClauseList Output → Output
 graph_by device (Ok cnf) =
-    record { items = Whole device cnf.vars (3 * sum_of cnf.clauses + 2 * cnf.vars + 2) ∷ []; status = 0 }
+    record { items = Whole device cnf.vars (3 * sum_of cnf.clauses + 2 * cnf.vars + 2) ∷ []; status = Done }
 graph_by device (Err output) = output
 
 -- by what the clauses of devices are
@@ -134,6 +135,6 @@ course_by order path Check file = Tells (checked (graph_in file))
 course_by order path (Compile budget narrow) file = Tells (compiled budget (clauses_by narrow order) (device_in path file))
 
 abbrev pub course_of : (ClauseList → ClauseList) → Option Form → List ℕ → Course
-course_of order None file = Tells (says usage_line 2)
+course_of order None file = Tells (says usage_line Usage)
 course_of order (Some (Load places)) file = Tells (loaded places)
 course_of order (Some (Over path command)) file = course_by order path command file

@@ -6,6 +6,8 @@ use Rattle.session_rules.specs.Items.{Item}
 use Rattle.session_rules.specs.Spelling.{Writes, WritesPart}
 use Rattle.session_core.specs.declared.serving.TheConstants.{READ_LIMIT}
 use Rattle.diag_cli.specs.declared.serving.TheConstants.{SCRIPT_LIMIT}
+use Rattle.device_files.specs.declared.status.Status.{Status}
+use Rattle.device_files.specs.declared.status.Status.TheVariants.{Done, WriteFailed}
 use Rattle.device_files.specs.Output.{Gives, GivesUnlessMemory, no_memory}
 use Rattle.diag_cli.specs.Courses.{End, Ended, Failed, Cut, Course, Tells, Serves, served}
 
@@ -49,7 +51,7 @@ pub record IsStopped (answers : List (List ℕ) → List Item) (bytes : List ℕ
 
 -- Bytes of a script were taken, and the lines that a line feed ended were answered. If a write failed, it was behind these, with a
 -- last line, or with the line that tells why the script ended.
-pub record IsAnswered (answers : List (List ℕ) → List Item) (input new_input : Reading) (out new_out : Writing) (status : ℕ) : Type 0 where
+pub record IsAnswered (answers : List (List ℕ) → List Item) (input new_input : Reading) (out new_out : Writing) (status : Status) : Type 0 where
   pub bytes : List ℕ
   pub counted : new_input.taken ≡ input.taken + length bytes
   pub end : End
@@ -75,18 +77,18 @@ pub record IsBroken (answers : List (List ℕ) → List Item) (input new_input :
   pub stopped : 0 < length bytes → IsStopped answers bytes out.got new_out.got
 
 -- there was no memory to begin a script, or it was answered, or a write failed before that
-abbrev pub CameTo : (List (List ℕ) → List Item) → Reading → Reading → Writing → Writing → ℕ → Type 0
+abbrev pub CameTo : (List (List ℕ) → List Item) → Reading → Reading → Writing → Writing → Status → Type 0
 CameTo answers input new_input out new_out status =
     (IsIdle input new_input × Gives no_memory status out.got new_out.got)
-    ⊎ (IsAnswered answers input new_input out new_out status ⊎ ((status ≡ 5) × IsBroken answers input new_input out new_out))
+    ⊎ (IsAnswered answers input new_input out new_out status ⊎ ((status ≡ WriteFailed) × IsBroken answers input new_input out new_out))
 
 -- a script was served
-pub record IsServed (answers : List (List ℕ) → List Item) (input new_input : Reading) (out new_out : Writing) (status : ℕ) : Type 0 where
+pub record IsServed (answers : List (List ℕ) → List Item) (input new_input : Reading) (out new_out : Writing) (status : Status) : Type 0 where
   pub answer : CameTo answers input new_input out new_out status
-  pub all_read : status ≡ 0 → IsAtEnd new_input.left
+  pub all_read : status ≡ Done → IsAtEnd new_input.left
 
 -- what was done, by the course
-abbrev pub Follows : Course → Reading → Reading → Writing → Writing → ℕ → Type 0
+abbrev pub Follows : Course → Reading → Reading → Writing → Writing → Status → Type 0
 Follows (Tells output) input new_input out new_out status =
     IsIdle input new_input × GivesUnlessMemory output status out.got new_out.got
 Follows (Serves answers) input new_input out new_out status = IsServed answers input new_input out new_out status

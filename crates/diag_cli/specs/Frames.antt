@@ -11,6 +11,7 @@ use Rattle.frame_unroller.specs.declared.unrolling.UnrollError.{UnrollError}
 use Rattle.frame_unroller.specs.declared.unrolling.UnrollError.TheVariants.{TooManyParts, TooManyWires, TooManyClauses, Memory}
 use Rattle.frame_unroller.specs.Unrolling.{unrolled}
 use Rattle.diag_edge.specs.ErrorLines.{above_line}
+use Rattle.device_files.specs.declared.status.Status.TheVariants.{Refused}
 use Rattle.device_files.specs.Output.{Output, says, no_memory}
 use Rattle.device_files.specs.Describing.{netlist_line, long_file_line, or_line}
 use Rattle.diag_cli.specs.declared.words.ServeOptions.{ServeOptions}
@@ -19,13 +20,13 @@ use Rattle.diag_cli.specs.Besides.{in_few_bits}
 
 -- the netlist of a file, which may be too long
 abbrev pub sequential_in : List ℕ → Result Sequential Output
-sequential_in file = if nat_le (length file) TEXT_LIMIT then or_line netlist_line (sequential_netlist file) else Err (says long_file_line 1)
+sequential_in file = if nat_le (length file) TEXT_LIMIT then or_line netlist_line (sequential_netlist file) else Err (says long_file_line Refused)
 
 -- too many parts, wires or clauses at all times
 abbrev pub not_unrolled : UnrollError → Output
-not_unrolled (TooManyParts count) = says (above_line (codes "parts") count PART_LIMIT) 1
-not_unrolled (TooManyWires count) = says (above_line (codes "wires") count WIRE_LIMIT) 1
-not_unrolled (TooManyClauses count) = says (above_line (codes "clauses") count CLAUSE_LIMIT) 1
+not_unrolled (TooManyParts count) = says (above_line (codes "parts") count PART_LIMIT) Refused
+not_unrolled (TooManyWires count) = says (above_line (codes "wires") count WIRE_LIMIT) Refused
+not_unrolled (TooManyClauses count) = says (above_line (codes "clauses") count CLAUSE_LIMIT) Refused
 not_unrolled Memory = no_memory
 
 -- the clauses over all times, put into an order, where their sum is within a budget

@@ -14,6 +14,7 @@ use Rattle.session_rules.specs.Items.{Item, line}
 use Rattle.session_rules.specs.Replies.{faulty_names}
 use Rattle.diag_cli.specs.declared.words.TheConstants.{DEFAULT_BUDGET}
 use Rattle.diag_cli.specs.declared.loading.TheConstants.{LISTED_LIMIT}
+use Rattle.device_files.specs.declared.status.Status.TheVariants.{Done}
 use Rattle.device_files.specs.Output.{Output}
 use Rattle.device_files.specs.Describing.{or_line, netlist_line}
 use Rattle.device_files.specs.Planning.{count_line, within}
@@ -39,7 +40,7 @@ summary_lines system clauses known =
 -- by the clauses of the device, whose sum is within the budget
 abbrev pub summary_by : ℕ → Device → Result ClauseList Output → Output
 summary_by places device (Ok cnf) =
-    record { items = summary_lines (device_system device) (length cnf.clauses) (adder_case device places); status = 0 }
+    record { items = summary_lines (device_system device) (length cnf.clauses) (adder_case device places); status = Done }
 summary_by places device (Err output) = output
 
 abbrev pub summary_of : ℕ → Result Device Output → Output

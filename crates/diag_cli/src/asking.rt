@@ -14,7 +14,7 @@ ghost use Rattle.diag_cli.specs.Following.{Follows};
 ghost use Rattle.diag_cli.specs.inner.Serving.{IsReady};
 
 use crate::serving::{SCRIPT_LIMIT, answer};
-use device_files::{Refusal, above, graph_in, tell};
+use device_files::{Refusal, Status, above, graph_in, tell};
 use device_model::{PART_LIMIT, WIRE_LIMIT};
 use diag_edge::{Sink, Source};
 use nnf_ask::{AskError, ask_costs, ask_names};
@@ -25,7 +25,7 @@ use text_rules::TEXT_LIMIT;
 
 // The refusal that tells why the variables of a graph have no names.
 fn unnamed(error: AskError) -> Refusal
-    ensures { told_by result ≡ option_map (λ fault. says (asking_line fault) 1) (told error) }
+    ensures { told_by result ≡ option_map (λ fault. says (asking_line fault) Status.Refused) (told error) }
 {
     match error {
         AskError::Health { health, vars } => above("health", u64::from(health), vars as usize),
@@ -81,7 +81,7 @@ pub(crate) fn ask_file<I: Source, O: Sink>(
     sessions: u32,
     input: &mut I,
     out: &mut O,
-) -> u8
+) -> Status
     requires health { health ≤ PART_LIMIT }
     requires some { 1 ≤ sessions }
     requires few { sessions ≤ SESSION_LIMIT }
@@ -89,17 +89,16 @@ pub(crate) fn ask_file<I: Source, O: Sink>(
     requires taken { I.taken input.old < 2 ^ 62 }
     requires reads { I.faults input.old < 2 ^ 64 - 1 }
     requires writes { O.faults out.old < 2 ^ 64 - 1 }
-    ensures write_fault { RoseExactly (O.faults out.old) (O.faults out.new) (result ≡ 5) }
-    ensures read_fault { result ≢ 5 → RoseExactly (I.faults input.old) (I.faults input.new) (result ≡ 4) }
-    ensures not_usage { result ≢ 2 }
-    ensures few { result ≤ 7 }
+    ensures write_fault { RoseExactly (O.faults out.old) (O.faults out.new) (result ≡ Status.WriteFailed) }
+    ensures read_fault { result ≢ Status.WriteFailed → RoseExactly (I.faults input.old) (I.faults input.new) (result ≡ Status.ReadFailed) }
+    ensures not_usage { result ≢ Status.Usage }
     ensures follows { Follows (served_or_refused system_of sessions (asked health (graph_in file.now)))
         (record { left = I.left input.old; taken = I.taken input.old; faults = I.faults input.old })
         (record { left = I.left input.new; taken = I.taken input.new; faults = I.faults input.new })
         (record { got = O.got out.old; faults = O.faults out.old })
         (record { got = O.got out.new; faults = O.faults out.new }) result }
-    ensures cut { result ≡ 7 → I.taken input.new ≡ I.taken input.old + SCRIPT_LIMIT }
-    ensures short { result ≢ 5 → result ≢ 7 → I.taken input.new < I.taken input.old + SCRIPT_LIMIT }
+    ensures cut { result ≡ Status.CutShort → I.taken input.new ≡ I.taken input.old + SCRIPT_LIMIT }
+    ensures short { result ≢ Status.WriteFailed → result ≢ Status.CutShort → I.taken input.new < I.taken input.old + SCRIPT_LIMIT }
 {
     match service_of(alloc, file, health, sessions) {
         Ok(mut service) => {

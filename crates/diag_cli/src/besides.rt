@@ -15,7 +15,7 @@ ghost use Rattle.diag_cli.specs.inner.Serving.{IsServable, CanTell};
 use crate::graphs::compiled_within;
 use crate::words::ServeOptions;
 use clause_encoder::Cnf;
-use device_files::{Refusal, above, ordered_clauses, sum_within};
+use device_files::{Refusal, Status, above, ordered_clauses, sum_within};
 use device_model::{Device, PART_LIMIT};
 use dnnf_compiler::Compiled;
 use level_lister::{TOP_LIMIT, level_bits};
@@ -118,7 +118,7 @@ fn least_bits(sum: u32, vars: u32, parts: u32, least: bool) -> u64
 // Refuses too many bits.
 fn few_bits(bits: u64) -> Result<(), Refusal>
     ensures few { IfOk result (λ _. bits ≤ SERVED_BITS) }
-    ensures many { IfErr result (λ refusal. (told_by refusal ≡ Some (says (bits_line bits) 1)) × (SERVED_BITS < bits)) }
+    ensures many { IfErr result (λ refusal. (told_by refusal ≡ Some (says (bits_line bits) Status.Refused)) × (SERVED_BITS < bits)) }
 {
     if bits > SERVED_BITS {
         return Err(above("bits", bits, SERVED_BITS as usize));

@@ -7,7 +7,7 @@ ghost use Rattle.device_files.specs.Output.{GivesUnlessMemory};
 
 use crate::graphs::graph_within;
 use branch_states::BUDGET_LIMIT;
-use device_files::{described, tell};
+use device_files::{Status, described, tell};
 use diag_edge::Sink;
 use nnf_text::write_nnf;
 use std::alloc::Global;
@@ -21,15 +21,14 @@ pub(crate) fn compile_file<O: Sink>(
     budget: u32,
     is_narrow: bool,
     out: &mut O,
-) -> u8
+) -> Status
     requires budget { budget ≤ BUDGET_LIMIT }
     requires short { length file.now ≤ TEXT_LIMIT }
     requires faults { O.faults out.old < 2 ^ 64 - 1 }
-    ensures write_fault { RoseExactly (O.faults out.old) (O.faults out.new) (result ≡ 5) }
-    ensures not_usage { result ≢ 2 }
-    ensures not_read { result ≢ 4 }
-    ensures not_cut { result ≢ 7 }
-    ensures few { result ≤ 7 }
+    ensures write_fault { RoseExactly (O.faults out.old) (O.faults out.new) (result ≡ Status.WriteFailed) }
+    ensures not_usage { result ≢ Status.Usage }
+    ensures not_read { result ≢ Status.ReadFailed }
+    ensures not_cut { result ≢ Status.CutShort }
     ensures said { ByClauses is_narrow (λ clauses.
         GivesUnlessMemory (compiled budget clauses (device_in path.now file.now)) result (O.got out.old) (O.got out.new)) }
 {
@@ -42,7 +41,7 @@ pub(crate) fn compile_file<O: Sink>(
         Err(refusal) => return tell(out, refusal),
     };
     match write_nnf(&graph, graph.vars(), out) {
-        Ok(()) => 0,
-        Err(_) => 5,
+        Ok(()) => Status::Done,
+        Err(_) => Status::WriteFailed,
     }
 }

@@ -19,7 +19,7 @@ use crate::serving::{SCRIPT_LIMIT, answer};
 use crate::words::ServeOptions;
 use bench_reader::{BenchError, Sequential, read_sequential};
 use clause_encoder::CLAUSE_LIMIT;
-use device_files::{Refusal, above, in_order, tell};
+use device_files::{Refusal, Status, above, in_order, tell};
 use device_model::{PART_LIMIT, WIRE_LIMIT};
 use diag_edge::{Sink, Source};
 use frame_unroller::{FRAME_LIMIT, UnrollError, Unrolled, unroll};
@@ -113,7 +113,7 @@ fn serve_sequential<I: Source, O: Sink>(
     options: ServeOptions,
     input: &mut I,
     out: &mut O,
-) -> u8
+) -> Status
     requires some_frames { 1 ≤ frames }
     requires few_frames { frames ≤ FRAME_LIMIT }
     requires short { HasShortNames seq.device }
@@ -121,18 +121,17 @@ fn serve_sequential<I: Source, O: Sink>(
     requires taken { I.taken input.old < 2 ^ 62 }
     requires reads { I.faults input.old < 2 ^ 64 - 1 }
     requires writes { O.faults out.old < 2 ^ 64 - 1 }
-    ensures write_fault { RoseExactly (O.faults out.old) (O.faults out.new) (result ≡ 5) }
-    ensures read_fault { result ≢ 5 → RoseExactly (I.faults input.old) (I.faults input.new) (result ≡ 4) }
-    ensures not_usage { result ≢ 2 }
-    ensures few { result ≤ 7 }
+    ensures write_fault { RoseExactly (O.faults out.old) (O.faults out.new) (result ≡ Status.WriteFailed) }
+    ensures read_fault { result ≢ Status.WriteFailed → RoseExactly (I.faults input.old) (I.faults input.new) (result ≡ Status.ReadFailed) }
+    ensures not_usage { result ≢ Status.Usage }
     ensures follows { ByOrder (λ order.
         Follows (served_or_refused (served_frames frames options) options.sessions (if_unrolled frames options (list_by options.narrow order) (Ok seq)))
         (record { left = I.left input.old; taken = I.taken input.old; faults = I.faults input.old })
         (record { left = I.left input.new; taken = I.taken input.new; faults = I.faults input.new })
         (record { got = O.got out.old; faults = O.faults out.old })
         (record { got = O.got out.new; faults = O.faults out.new }) result) }
-    ensures cut { result ≡ 7 → I.taken input.new ≡ I.taken input.old + SCRIPT_LIMIT }
-    ensures short { result ≢ 5 → result ≢ 7 → I.taken input.new < I.taken input.old + SCRIPT_LIMIT }
+    ensures cut { result ≡ Status.CutShort → I.taken input.new ≡ I.taken input.old + SCRIPT_LIMIT }
+    ensures short { result ≢ Status.WriteFailed → result ≢ Status.CutShort → I.taken input.new < I.taken input.old + SCRIPT_LIMIT }
 {
     match service_within(alloc, &seq, frames, options) {
         Ok(mut service) => {
@@ -152,7 +151,7 @@ pub(crate) fn serve_frames<I: Source, O: Sink>(
     options: ServeOptions,
     input: &mut I,
     out: &mut O,
-) -> u8
+) -> Status
     requires some_frames { 1 ≤ frames }
     requires few_frames { frames ≤ FRAME_LIMIT }
     requires options { AreWithinLimits options }
@@ -160,18 +159,17 @@ pub(crate) fn serve_frames<I: Source, O: Sink>(
     requires taken { I.taken input.old < 2 ^ 62 }
     requires reads { I.faults input.old < 2 ^ 64 - 1 }
     requires writes { O.faults out.old < 2 ^ 64 - 1 }
-    ensures write_fault { RoseExactly (O.faults out.old) (O.faults out.new) (result ≡ 5) }
-    ensures read_fault { result ≢ 5 → RoseExactly (I.faults input.old) (I.faults input.new) (result ≡ 4) }
-    ensures not_usage { result ≢ 2 }
-    ensures few { result ≤ 7 }
+    ensures write_fault { RoseExactly (O.faults out.old) (O.faults out.new) (result ≡ Status.WriteFailed) }
+    ensures read_fault { result ≢ Status.WriteFailed → RoseExactly (I.faults input.old) (I.faults input.new) (result ≡ Status.ReadFailed) }
+    ensures not_usage { result ≢ Status.Usage }
     ensures follows { ByOrder (λ order.
         Follows (served_or_refused (served_frames frames options) options.sessions (if_unrolled frames options (list_by options.narrow order) (sequential_in file.now)))
         (record { left = I.left input.old; taken = I.taken input.old; faults = I.faults input.old })
         (record { left = I.left input.new; taken = I.taken input.new; faults = I.faults input.new })
         (record { got = O.got out.old; faults = O.faults out.old })
         (record { got = O.got out.new; faults = O.faults out.new }) result) }
-    ensures cut { result ≡ 7 → I.taken input.new ≡ I.taken input.old + SCRIPT_LIMIT }
-    ensures short { result ≢ 5 → result ≢ 7 → I.taken input.new < I.taken input.old + SCRIPT_LIMIT }
+    ensures cut { result ≡ Status.CutShort → I.taken input.new ≡ I.taken input.old + SCRIPT_LIMIT }
+    ensures short { result ≢ Status.WriteFailed → result ≢ Status.CutShort → I.taken input.new < I.taken input.old + SCRIPT_LIMIT }
 {
     match sequential(alloc, file) {
         Ok(seq) => serve_sequential(alloc, seq, frames, options, input, out),

@@ -15,7 +15,7 @@ ghost use Rattle.diag_cli.specs.inner.Serving.{IsServable};
 use crate::graphs::{costs_of, graph_within};
 use crate::words::DEFAULT_BUDGET;
 use adder_load::{Found, PLACE_LIMIT, adder_text, note_readings, sample};
-use device_files::{Refusal, netlist_device, put_count, tell};
+use device_files::{Refusal, Status, netlist_device, put_count, tell};
 use device_model::{Device, Name};
 use diag_edge::{Sink, WriteFailed, put_line};
 use fault_graph::Distiller;
@@ -183,30 +183,29 @@ fn put_summary<O: Sink>(out: &mut O, summary: &Summary) -> Result<(), WriteFaile
     put_found(out, summary)
 }
 
-// Tells a summary and answers 0, or 5 where a write failed.
+// Tells a summary and answers `Done`, or `WriteFailed`.
 #[tactic(auto, using(device_files::proofs::Failing::gives_items))]
-fn tell_summary<O: Sink>(out: &mut O, summary: &Summary) -> u8
+fn tell_summary<O: Sink>(out: &mut O, summary: &Summary) -> Status
     requires in_step { IsInStep summary.now }
     requires faults { O.faults out.old < 2 ^ 64 - 1 }
-    ensures write_fault { RoseExactly (O.faults out.old) (O.faults out.new) (result ≡ 5) }
-    ensures either { (result ≡ 0) ⊎ (result ≡ 5) }
+    ensures write_fault { RoseExactly (O.faults out.old) (O.faults out.new) (result ≡ Status.WriteFailed) }
+    ensures either { (result ≡ Status.Done) ⊎ (result ≡ Status.WriteFailed) }
     ensures said { Gives (summary_output summary.now) result (O.got out.old) (O.got out.new) }
 {
     match put_summary(out, summary) {
-        Ok(()) => 0,
-        Err(_) => 5,
+        Ok(()) => Status::Done,
+        Err(_) => Status::WriteFailed,
     }
 }
 
 /// Tells what the adder of so many places comes to, or why that cannot be told, and answers the status.
-pub(crate) fn load_adder<O: Sink>(alloc: Global, places: u32, out: &mut O) -> u8
+pub(crate) fn load_adder<O: Sink>(alloc: Global, places: u32, out: &mut O) -> Status
     requires places { places ≤ PLACE_LIMIT }
     requires faults { O.faults out.old < 2 ^ 64 - 1 }
-    ensures write_fault { RoseExactly (O.faults out.old) (O.faults out.new) (result ≡ 5) }
-    ensures not_usage { result ≢ 2 }
-    ensures not_read { result ≢ 4 }
-    ensures not_cut { result ≢ 7 }
-    ensures few { result ≤ 7 }
+    ensures write_fault { RoseExactly (O.faults out.old) (O.faults out.new) (result ≡ Status.WriteFailed) }
+    ensures not_usage { result ≢ Status.Usage }
+    ensures not_read { result ≢ Status.ReadFailed }
+    ensures not_cut { result ≢ Status.CutShort }
     ensures said { GivesUnlessMemory (loaded places) result (O.got out.old) (O.got out.new) }
 {
     match summary_at(alloc, places) {

@@ -8,6 +8,7 @@ use crate::loading::load_adder;
 use crate::run::run_file;
 use crate::saying::{say_load_error, say_usage};
 use crate::words::{Command, Form, form_of};
+use device_files::Status;
 use diag_edge::{Shelf, Sink, Source, load};
 use std::alloc::Global;
 use text_rules::TEXT_LIMIT;
@@ -20,7 +21,7 @@ fn run_over<H: Shelf, I: Source, O: Sink>(
     shelf: &mut H,
     input: &mut I,
     out: &mut O,
-) -> u8
+) -> Status
     requires may { H.may shelf.old path.now }
     requires limits { IsCommandWithin (command_meant command) }
     requires shelf_taken { H.taken shelf.old < 2 ^ 62 }
@@ -53,7 +54,7 @@ pub fn diag<H: Shelf, I: Source, O: Sink>(
     shelf: &mut H,
     input: &mut I,
     out: &mut O,
-) -> u8
+) -> Status
     requires may { IfSome (named_file (form_of (map string_bytes words.now))) (λ name. H.may shelf.old name) }
     requires shelf_taken { H.taken shelf.old < 2 ^ 62 }
     requires input_taken { I.taken input.old < 2 ^ 62 }

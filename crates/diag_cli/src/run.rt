@@ -10,7 +10,7 @@ use crate::compiling::compile_file;
 use crate::framing::serve_frames;
 use crate::serving::{SCRIPT_LIMIT, serve_file};
 use crate::words::Command;
-use device_files::{check_file, plan_file};
+use device_files::{Status, check_file, plan_file};
 use diag_edge::{Sink, Source};
 use std::alloc::Global;
 use text_rules::TEXT_LIMIT;
@@ -23,23 +23,22 @@ pub(crate) fn run_file<I: Source, O: Sink>(
     file: &[u8],
     input: &mut I,
     out: &mut O,
-) -> u8
+) -> Status
     requires limits { IsCommandWithin (command_meant command) }
     requires short { length file.now ≤ TEXT_LIMIT }
     requires taken { I.taken input.old < 2 ^ 62 }
     requires reads { I.faults input.old < 2 ^ 64 - 1 }
     requires writes { O.faults out.old < 2 ^ 64 - 1 }
-    ensures write_fault { RoseExactly (O.faults out.old) (O.faults out.new) (result ≡ 5) }
-    ensures read_fault { result ≢ 5 → RoseExactly (I.faults input.old) (I.faults input.new) (result ≡ 4) }
-    ensures not_usage { result ≢ 2 }
-    ensures few { result ≤ 7 }
+    ensures write_fault { RoseExactly (O.faults out.old) (O.faults out.new) (result ≡ Status.WriteFailed) }
+    ensures read_fault { result ≢ Status.WriteFailed → RoseExactly (I.faults input.old) (I.faults input.new) (result ≡ Status.ReadFailed) }
+    ensures not_usage { result ≢ Status.Usage }
     ensures follows { ByOrder (λ order. Follows (course_by order path.now (command_meant command) file.now)
         (record { left = I.left input.old; taken = I.taken input.old; faults = I.faults input.old })
         (record { left = I.left input.new; taken = I.taken input.new; faults = I.faults input.new })
         (record { got = O.got out.old; faults = O.faults out.old })
         (record { got = O.got out.new; faults = O.faults out.new }) result) }
-    ensures cut { result ≡ 7 → I.taken input.new ≡ I.taken input.old + SCRIPT_LIMIT }
-    ensures short { result ≢ 5 → result ≢ 7 → I.taken input.new < I.taken input.old + SCRIPT_LIMIT }
+    ensures cut { result ≡ Status.CutShort → I.taken input.new ≡ I.taken input.old + SCRIPT_LIMIT }
+    ensures short { result ≢ Status.WriteFailed → result ≢ Status.CutShort → I.taken input.new < I.taken input.old + SCRIPT_LIMIT }
 {
     match command {
         Command::Serve { options } => serve_file(alloc, path, file, options, input, out),

@@ -3,53 +3,53 @@ ghost use Rattle.diag_edge.specs.Edge.{RoseExactly};
 ghost use Rattle.device_files.specs.Output.{Gives, says, too_long_line};
 ghost use Rattle.diag_cli.specs.Courses.{read_error, usage_line, not_loaded};
 
-use device_files::{Refusal, tell};
+use device_files::{Refusal, Status, tell};
 use diag_edge::{LoadError, Sink, WriteFailed, put_line};
 use itoa::Buffer;
 use text_rules::TEXT_LIMIT;
 
-/// Writes a text and answers the status, or 5 where the write failed.
+/// Writes a text and answers the status, `WriteFailed` where the write failed.
 #[tactic(auto, using(device_files::proofs::Failing::gives_line))]
-pub fn say<O: Sink>(out: &mut O, text: &[u8], status: u8) -> u8
+pub fn say<O: Sink>(out: &mut O, text: &[u8], status: Status) -> Status
     requires faults { O.faults out.old < 2 ^ 64 - 1 }
-    requires status { status ≢ 5 }
-    ensures write_fault { RoseExactly (O.faults out.old) (O.faults out.new) (result ≡ 5) }
-    ensures either { (result ≡ status) ⊎ (result ≡ 5) }
+    requires status { status ≢ Status.WriteFailed }
+    ensures write_fault { RoseExactly (O.faults out.old) (O.faults out.new) (result ≡ Status.WriteFailed) }
+    ensures either { (result ≡ status) ⊎ (result ≡ Status.WriteFailed) }
     ensures said { Gives (says text.now status) result (O.got out.old) (O.got out.new) }
 {
     match out.put(text) {
         Ok(()) => status,
-        Err(_) => 5,
+        Err(_) => Status::WriteFailed,
     }
 }
 
-/// Tells that a read failed and answers 4, or 5 where the write failed.
-pub(crate) fn say_read_fault<O: Sink>(out: &mut O) -> u8
+/// Tells that a read failed and answers `ReadFailed`, or `WriteFailed`.
+pub(crate) fn say_read_fault<O: Sink>(out: &mut O) -> Status
     requires faults { O.faults out.old < 2 ^ 64 - 1 }
-    ensures write_fault { RoseExactly (O.faults out.old) (O.faults out.new) (result ≡ 5) }
-    ensures either { (result ≡ 4) ⊎ (result ≡ 5) }
-    ensures said { Gives (says read_error 4) result (O.got out.old) (O.got out.new) }
+    ensures write_fault { RoseExactly (O.faults out.old) (O.faults out.new) (result ≡ Status.WriteFailed) }
+    ensures either { (result ≡ Status.ReadFailed) ⊎ (result ≡ Status.WriteFailed) }
+    ensures said { Gives (says read_error Status.ReadFailed) result (O.got out.old) (O.got out.new) }
 {
-    say(out, b"error: read\n", 4)
+    say(out, b"error: read\n", Status::ReadFailed)
 }
 
-/// Tells that the words of the command line have no form and answers 2, or 5 where the write failed.
-pub fn say_usage<O: Sink>(out: &mut O) -> u8
+/// Tells that the words of the command line have no form and answers `Usage`, or `WriteFailed`.
+pub fn say_usage<O: Sink>(out: &mut O) -> Status
     requires faults { O.faults out.old < 2 ^ 64 - 1 }
-    ensures write_fault { RoseExactly (O.faults out.old) (O.faults out.new) (result ≡ 5) }
-    ensures either { (result ≡ 2) ⊎ (result ≡ 5) }
-    ensures said { Gives (says usage_line 2) result (O.got out.old) (O.got out.new) }
+    ensures write_fault { RoseExactly (O.faults out.old) (O.faults out.new) (result ≡ Status.WriteFailed) }
+    ensures either { (result ≡ Status.Usage) ⊎ (result ≡ Status.WriteFailed) }
+    ensures said { Gives (says usage_line Status.Usage) result (O.got out.old) (O.got out.new) }
 {
-    say(out, b"error: usage\n", 2)
+    say(out, b"error: usage\n", Status::Usage)
 }
 
-/// Tells that something has more bytes than may be and answers the status, or 5 where the write failed.
+/// Tells that something has more bytes than may be and answers the status, `WriteFailed` where the write failed.
 #[tactic(auto, using(device_files::proofs::Failing::gives_line))]
-pub(crate) fn say_too_long<O: Sink>(out: &mut O, what: &[u8], limit: u64, status: u8) -> u8
+pub(crate) fn say_too_long<O: Sink>(out: &mut O, what: &[u8], limit: u64, status: Status) -> Status
     requires faults { O.faults out.old < 2 ^ 64 - 1 }
-    requires status { status ≢ 5 }
-    ensures write_fault { RoseExactly (O.faults out.old) (O.faults out.new) (result ≡ 5) }
-    ensures either { (result ≡ status) ⊎ (result ≡ 5) }
+    requires status { status ≢ Status.WriteFailed }
+    ensures write_fault { RoseExactly (O.faults out.old) (O.faults out.new) (result ≡ Status.WriteFailed) }
+    ensures either { (result ≡ status) ⊎ (result ≡ Status.WriteFailed) }
     ensures said { Gives (says (too_long_line what.now limit) status) result
         (O.got out.old) (O.got out.new) }
 {
@@ -64,20 +64,25 @@ pub(crate) fn say_too_long<O: Sink>(out: &mut O, what: &[u8], limit: u64, status
         ],
     ) {
         Ok(()) => status,
-        Err(WriteFailed) => 5,
+        Err(WriteFailed) => Status::WriteFailed,
     }
 }
 
-/// Tells why a file of at most `TEXT_LIMIT` bytes was not read and answers the status, or 5 where the write failed.
-pub fn say_load_error<O: Sink>(out: &mut O, error: LoadError) -> u8
+/// Tells why a file of at most `TEXT_LIMIT` bytes was not read and answers the status, `WriteFailed` where the write failed.
+pub fn say_load_error<O: Sink>(out: &mut O, error: LoadError) -> Status
     requires limit { (limit : ℕ) → error ≡ LoadError.Long limit → limit ≡ TEXT_LIMIT }
     requires faults { O.faults out.old < 2 ^ 64 - 1 }
-    ensures write_fault { RoseExactly (O.faults out.old) (O.faults out.new) (result ≡ 5) }
+    ensures write_fault { RoseExactly (O.faults out.old) (O.faults out.new) (result ≡ Status.WriteFailed) }
     ensures said { Gives (not_loaded error) result (O.got out.old) (O.got out.new) }
 {
     match error {
         LoadError::Failed => say_read_fault(out),
-        LoadError::Long { limit: _ } => say_too_long(out, b"file", TEXT_LIMIT as u64, 1),
+        LoadError::Long { limit: _ } => say_too_long(
+            out,
+            b"file",
+            TEXT_LIMIT as u64,
+            Status::Refused,
+        ),
         LoadError::Memory => tell(out, Refusal::Memory),
     }
 }

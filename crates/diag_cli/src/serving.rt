@@ -15,7 +15,7 @@ use crate::besides::graph_in_few_bits;
 use crate::graphs::costs_of;
 use crate::saying::{say_read_fault, say_too_long};
 use crate::words::ServeOptions;
-use device_files::{Refusal, described, tell};
+use device_files::{Refusal, Status, described, tell};
 use device_model::Device;
 use diag_edge::{Sink, Source, WriteFailed, put_line};
 use itoa::Buffer;
@@ -83,32 +83,35 @@ fn put_ready<O: Sink>(out: &mut O, parts: u64, wires: u64) -> Result<(), WriteFa
 }
 
 /// Answers the script by a service in which no session is open.
-pub(crate) fn answer<I: Source, O: Sink>(service: &mut Service, input: &mut I, out: &mut O) -> u8
+pub(crate) fn answer<I: Source, O: Sink>(
+    service: &mut Service,
+    input: &mut I,
+    out: &mut O,
+) -> Status
     requires none_open { service.old.table ≡ [] }
     requires taken { I.taken input.old < 2 ^ 62 }
     requires reads { I.faults input.old < 2 ^ 64 - 1 }
     requires writes { O.faults out.old < 2 ^ 64 - 1 }
-    ensures write_fault { RoseExactly (O.faults out.old) (O.faults out.new) (result ≡ 5) }
-    ensures read_fault { result ≢ 5 → RoseExactly (I.faults input.old) (I.faults input.new) (result ≡ 4) }
-    ensures not_usage { result ≢ 2 }
-    ensures few { result ≤ 7 }
+    ensures write_fault { RoseExactly (O.faults out.old) (O.faults out.new) (result ≡ Status.WriteFailed) }
+    ensures read_fault { result ≢ Status.WriteFailed → RoseExactly (I.faults input.old) (I.faults input.new) (result ≡ Status.ReadFailed) }
+    ensures not_usage { result ≢ Status.Usage }
     ensures served { IsServed (answers_of (system_of service.old.subject) service.old.limit)
         (record { left = I.left input.old; taken = I.taken input.old; faults = I.faults input.old })
         (record { left = I.left input.new; taken = I.taken input.new; faults = I.faults input.new })
         (record { got = O.got out.old; faults = O.faults out.old })
         (record { got = O.got out.new; faults = O.faults out.new }) result }
-    ensures cut { result ≡ 7 → I.taken input.new ≡ I.taken input.old + SCRIPT_LIMIT }
-    ensures short { result ≢ 5 → result ≢ 7 → I.taken input.new < I.taken input.old + SCRIPT_LIMIT }
+    ensures cut { result ≡ Status.CutShort → I.taken input.new ≡ I.taken input.old + SCRIPT_LIMIT }
+    ensures short { result ≢ Status.WriteFailed → result ≢ Status.CutShort → I.taken input.new < I.taken input.old + SCRIPT_LIMIT }
 {
     match put_ready(out, service.parts() as u64, service.wires() as u64) {
         Ok(()) => {}
-        Err(_) => return 5,
+        Err(_) => return Status::WriteFailed,
     }
     match service.serve(input, out, SCRIPT_LIMIT) {
-        ServeEnd::Done => 0,
-        ServeEnd::WriteFault => 5,
+        ServeEnd::Done => Status::Done,
+        ServeEnd::WriteFault => Status::WriteFailed,
         ServeEnd::ReadFault => say_read_fault(out),
-        ServeEnd::Limit => say_too_long(out, b"script", SCRIPT_LIMIT, 7),
+        ServeEnd::Limit => say_too_long(out, b"script", SCRIPT_LIMIT, Status::CutShort),
     }
 }
 
@@ -119,23 +122,22 @@ fn serve_device<I: Source, O: Sink>(
     options: ServeOptions,
     input: &mut I,
     out: &mut O,
-) -> u8
+) -> Status
     requires options { AreWithinLimits options }
     requires taken { I.taken input.old < 2 ^ 62 }
     requires reads { I.faults input.old < 2 ^ 64 - 1 }
     requires writes { O.faults out.old < 2 ^ 64 - 1 }
-    ensures write_fault { RoseExactly (O.faults out.old) (O.faults out.new) (result ≡ 5) }
-    ensures read_fault { result ≢ 5 → RoseExactly (I.faults input.old) (I.faults input.new) (result ≡ 4) }
-    ensures not_usage { result ≢ 2 }
-    ensures few { result ≤ 7 }
+    ensures write_fault { RoseExactly (O.faults out.old) (O.faults out.new) (result ≡ Status.WriteFailed) }
+    ensures read_fault { result ≢ Status.WriteFailed → RoseExactly (I.faults input.old) (I.faults input.new) (result ≡ Status.ReadFailed) }
+    ensures not_usage { result ≢ Status.Usage }
     ensures follows { ByClauses options.narrow (λ clauses.
         Follows (served_or_refused (served_device options) options.sessions (if_within options clauses (Ok device)))
         (record { left = I.left input.old; taken = I.taken input.old; faults = I.faults input.old })
         (record { left = I.left input.new; taken = I.taken input.new; faults = I.faults input.new })
         (record { got = O.got out.old; faults = O.faults out.old })
         (record { got = O.got out.new; faults = O.faults out.new }) result) }
-    ensures cut { result ≡ 7 → I.taken input.new ≡ I.taken input.old + SCRIPT_LIMIT }
-    ensures short { result ≢ 5 → result ≢ 7 → I.taken input.new < I.taken input.old + SCRIPT_LIMIT }
+    ensures cut { result ≡ Status.CutShort → I.taken input.new ≡ I.taken input.old + SCRIPT_LIMIT }
+    ensures short { result ≢ Status.WriteFailed → result ≢ Status.CutShort → I.taken input.new < I.taken input.old + SCRIPT_LIMIT }
 {
     match service_within(alloc, device, options) {
         Ok(mut service) => {
@@ -155,24 +157,23 @@ pub(crate) fn serve_file<I: Source, O: Sink>(
     options: ServeOptions,
     input: &mut I,
     out: &mut O,
-) -> u8
+) -> Status
     requires options { AreWithinLimits options }
     requires short { length file.now ≤ TEXT_LIMIT }
     requires taken { I.taken input.old < 2 ^ 62 }
     requires reads { I.faults input.old < 2 ^ 64 - 1 }
     requires writes { O.faults out.old < 2 ^ 64 - 1 }
-    ensures write_fault { RoseExactly (O.faults out.old) (O.faults out.new) (result ≡ 5) }
-    ensures read_fault { result ≢ 5 → RoseExactly (I.faults input.old) (I.faults input.new) (result ≡ 4) }
-    ensures not_usage { result ≢ 2 }
-    ensures few { result ≤ 7 }
+    ensures write_fault { RoseExactly (O.faults out.old) (O.faults out.new) (result ≡ Status.WriteFailed) }
+    ensures read_fault { result ≢ Status.WriteFailed → RoseExactly (I.faults input.old) (I.faults input.new) (result ≡ Status.ReadFailed) }
+    ensures not_usage { result ≢ Status.Usage }
     ensures follows { ByClauses options.narrow (λ clauses.
         Follows (served_or_refused (served_device options) options.sessions (if_within options clauses (device_in path.now file.now)))
         (record { left = I.left input.old; taken = I.taken input.old; faults = I.faults input.old })
         (record { left = I.left input.new; taken = I.taken input.new; faults = I.faults input.new })
         (record { got = O.got out.old; faults = O.faults out.old })
         (record { got = O.got out.new; faults = O.faults out.new }) result) }
-    ensures cut { result ≡ 7 → I.taken input.new ≡ I.taken input.old + SCRIPT_LIMIT }
-    ensures short { result ≢ 5 → result ≢ 7 → I.taken input.new < I.taken input.old + SCRIPT_LIMIT }
+    ensures cut { result ≡ Status.CutShort → I.taken input.new ≡ I.taken input.old + SCRIPT_LIMIT }
+    ensures short { result ≢ Status.WriteFailed → result ≢ Status.CutShort → I.taken input.new < I.taken input.old + SCRIPT_LIMIT }
 {
     match described(alloc, path, file) {
         Ok(device) => serve_device(alloc, device, options, input, out),

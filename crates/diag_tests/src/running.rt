@@ -121,6 +121,6 @@ pub fn run_over(
     let mut input = MemSource::new(script, meeting.piece, failing_read);
     let failing_write = vec![in alloc; meeting.failing_write]?;
     let mut out = MemSink::new(alloc, ROOM, failing_write, meeting.keep)?;
-    let status = diag(alloc, &words, &mut shelf, &mut input, &mut out);
+    let status = diag(alloc, &words, &mut shelf, &mut input, &mut out).number();
     Ok(Ran { status, out })
 }

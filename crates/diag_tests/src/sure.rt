@@ -19,7 +19,8 @@ fn answers_a_long_script(rt: HostRuntime) -> Result<(), Fail> {
     }
     let mut input = SureSource::new(script, 4096);
     let mut out = TallySink::new();
-    assert_eq!(rt; diag(alloc, &words, &mut shelf, &mut input, &mut out), 0);
+    let status = diag(alloc, &words, &mut shelf, &mut input, &mut out);
+    assert_eq!(rt; status.number(), 0);
     assert_eq!(rt; out.count(), 1_600_017);
     Ok(())
 }

@@ -87,7 +87,8 @@ fn answers_all_where_no_call_can_fail(rt: HostRuntime) -> Result<(), Fail> {
     let mut shelf = SureShelf::new(Vec::from_slice(alloc, CHAIN.text.as_bytes())?);
     let mut input = SureSource::new(Vec::from_slice(alloc, SCRIPT)?, 4096);
     let mut out = MemSink::new(alloc, 4096, Vec::new(alloc), 0)?;
-    assert_eq!(rt; diag(alloc, &words, &mut shelf, &mut input, &mut out), 0);
+    let status = diag(alloc, &words, &mut shelf, &mut input, &mut out);
+    assert_eq!(rt; status.number(), 0);
     assert_eq!(rt; out.as_slice(), OUT.as_bytes());
     Ok(())
 }

@@ -8,6 +8,7 @@ use Rattle.adder_load.specs.declared.sampling.Found.{Found}
 use Rattle.adder_load.specs.Readings.{adder_case}
 use Rattle.session_rules.specs.Items.{Item, line}
 use Rattle.diag_cli.specs.declared.loading.Summary.{Summary}
+use Rattle.device_files.specs.declared.status.Status.TheVariants.{Done}
 use Rattle.device_files.specs.declared.refusal.Refusal.{Refusal}
 use Rattle.device_files.specs.Output.{Output}
 use Rattle.device_files.specs.Planning.{count_line}
@@ -35,7 +36,7 @@ summary_items summary =
     ∷ count_line (codes "clauses") summary.clauses ∷ found_items summary
 
 abbrev pub summary_output : Summary → Output
-summary_output summary = record { items = summary_items summary; status = 0 }
+summary_output summary = record { items = summary_items summary; status = Done }
 
 -- both states have a word for each part
 pub record IsInStep (summary : Summary) : Type 0 where

@@ -19,4 +19,4 @@ returns-in-Some-Load g c =
     let places = c.in-Some-Load.places in
     let is : Some (Load places) ≡ form_of (map string_bytes c.args.words.now) = ap (λ form. Some (meant form)) (sym c.in-Some-Load.field-0-is) ∙ c.in-Some-Load.ensures.form in
     let done = c.load_adder.ensures in
-    rw (← is) (by_any (λ order. run_load order _ shelf shelf _ _ _ _ places done.few done.write_fault done.not_usage done.not_read done.not_cut done.said))
+    rw (← is) (by_any (λ order. run_load order _ shelf shelf _ _ _ _ places done.write_fault done.not_usage done.not_read done.not_cut done.said))

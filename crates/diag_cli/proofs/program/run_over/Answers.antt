@@ -16,7 +16,7 @@ returns-in-Ok g c =
     run_loaded _ _ _ _ _ order c.args.path.now (command_meant c.args.command) _ _ _ c.deref.result.now (same_file c.deref.result.now c.in-Ok.file.items _ c.deref.ensures.value read.bytes)
     (λ gone. let is = read.absent gone in let never : ⊥ = cc in never)
     (read.failed.stayed (λ is. let never : ⊥ = cc in never))
-    (read.taken ∙ ap (λ text. g.H.Source.taken c.args.shelf.now + length text) same) (subst (λ text. length text ≤ TEXT_LIMIT) same read.short) done.few
+    (read.taken ∙ ap (λ text. g.H.Source.taken c.args.shelf.now + length text) same) (subst (λ text. length text ≤ TEXT_LIMIT) same read.short)
     done.write_fault done.read_fault done.not_usage follows done.cut done.short)
 
 pub say_load_error-requires-clause-limit : goal.say_load_error-requires-clause-limit

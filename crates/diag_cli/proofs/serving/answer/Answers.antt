@@ -25,7 +25,7 @@ returns-in-Err-clause-served g c =
           stopped = λ some. absurd (omega (arith, some));
         },
       ));
-      all_read = λ zero. absurd (omega (arith, zero));
+      all_read = λ zero. absurd (let never : ⊥ = cc in never);
     }
 
 pub returns-in-WriteFault-clause-served : goal.returns-in-WriteFault-clause-served
@@ -61,7 +61,7 @@ returns-in-WriteFault-clause-served g c =
           }
         ],
       ));
-      all_read = λ zero. absurd (omega (arith, zero));
+      all_read = λ zero. absurd (let never : ⊥ = cc in never);
     }
 
 pub returns-in-Done-clause-served : goal.returns-in-Done-clause-served
@@ -76,7 +76,7 @@ returns-in-Done-clause-served g c =
         took = done.2;
         ends = (done.3.0, done.3.1, c.in-Done.ensures.read_fault.stayed (λ e. let never : ⊥ = cc in never));
         answered = answered_first shown c.parts.ensures.sound _ _ (whole_lines done.0) (last_line (cut done.0).unfinished) _ _ _ _ _ c.requires.none_open c.parts.ensures.parts c.wires.ensures c.in-Ok.ensures.text done.3.2;
-        gives = gives_all _ _ _ _ (λ five. absurd (omega (arith, five))) refl
+        gives = gives_all _ _ _ _ (λ five. let never : ⊥ = cc in never) refl
             (ready_then shown c.parts.ensures.sound _ _ (all_lines done.0) _ _ _ _ _ c.requires.none_open c.parts.ensures.parts c.wires.ensures c.in-Ok.ensures.text done.3.2);
       }));
       all_read = λ _. done.3.0;
@@ -100,7 +100,7 @@ returns-in-ReadFault-clause-served g c =
         answered = first_given (answers (whole_lines done.0)) _ _ _ _ _ written said;
         gives = gives_after (answers (whole_lines done.0)) read_error _ _ _ _ _ written said;
       }));
-      all_read = λ zero. absurd (let same = (said.whole (λ five. omega (arith, zero, five))).0 in omega (arith, zero, same));
+      all_read = λ zero. absurd (let same = (said.whole (λ five. let never : ⊥ = cc in never)).0 in let never : ⊥ = cc in never);
     }
 
 pub returns-in-Limit-clause-served : goal.returns-in-Limit-clause-served
@@ -121,5 +121,5 @@ returns-in-Limit-clause-served g c =
         answered = first_given (answers (whole_lines done.0)) _ _ _ _ _ written said;
         gives = gives_after (answers (whole_lines done.0)) script_too_long _ _ _ _ _ written said;
       }));
-      all_read = λ zero. absurd (let same = (said.whole (λ five. omega (arith, zero, five))).0 in omega (arith, zero, same));
+      all_read = λ zero. absurd (let same = (said.whole (λ five. let never : ⊥ = cc in never)).0 in let never : ⊥ = cc in never);
     }

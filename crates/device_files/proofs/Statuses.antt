@@ -1,0 +1,33 @@
+-- Whether a run ends in one way or in another.
+use Rattle.std.proofs.Common.{◌≡◌, ◌≢◌, ◌⊎◌, ℕ, zero, suc, inl, inr, refl, ap, sym, ◌∙◌}
+use Rattle.std.proofs.lemmas.Bool.{cases_eq}
+use Rattle.device_files.specs.declared.status.Status.{Status}
+use Rattle.device_files.specs.declared.status.Status.TheVariants.{Done, Refused, Usage, AboveBudget, ReadFailed, WriteFailed, NoMemory, CutShort}
+use Rattle.device_files.specs.Statuses.{number_of}
+
+status_of : ℕ → Status
+status_of zero = Done
+status_of (suc zero) = Refused
+status_of (suc (suc zero)) = Usage
+status_of (suc (suc (suc zero))) = AboveBudget
+status_of (suc (suc (suc (suc zero)))) = ReadFailed
+status_of (suc (suc (suc (suc (suc zero))))) = WriteFailed
+status_of (suc (suc (suc (suc (suc (suc zero)))))) = NoMemory
+status_of (suc (suc (suc (suc (suc (suc (suc n))))))) = CutShort
+
+numbered : (s : Status) → status_of (number_of s) ≡ s
+unfolding status_of
+numbered Done = refl
+numbered Refused = refl
+numbered Usage = refl
+numbered AboveBudget = refl
+numbered ReadFailed = refl
+numbered WriteFailed = refl
+numbered NoMemory = refl
+numbered CutShort = refl
+
+pub cases_status : (s t : Status) → (s ≡ t) ⊎ (s ≢ t)
+cases_status s t = elim (cases_eq (number_of s) (number_of t)) [
+  | inl same ↦ inl (sym (numbered s) ∙ ap status_of same ∙ numbered t)
+  | inr other ↦ inr (λ e. other (ap number_of e))
+]

@@ -1,5 +1,4 @@
-/* What a plain sum over a graph costs, beside which bench/run's lines can be held. By hand:
- *   cc -O2 -o /tmp/sum bench/sum.c && ./diag compile FILE >/tmp/graph.nnf && /tmp/sum /tmp/graph.nnf
+/* What a plain sum over a graph costs, beside which `bench/run pass` holds a pass of the program.
  * It reads an .nnf text into arrays, as the program holds them: for each node where its children begin, and all children one after
  * the other. Then it makes 1,000 passes that give each node the sum of its children, and prints microseconds a pass. */
 #include <stdint.h>

@@ -1,7 +1,7 @@
 -- What the words of the command line ask for.
-use Rattle.std.specs.Prelude.{ℕ, Bool, true, false, not, ◌&&◌, ◌||◌, is_none, List, [], ◌∷◌, Option, Some, None, unwrap_or, option_and_then, if◌then◌else◌, codes}
+use Rattle.std.specs.Prelude.{ℕ, Bool, true, false, is_none, is_some, List, [], ◌∷◌, Option, Some, None, find, unwrap_or, option_and_then, if◌then◌else◌, codes}
 use Rattle.std.specs.Option.{option_map, option_map_or}
-use Rattle.text_rules.specs.Names.{same_name}
+use Rattle.text_rules.specs.Names.{same_name, is_among}
 use Rattle.text_rules.specs.Numbers.{plain_number_in}
 use Rattle.adder_load.specs.declared.adders.TheConstants.{PLACE_LIMIT}
 use Rattle.device_model.specs.declared.limits.TheConstants.{PART_LIMIT}
@@ -9,6 +9,9 @@ use Rattle.branch_states.specs.declared.measuring.TheConstants.{BUDGET_LIMIT}
 use Rattle.frame_unroller.specs.declared.unrolling.TheConstants.{FRAME_LIMIT}
 use Rattle.diag_edge.specs.Edge.{Holding, told_bytes}
 use Rattle.device_files.specs.Paths.{is_netlist_path, is_device_path, is_graph_path}
+use Rattle.diag_cli.specs.declared.words.OptionKind.{OptionKind}
+use Rattle.diag_cli.specs.declared.words.OptionKind.TheVariants.{Budget, Sessions, Frames, Levels, Narrow, Least}
+use Rattle.diag_cli.specs.declared.words.Numbers.{Numbers}
 use Rattle.diag_cli.specs.declared.words.Options.{Options}
 use Rattle.diag_cli.specs.declared.words.ServeOptions.{ServeOptions}
 use Rattle.level_lister.specs.declared.levels.TheConstants.{TOP_LIMIT}
@@ -53,88 +56,65 @@ asks_script form = false
 
 -- ---- options
 
+-- what is known of an option: its word, the numbers that it takes, if it takes one, and the commands that take it
+pub record Row : Type 0 where
+  pub word : List ℕ
+  pub numbers : Option Numbers
+  pub commands : List (List ℕ)
+
+-- the table of the options
+abbrev pub row_of : OptionKind → Row
+row_of Budget = record { word = codes "--budget"; numbers = Some (record { digits = 7; least = 1; most = BUDGET_LIMIT }); commands = codes "serve" ∷ codes "compile" ∷ [] }
+row_of Sessions = record { word = codes "--sessions"; numbers = Some (record { digits = 4; least = 1; most = SESSION_LIMIT }); commands = codes "serve" ∷ codes "ask" ∷ [] }
+row_of Frames = record { word = codes "--frames"; numbers = Some (record { digits = 2; least = 1; most = FRAME_LIMIT }); commands = codes "serve" ∷ [] }
+row_of Levels = record { word = codes "--levels"; numbers = Some (record { digits = 7; least = 0; most = TOP_LIMIT }); commands = codes "serve" ∷ [] }
+row_of Narrow = record { word = codes "--narrow"; numbers = None; commands = codes "serve" ∷ codes "compile" ∷ codes "plan" ∷ [] }
+row_of Least = record { word = codes "--least"; numbers = None; commands = codes "serve" ∷ [] }
+
+-- the option that a word names
+abbrev pub option_named : List ℕ → Option OptionKind
+option_named word = find (λ kind. same_name word (row_of kind).word) (Budget ∷ Sessions ∷ Frames ∷ Levels ∷ Narrow ∷ Least ∷ [])
+
+-- the same, only if the command takes it
+abbrev pub option_for : List ℕ → List ℕ → Option OptionKind
+option_for command word = option_and_then (λ kind. if is_among (row_of kind).commands command then Some kind else None) (option_named word)
+
+-- the options that were given and this one, with its number, if it takes one; none is given twice
+abbrev pub with_option : Options → OptionKind → Option ℕ → Option Options
+with_option given Budget number = if is_some given.budget then None else Some (record given { budget = number })
+with_option given Sessions number = if is_some given.sessions then None else Some (record given { sessions = number })
+with_option given Frames number = if is_some given.frames then None else Some (record given { frames = number })
+with_option given Levels number = if is_some given.levels then None else Some (record given { levels = number })
+with_option given Narrow number = if given.narrow then None else Some (record given { narrow = true })
+with_option given Least number = if given.least then None else Some (record given { least = true })
+
+-- the number that a word spells for an option that takes one
+abbrev pub number_for : OptionKind → List ℕ → Option ℕ
+number_for kind word = option_and_then (λ numbers. plain_number_in numbers.digits numbers.least numbers.most word) (row_of kind).numbers
+
 abbrev pub no_options : Options
 no_options = record { budget = None; sessions = None; frames = None; levels = None; narrow = false; least = false }
 
--- none was given that `serve` alone takes
-abbrev pub none_of_serve : Options → Bool
-none_of_serve options = (is_none options.sessions && is_none options.frames) && (is_none options.levels && not options.least)
-
--- none was given but `--narrow`
-abbrev pub none_but_order : Options → Bool
-none_but_order options = is_none options.budget && none_of_serve options
-
-abbrev pub are_none : Options → Bool
-are_none options = none_but_order options && not options.narrow
-
--- a number, where none was given before
-abbrev pub given_once : Option ℕ → Option ℕ → Option ℕ
-given_once None number = number
-given_once (Some earlier) number = None
-
--- the options that were given, with a budget
-abbrev pub with_budget : Options → Option ℕ → Option Options
-with_budget given number = option_map (λ n. record given { budget = Some n }) (given_once given.budget number)
-
--- the options that were given, with a number of sessions
-abbrev pub with_sessions : Options → Option ℕ → Option Options
-with_sessions given number = option_map (λ n. record given { sessions = Some n }) (given_once given.sessions number)
-
--- the options that were given, with a number of frames
-abbrev pub with_frames : Options → Option ℕ → Option Options
-with_frames given number = option_map (λ n. record given { frames = Some n }) (given_once given.frames number)
-
--- the options that were given, with a greatest cost of states
-abbrev pub with_levels : Options → Option ℕ → Option Options
-with_levels given number = option_map (λ n. record given { levels = Some n }) (given_once given.levels number)
-
--- the options that were given, with another order
-abbrev pub with_order : Options → Option Options
-with_order given = if given.narrow then None else Some (record given { narrow = true })
-
--- the options that were given, with the graph of the diagnoses
-abbrev pub with_least : Options → Option Options
-with_least given = if given.least then None else Some (record given { least = true })
-
--- the options that were given, and one more with its value
-abbrev pub and_option : Options → List ℕ → List ℕ → Option Options
-and_option given option value =
-    if same_name option (codes "--budget") then with_budget given (plain_number_in 7 1 BUDGET_LIMIT value)
-    else if same_name option (codes "--sessions") then with_sessions given (plain_number_in 4 1 SESSION_LIMIT value)
-    else if same_name option (codes "--frames") then with_frames given (plain_number_in 2 1 FRAME_LIMIT value)
-    else if same_name option (codes "--levels") then with_levels given (plain_number_in 7 0 TOP_LIMIT value)
-    else None
-
--- an option that has no value
-abbrev pub stands_alone : List ℕ → Bool
-stands_alone word = same_name word (codes "--narrow") || same_name word (codes "--least")
-
--- the options that were given, and one more that has no value
-abbrev pub and_alone : Options → List ℕ → Option Options
-and_alone given word = if same_name word (codes "--narrow") then with_order given else with_least given
-
--- and those of further words, one after the other: an option alone, or one and its value
-abbrev pub and_options : Options → List (List ℕ) → Option Options
-and_options given [] = Some given
-and_options given (option ∷ []) = if stands_alone option then and_alone given option else None
-and_options given (option ∷ value ∷ words) =
-    if stands_alone option then option_and_then (λ more. and_options more (value ∷ words)) (and_alone given option)
-    else option_and_then (λ more. and_options more words) (and_option given option value)
+-- The options that were given and those of further words. Where an option waits for its number, the first word spells that.
+abbrev pub and_options : List ℕ → Options → Option OptionKind → List (List ℕ) → Option Options
+and_options command given None [] = Some given
+and_options command given (Some kind) [] = None
+and_options command given None (word ∷ words) =
+    option_and_then (λ kind. if is_none (row_of kind).numbers then option_and_then (λ more. and_options command more None words) (with_option given kind None)
+    else and_options command given (Some kind) words) (option_for command word)
+and_options command given (Some kind) (word ∷ words) =
+    option_and_then (λ number. option_and_then (λ more. and_options command more None words) (with_option given kind (Some number))) (number_for kind word)
 
 -- ---- words
 
--- a form, only where the path and the options are such as it takes
+-- a form, only where the path is such as it takes
 abbrev pub only_if : Bool → Form → Option Form
-only_if are_taken form = if are_taken then Some form else None
-
--- the budget that was given, or the default
-abbrev pub budget_of : Options → ℕ
-budget_of options = unwrap_or options.budget DEFAULT_BUDGET
+only_if is_taken form = if is_taken then Some form else None
 
 -- how `serve` answers a script by the options that were given
 abbrev pub serve_options : Options → ServeOptions
 serve_options options = record {
-  budget = budget_of options;
+  budget = unwrap_or options.budget DEFAULT_BUDGET;
   sessions = unwrap_or options.sessions DEFAULT_SESSIONS;
   narrow = options.narrow;
   extras = record { levels = options.levels; least = options.least };
@@ -149,43 +129,32 @@ form_serve path options (Some frames) = only_if (is_netlist_path path) (Over pat
 abbrev pub form_by : List ℕ → List ℕ → Options → Option Form
 form_by command path options =
     if same_name command (codes "serve") then form_serve path (serve_options options) options.frames
-    else if same_name command (codes "compile") then only_if (is_device_path path && none_of_serve options) (Over path (Compile (budget_of options) options.narrow))
-    else if same_name command (codes "plan") then only_if (is_device_path path && none_but_order options) (Over path (Plan options.narrow))
-    else if same_name command (codes "check") then only_if (is_graph_path path && are_none options) (Over path Check)
+    else if same_name command (codes "compile") then only_if (is_device_path path) (Over path (Compile (unwrap_or options.budget DEFAULT_BUDGET) options.narrow))
+    else if same_name command (codes "plan") then only_if (is_device_path path) (Over path (Plan options.narrow))
+    else if same_name command (codes "check") then only_if (is_graph_path path) (Over path Check)
     else None
 
--- and with the words of these
-abbrev pub form_over : List ℕ → List ℕ → List (List ℕ) → Option Form
-form_over command path words = option_and_then (form_by command path) (and_options no_options words)
-
--- how many sessions may be open by the words behind the parts of a graph, where these take no other option
-abbrev pub sessions_in : List (List ℕ) → Option ℕ
-sessions_in [] = Some DEFAULT_SESSIONS
-sessions_in (option ∷ number ∷ []) =
-    if same_name option (codes "--sessions") then plain_number_in 4 1 SESSION_LIMIT number else None
-sessions_in words = None
-
--- questions to a graph, with so many parts and sessions
-abbrev pub ask_by : List ℕ → Option ℕ → Option ℕ → Option Form
-ask_by path (Some health) (Some sessions) = only_if (is_graph_path path) (Over path (Ask health sessions))
-ask_by path health sessions = None
+-- questions to a graph, with so many parts and with options
+abbrev pub ask_by : List ℕ → ℕ → Options → Option Form
+ask_by path health options = only_if (is_graph_path path) (Over path (Ask health (unwrap_or options.sessions DEFAULT_SESSIONS)))
 
 -- and with the words of these
 abbrev pub form_ask : List ℕ → List (List ℕ) → Option Form
 form_ask path [] = None
-form_ask path (health ∷ words) = ask_by path (plain_number_in 4 0 PART_LIMIT health) (sessions_in words)
+form_ask path (health ∷ words) =
+    option_and_then (λ parts. option_and_then (ask_by path parts) (and_options (codes "ask") no_options None words)) (plain_number_in 4 0 PART_LIMIT health)
 
 -- an adder of so many places, with no further word
 abbrev pub form_load : List ℕ → List (List ℕ) → Option Form
 form_load places [] = option_map Load (plain_number_in 3 1 PLACE_LIMIT places)
 form_load places (word ∷ words) = None
 
--- a number behind `load`; a file, a number and sessions behind `ask`; or a file and options
+-- a number behind `load`; a file, a number and options behind `ask`; or a file and options
 abbrev pub form_by_words : List ℕ → List ℕ → List (List ℕ) → Option Form
 form_by_words command next words =
     if same_name command (codes "load") then form_load next words
     else if same_name command (codes "ask") then form_ask next words
-    else form_over command next words
+    else option_and_then (form_by command next) (and_options command no_options None words)
 
 -- the form of the words, if they have one
 abbrev pub form_of : List (List ℕ) → Option Form

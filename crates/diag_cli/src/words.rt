@@ -1,7 +1,8 @@
-ghost use Rattle.std.specs.Prelude.{◌≡◌, map, string_bytes, IfSome};
+ghost use Rattle.std.specs.Prelude.{◌≡◌, map, string_bytes, IfSome, unwrap_or};
 ghost use Rattle.std.specs.Option.{option_map};
+ghost use Rattle.text_rules.specs.Names.{is_among};
 ghost use Rattle.text_rules.specs.Numbers.{plain_number_in};
-ghost use Rattle.diag_cli.specs.Words.{form_of, form_by_words, form_over, form_load, form_ask, sessions_in, form_by, form_serve, serve_options, budget_of, none_of_serve, none_but_order, are_none, given_once, with_order, with_least, stands_alone, and_alone, and_option, and_options};
+ghost use Rattle.diag_cli.specs.Words.{form_of, form_by_words, form_load, form_ask, form_by, form_serve, serve_options, row_of, option_named, option_for, with_option, no_options, and_options};
 ghost use Rattle.diag_cli.specs.inner.Forms.{meant, IsWithinLimits};
 
 use adder_load::PLACE_LIMIT;
@@ -60,7 +61,7 @@ pub enum Form<'a> {
 }
 
 /// The options behind a path, each where it is given.
-#[derive(Clone, Copy, Debug, Default)]
+#[derive(Clone, Copy, Debug)]
 pub struct Options {
     /// `--budget N`, from 1 to `BUDGET_LIMIT`.
     pub budget: Option<u32>,
@@ -76,34 +77,118 @@ pub struct Options {
     pub least: bool,
 }
 
+/// An option of the command line. Its methods are the table: its word, its numbers and the commands that take it.
+#[derive(Clone, Copy, Debug)]
+pub enum OptionKind {
+    Budget,
+    Sessions,
+    Frames,
+    Levels,
+    Narrow,
+    Least,
+}
+
+/// The numbers that an option takes, in decimal digits.
+#[derive(Clone, Copy, Debug)]
+pub struct Numbers {
+    /// So many digits at most.
+    pub digits: usize,
+    /// The least of them.
+    pub least: u32,
+    /// The greatest of them.
+    pub most: u32,
+}
+
+impl OptionKind {
+    // The option that a word names.
+    fn named(word: &str) -> Option<OptionKind>
+        ensures { result ≡ option_named word.now }
+    {
+        match word {
+            "--budget" => Some(OptionKind::Budget),
+            "--sessions" => Some(OptionKind::Sessions),
+            "--frames" => Some(OptionKind::Frames),
+            "--levels" => Some(OptionKind::Levels),
+            "--narrow" => Some(OptionKind::Narrow),
+            "--least" => Some(OptionKind::Least),
+            _ => None,
+        }
+    }
+
+    // The numbers that it takes, if it takes one.
+    fn numbers(self) -> Option<Numbers>
+        ensures { result ≡ (row_of self).numbers }
+    {
+        let (digits, least, most) = match self {
+            OptionKind::Budget => (7, 1, BUDGET_LIMIT),
+            OptionKind::Sessions => (4, 1, SESSION_LIMIT),
+            OptionKind::Frames => (2, 1, FRAME_LIMIT),
+            OptionKind::Levels => (7, 0, TOP_LIMIT),
+            OptionKind::Narrow | OptionKind::Least => return None,
+        };
+        Some(Numbers {
+            digits,
+            least,
+            most,
+        })
+    }
+
+    // Whether a command takes it.
+    fn is_for(self, command: &str) -> bool
+        ensures { result ≡ is_among (row_of self).commands command.now }
+    {
+        match self {
+            OptionKind::Budget => command == "serve" || command == "compile",
+            OptionKind::Sessions => command == "serve" || command == "ask",
+            OptionKind::Frames | OptionKind::Levels | OptionKind::Least => command == "serve",
+            OptionKind::Narrow => command == "serve" || command == "compile" || command == "plan",
+        }
+    }
+}
+
 impl Options {
-    // Whether no option is given that `serve` alone takes.
-    fn none_of_serve(self) -> bool
-        ensures { result ≡ none_of_serve self }
+    // No option is given.
+    fn none() -> Options
+        ensures { result ≡ no_options }
     {
-        let no_number = self.sessions.is_none() && self.frames.is_none();
-        no_number && self.levels.is_none() && !self.least
+        Options {
+            budget: None,
+            sessions: None,
+            frames: None,
+            levels: None,
+            narrow: false,
+            least: false,
+        }
     }
 
-    // Whether no option is given but `--narrow`.
-    fn none_but_order(self) -> bool
-        ensures { result ≡ none_but_order self }
+    // These options and one more, with its number, if it takes one. None is given twice.
+    fn with(mut self, kind: OptionKind, number: Option<u32>) -> Option<Options>
+        ensures { result ≡ with_option self kind number }
     {
-        self.budget.is_none() && self.none_of_serve()
-    }
-
-    // Whether no option is given.
-    fn are_none(self) -> bool
-        ensures { result ≡ are_none self }
-    {
-        self.none_but_order() && !self.narrow
+        match kind {
+            OptionKind::Budget if self.budget.is_none() => self.budget = number,
+            OptionKind::Sessions if self.sessions.is_none() => self.sessions = number,
+            OptionKind::Frames if self.frames.is_none() => self.frames = number,
+            OptionKind::Levels if self.levels.is_none() => self.levels = number,
+            OptionKind::Narrow if !self.narrow => self.narrow = true,
+            OptionKind::Least if !self.least => self.least = true,
+            _ => return None,
+        }
+        Some(self)
     }
 
     // The budget that is given, or the default.
     fn budget(self) -> u32
-        ensures { result ≡ budget_of self }
+        ensures { result ≡ unwrap_or self.budget DEFAULT_BUDGET }
     {
         self.budget.unwrap_or(DEFAULT_BUDGET)
+    }
+
+    // The number of sessions that is given, or the default.
+    fn sessions(self) -> u32
+        ensures { result ≡ unwrap_or self.sessions DEFAULT_SESSIONS }
+    {
+        self.sessions.unwrap_or(DEFAULT_SESSIONS)
     }
 
     // How `serve` answers a script by these options.
@@ -112,7 +197,7 @@ impl Options {
     {
         ServeOptions {
             budget: self.budget(),
-            sessions: self.sessions.unwrap_or(DEFAULT_SESSIONS),
+            sessions: self.sessions(),
             narrow: self.narrow,
             extras: Extras {
                 levels: self.levels,
@@ -120,87 +205,6 @@ impl Options {
             },
         }
     }
-
-    // These options and a better order.
-    fn and_order(self) -> Option<Options>
-        ensures { result ≡ with_order self }
-    {
-        if self.narrow {
-            return None;
-        }
-        Some(Options {
-            narrow: true,
-            ..self
-        })
-    }
-
-    // These options and the graph of the diagnoses.
-    fn and_least(self) -> Option<Options>
-        ensures { result ≡ with_least self }
-    {
-        if self.least {
-            return None;
-        }
-        Some(Options {
-            least: true,
-            ..self
-        })
-    }
-
-    // These options and one more that has no value.
-    fn and_alone(self, option: &str) -> Option<Options>
-        ensures { result ≡ and_alone self option.now }
-    {
-        if option == "--narrow" {
-            self.and_order()
-        } else {
-            self.and_least()
-        }
-    }
-
-    // These options and one more with its value.
-    fn and(self, option: &str, value: &str) -> Option<Options>
-        ensures { result ≡ and_option self option.now value.now }
-    {
-        match option {
-            "--budget" => {
-                let budget = given_once(self.budget, number_to(7, BUDGET_LIMIT, value))?;
-                Some(Options {
-                    budget: Some(budget),
-                    ..self
-                })
-            }
-            "--sessions" => {
-                let sessions = given_once(self.sessions, number_to(4, SESSION_LIMIT, value))?;
-                Some(Options {
-                    sessions: Some(sessions),
-                    ..self
-                })
-            }
-            "--frames" => {
-                let frames = given_once(self.frames, number_to(2, FRAME_LIMIT, value))?;
-                Some(Options {
-                    frames: Some(frames),
-                    ..self
-                })
-            }
-            "--levels" => {
-                let levels = given_once(self.levels, number_in(7, 0, TOP_LIMIT, value))?;
-                Some(Options {
-                    levels: Some(levels),
-                    ..self
-                })
-            }
-            _ => None,
-        }
-    }
-}
-
-// The number that a word spells, from 1 to a limit of so many digits.
-fn number_to(digits: usize, limit: u32, word: &str) -> Option<u32>
-    ensures { result ≡ plain_number_in digits 1 limit word.now }
-{
-    number_in(digits, 1, limit, word)
 }
 
 // The number that a word spells, from one to another of so many digits.
@@ -213,39 +217,37 @@ fn number_in(digits: usize, least: u32, most: u32, word: &str) -> Option<u32>
     }
 }
 
-// A number, where none was given before.
-fn given_once(earlier: Option<u32>, number: Option<u32>) -> Option<u32>
-    ensures { result ≡ given_once earlier number }
+// The option that a word names, if a command takes it.
+fn option_for(command: &str, word: &str) -> Option<OptionKind>
+    ensures { result ≡ option_for command.now word.now }
 {
-    match earlier {
-        None => number,
-        Some(_) => None,
+    let kind = OptionKind::named(word)?;
+    if kind.is_for(command) {
+        Some(kind)
+    } else {
+        None
     }
 }
 
-// Whether an option has no value.
-fn stands_alone(option: &str) -> bool
-    ensures { result ≡ stands_alone option.now }
+// The options that were given, and those of further words: each a word, and its number behind it, if it takes one. No option is
+// taken twice, so it calls itself at most once for each.
+fn and_options(command: &str, given: Options, words: &[String]) -> Option<Options>
+    ensures { result ≡ and_options command.now given None (map string_bytes words.now) }
 {
-    option == "--narrow" || option == "--least"
-}
-
-// The options that were given, and those of further words. No option is taken twice, so it calls itself at most once for each.
-fn and_options(given: Options, words: &[String]) -> Option<Options>
-    ensures { result ≡ and_options given (map string_bytes words.now) }
-{
-    match words {
-        [] => Some(given),
-        [option, rest @ ..] if stands_alone(option.as_str()) => {
-            let more = given.and_alone(option.as_str())?;
-            and_options(more, rest)
-        }
-        [option, value, rest @ ..] => {
-            let more = given.and(option.as_str(), value.as_str())?;
-            and_options(more, rest)
-        }
-        [_] => None,
-    }
+    let [word, rest @ ..] = words else {
+        return Some(given);
+    };
+    let kind = option_for(command, word.as_str())?;
+    let Some(numbers) = kind.numbers() else {
+        let more = given.with(kind, None)?;
+        return and_options(command, more, rest);
+    };
+    let [word, rest @ ..] = rest else {
+        return None;
+    };
+    let number = number_in(numbers.digits, numbers.least, numbers.most, word.as_str())?;
+    let more = given.with(kind, Some(number))?;
+    and_options(command, more, rest)
 }
 
 // What `serve` is, over a netlist where there are frames.
@@ -268,35 +270,12 @@ fn form_by<'a>(command: &str, path: &'a str, options: Options) -> Option<Form<'a
     let narrow = options.narrow;
     let command = match command {
         "serve" => return form_serve(path, options.of_serve(), options.frames),
-        "compile" if is_device_path(path) && options.none_of_serve() => {
-            Command::Compile { budget, narrow }
-        }
-        "plan" if is_device_path(path) && options.none_but_order() => Command::Plan { narrow },
-        "check" if is_graph_path(path) && options.are_none() => Command::Check,
+        "compile" if is_device_path(path) => Command::Compile { budget, narrow },
+        "plan" if is_device_path(path) => Command::Plan { narrow },
+        "check" if is_graph_path(path) => Command::Check,
         _ => return None,
     };
     Some(Form::Over { path, command })
-}
-
-// The form of a command over a file, with the words of options.
-fn form_over<'a>(command: &str, path: &'a str, words: &[String]) -> Option<Form<'a>>
-    ensures { option_map meant result ≡ form_over command.now path.now (map string_bytes words.now) }
-{
-    let options = and_options(Options::default(), words)?;
-    form_by(command, path, options)
-}
-
-// How many sessions may be open by the words behind the parts of a graph. These take no other option, whatever `serve` takes.
-fn sessions_in(words: &[String]) -> Option<u32>
-    ensures { result ≡ sessions_in (map string_bytes words.now) }
-{
-    match words {
-        [] => Some(DEFAULT_SESSIONS),
-        [option, number] if option.as_str() == "--sessions" => {
-            number_to(4, SESSION_LIMIT, number.as_str())
-        }
-        _ => None,
-    }
 }
 
 // The form of questions to a graph, with the words behind the file.
@@ -307,10 +286,11 @@ fn form_ask<'a>(path: &'a str, words: &[String]) -> Option<Form<'a>>
         return None;
     };
     let health = number_in(4, 0, PART_LIMIT as u32, health.as_str())?;
-    let sessions = sessions_in(rest)?;
+    let options = and_options("ask", Options::none(), rest)?;
     if !is_graph_path(path) {
         return None;
     }
+    let sessions = options.sessions();
     let command = Command::Ask { health, sessions };
     Some(Form::Over { path, command })
 }
@@ -322,7 +302,7 @@ fn form_load<'a>(places: &str, words: &[String]) -> Option<Form<'a>>
     if !words.is_empty() {
         return None;
     }
-    let places = number_to(3, PLACE_LIMIT, places)?;
+    let places = number_in(3, 1, PLACE_LIMIT, places)?;
     Some(Form::Load { places })
 }
 
@@ -333,7 +313,10 @@ fn form_by_words<'a>(command: &str, next: &'a str, words: &[String]) -> Option<F
     match command {
         "load" => form_load(next, words),
         "ask" => form_ask(next, words),
-        _ => form_over(command, next, words),
+        _ => {
+            let options = and_options(command, Options::none(), words)?;
+            form_by(command, next, options)
+        }
     }
 }
 

@@ -6,6 +6,7 @@ ghost use Rattle.diagnosis_lister.specs.inner.Marks.{marked_bits, AreMarks};
 ghost use Rattle.diagnosis_lister.specs.inner.Working.{Follows, Leaves, NoneAfter};
 
 use crate::settling::reaches;
+use conditioner::{is_false, word_of_known};
 use minimiser::{Steps, TOTAL_LIMIT};
 use node_store::Graph;
 use std::sync::ledger::Ledger;
@@ -20,7 +21,7 @@ fn follow(words: &mut [u32], state: &[u32]) -> usize
     ensures follows { Follows words.old (marked_bits state.now) words.new result }
 {
     for (part, mark) in state.iter().enumerate() {
-        let word = if *mark % 2 == 1 { 2 } else { 1 };
+        let word = word_of_known(Some(*mark % 2 == 0));
         if *mark >= 2 {
             words[part] = word;
         } else if words[part] != word {
@@ -60,7 +61,7 @@ pub(crate) fn leave<L: Ledger>(
     for part in (0..end).rev() {
         let mark = state[part];
         let word = if mark >= 2 { 0 } else { words[part] };
-        if mark % 2 == 1 && word != 2 {
+        if mark % 2 == 1 && !is_false(word) {
             words[part] = 1;
             if reaches(graph, words, costs, values, fewest, steps) {
                 return Some(part);

@@ -3,6 +3,8 @@ ghost use Rattle.conditioner.specs.Words.{bits_of};
 ghost use Rattle.diagnosis_lister.specs.inner.Marks.{mark_of, is_marked, marked_bits, AreMarks};
 ghost use Rattle.diagnosis_lister.specs.inner.Working.{fixed_bits};
 
+use conditioner::{is_false, is_open};
+
 // While diagnoses are looked for, open parts are fixed in the words. So that they can be found again, the word of the
 // state of each open part is marked by 2.
 
@@ -15,7 +17,7 @@ pub(crate) fn mark(words: &[u32], state: &mut [u32])
     ensures bits { marked_bits state.new ≡ bits_of state.old }
 {
     for (part, mark) in state.iter_mut().enumerate() {
-        if words[part] == 0 {
+        if is_open(words[part]) {
             *mark += 2;
         }
     }
@@ -39,7 +41,7 @@ pub(crate) fn write_back(words: &mut [u32], state: &mut [u32])
     ensures small { All (λ s. s < 2) state.new }
 {
     for (part, mark) in state.iter_mut().enumerate() {
-        let faulty = words[part] == 2;
+        let faulty = is_false(words[part]);
         if *mark >= 2 {
             words[part] = 0;
         }

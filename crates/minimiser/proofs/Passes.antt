@@ -96,7 +96,7 @@ if_some None b h = tt
 if_some (Some n) b h = h n refl
 
 -- the cost of an and fits
-pub and_small : (graph : Graph) (words costs : List ℕ) (i most : ℕ) (kids : List ℕ) (values : List (Option ℕ)) → IsGraph graph → total_cost costs < most → i < length graph.nodes
+and_small : (graph : Graph) (words costs : List ℕ) (i most : ℕ) (kids : List ℕ) (values : List (Option ℕ)) → IsGraph graph → total_cost costs < most → i < length graph.nodes
     → slice_get graph.nodes i ≡ Some (record { what = And; kids = kids }) → values ≡ costs_to graph words costs i → IfSome (sum_costs (map (cost_at values) kids)) (λ n. n < most)
 and_small graph words costs i most kids values ok few lt e v =
     subst (λ c. IfSome c (λ n. n < most)) same (if_some (cost_at (costs_to graph words costs (i + 1)) i) most (λ (n : ℕ) (q : cost_at (costs_to graph words costs (i + 1)) i ≡ Some n). omega (arith, cost_small graph words costs (i + 1) i ok n q))) where

@@ -6,7 +6,7 @@ ghost use Rattle.minimiser.specs.Held.{held_cost};
 ghost use Rattle.minimiser.specs.Stored.{cost_in, AreLeastCosts};
 
 use crate::steps::Steps;
-use conditioner::{Leaf, leaf};
+use conditioner::{Leaf, is_false, leaf};
 use graph_rules::NodeKind;
 use node_store::{Graph, NodeRef};
 use std::sync::ledger::Ledger;
@@ -167,9 +167,9 @@ fn or_value(values: &[u32], kids: &[u32]) -> u32
     best
 }
 
-/// What the parts cost together that the words fix to faulty.
+// What the parts cost together that the words fix to faulty.
 #[tactic(auto, using(crate::proofs::Held::held_steps))]
-pub fn held_cost(words: &[u32], costs: &[u32]) -> u32
+pub(crate) fn held_cost(words: &[u32], costs: &[u32]) -> u32
     requires words { All (λ w. w < 3) words.now }
     requires long { length costs.now ≤ length words.now }
     requires total { total_cost costs.now < TOTAL_LIMIT }
@@ -178,7 +178,7 @@ pub fn held_cost(words: &[u32], costs: &[u32]) -> u32
 {
     let mut total = 0;
     for (part, cost) in costs.iter().enumerate() {
-        if words[part] == 2 {
+        if is_false(words[part]) {
             total += *cost;
         }
     }

@@ -5,6 +5,7 @@ ghost use Rattle.minimiser.specs.Suspects.{Suspect, OkBelow};
 ghost use Rattle.minimiser.specs.inner.Marked.{IsValue, has_mark, spread_value, IsSwept, suspect_of, suspect_at};
 
 use crate::pass::{NONE, TOTAL_LIMIT};
+use conditioner::is_open;
 use graph_rules::NodeKind;
 use node_store::Graph;
 
@@ -136,7 +137,7 @@ fn suspect_of(var: u32, positive: bool, words: &[u32], parts: u32) -> Option<u32
     ensures suspect { result ≡ suspect_of words.now parts (NodeKind.Literal positive var) }
     ensures within { IfSome result (λ part. part < parts) }
 {
-    if !positive && var <= parts && words[var as usize - 1] == 0 {
+    if !positive && var <= parts && is_open(words[var as usize - 1]) {
         Some(var - 1)
     } else {
         None

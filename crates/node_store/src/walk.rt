@@ -6,7 +6,7 @@ use graph_rules::NodeKind;
 use std::marker::Model;
 
 /// A node, whose children stay where they lie.
-#[derive(Drop)]
+#[derive(Debug, Drop)]
 pub struct NodeRef<'a> {
     /// What it is.
     pub what: NodeKind,
@@ -22,10 +22,10 @@ impl<'a> Model for NodeRef<'a> {
     ghost view = { λ n. record { what = n.what; kids = n.kids.now } };
 }
 
-/// Nodes one after the other, from the first on.
+/// The nodes that are left of a walk over all of them, from the first to the last.
 ///
 /// One who asks all nodes is faster by it than node by node: where the children of one end those of the next begin.
-#[derive(Drop)]
+#[derive(Debug, Drop)]
 pub struct Walk<'a> {
     kinds: &'a [NodeKind],
     ends: &'a [usize],

@@ -1,7 +1,7 @@
 -- Lists of verdicts as they are written, and states of words.
-use Rattle.std.proofs.Common.{◌≡◌, ◌≢◌, ℕ, zero, suc, ◌<◌, Bool, true, false, List, [], ◌∷◌, length, get_or, set, Some, refl, ap, ◌∙◌, arith}
+use Rattle.std.proofs.Common.{◌≡◌, ◌≢◌, ℕ, zero, suc, ◌<◌, Bool, true, false, not, List, [], ◌∷◌, length, get_or, set, Some, refl, ap, sym, ◌∙◌, arith}
 use Rattle.std.specs.Prelude.{◌==◌, slice_get}
-use Rattle.std.proofs.lemmas.Bool.{eqb-true}
+use Rattle.std.proofs.lemmas.Bool.{eqb-true, eq-eqb, false≢true, not-false}
 use Rattle.ranking.specs.Bits.{bit_in}
 use Rattle.conditioner.specs.Words.{bits_of}
 
@@ -30,3 +30,13 @@ bit-faulty state i h ne = bit_in-bits state i h ∙ by_test (get_or state i 0 ==
   by_test : (b : Bool) → (get_or state i 0 == 0) ≡ b → b ≡ false
   by_test true e = absurd (ne (eqb-true _ _ e))
   by_test false e = refl
+
+-- what the words say, by what was said of them
+pub is-ok : (said : Bool) {word : ℕ} → said ≡ not (word == 0) → said ≡ false → word ≡ 0
+is-ok said is e = eqb-true _ _ (not-false _ (sym is ∙ e))
+
+pub is-faulty : (said : Bool) {word : ℕ} → said ≡ not (word == 0) → said ≡ true → word ≢ 0
+is-faulty said is e zero_word = false≢true (sym (ap not (eq-eqb _ _ zero_word)) ∙ (sym is ∙ e))
+
+pub not_open : (said : Bool) {word : ℕ} → said ≡ (word == 0) → said ≡ false → word ≢ 0
+not_open said is e zero_word = false≢true (sym e ∙ (is ∙ eq-eqb _ _ zero_word))

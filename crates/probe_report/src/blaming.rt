@@ -8,6 +8,7 @@ ghost use Rattle.probe_report.specs.inner.Presumed.{presumed, IsPresumed};
 
 use crate::asking::least_where;
 use crate::verdicts::Blame;
+use conditioner::{is_faulty, is_open, known_of};
 use diagnosis_lister::first;
 use minimiser::{Steps, TOTAL_LIMIT, find_suspects, least};
 use node_store::Graph;
@@ -156,10 +157,10 @@ fn presume(words: &[u32], suspects: &[u32], verdicts: &mut [Blame])
 fn presumed(word: u32, suspect: u32) -> Blame
     ensures { result ≡ presumed word suspect }
 {
-    match word {
-        0 if suspect == 1 => Blame::Sometimes,
-        0 | 1 => Blame::Never,
-        _ => Blame::Always,
+    match known_of(word) {
+        None if suspect == 1 => Blame::Sometimes,
+        None | Some(true) => Blame::Never,
+        Some(false) => Blame::Always,
     }
 }
 
@@ -194,7 +195,7 @@ fn confirm<L: Ledger>(
     // There are no more parts than variables, and so their numbers fit.
     let _vars = graph.vars();
     for (part, mark) in state.iter().enumerate() {
-        if *mark != 0 && words[part] == 0 {
+        if is_faulty(*mark) && is_open(words[part]) {
             verdicts[part] = blame_faulty(
                 graph,
                 words,

@@ -3,6 +3,7 @@ ghost use Rattle.probe_report.specs.inner.Outside.{lowered, is_left, mark_at, Is
 ghost use Rattle.probe_report.specs.inner.Leaving.{LeftKid, LeftNode, LowersBlock};
 
 use crate::marking::{WIDTH, clear_marks, first_marked, has_bit, mark_at, mark_of, set_mark};
+use conditioner::is_open;
 use graph_rules::NodeKind;
 use minimiser::{Steps, TOTAL_LIMIT};
 use node_store::Graph;
@@ -47,7 +48,7 @@ fn is_some_open(words: &[u32], from: usize, to: usize) -> bool
     ensures { result ≡ false → (i : ℕ) → from ≤ i → i < to → slice_index words.now i ≢ 0 }
 {
     for i in from..to {
-        if words[i] == 0 {
+        if is_open(words[i]) {
             return true;
         }
     }

@@ -4,10 +4,11 @@ ghost use Rattle.diag_edge.specs.Adding.{Adds};
 ghost use Rattle.diag_edge.specs.Edge.{HasCause};
 ghost use Rattle.text_rules.specs.Tokens.{spaced};
 ghost use Rattle.graph_rules.specs.WrittenGraphs.{node_words};
-ghost use Rattle.conditioner.specs.Words.{known_of, known};
+ghost use Rattle.conditioner.specs.Words.{known};
 ghost use Rattle.projector.specs.Projecting.{root_with};
 ghost use Rattle.projector.specs.inner.Lines.{held_line};
 
+use conditioner::{is_open, known_of};
 use diag_edge::{Chunk, Sink, WriteFailed};
 use graph_rules::NodeKind;
 use nnf_text::{add_counted_range, add_node};
@@ -18,7 +19,7 @@ pub(crate) fn held_count(health: &[u32]) -> u32
     ensures count { result ≡ count_by (λ word. not (word == 0)) health.now }
     ensures most { result ≤ length health.now }
 {
-    health.iter().filter(|word| **word != 0).count() as u32
+    health.iter().filter(|word| !is_open(**word)).count() as u32
 }
 
 // Adds the lines of the literals of held parts, and of the and over these and the root.
@@ -73,17 +74,6 @@ fn add_known<O: Sink>(
         positive,
     };
     add_node(chunk, out, literal, &[])
-}
-
-// What a word says of its variable.
-fn known_of(word: u32) -> Option<bool>
-    ensures { result ≡ known_of word }
-{
-    match word {
-        0 => None,
-        1 => Some(true),
-        _ => Some(false),
-    }
 }
 
 // Adds the line of an and over so many nodes, from a first one on.

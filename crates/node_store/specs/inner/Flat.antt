@@ -20,6 +20,7 @@ pub record AreFlatFrom (start : ℕ) (kinds : List NodeKind) (ends kids : List �
   pub long : length ends ≡ length kinds
   pub cut : EndAt (length kids) start ends
 
+-- those of the first begin where the list does
 abbrev pub AreFlat : List NodeKind → List ℕ → List ℕ → Type 0
 AreFlat = AreFlatFrom 0
 

@@ -1,6 +1,6 @@
-use Rattle.std.proofs.Common.{◌≡◌, ◌+◌, ◌-◌, ◌<◌, ◌≤◌, ℕ, List, true, length, get_or, set, drop, All, sym, ◌∙◌, ap, subst, arith, inl, inr, refl}
-use Rattle.std.specs.Prelude.{◌⊎◌}
-use Rattle.std.proofs.lemmas.Bool.{false≢true}
+use Rattle.std.proofs.Common.{◌≡◌, ◌≢◌, ◌+◌, ◌-◌, ◌<◌, ◌≤◌, ℕ, Bool, List, true, false, length, get_or, set, drop, All, sym, ◌∙◌, ap, subst, arith, inl, inr, refl}
+use Rattle.std.specs.Prelude.{◌⊎◌, ◌==◌}
+use Rattle.std.proofs.lemmas.Bool.{false≢true, eq-eqb, eqb-true}
 use Rattle.std.proofs.lemmas.Grind.{same_number_lists}
 use Rattle.std.proofs.lemmas.List.{get_or-set_same, get_or-set_other}
 use Rattle.std.proofs.lemmas.List.Elements.{All-set}
@@ -10,8 +10,12 @@ use Rattle.diagnosis_lister.specs.inner.Marks.{marked_bits}
 use Rattle.diagnosis_lister.proofs.Faults.{faults-at, faults-back, faults-all}
 use Rattle.diagnosis_lister.proofs.Points.{GoesBack, GoesBack-start, GoesBack-next, none-held, none-tried, Leaves-tried, marked-odd, marked-even, word-marked, word-unmarked, length-marked}
 use Rattle.diagnosis_lister.proofs.leaving.leave.Goals as goal
-use Rattle.diagnosis_lister.proofs.leaving.leave.Goals.{then-mark-ge2, else-mark-ge2, then-mark-eq1+then-word-ne2+else-reaches, else-mark-eq1, else-mark-eq1-via-then-mark-eq1+else-word-ne2, else-mark-eq1-via-else-mark-eq1}
+use Rattle.diagnosis_lister.proofs.leaving.leave.Goals.{then-mark-ge2, else-mark-ge2, then-mark-eq1+then-not-is_false+else-reaches, else-mark-eq1, else-mark-eq1-via-then-mark-eq1+else-not-is_false, else-mark-eq1-via-else-mark-eq1}
 use Rattle.diagnosis_lister.proofs.leaving.leave.Goals.{Joined-mark-ge2}
+
+-- a word that is not said to be that of a faulty part is another one
+not_two : (said : Bool) {word old : ℕ} → said ≡ (word == 2) → said ≡ false → word ≡ old → old ≢ 2
+not_two said is other same e = false≢true (sym other ∙ (is ∙ eq-eqb _ _ (same ∙ e)))
 
 pub loop-part-init : goal.loop-part-init
 loop-part-init g c = record {
@@ -45,7 +49,7 @@ returns-then-reaches-clause-left g c =
       | else-mark-ge2 w ↦ word-unmarked old words marks j c.if-mark-ge2.word c.requires.marks lt back.kept w.word-is w.if-mark-ge2.false
     ] in
     Leaves-tried graph costs c.requires.parts old (marked_bits marks) c.args.fewest c.requires.long (length-marked marks ∙ c.requires.state) words j within (c.loop-part.auto.words ∙ c.follow-end.auto.words) back
-    (set words j 1) refl (c.requires.words j 0 (omega (arith, c.requires.long, c.requires.parts))) (λ e. c.if-word-ne2.true (word ∙ e))
+    (set words j 1) refl (c.requires.words j 0 (omega (arith, c.requires.long, c.requires.parts))) (not_two c.is_false.result c.is_false.ensures c.if-not-is_false.true word)
     (marked-odd marks j lt c.if-mark-eq1.true) (c.reaches.ensures.reached.0 c.if-reaches.true)
 
 pub loop-part-preserved : goal.loop-part-preserved
@@ -76,19 +80,19 @@ loop-part-preserved g c =
     let longer : length c.if-mark-eq1.words ≡ length words = c.if-mark-eq1.auto.words in
     let here : get_or (set c.if-mark-eq1.words j c.if-mark-ge2.word) j 0 ≡ get_or old j 0 = get_or-set_same c.if-mark-eq1.words j c.if-mark-ge2.word 0 (omega (arith, longer)) ∙ word in
     elim c.if-mark-eq1.branch [
-      | then-mark-eq1+then-word-ne2+else-reaches w ↦ record {
+      | then-mark-eq1+then-not-is_false+else-reaches w ↦ record {
         small = All-set (λ w. w < 3) c.if-mark-eq1.words j c.if-mark-ge2.word small
             (subst (λ (ws : List ℕ). All (λ w. w < 3) ws) (sym w.words-is) (All-set (λ w. w < 3) words j 1 (omega arith) c.loop-part.invariant.small));
         back = GoesBack-next graph costs c.requires.parts old point most c.requires.long bits words j within same back (set c.if-mark-eq1.words j c.if-mark-ge2.word) here
             (λ k ne. get_or-set_other c.if-mark-eq1.words j k c.if-mark-ge2.word 0 ne ∙ ap (λ xs. get_or xs k 0) w.words-is ∙ get_or-set_other words j k 1 0 ne)
-            (none-tried graph costs c.requires.parts old point most c.requires.long bits words j within same back (set words j 1) refl few (λ e. w.if-word-ne2.true (word ∙ e))
+            (none-tried graph costs c.requires.parts old point most c.requires.long bits words j within same back (set words j 1) refl few (not_two w.is_false.result w.is_false.ensures w.if-not-is_false.true word)
             c.requires.least (λ e. false≢true (sym w.if-reaches.false ∙ w.reaches.ensures.reached.1 e)));
         steps = omega (arith, w.steps-is, w.reaches.ensures.steps, steps, faults-at point j at (marked-odd marks j lt w.if-mark-eq1.true));
         within = omega (arith, c.loop-part.invariant.within);
       }
       | else-mark-eq1 w ↦
           let cases : (bit_in point j ≡ true) ⊎ (get_or old j 0 ≡ 2) = elim w.else-mark-eq1.branch [
-            | else-mark-eq1-via-then-mark-eq1+else-word-ne2 v ↦ inr (sym word ∙ v.if-word-ne2.false)
+            | else-mark-eq1-via-then-mark-eq1+else-not-is_false v ↦ inr (sym word ∙ eqb-true _ _ (sym v.is_false.ensures ∙ v.if-not-is_false.false))
             | else-mark-eq1-via-else-mark-eq1 v ↦ inl (marked-even marks j lt v.if-mark-eq1.false)
           ] in record {
             small = All-set (λ w. w < 3) c.if-mark-eq1.words j c.if-mark-ge2.word small

@@ -9,9 +9,9 @@ use Rattle.diagnosis_lister.proofs.Marking.{length-bits}
 use Rattle.probe_report.specs.Verdicts.{blame_of}
 use Rattle.probe_report.proofs.With.{bit-in}
 use Rattle.probe_report.proofs.Blames.{presumed-stays}
-use Rattle.probe_report.proofs.Written.{slice_get-set_same, slice_get-set_other, bit-ok, bit-faulty}
+use Rattle.probe_report.proofs.Written.{slice_get-set_same, slice_get-set_other, bit-ok, bit-faulty, is-ok, is-faulty, not_open}
 use Rattle.probe_report.proofs.blaming.confirm.Goals as goal
-use Rattle.probe_report.proofs.blaming.confirm.Goals.{then-mark-ne0+then-words-part-eq0, else-mark-ne0, else-mark-ne0-via-then-mark-ne0+else-words-part-eq0, else-mark-ne0-via-else-mark-ne0}
+use Rattle.probe_report.proofs.blaming.confirm.Goals.{then-is_faulty+then-is_open, else-is_faulty, else-is_faulty-via-then-is_faulty+else-is_open, else-is_faulty-via-else-is_faulty}
 
 pub blame_faulty-requires-clause-faulty : goal.blame_faulty-requires-clause-faulty
 blame_faulty-requires-clause-faulty g c =
@@ -20,7 +20,7 @@ blame_faulty-requires-clause-faulty g c =
     let state = c.args.state.now in
     let i = c.loop-part.part in
     let back : i ≡ i + 1 - 1 = omega arith in
-    let faulty : bit_in (bits_of state) i ≡ false = bit-faulty state i (omega arith) c.if-mark-ne0.true in
+    let faulty : bit_in (bits_of state) i ≡ false = bit-faulty state i (omega arith) (is-faulty _ c.is_faulty.ensures c.if-is_faulty.true) in
     subst (λ (ws : List ℕ). least_with graph ws costs (i + 1) false ≡ Some c.args.fewest) (sym c.loop-part.invariant.words)
     (bit-in graph c.args.words.now costs (i + 1 - 1) false (omega (arith, c.requires.state)) c.args.fewest c.requires.parts c.requires.least (bits_of state) c.requires.diagnosis
     (ap (bit_in (bits_of state)) (sym back) ∙ faulty))
@@ -35,30 +35,30 @@ loop-part-preserved g c =
     let verdicts = c.loop-part.verdicts in
     let here : i < length state = omega arith in
     let bits : length (bits_of state) ≡ length state = length-bits state in
-    elim c.if-mark-ne0.branch [
-      | then-mark-ne0+then-words-part-eq0 w ↦
+    elim c.if-is_faulty.branch [
+      | then-is_faulty+then-is_open w ↦
           let found = w.blame_faulty.result in
           let back : i + 1 - 1 ≡ i = omega arith in
           let verdict : found ≡ blame_of graph words costs i = w.blame_faulty.ensures.blame ∙ (λ j. blame_of graph (c.loop-part.invariant.words j) costs (back j)) in
-          let faulty : bit_in (bits_of state) i ≡ false = bit-faulty state i here w.if-mark-ne0.true in
+          let faulty : bit_in (bits_of state) i ≡ false = bit-faulty state i here (is-faulty _ c.is_faulty.ensures w.if-is_faulty.true) in
           record {
             words = w.words-is ∙ w.blame_faulty.ensures.words ∙ c.loop-part.invariant.words;
-            done = below_more (λ (k : ℕ). slice_get c.if-mark-ne0.verdicts k ≡ Some (blame_of graph words costs k)) i
+            done = below_more (λ (k : ℕ). slice_get c.if-is_faulty.verdicts k ≡ Some (blame_of graph words costs k)) i
                 (λ (k : ℕ) (lt : k < i). ap (λ xs. slice_get xs k) w.verdicts-is ∙ slice_get-set_other verdicts i k found (λ e. absurd (omega arith)) ∙ c.loop-part.invariant.done k lt)
                 (ap (λ xs. slice_get xs i) w.verdicts-is ∙ slice_get-set_same verdicts i found (omega (arith, c.loop-part.auto.verdicts, c.requires.verdicts, c.requires.state)) ∙ ap Some verdict);
             left = λ k le. ap (λ xs. slice_get xs k) w.verdicts-is ∙ slice_get-set_other verdicts i k found (λ e. absurd (omega arith)) ∙ c.loop-part.invariant.left k (omega arith);
             steps = omega (arith, w.steps-is, w.blame_faulty.ensures.steps, c.loop-part.invariant.steps, count_by_more_yes not (bits_of state) i false (omega arith) (ap not faulty));
           }
-      | else-mark-ne0 w ↦
-          let ok : get_or words i 0 ≡ 0 → bit_in (bits_of state) i ≡ true = λ e. elim w.else-mark-ne0.branch [
-            | else-mark-ne0-via-then-mark-ne0+else-words-part-eq0 v ↦ absurd (v.if-words-part-eq0.false (ap (λ ws. get_or ws i 0) c.loop-part.invariant.words ∙ e))
-            | else-mark-ne0-via-else-mark-ne0 v ↦ bit-ok state i here v.if-mark-ne0.false
+      | else-is_faulty w ↦
+          let ok : get_or words i 0 ≡ 0 → bit_in (bits_of state) i ≡ true = λ e. elim w.else-is_faulty.branch [
+            | else-is_faulty-via-then-is_faulty+else-is_open v ↦ absurd (not_open _ v.is_open.ensures v.if-is_open.false (ap (λ ws. get_or ws i 0) c.loop-part.invariant.words ∙ e))
+            | else-is_faulty-via-else-is_faulty v ↦ bit-ok state i here (is-ok _ c.is_faulty.ensures v.if-is_faulty.false)
           ] in
           let stays = presumed-stays graph words costs i c.args.fewest (omega (arith, c.requires.state)) c.requires.parts c.requires.long c.requires.least c.args.verdicts.now (bits_of state) c.requires.diagnosis ok
           (c.requires.presumed i (omega (arith, c.requires.state))) in
           record {
             words = w.words-is ∙ c.loop-part.invariant.words;
-            done = below_more (λ (k : ℕ). slice_get c.if-mark-ne0.verdicts k ≡ Some (blame_of graph words costs k)) i
+            done = below_more (λ (k : ℕ). slice_get c.if-is_faulty.verdicts k ≡ Some (blame_of graph words costs k)) i
                 (λ (k : ℕ) (lt : k < i). ap (λ xs. slice_get xs k) w.verdicts-is ∙ c.loop-part.invariant.done k lt)
                 (ap (λ xs. slice_get xs i) w.verdicts-is ∙ c.loop-part.invariant.left i (omega arith) ∙ stays);
             left = λ k le. ap (λ xs. slice_get xs k) w.verdicts-is ∙ c.loop-part.invariant.left k (omega arith);

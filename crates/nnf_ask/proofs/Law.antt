@@ -9,9 +9,10 @@ use Rattle.graph_rules.specs.GraphTexts.{Parsed, parsed}
 use Rattle.device_model.specs.declared.component.Component.{Component}
 use Rattle.device_model.specs.Devices.{Device, part_names, part_costs}
 use Rattle.device_model.specs.Diagnosis.{device_system}
+use Rattle.conditioner.specs.Words.{word_of_known}
 use Rattle.conditioner.specs.Models.{models}
 use Rattle.session_rules.specs.CaseSizes.{IsCaseOf}
-use Rattle.session_rules.specs.GraphSystems.{word_of_known, case_words}
+use Rattle.session_rules.specs.GraphSystems.{case_words}
 use Rattle.session_rules.specs.Items.{Whole}
 use Rattle.session_rules.specs.Spelling.{Spelled, IsWholeOf, IsGraphOf}
 use Rattle.session_rules.proofs.Meaning.{same_consistent}

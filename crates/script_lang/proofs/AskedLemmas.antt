@@ -9,8 +9,9 @@ use Rattle.text_rules.specs.Tokens.{words}
 use Rattle.text_rules.specs.Numbers.{number_in, value_behind, are_digits, has_leading_zero}
 use Rattle.script_lang.specs.declared.limits.TheConstants.{COUNT_LIMIT, LINE_LIMIT}
 use Rattle.script_lang.proofs.Asked.{is_well_named, is_well_asked}
+use Rattle.script_lang.specs.declared.line.Noted.TheVariants.{Wire, Part}
 use Rattle.script_lang.specs.declared.refusal.LineRefusal.TheVariants.{TooLong}
-use Rattle.script_lang.specs.Script.{Request, Start, Stop, See, Unsee, Hold, Unhold, Min, Next, Several, After, Probe, Probes, Blame, Dnnf, Level, Levels, LeastNnf, Line, Blank, Refused, is_script_name, on_session, on_name, on_value, on_pair, if_value, on_count, if_count, on_names, at_equals, value_in, read_by, read_as, commands, begins_comment, line_of_words, line_of}
+use Rattle.script_lang.specs.Script.{Request, Start, Stop, Note, Min, Next, Several, After, Probe, Probes, Blame, Dnnf, Level, Levels, LeastNnf, Line, Blank, Refused, is_script_name, on_session, on_name, on_value, on_pair, if_value, on_count, if_count, on_names, at_equals, value_in, read_by, read_as, commands, begins_comment, line_of_words, line_of}
 
 choice : (test : Bool) (one other : Line) → (test ≡ true → is_well_asked one ≡ true) → is_well_asked other ≡ true → is_well_asked (if test then one else other) ≡ true
 choice true one other first second = first refl
@@ -97,13 +98,13 @@ each_command ws = (
   (
     well-on_session Stop refl ws,
     (
-      well-on_value (codes "1") (codes "0") See (λ name value named. named) ws,
+      well-on_value (codes "1") (codes "0") (λ wire bit. Note Wire wire (Some bit)) (λ name value named. named) ws,
       (
-        well-on_name Unsee (λ name named. named) ws,
+        well-on_name (λ wire. Note Wire wire None) (λ name named. named) ws,
         (
-          well-on_value (codes "ok") (codes "bad") Hold (λ name value named. named) ws,
+          well-on_value (codes "ok") (codes "bad") (λ part ok. Note Part part (Some ok)) (λ name value named. named) ws,
           (
-            well-on_name Unhold (λ name named. named) ws,
+            well-on_name (λ part. Note Part part None) (λ name named. named) ws,
             (
               well-on_session Min refl ws,
               (

@@ -1,8 +1,9 @@
 -- Worked rows: what the definitions give at lines of which a reader can say it beforehand. Their check computes both sides.
-use Rattle.std.proofs.Common.{◌≡◌, ℕ, true, false, List, [], ◌∷◌, ◌++◌, length, map, codes, replicate, refl, arith}
+use Rattle.std.proofs.Common.{◌≡◌, ℕ, true, false, List, [], ◌∷◌, ◌++◌, length, map, codes, replicate, refl, arith, Some, None}
 use Rattle.script_lang.proofs.LineLemmas.{line_of-too_long}
-use Rattle.script_lang.specs.Script.{Blank, Refused, Ask, Start, Stop, See, Unsee, Hold, Unhold, Min, Next, Several, After, Probe, Probes, Blame, Dnnf, Level, Levels, LeastNnf, line_of}
+use Rattle.script_lang.specs.Script.{Blank, Refused, Ask, Start, Stop, Note, Min, Next, Several, After, Probe, Probes, Blame, Dnnf, Level, Levels, LeastNnf, line_of}
 use Rattle.script_lang.specs.Refusals.{refusal_number, refusal_text}
+use Rattle.script_lang.specs.declared.line.Noted.TheVariants.{Wire, Part}
 use Rattle.script_lang.specs.declared.refusal.LineRefusal.TheVariants.{UnknownCommand, BadWords, BadName, BadValue, TooLong}
 
 -- ---- each command
@@ -13,22 +14,22 @@ open_a_session = refl
 close_a_session : line_of (codes "close S") ≡ Ask (codes "S") Stop
 close_a_session = refl
 
-see_a_one : line_of (codes "see S a=1") ≡ Ask (codes "S") (See (codes "a") true)
+see_a_one : line_of (codes "see S a=1") ≡ Ask (codes "S") (Note Wire (codes "a") (Some true))
 see_a_one = refl
 
-see_a_zero : line_of (codes "see S a=0") ≡ Ask (codes "S") (See (codes "a") false)
+see_a_zero : line_of (codes "see S a=0") ≡ Ask (codes "S") (Note Wire (codes "a") (Some false))
 see_a_zero = refl
 
-unsee_a_wire : line_of (codes "unsee S a") ≡ Ask (codes "S") (Unsee (codes "a"))
+unsee_a_wire : line_of (codes "unsee S a") ≡ Ask (codes "S") (Note Wire (codes "a") None)
 unsee_a_wire = refl
 
-hold_sound : line_of (codes "hold S b=ok") ≡ Ask (codes "S") (Hold (codes "b") true)
+hold_sound : line_of (codes "hold S b=ok") ≡ Ask (codes "S") (Note Part (codes "b") (Some true))
 hold_sound = refl
 
-hold_faulty : line_of (codes "hold S b=bad") ≡ Ask (codes "S") (Hold (codes "b") false)
+hold_faulty : line_of (codes "hold S b=bad") ≡ Ask (codes "S") (Note Part (codes "b") (Some false))
 hold_faulty = refl
 
-unhold_a_part : line_of (codes "unhold S b") ≡ Ask (codes "S") (Unhold (codes "b"))
+unhold_a_part : line_of (codes "unhold S b") ≡ Ask (codes "S") (Note Part (codes "b") None)
 unhold_a_part = refl
 
 least_diagnosis : line_of (codes "min T") ≡ Ask (codes "T") Min

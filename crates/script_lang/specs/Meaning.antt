@@ -3,25 +3,28 @@ use Rattle.text_rules.specs.Tokens.{words}
 use Rattle.script_lang.specs.Script as script
 use Rattle.script_lang.specs.declared.line.Line.{Line}
 use Rattle.script_lang.specs.declared.line.Line.TheVariants as line
+use Rattle.script_lang.specs.declared.line.Request.{Request}
+use Rattle.script_lang.specs.declared.line.Request.TheVariants as request
+
+-- what is asked of a session
+abbrev pub asked : Request → script.Request
+asked request.Start = script.Start
+asked request.Stop = script.Stop
+asked (request.Note what name known) = script.Note what name.now known
+asked request.Min = script.Min
+asked request.Next = script.Next
+asked (request.List count) = script.Several count
+asked (request.After names) = script.After (words names.now)
+asked (request.Probe name) = script.Probe name.now
+asked request.Probes = script.Probes
+asked request.Blame = script.Blame
+asked request.Dnnf = script.Dnnf
+asked request.Level = script.Level
+asked (request.Levels count) = script.Levels count
+asked request.LeastNnf = script.LeastNnf
 
 -- what a line that was read means
 abbrev pub meaning : Line → script.Line
 meaning line.Blank = script.Blank
-meaning (line.Start session) = script.Ask session.now script.Start
-meaning (line.Stop session) = script.Ask session.now script.Stop
-meaning (line.See session name bit) = script.Ask session.now (script.See name.now bit)
-meaning (line.Unsee session name) = script.Ask session.now (script.Unsee name.now)
-meaning (line.Hold session name ok) = script.Ask session.now (script.Hold name.now ok)
-meaning (line.Unhold session name) = script.Ask session.now (script.Unhold name.now)
-meaning (line.Min session) = script.Ask session.now script.Min
-meaning (line.Next session) = script.Ask session.now script.Next
-meaning (line.List session count) = script.Ask session.now (script.Several count)
-meaning (line.After session names) = script.Ask session.now (script.After (words names.now))
-meaning (line.Probe session name) = script.Ask session.now (script.Probe name.now)
-meaning (line.Probes session) = script.Ask session.now script.Probes
-meaning (line.Blame session) = script.Ask session.now script.Blame
-meaning (line.Dnnf session) = script.Ask session.now script.Dnnf
-meaning (line.Level session) = script.Ask session.now script.Level
-meaning (line.Levels session count) = script.Ask session.now (script.Levels count)
-meaning (line.LeastNnf session) = script.Ask session.now script.LeastNnf
 meaning (line.Refused refusal) = script.Refused refusal
+meaning (line.Ask session request) = script.Ask session.now (asked request)

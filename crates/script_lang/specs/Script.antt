@@ -7,18 +7,17 @@ use Rattle.text_rules.specs.Names.{Name, same_name, is_name, is_short_name}
 use Rattle.text_rules.specs.Tokens.{words}
 use Rattle.text_rules.specs.Numbers.{plain_number_in}
 use Rattle.device_model.specs.declared.limits.TheConstants.{NAME_LIMIT}
+use Rattle.script_lang.specs.declared.line.Noted.{Noted}
+use Rattle.script_lang.specs.declared.line.Noted.TheVariants.{Wire, Part}
 use Rattle.script_lang.specs.declared.refusal.LineRefusal.{LineRefusal}
 use Rattle.script_lang.specs.declared.refusal.LineRefusal.TheVariants.{UnknownCommand, BadWords, BadName, BadValue, TooLong}
 use Rattle.script_lang.specs.declared.limits.TheConstants.{COUNT_LIMIT, LINE_LIMIT}
 
--- what a line asks of a session
+-- what a line asks of a session; a wire is seen, and a part held, by a note of what is known of it
 pub data Request : Type 0 where
   Start : Request
   Stop : Request
-  See : (wire : Name) (bit : Bool) → Request
-  Unsee : (wire : Name) → Request
-  Hold : (part : Name) (ok : Bool) → Request
-  Unhold : (part : Name) → Request
+  Note : (what : Noted) (name : Name) (known : Option Bool) → Request
   Min : Request
   Next : Request
   Several : (count : ℕ) → Request
@@ -93,10 +92,10 @@ on_names request (s ∷ names) = if is_short_name s && list_all is_script_name n
 abbrev pub commands : List (List ℕ × (List (List ℕ) → Line))
 commands = (codes "open", on_session Start)
     ∷ (codes "close", on_session Stop)
-    ∷ (codes "see", on_value (codes "1") (codes "0") See)
-    ∷ (codes "unsee", on_name Unsee)
-    ∷ (codes "hold", on_value (codes "ok") (codes "bad") Hold)
-    ∷ (codes "unhold", on_name Unhold)
+    ∷ (codes "see", on_value (codes "1") (codes "0") (λ wire bit. Note Wire wire (Some bit)))
+    ∷ (codes "unsee", on_name (λ wire. Note Wire wire None))
+    ∷ (codes "hold", on_value (codes "ok") (codes "bad") (λ part ok. Note Part part (Some ok)))
+    ∷ (codes "unhold", on_name (λ part. Note Part part None))
     ∷ (codes "min", on_session Min)
     ∷ (codes "next", on_session Next)
     ∷ (codes "list", on_count Several)

@@ -1,14 +1,15 @@
-ghost use Rattle.std.specs.Prelude.{◌≡◌, ℕ, Bool, List, codes};
+ghost use Rattle.std.specs.Prelude.{◌≡◌, ℕ, Bool, List, Some, None};
 ghost use Rattle.std.specs.List.{list_all};
 ghost use Rattle.text_rules.specs.Names.{Name, same_name};
 ghost use Rattle.text_rules.specs.Tokens.{words};
-ghost use Rattle.script_lang.specs.Meaning.{meaning};
+ghost use Rattle.script_lang.specs.Meaning.{asked, meaning};
 ghost use Rattle.script_lang.specs.inner.Found.{asked_by};
-ghost use Rattle.script_lang.specs.Script.{Request, Ask, See, Hold, begins_comment, is_script_name, line_of, on_session, on_name, on_value, on_count, on_names, read_as};
+ghost use Rattle.script_lang.specs.Script as script;
+ghost use Rattle.script_lang.specs.Script.{Ask, Note, begins_comment, is_script_name, line_of, on_session, on_name, on_value, on_count, on_names, read_as};
 
 use crate::cutting::{at_equals, one_word, split_word, two_words};
 use crate::limits::{COUNT_LIMIT, LINE_LIMIT};
-use crate::line::Line;
+use crate::line::{Line, Noted, Request};
 use crate::refusal::LineRefusal;
 use device_model::NAME_LIMIT;
 use text_rules::{Tokens, is_name, is_short_name, plain_number};
@@ -19,21 +20,20 @@ fn is_script_name(word: &[u8]) -> bool
     is_name(NAME_LIMIT, word)
 }
 
-// A session alone. What is asked of it does not matter to how it is read, here and below.
-fn session_in(text: &[u8]) -> Result<&[u8], LineRefusal>
-    ensures { (request : Request)
-        → asked_by (λ session. Ask session.now request) result ≡ on_session request (words text.now) }
+// A session alone, of which something is asked.
+fn session_in<'a>(text: &'a [u8], request: Request<'a>) -> Result<Line<'a>, LineRefusal>
+    ensures { asked_by meaning result ≡ on_session (asked request.entry) (words text.now) }
 {
     match one_word(text) {
-        Some(session) if is_short_name(session) => Ok(session),
+        Some(session) if is_short_name(session) => Ok(Line::Ask { session, request }),
         Some(_) => Err(LineRefusal::BadName),
         None => Err(LineRefusal::BadWords),
     }
 }
 
-// A session and a name.
+// A session and a name. What is asked of it does not matter to how it is read, here and below.
 fn name_in(text: &[u8]) -> Result<(&[u8], &[u8]), LineRefusal>
-    ensures { (request : Name → Request)
+    ensures { (request : Name → script.Request)
         → asked_by (λ found. Ask found.0.now (request found.1.now)) result
         ≡ on_name request (words text.now) }
 {
@@ -52,7 +52,7 @@ fn value_in<'a>(
     one: &[u8],
     other: &[u8],
 ) -> Result<(&'a [u8], &'a [u8], bool), LineRefusal>
-    ensures { (request : Name → Bool → Request)
+    ensures { (request : Name → Bool → script.Request)
         → asked_by (λ found. Ask found.0.now (request found.1.now found.2)) result
         ≡ on_value one.now other.now request (words text.now) }
 {
@@ -72,7 +72,7 @@ fn value_in<'a>(
 
 // A session and a count from 1 to a million.
 fn count_in(text: &[u8]) -> Result<(&[u8], u32), LineRefusal>
-    ensures { (request : ℕ → Request)
+    ensures { (request : ℕ → script.Request)
         → asked_by (λ found. Ask found.0.now (request found.1)) result
         ≡ on_count request (words text.now) }
 {
@@ -95,7 +95,7 @@ fn are_script_names(text: &[u8]) -> bool
 
 // A session, and the text of the names behind it.
 fn names_in(text: &[u8]) -> Result<(&[u8], &[u8]), LineRefusal>
-    ensures { (request : List Name → Request)
+    ensures { (request : List Name → script.Request)
         → asked_by (λ found. Ask found.0.now (request (words found.1.now))) result
         ≡ on_names request (words text.now) }
 {
@@ -107,20 +107,33 @@ fn names_in(text: &[u8]) -> Result<(&[u8], &[u8]), LineRefusal>
     }
 }
 
-// A session, and a wire with a bit.
-fn see_in(text: &[u8]) -> Result<Line<'_>, LineRefusal>
-    ensures { asked_by meaning result ≡ on_value (codes "1") (codes "0") See (words text.now) }
+// A session, a wire or a part, and what is known of it, by the words for true and false.
+fn note_in<'a>(
+    what: Noted,
+    text: &'a [u8],
+    one: &[u8],
+    other: &[u8],
+) -> Result<Line<'a>, LineRefusal>
+    ensures { asked_by meaning result ≡ on_value one.now other.now (λ name known. Note what name (Some known)) (words text.now) }
 {
-    let (session, name, bit) = value_in(text, b"1", b"0")?;
-    Ok(Line::See { session, name, bit })
+    let (session, name, known) = value_in(text, one, other)?;
+    let known = Some(known);
+    Ok(Line::Ask {
+        session,
+        request: Request::Note { what, name, known },
+    })
 }
 
-// A session, and a part with a word for sound or faulty.
-fn hold_in(text: &[u8]) -> Result<Line<'_>, LineRefusal>
-    ensures { asked_by meaning result ≡ on_value (codes "ok") (codes "bad") Hold (words text.now) }
+// A session, and a wire or a part of which nothing is known any more.
+fn unnote_in(what: Noted, text: &[u8]) -> Result<Line<'_>, LineRefusal>
+    ensures { asked_by meaning result ≡ on_name (λ name. Note what name None) (words text.now) }
 {
-    let (session, name, ok) = value_in(text, b"ok", b"bad")?;
-    Ok(Line::Hold { session, name, ok })
+    let (session, name) = name_in(text)?;
+    let known = None;
+    Ok(Line::Ask {
+        session,
+        request: Request::Note { what, name, known },
+    })
 }
 
 fn same_word(word: &[u8], other: &[u8]) -> bool
@@ -134,39 +147,51 @@ fn read_command<'a>(command: &[u8], text: &'a [u8]) -> Result<Line<'a>, LineRefu
     ensures { asked_by meaning result ≡ read_as command.now (words text.now) }
 {
     if same_word(command, b"open") {
-        session_in(text).map(|session| Line::Start { session })
+        session_in(text, Request::Start)
     } else if same_word(command, b"close") {
-        session_in(text).map(|session| Line::Stop { session })
+        session_in(text, Request::Stop)
     } else if same_word(command, b"see") {
-        see_in(text)
+        note_in(Noted::Wire, text, b"1", b"0")
     } else if same_word(command, b"unsee") {
-        name_in(text).map(|(session, name)| Line::Unsee { session, name })
+        unnote_in(Noted::Wire, text)
     } else if same_word(command, b"hold") {
-        hold_in(text)
+        note_in(Noted::Part, text, b"ok", b"bad")
     } else if same_word(command, b"unhold") {
-        name_in(text).map(|(session, name)| Line::Unhold { session, name })
+        unnote_in(Noted::Part, text)
     } else if same_word(command, b"min") {
-        session_in(text).map(|session| Line::Min { session })
+        session_in(text, Request::Min)
     } else if same_word(command, b"next") {
-        session_in(text).map(|session| Line::Next { session })
+        session_in(text, Request::Next)
     } else if same_word(command, b"list") {
-        count_in(text).map(|(session, count)| Line::List { session, count })
+        count_in(text).map(|(session, count)| Line::Ask {
+            session,
+            request: Request::List { count },
+        })
     } else if same_word(command, b"after") {
-        names_in(text).map(|(session, names)| Line::After { session, names })
+        names_in(text).map(|(session, names)| Line::Ask {
+            session,
+            request: Request::After { names },
+        })
     } else if same_word(command, b"probe") {
-        name_in(text).map(|(session, name)| Line::Probe { session, name })
+        name_in(text).map(|(session, name)| Line::Ask {
+            session,
+            request: Request::Probe { name },
+        })
     } else if same_word(command, b"probes") {
-        session_in(text).map(|session| Line::Probes { session })
+        session_in(text, Request::Probes)
     } else if same_word(command, b"blame") {
-        session_in(text).map(|session| Line::Blame { session })
+        session_in(text, Request::Blame)
     } else if same_word(command, b"dnnf") {
-        session_in(text).map(|session| Line::Dnnf { session })
+        session_in(text, Request::Dnnf)
     } else if same_word(command, b"level") {
-        session_in(text).map(|session| Line::Level { session })
+        session_in(text, Request::Level)
     } else if same_word(command, b"levels") {
-        count_in(text).map(|(session, count)| Line::Levels { session, count })
+        count_in(text).map(|(session, count)| Line::Ask {
+            session,
+            request: Request::Levels { count },
+        })
     } else if same_word(command, b"leastnnf") {
-        session_in(text).map(|session| Line::LeastNnf { session })
+        session_in(text, Request::LeastNnf)
     } else {
         Err(LineRefusal::UnknownCommand)
     }

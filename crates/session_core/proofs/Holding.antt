@@ -1,5 +1,5 @@
 -- What a service shows of what it holds, and what its changes are.
-use Rattle.std.proofs.Common.{◌≡◌, ◌∙◌, ◌∷◌, ◌++◌, [], ◌<◌, ℕ, Bool, List, Option, Some, None, Result, length, take, drop, refl, ap, sym, subst, codes}
+use Rattle.std.proofs.Common.{◌≡◌, ◌∙◌, ◌∷◌, ◌++◌, [], ◌<◌, ℕ, List, Option, Some, Result, length, take, drop, refl, ap, sym, subst}
 use Rattle.std.proofs.Math.Seq.{take-append_seam}
 use Rattle.std.proofs.lemmas.List.Quantifiers.{position-Some}
 use Rattle.text_rules.specs.Names.{Name, same_name}
@@ -7,20 +7,20 @@ use Rattle.text_rules.specs.Tokens.{spaced}
 use Rattle.diag_edge.specs.Edge.{Puts}
 use Rattle.device_model.specs.Devices.{place_of}
 use Rattle.ranking.specs.Cases.{Case}
-use Rattle.ranking.specs.Systems.{System}
 use Rattle.script_lang.specs.Script.{Request}
-use Rattle.session_rules.specs.declared.refusal.Refusal.TheVariants.{NoWire, NoPart}
+use Rattle.script_lang.specs.declared.line.Noted.{Noted}
+use Rattle.script_lang.specs.declared.line.Noted.TheVariants.{Wire, Part}
 use Rattle.session_rules.specs.CaseWords.{case_of_words, AreWords}
 use Rattle.session_rules.specs.GraphSystems.{Subject, system_of}
 use Rattle.session_rules.specs.Items.{line}
-use Rattle.session_rules.specs.Sessions.{Table, Entry, Declined, outcome_in, when_open, becomes, at_wire, at_part, with_number, with_entry, with_seen, with_held}
+use Rattle.session_rules.specs.Sessions.{Table, Entry, outcome_in, becomes, names_of, with_entry}
 use Rattle.session_rules.proofs.Spellings.{replies_one}
-use Rattle.session_table.specs.Tables.{Opened}
+use Rattle.session_table.specs.Tables.{Opened, count_of}
 use Rattle.session_core.specs.Services.{Shown}
 use Rattle.session_core.specs.inner.Bases.{AreKnown, case_in}
 use Rattle.session_core.specs.inner.Holding.{HoldsTogether}
-use Rattle.session_core.specs.inner.Obeying.{Obeys, seen_request, held_request}
-use Rattle.session_core.proofs.Obeying.{IsOneMove, NeedsSession, obeys_outcome}
+use Rattle.session_core.specs.inner.Obeying.{Obeys}
+use Rattle.session_core.proofs.Obeying.{IsOneMove, obeys_outcome}
 
 -- what is shown over a subject, with these sessions
 abbrev pub shown_of : Subject → Opened → Shown
@@ -50,51 +50,10 @@ obeys_becomes subject old new session request entry word before after result one
     obeys_outcome (shown_of subject old) session request one before after result (becomes session entry word) (shown_of subject new) is (ap (shown_of subject) e)
     (replies_one before after result (line (session ∷ word ∷ [])) _ refl put)
 
--- ---- wires that are seen, and parts that are held
-
-pub seen-move : (name : Name) (bit : Option Bool) → IsOneMove (seen_request name bit)
-seen-move name None = λ shown table session. refl
-seen-move name (Some bit) = λ shown table session. refl
-
-pub seen-needs : (name : Name) (bit : Option Bool) → NeedsSession (seen_request name bit)
-seen-needs name None = λ system session full. refl
-seen-needs name (Some bit) = λ system session full. refl
-
-seen-open : (system : System) (session : Name) (entry : Entry) (name : Name) (bit : Option Bool)
-    → when_open system session entry (seen_request name bit) ≡ at_wire system name (λ wire. becomes session (with_seen entry wire bit) (codes "ok"))
-seen-open system session entry name None = refl
-seen-open system session entry name (Some bit) = refl
-
-pub seen-at : (system : System) (session : Name) (entry : Entry) (name : Name) (bit : Option Bool) (wire : ℕ) → Some wire ≡ place_of name system.wires
-    → when_open system session entry (seen_request name bit) ≡ becomes session (with_seen entry wire bit) (codes "ok")
-seen-at system session entry name bit wire e =
-    seen-open system session entry name bit ∙ ap (with_number NoWire (λ w. becomes session (with_seen entry w bit) (codes "ok"))) (sym e)
-
-pub seen-nowhere : (system : System) (session : Name) (entry : Entry) (name : Name) (bit : Option Bool) → None ≡ place_of name system.wires → when_open system session entry (seen_request name bit) ≡ Declined NoWire
-seen-nowhere system session entry name bit e =
-    seen-open system session entry name bit ∙ ap (with_number NoWire (λ w. becomes session (with_seen entry w bit) (codes "ok"))) (sym e)
-
-pub held-move : (name : Name) (ok : Option Bool) → IsOneMove (held_request name ok)
-held-move name None = λ shown table session. refl
-held-move name (Some ok) = λ shown table session. refl
-
-pub held-needs : (name : Name) (ok : Option Bool) → NeedsSession (held_request name ok)
-held-needs name None = λ system session full. refl
-held-needs name (Some ok) = λ system session full. refl
-
-held-open : (system : System) (session : Name) (entry : Entry) (name : Name) (ok : Option Bool)
-    → when_open system session entry (held_request name ok) ≡ at_part system name (λ part. becomes session (with_held entry part ok) (codes "ok"))
-held-open system session entry name None = refl
-held-open system session entry name (Some ok) = refl
-
-pub held-at : (system : System) (session : Name) (entry : Entry) (name : Name) (ok : Option Bool) (part : ℕ) → Some part ≡ place_of name system.parts
-    → when_open system session entry (held_request name ok) ≡ becomes session (with_held entry part ok) (codes "ok")
-held-at system session entry name ok part e =
-    held-open system session entry name ok ∙ ap (with_number NoPart (λ p. becomes session (with_held entry p ok) (codes "ok"))) (sym e)
-
-pub held-nowhere : (system : System) (session : Name) (entry : Entry) (name : Name) (ok : Option Bool) → None ≡ place_of name system.parts → when_open system session entry (held_request name ok) ≡ Declined NoPart
-held-nowhere system session entry name ok e =
-    held-open system session entry name ok ∙ ap (with_number NoPart (λ p. becomes session (with_held entry p ok) (codes "ok"))) (sym e)
+-- there are as many places for notes as wires, or parts
+pub count-there : (subject : Subject) (opened : Opened) → HoldsTogether subject opened → (what : Noted) → length (names_of (system_of subject) what) ≡ count_of opened.parts opened.wires what
+count-there subject opened h Wire = sym h.wires
+count-there subject opened h Part = sym h.parts
 
 -- a list that was lent whole and written back
 pub written_back : {A : Type 0} (n : ℕ) (new old : List A) → n ≡ length new → take n (new ++ drop (length new) old) ≡ new

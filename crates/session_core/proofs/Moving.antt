@@ -1,37 +1,34 @@
 -- A session that moves on, once and so many times.
-use Rattle.std.proofs.Common.{◌≡◌, ◌∙◌, ◌∷◌, ◌++◌, [], ℕ, suc, Bool, true, false, List, map, Option, Some, None, Result, Ok, Err, IsErr, Ordering, Less, Equal, Greater, codes, decimal, refl, ap, sym, subst, append_assoc, append-nil}
-use Rattle.std.specs.Prelude.{IfOk, slice_index_or, is_some, nat_le, length}
+use Rattle.std.proofs.Common.{◌≡◌, ◌∙◌, ◌∷◌, ◌++◌, [], ℕ, zero, suc, Bool, true, false, List, map, Option, Some, None, Result, Ok, Err, IsErr, Ordering, Less, Equal, Greater, refl, ap, sym, subst, append_assoc, append-nil}
+use Rattle.std.specs.Prelude.{IfOk, slice_index_or, is_some}
 use Rattle.std.proofs.lemmas.List.{map-append}
 use Rattle.std.specs.Ordering.{nat_cmp}
 use Rattle.std.specs.Cmp.Lexicographic.{slice_cmp}
 use Rattle.std.specs.FinMap.Entries.{by_order, put}
 use Rattle.std.proofs.lemmas.Cmp.{nat_list_cmp_total, tied_itself}
 use Rattle.text_rules.specs.Names.{Name}
-use Rattle.text_rules.specs.Tokens.{spaced}
-use Rattle.diag_edge.specs.Edge.{Puts}
 use Rattle.ranking.specs.Ranking.{rest}
 use Rattle.ranking.specs.Systems.{System, all_diagnoses}
 use Rattle.diagnosis_lister.specs.declared.listing.Step.{Step as Answer}
 use Rattle.diagnosis_lister.specs.declared.listing.Step.TheVariants.{Found, End, Inconsistent}
 use Rattle.script_lang.specs.Script.{Ask, Request, Several, Level, Levels as LevelsOf}
 use Rattle.session_rules.specs.GraphSystems.{Subject, system_of}
-use Rattle.session_rules.specs.declared.refusal.Refusal.{Refusal}
-use Rattle.session_rules.specs.Refusals.{refusal_number, refusal_text}
-use Rattle.session_rules.specs.declared.refusal.Refusal.TheVariants.{NoSession, NoLevels}
-use Rattle.session_rules.specs.Items.{Item, line}
+use Rattle.session_rules.specs.declared.refusal.Refusal.TheVariants.{NoLevels}
+use Rattle.session_rules.specs.Items.{Item}
 use Rattle.session_rules.specs.Replies.{Found as Reply, listing, diagnosis_line, inconsistent, end_line}
-use Rattle.session_rules.specs.Sessions.{Table, Entry, Step, Declined, with_number, goes_to, goes_through, entry_of, with_entry, carried, when_open, outcome}
+use Rattle.session_rules.specs.Sessions.{Table, Entry, Step, Declined, with_number, goes_to, goes_through, entry_of, with_entry, when_open}
 use Rattle.session_rules.specs.Moves.{goes_on, listing_moves, next_for, level_for, level_moves}
 use Rattle.session_rules.specs.Spelling.{WritesPart, Replies}
 use Rattle.session_rules.specs.Carrying.{Makes, BreaksOff, CarriesOut}
-use Rattle.session_rules.proofs.Spellings.{writes_none, replies_one}
-use Rattle.session_rules.proofs.Broken.{makes_none, makes_more, breaks_after, carries_step}
+use Rattle.session_rules.proofs.Spellings.{writes_none}
+use Rattle.session_rules.proofs.Broken.{makes_none, makes_more, breaks_after}
 use Rattle.session_table.specs.Tables.{StandsAt}
 use Rattle.session_core.specs.Services.{Shown, ChangesTable, exact_moves}
 use Rattle.session_core.specs.declared.listing.Listed.{Listed}
 use Rattle.session_core.specs.declared.listing.Listed.TheVariants.{Diagnoses, Levels}
 use Rattle.session_core.specs.inner.Desks.{top_of}
 use Rattle.session_core.specs.inner.Obeying.{Obeys, the_found, found_by, found_entry, found_moves, PointMoves, NextMoves, MovesOn}
+use Rattle.session_core.proofs.Declining.{no_more}
 use Rattle.session_core.proofs.Obeying.{IsOneMove, obeys_outcome, asked_open}
 use Rattle.session_core.proofs.Stepping.{found_inconsistent, found_end, found_more}
 
@@ -238,17 +235,26 @@ obeys_moves old new session request ms before after result is carried stays = re
   stays = stays;
 }
 
+-- none of a listing is one move, which says nothing and changes nothing
+none_listed : {T E : Type 0} (old new : Shown) (place : ℕ) (session : Name) (entry : Entry) (request : Request) (before after : Option (List ℕ)) (result : Result T E) → IsOneMove request
+    → StandsAt old.table place session entry → when_open (system_of old.subject) session entry request ≡ goes_through entry []
+    → CarriesOut old.table new.table [] before after result → ChangesTable old new → Obeys old new session request before after result
+none_listed old new place session entry request before after (Ok v) one stands is made stays =
+    obeys_outcome old session request one before after (Ok v) (goes_through entry []) new (asked_open old session request entry stands.found ∙ is)
+    (stays ∙ ap (λ (t : Table). record old { table = t }) (made.table ∙ sym stands.kept)) made.written
+none_listed old new place session entry request before after (Err e) one stands is broke stays = absurd (no_more broke.made broke.others broke.move broke.split)
+
 several_moves : (old : Shown) (session : Name) (entry : Entry) (n : ℕ) → entry_of session old.table ≡ Some entry
     → found_moves old Diagnoses session entry (suc n) ≡ exact_moves old old.table (Ask session (Several (suc n)))
 several_moves old session entry n found = ap (listing_moves (next_for (system_of old.subject) session) old.table session (suc n)) (sym found)
 
 -- the request for so many diagnoses is obeyed
-pub obeys_several : {T E : Type 0} (old new : Shown) (session : Name) (entry : Entry) (count n : ℕ) (before after : Option (List ℕ)) (result : Result T E) → count ≡ suc n → entry_of session old.table ≡ Some entry
+pub obeys_several : {T E : Type 0} (old new : Shown) (place : ℕ) (session : Name) (entry : Entry) (count : ℕ) (before after : Option (List ℕ)) (result : Result T E) → StandsAt old.table place session entry
     → CarriesOut old.table new.table (found_moves old Diagnoses session entry count) before after result → ChangesTable old new → Obeys old new session (Several count) before after result
-obeys_several old new session entry count n before after result long found carried stays =
-    obeys_moves old new session (Several count) (found_moves old Diagnoses session entry count) before after result
-    (ap (found_moves old Diagnoses session entry) long ∙ several_moves old session entry n found ∙ ap (λ (k : ℕ). exact_moves old old.table (Ask session (Several k))) (sym long))
-    carried stays
+obeys_several old new place session entry zero before after result stands carried stays =
+    none_listed old new place session entry (Several zero) before after result (λ shown table s. refl) stands refl carried stays
+obeys_several old new place session entry (suc n) before after result stands carried stays =
+    obeys_moves old new session (Several (suc n)) (found_moves old Diagnoses session entry (suc n)) before after result (several_moves old session entry n stands.found) carried stays
 
 levels_moves : (old : Shown) (session : Name) (entry : Entry) (n : ℕ) (levels : Option ℕ) → is_some levels ≡ true → entry_of session old.table ≡ Some entry
     → map (goes_on old.table session entry) (listing (level_for (system_of old.subject) session (top_of levels) entry) (suc n) entry.point)
@@ -256,64 +262,25 @@ levels_moves : (old : Shown) (session : Name) (entry : Entry) (n : ℕ) (levels 
 levels_moves old session entry n None told found = absurd (let no : ⊥ = cc in no)
 levels_moves old session entry n (Some top) told found = ap (listing_moves (level_for (system_of old.subject) session top) old.table session (suc n)) (sym found)
 
+none_levelled : (system : System) (session : Name) (entry : Entry) (levels : Option ℕ) → is_some levels ≡ true
+    → with_number NoLevels (λ top. goes_through entry (listing (level_for system session top entry) zero entry.point)) levels ≡ goes_through entry []
+none_levelled system session entry None told = absurd (let no : ⊥ = cc in no)
+none_levelled system session entry (Some top) told = refl
+
 -- and that for so many states by cost, where these are told
-pub obeys_levels : {T E : Type 0} (old new : Shown) (session : Name) (entry : Entry) (count n : ℕ) (before after : Option (List ℕ)) (result : Result T E) → count ≡ suc n → is_some old.subject.extras.levels ≡ true → entry_of session old.table ≡ Some entry
-    → CarriesOut old.table new.table (found_moves old Levels session entry count) before after result → ChangesTable old new → Obeys old new session (LevelsOf count) before after result
-obeys_levels old new session entry count n before after result long told found carried stays =
-    obeys_moves old new session (LevelsOf count) (found_moves old Levels session entry count) before after result
-    (ap (found_moves old Levels session entry) long ∙ levels_moves old session entry n old.subject.extras.levels told found ∙ ap (λ (k : ℕ). exact_moves old old.table (Ask session (LevelsOf k))) (sym long))
-    carried stays
-
--- a refusal of one move
-refused : {T E : Type 0} (old : Shown) (session : Name) (request : Request) (refusal : Refusal) (before after : Option (List ℕ)) (result : Result T E)
-    → carried old.table session (Declined refusal) ∷ [] ≡ exact_moves old old.table (Ask session request)
-    → Puts before after result (spaced (session ∷ codes "error" ∷ decimal (refusal_number refusal) ∷ refusal_text refusal ∷ [])) → Obeys old old session request before after result
-refused old session request refusal before after result is put =
-    let declined = carried old.table session (Declined refusal) in
-    obeys_moves old old session request (declined ∷ []) before after result is
-    (carries_step old.table old.table declined declined before after result refl
-    (replies_one before after result (line (session ∷ codes "error" ∷ decimal (refusal_number refusal) ∷ refusal_text refusal ∷ [])) _ refl put) refl)
-    refl
-
--- a session that is not open
-pub obeys_unopened : {T E : Type 0} (old : Shown) (session : Name) (before after : Option (List ℕ)) (result : Result T E) (count n : ℕ) → count ≡ suc n → entry_of session old.table ≡ None
-    → Puts before after result (spaced (session ∷ codes "error" ∷ decimal 6 ∷ codes "no session" ∷ [])) → Obeys old old session (Several count) before after result
-obeys_unopened old session before after result count n long none put =
-    refused old session (Several count) NoSession before after result
-    (ap (listing_moves (next_for (system_of old.subject) session) old.table session (suc n)) (sym none) ∙ ap (λ (k : ℕ). exact_moves old old.table (Ask session (Several k))) (sym long))
-    put
-
-unopened_levels : (old : Shown) (session : Name) (n : ℕ) (levels : Option ℕ) → old.subject.extras.levels ≡ levels → entry_of session old.table ≡ None
-    → carried old.table session (Declined NoSession) ∷ [] ≡ level_moves (system_of old.subject) old.limit old.table session (suc n) levels
-unopened_levels old session n None is none =
-    ap (λ (e : Option Entry). carried old.table session (outcome (system_of old.subject) session (nat_le old.limit (length old.table)) e (LevelsOf (suc n))) ∷ []) (sym none)
-unopened_levels old session n (Some top) is none = ap (listing_moves (level_for (system_of old.subject) session top) old.table session (suc n)) (sym none)
-
-pub levels_unopened : {T E : Type 0} (old : Shown) (session : Name) (before after : Option (List ℕ)) (result : Result T E) (count n : ℕ) → count ≡ suc n → entry_of session old.table ≡ None
-    → Puts before after result (spaced (session ∷ codes "error" ∷ decimal 6 ∷ codes "no session" ∷ [])) → Obeys old old session (LevelsOf count) before after result
-levels_unopened old session before after result count n long none put =
-    refused old session (LevelsOf count) NoSession before after result
-    (unopened_levels old session n old.subject.extras.levels refl none ∙ ap (λ (k : ℕ). exact_moves old old.table (Ask session (LevelsOf k))) (sym long))
-    put
-
--- states by cost that are not told
-untold : (old : Shown) (session : Name) (entry : Entry) (n : ℕ) (levels : Option ℕ) → old.subject.extras.levels ≡ levels → levels ≡ None → entry_of session old.table ≡ Some entry
-    → carried old.table session (Declined NoLevels) ∷ [] ≡ level_moves (system_of old.subject) old.limit old.table session (suc n) levels
-untold old session entry n (Some top) is none found = absurd (let no : ⊥ = cc in no)
-untold old session entry n None is none found =
-    ap (λ (levels : Option ℕ). carried old.table session (with_number NoLevels (λ top. goes_through entry (listing (level_for (system_of old.subject) session top entry) (suc n) entry.point)) levels) ∷ []) (sym is)
-    ∙ ap (λ (e : Option Entry). carried old.table session (outcome (system_of old.subject) session (nat_le old.limit (length old.table)) e (LevelsOf (suc n))) ∷ []) (sym found)
+pub obeys_levels : {T E : Type 0} (old new : Shown) (place : ℕ) (session : Name) (entry : Entry) (count : ℕ) (before after : Option (List ℕ)) (result : Result T E) → is_some old.subject.extras.levels ≡ true
+    → StandsAt old.table place session entry → CarriesOut old.table new.table (found_moves old Levels session entry count) before after result → ChangesTable old new
+    → Obeys old new session (LevelsOf count) before after result
+obeys_levels old new place session entry zero before after result told stands carried stays =
+    none_listed old new place session entry (LevelsOf zero) before after result (λ shown table s. refl) stands
+    (none_levelled (system_of old.subject) session entry old.subject.extras.levels told) carried stays
+obeys_levels old new place session entry (suc n) before after result told stands carried stays =
+    obeys_moves old new session (LevelsOf (suc n)) (found_moves old Levels session entry (suc n)) before after result
+    (levels_moves old session entry n old.subject.extras.levels told stands.found) carried stays
 
 none_some : {A : Type 0} (o : Option A) → is_some o ≡ false → o ≡ None
 none_some None none = refl
 none_some (Some a) none = absurd (let no : ⊥ = cc in no)
-
-pub levels_untold : {T E : Type 0} (old : Shown) (session : Name) (entry : Entry) (before after : Option (List ℕ)) (result : Result T E) (count n : ℕ) → count ≡ suc n → is_some old.subject.extras.levels ≡ false → entry_of session old.table ≡ Some entry
-    → Puts before after result (spaced (session ∷ codes "error" ∷ decimal 11 ∷ codes "no levels" ∷ [])) → Obeys old old session (LevelsOf count) before after result
-levels_untold old session entry before after result count n long told found put =
-    refused old session (LevelsOf count) NoLevels before after result
-    (untold old session entry n old.subject.extras.levels refl (none_some old.subject.extras.levels told) found ∙ ap (λ (k : ℕ). exact_moves old old.table (Ask session (LevelsOf k))) (sym long))
-    put
 
 -- one state by cost is one move, where these are told
 pub level_found : (system : System) (session : Name) (entry : Entry) → is_some system.extras.levels ≡ true
@@ -325,6 +292,11 @@ level_found system session entry told = by system.extras.levels told
     by None told = absurd (let no : ⊥ = cc in no)
     by (Some top) told = refl
 
+-- and where they are not told, neither one nor so many are
 pub level_untold : (system : System) (session : Name) (entry : Entry) → is_some system.extras.levels ≡ false → when_open system session entry Level ≡ Declined NoLevels
 level_untold system session entry told =
     ap (with_number NoLevels (λ top. goes_to entry (level_for system session top entry entry.point))) (none_some system.extras.levels told)
+
+pub levels_untold : (system : System) (session : Name) (entry : Entry) (count : ℕ) → is_some system.extras.levels ≡ false → when_open system session entry (LevelsOf count) ≡ Declined NoLevels
+levels_untold system session entry count told =
+    ap (with_number NoLevels (λ top. goes_through entry (listing (level_for system session top entry) count entry.point))) (none_some system.extras.levels told)

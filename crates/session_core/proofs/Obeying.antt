@@ -5,7 +5,10 @@ use Rattle.text_rules.specs.Names.{Name}
 use Rattle.text_rules.specs.Tokens.{spaced}
 use Rattle.diag_edge.specs.Edge.{Puts}
 use Rattle.ranking.specs.Systems.{System}
+use Rattle.script_lang.specs.Meaning.{asked}
 use Rattle.script_lang.specs.Script.{Request, Line, Ask, line_of}
+use Rattle.script_lang.specs.declared.line.Request.{Request as Read}
+use Rattle.script_lang.specs.declared.line.Request.TheVariants as read
 use Rattle.session_rules.specs.declared.refusal.Refusal.{Refusal}
 use Rattle.session_rules.specs.declared.refusal.Refusal.TheVariants.{NoSession}
 use Rattle.session_rules.specs.Refusals.{refusal_number, refusal_text}
@@ -18,6 +21,7 @@ use Rattle.session_rules.proofs.Broken.{carries_step}
 use Rattle.session_rules.proofs.Spellings.{replies_one}
 use Rattle.session_core.specs.Services.{Shown, exact_moves, moves_of}
 use Rattle.session_core.specs.inner.Obeying.{Obeys}
+use Rattle.session_core.proofs.Declining.{declined}
 
 -- the table of a service is another
 abbrev pub with_table : Shown → Table → Shown
@@ -27,10 +31,6 @@ with_table shown table = record shown { table = table }
 abbrev pub IsOneMove : Request → Type 0
 IsOneMove request = (shown : Shown) (table : Table) (session : Name)
     → exact_moves shown table (Ask session request) ≡ carried table session (outcome_in (system_of shown.subject) shown.limit table session request) ∷ []
-
--- and is declined where the session is not open
-abbrev pub NeedsSession : Request → Type 0
-NeedsSession request = (system : System) (session : Name) (full : Bool) → outcome system session full None request ≡ Declined NoSession
 
 -- what an open session answers is told by its entry
 pub asked_open : (old : Shown) (session : Name) (request : Request) (entry : Entry) → entry_of session old.table ≡ Some entry → outcome_in (system_of old.subject) old.limit old.table session request ≡ when_open (system_of old.subject) session entry request
@@ -45,28 +45,32 @@ obeys_move old new session request move before after result is becomes reply = r
   stays = becomes ∙ sym (ap (λ (s : Shown). with_table old s.table) becomes);
 }
 
-module _ {T E : Type 0} (old : Shown) (session : Name) (request : Request) (one : IsOneMove request) (before after : Option (List ℕ)) (result : Result T E) where
-  -- what a request comes to
-  pub obeys_outcome : (to : Outcome) (new : Shown) → outcome_in (system_of old.subject) old.limit old.table session request ≡ to
-      → new ≡ with_table old (carried old.table session to).table → Replies before after result (carried old.table session to).items → Obeys old new session request before after result
-  obeys_outcome to new is becomes reply =
-      obeys_move old new session request (carried old.table session to) before after result
-      (one old old.table session ∙ ap (λ (o : Outcome). carried old.table session o ∷ []) is) becomes reply
+-- what a request comes to, where it is one move
+pub obeys_outcome : {T E : Type 0} (old : Shown) (session : Name) (request : Request) → IsOneMove request → (before after : Option (List ℕ)) (result : Result T E)
+    → (to : Outcome) (new : Shown) → outcome_in (system_of old.subject) old.limit old.table session request ≡ to
+    → new ≡ with_table old (carried old.table session to).table → Replies before after result (carried old.table session to).items → Obeys old new session request before after result
+obeys_outcome old session request one before after result to new is becomes reply =
+    obeys_move old new session request (carried old.table session to) before after result
+    (one old old.table session ∙ ap (λ (o : Outcome). carried old.table session o ∷ []) is) becomes reply
 
-  -- a refusal
-  pub obeys_refusal : (refusal : Refusal) → outcome_in (system_of old.subject) old.limit old.table session request ≡ Declined refusal
-      → Puts before after result (spaced (session ∷ codes "error" ∷ decimal (refusal_number refusal) ∷ refusal_text refusal ∷ [])) → Obeys old old session request before after result
-  obeys_refusal refusal is put =
-      obeys_outcome (Declined refusal) old is refl
-      (replies_one before after result (line (session ∷ codes "error" ∷ decimal (refusal_number refusal) ∷ refusal_text refusal ∷ [])) _ refl put)
+-- a refusal
+pub obeys_refusal : {T E : Type 0} (old : Shown) (session : Name) (request : Request) (before after : Option (List ℕ)) (result : Result T E) (refusal : Refusal)
+    → outcome_in (system_of old.subject) old.limit old.table session request ≡ Declined refusal
+    → Puts before after result (spaced (session ∷ codes "error" ∷ decimal (refusal_number refusal) ∷ refusal_text refusal ∷ [])) → Obeys old old session request before after result
+obeys_refusal old session request before after result refusal is put =
+    obeys_move old old session request (carried old.table session (Declined refusal)) before after result (declined old session refusal request is) refl
+    (replies_one before after result (line (session ∷ codes "error" ∷ decimal (refusal_number refusal) ∷ refusal_text refusal ∷ [])) _ refl put)
 
-  -- a session that is not open
-  pub obeys_closed : NeedsSession request → entry_of session old.table ≡ None
-      → Puts before after result (spaced (session ∷ codes "error" ∷ decimal 6 ∷ codes "no session" ∷ [])) → Obeys old old session request before after result
-  obeys_closed needs none put =
-      obeys_refusal NoSession
-      (ap (λ (e : Option Entry). outcome (system_of old.subject) session (nat_le old.limit (length old.table)) e request) none ∙ needs (system_of old.subject) session (nat_le old.limit (length old.table)))
-      put
+unopened_by : (system : System) (session : Name) (full : Bool) (request : Read) → (request ≡ read.Start → ⊥) → outcome system session full None (asked request) ≡ Declined NoSession
+unopened_by system session full read.Start other = absurd (other refl)
+unopened_by system session full request other = refl
+
+-- a session that is not open can only be opened
+pub unopened : (old : Shown) (session : Name) (request : Read) → (request ≡ read.Start → ⊥) → entry_of session old.table ≡ None
+    → outcome_in (system_of old.subject) old.limit old.table session (asked request) ≡ Declined NoSession
+unopened old session request other none =
+    let full = nat_le old.limit (length old.table) in
+    ap (λ (e : Option Entry). outcome (system_of old.subject) session full e (asked request)) none ∙ unopened_by (system_of old.subject) session full request other
 
 -- a line that asks this was carried out
 pub line_carried : {T E : Type 0} (old new : Shown) (session : Name) (request : Request) (bytes : List ℕ) (before after : Option (List ℕ)) (result : Result T E) → Ask session request ≡ line_of bytes

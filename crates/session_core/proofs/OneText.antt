@@ -9,12 +9,12 @@ use Rattle.ranking.specs.Ranking.{rest}
 use Rattle.ranking.specs.Levels.{levels, levels_rest}
 use Rattle.ranking.specs.Systems.{System, least_cost, all_diagnoses}
 use Rattle.device_model.specs.Devices.{place_of}
-use Rattle.script_lang.specs.Script.{Line, Blank, Refused, Ask, Request, Start, Stop, See, Unsee, Hold, Unhold, Min, Next, Several, After, Probe, Probes, Blame, Dnnf, Level, Levels, LeastNnf, line_of}
+use Rattle.script_lang.specs.Script.{Line, Blank, Refused, Ask, Request, Start, Stop, Note, Min, Next, Several, After, Probe, Probes, Blame, Dnnf, Level, Levels, LeastNnf, line_of}
 use Rattle.session_rules.specs.declared.refusal.Refusal.{Refusal}
 use Rattle.session_rules.specs.declared.refusal.Refusal.TheVariants.{Full, NoWire, NoPart, NoLevels, NoLeast}
 use Rattle.session_rules.specs.Items.{Item, Plain, Projected, LeastText, Whole, line}
 use Rattle.session_rules.specs.Replies.{Found, min_line, found, next_of, level_of, level_line, listing, seen_at, probe_line, probe_lines, blame_lines, if_any, end_line, diagnosis_line}
-use Rattle.session_rules.specs.Sessions.{Table, Entry, Step, Outcome, Declined, Done, with_number, becomes, tells, goes_to, goes_through, with_seen, with_held, new_entry, state_of, outcome, entry_of, carried, step}
+use Rattle.session_rules.specs.Sessions.{Table, Entry, Step, Outcome, Declined, Done, with_number, becomes, tells, goes_to, goes_through, names_of, no_such, with_noted, new_entry, state_of, outcome, entry_of, carried, step}
 use Rattle.session_rules.specs.Moves.{said, left_by, line_moves, script_moves}
 use Rattle.session_rules.specs.Spelling.{Spells}
 use Rattle.session_rules.specs.Carrying.{Makes}
@@ -124,10 +124,8 @@ module _ (system : System) where
   outcome-plain : (s : Name) (full : Bool) (entry : Option Entry) (request : Request) → IsPlainFor system request entry (outcome system s full entry request)
   outcome-plain s full (Some entry) Start = tt
   outcome-plain s full (Some entry) Stop = tt
-  outcome-plain s full (Some entry) (See name bit) = placed NoWire (λ i. becomes s (with_seen entry i (Some bit)) (codes "ok")) (place_of name system.wires) (λ i. tt)
-  outcome-plain s full (Some entry) (Unsee name) = placed NoWire (λ i. becomes s (with_seen entry i None) (codes "ok")) (place_of name system.wires) (λ i. tt)
-  outcome-plain s full (Some entry) (Hold name ok) = placed NoPart (λ i. becomes s (with_held entry i (Some ok)) (codes "ok")) (place_of name system.parts) (λ i. tt)
-  outcome-plain s full (Some entry) (Unhold name) = placed NoPart (λ i. becomes s (with_held entry i None) (codes "ok")) (place_of name system.parts) (λ i. tt)
+  outcome-plain s full (Some entry) (Note what name bit) =
+      placed (no_such what) (λ i. becomes s (with_noted entry what i bit) (codes "ok")) (place_of name (names_of system what)) (λ i. tt)
   outcome-plain s full (Some entry) Min = min-plain system s (least_cost system entry.known) (all_diagnoses system entry.known)
   outcome-plain s full (Some entry) Next = next-plain system s (all_diagnoses system entry.known) entry.point
   outcome-plain s full (Some entry) (Several count) =

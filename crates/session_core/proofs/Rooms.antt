@@ -1,5 +1,5 @@
 -- Room that is carved whole, and released.
-use Rattle.std.proofs.Common.{◌≡◌, ◌∙◌, ◌∷◌, ◌++◌, [], ◌-◌, ℕ, List, Option, Some, length, replicate, ap, sym, subst, arith, length-append}
+use Rattle.std.proofs.Common.{◌≡◌, ◌∙◌, ◌∷◌, ◌++◌, [], ℕ, List, Option, Some, length, replicate, ap, sym, subst, arith, length-append}
 use Rattle.std.specs.Prelude.{Contains, IfSome}
 use Rattle.std.proofs.lemmas.List.{nil_from_length}
 use Rattle.scratch_pool.specs.declared.region.Span.{Span}

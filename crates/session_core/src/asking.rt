@@ -1,115 +1,92 @@
 //! Requests that leave every session as it is.
-ghost use Rattle.std.specs.Prelude.{◌≡◌, ◌<◌, ◌∷◌, [], length, codes, true};
+ghost use Rattle.std.specs.Prelude.{◌≡◌, ◌∷◌, [], codes, true};
 ghost use Rattle.diag_edge.specs.Edge.{HasCause};
-ghost use Rattle.script_lang.specs.Script.{Probe, Dnnf, LeastNnf};
-ghost use Rattle.session_rules.specs.GraphSystems.{system_of};
+ghost use Rattle.script_lang.specs.Script.{Request, Probe, Dnnf, LeastNnf};
 ghost use Rattle.session_rules.specs.Items.{Plain, line};
-ghost use Rattle.session_rules.specs.Sessions.{Entry};
 ghost use Rattle.session_rules.specs.Spelling.{Replies};
-ghost use Rattle.session_table.specs.Tables.{StandsAt};
 ghost use Rattle.session_core.specs.Services.{case_text, least_case_text};
 ghost use Rattle.session_core.specs.inner.Bases.{AreKnown, case_in};
 ghost use Rattle.session_core.specs.inner.Desks.{asked_case};
-ghost use Rattle.session_core.specs.inner.Obeying.{Obeys, asked_request, NamesNoWire};
-ghost use Rattle.session_core.specs.inner.Telling.{told_of, HasPlace};
+ghost use Rattle.session_core.specs.inner.Obeying.{Obeys, IsOpen, Asks};
+ghost use Rattle.session_core.specs.inner.Telling.{HasPlace};
 
 use crate::basis::Basis;
 use crate::desk::Desk;
 use crate::replies::put_refusal;
-use crate::sessions::Sessions;
+use crate::sessions::{OpenSession, Sessions};
 use crate::telling::{Question, tell};
 use diag_edge::{Sink, WriteFailed, put_line};
 use projector::write_projected;
+use script_lang::Noted;
 use session_rules::Refusal;
 use std::marker::Brand;
 use std::sync::ledger::Blank;
 
 impl Sessions {
     // Tells what is asked of a session's case.
-    pub(crate) fn ask<O: Sink>(
+    pub(crate) fn ask_case<O: Sink>(
         &mut self,
-        session: &[u8],
+        session: OpenSession<'_>,
         question: Question,
         out: &mut O,
     ) -> Result<(), WriteFailed>
-        requires { NamesNoWire question }
-        ensures obeys { Obeys self.old self.new session.now (asked_request self.old.subject.wires question)
-            (O.got out.old) (O.got out.new) result }
+        requires session { IsOpen self.old.table session }
+        requires question { HasPlace self.old.subject question }
+        ensures obeys { (request : Request) → Asks self.old.subject.wires question request
+            → Obeys self.old self.new session.entry.name.now request (O.got out.old) (O.got out.new) result }
         ensures cause { HasCause (O.faults out.old) (O.faults out.new) result }
     {
-        match self.open.find(session) {
-            None => put_refusal(out, session, Refusal::NoSession),
-            Some(place) => self.tell_at(place, session, question, out),
-        }
+        self.desk.take_up(self.open.words(session.place));
+        tell::<O, Brand>(&mut self.desk, Blank::new(1), session.name, question, out)
     }
 
     // Tells the least costs where a wire is 0 and where it is 1.
     pub(crate) fn ask_wire<O: Sink>(
         &mut self,
-        session: &[u8],
+        session: OpenSession<'_>,
         name: &[u8],
         out: &mut O,
     ) -> Result<(), WriteFailed>
-        ensures obeys { Obeys self.old self.new session.now (Probe name.now) (O.got out.old) (O.got out.new) result }
+        requires { IsOpen self.old.table session }
+        ensures obeys { Obeys self.old self.new session.entry.name.now (Probe name.now)
+            (O.got out.old) (O.got out.new) result }
         ensures cause { HasCause (O.faults out.old) (O.faults out.new) result }
     {
-        let Some(place) = self.open.find(session) else {
-            return put_refusal(out, session, Refusal::NoSession);
-        };
-        match self.desk.basis().find_wire(name) {
-            None => put_refusal(out, session, Refusal::NoWire),
-            Some(wire) => self.tell_at(place, session, Question::Probe { wire }, out),
+        match self.desk.basis().find(Noted::Wire, name) {
+            None => put_refusal(out, session.name, Refusal::NoWire),
+            Some(wire) => self.ask_case(session, Question::Probe { wire }, out),
         }
     }
 
     // Tells the graph of the states that agree with a session's case.
-    pub(crate) fn ask_graph<O: Sink>(&self, session: &[u8], out: &mut O) -> Result<(), WriteFailed>
-        ensures obeys { Obeys self.now self.now session.now Dnnf (O.got out.old) (O.got out.new) result }
+    pub(crate) fn ask_graph<O: Sink>(
+        &self,
+        session: OpenSession<'_>,
+        out: &mut O,
+    ) -> Result<(), WriteFailed>
+        requires { IsOpen self.now.table session }
+        ensures obeys { Obeys self.now self.now session.entry.name.now Dnnf (O.got out.old) (O.got out.new) result }
         ensures cause { HasCause (O.faults out.old) (O.faults out.new) result }
     {
-        match self.open.find(session) {
-            None => put_refusal(out, session, Refusal::NoSession),
-            Some(place) => tell_graph(self.desk.basis(), self.open.words(place), session, out),
-        }
+        let known = self.open.words(session.place);
+        tell_graph(self.desk.basis(), known, session.name, out)
     }
 
     // Tells the graph of a session's diagnoses.
     pub(crate) fn ask_least<O: Sink>(
         &mut self,
-        session: &[u8],
+        session: OpenSession<'_>,
         out: &mut O,
     ) -> Result<(), WriteFailed>
-        ensures obeys { Obeys self.old self.new session.now LeastNnf (O.got out.old) (O.got out.new) result }
+        requires { IsOpen self.old.table session }
+        ensures obeys { Obeys self.old self.new session.entry.name.now LeastNnf (O.got out.old) (O.got out.new) result }
         ensures cause { HasCause (O.faults out.old) (O.faults out.new) result }
     {
-        let Some(place) = self.open.find(session) else {
-            return put_refusal(out, session, Refusal::NoSession);
-        };
         if !self.desk.basis().tells_least() {
-            return put_refusal(out, session, Refusal::NoLeast);
+            return put_refusal(out, session.name, Refusal::NoLeast);
         }
-        self.desk.take_up(self.open.words(place));
-        tell_least(&mut self.desk, session, out)
-    }
-
-    // Tells what is asked of the case of the session at a place.
-    fn tell_at<O: Sink>(
-        &mut self,
-        place: usize,
-        session: &[u8],
-        question: Question,
-        out: &mut O,
-    ) -> Result<(), WriteFailed>
-        requires place { place < length self.old.table }
-        requires question { HasPlace self.old.subject question }
-        ensures reply { (entry : Entry) → StandsAt self.old.table place session.now entry
-            → Replies (O.got out.old) (O.got out.new) result
-            (told_of (system_of self.old.subject) session.now entry.known question) }
-        ensures same { self.new ≡ self.old }
-        ensures cause { HasCause (O.faults out.old) (O.faults out.new) result }
-    {
-        self.desk.take_up(self.open.words(place));
-        tell::<O, Brand>(&mut self.desk, Blank::new(1), session, question, out)
+        self.desk.take_up(self.open.words(session.place));
+        tell_least(&mut self.desk, session.name, out)
     }
 }
 

@@ -9,6 +9,8 @@ ghost use Rattle.part_sets.specs.PartSets.{AreFor};
 ghost use Rattle.level_lister.specs.Listing.{IsFor};
 ghost use Rattle.level_lister.specs.declared.levels.TheConstants.{TOP_LIMIT};
 ghost use Rattle.scratch_pool.specs.declared.region.TheConstants.{REGION_LIMIT};
+ghost use Rattle.session_rules.specs.GraphSystems.{system_of};
+ghost use Rattle.session_rules.specs.Sessions.{names_of};
 ghost use Rattle.session_core.specs.Services.{CanList, CanDraw};
 
 use crate::limits::{SERVED_NODES, SERVED_VARIABLES};
@@ -19,6 +21,7 @@ use node_store::Graph;
 use part_sets::PartSets;
 use ranking::Extras;
 use scratch_pool::REGION_LIMIT;
+use script_lang::Noted;
 use std::alloc::{AllocError, Global};
 use std::marker::Model;
 
@@ -130,18 +133,14 @@ impl Basis {
         &self.graph
     }
 
-    /// The place of a part. There is none exactly where no part has the name.
-    pub(crate) fn find_part(&self, name: &[u8]) -> Option<u32>
-        ensures { result ≡ place_of name.now self.now.parts }
+    /// The place of a wire, or of a part. There is none exactly where none has the name.
+    pub(crate) fn find(&self, what: Noted, name: &[u8]) -> Option<u32>
+        ensures { result ≡ place_of name.now (names_of (system_of self.now) what) }
     {
-        self.parts.find(name)
-    }
-
-    /// The place of a wire. There is none exactly where no wire has the name.
-    pub(crate) fn find_wire(&self, name: &[u8]) -> Option<u32>
-        ensures { result ≡ place_of name.now self.now.wires }
-    {
-        self.wires.find(name)
+        match what {
+            Noted::Wire => self.wires.find(name),
+            Noted::Part => self.parts.find(name),
+        }
     }
 
     /// What lists states by rising cost, where they are told.

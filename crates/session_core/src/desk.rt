@@ -17,6 +17,7 @@ ghost use Rattle.session_core.specs.inner.Bases.{AreKnown};
 ghost use Rattle.session_core.specs.inner.Desks.{asked_case, agreeing, least_asked, diagnoses_asked, later_asked, least_seen, blame_asked};
 
 use crate::basis::Basis;
+use conditioner::is_open;
 use diag_edge::{Sink, WriteFailed};
 use diagnosis_lister::Step;
 use fault_graph::Distiller;
@@ -24,6 +25,7 @@ use level_lister::LevelStep;
 use minimiser::Steps;
 use probe_report::{Blame, cost_of, probe, probe_all};
 use scratch_pool::Region;
+use script_lang::Noted;
 use smooth_nnf::write_least;
 use std::alloc::{AllocError, Global};
 use std::marker::Model;
@@ -128,7 +130,7 @@ impl Desk {
         requires { wire < length self.now.subject.wires }
         ensures { result ≡ is_some (seen_at (asked_case self.now) wire) }
     {
-        self.known[self.basis.parts().len() + wire as usize] != 0
+        !is_open(self.known[self.basis.parts().len() + wire as usize])
     }
 
     /// Whether some state agrees with the case.
@@ -366,7 +368,7 @@ fn mark_named(basis: &Basis, names: &[u8], state: &mut [u32]) -> bool
     let _parts = basis.parts();
     state.fill(0);
     for name in Tokens::words(names) {
-        match basis.find_part(name) {
+        match basis.find(Noted::Part, name) {
             None => return false,
             Some(part) => state[part as usize] = 1,
         }

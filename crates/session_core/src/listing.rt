@@ -1,10 +1,10 @@
 //! Requests that move the point of a session.
-ghost use Rattle.std.specs.Prelude.{◌≡◌, ◌<◌, ◌≤◌, [], ◌∷◌, List, Bool, Some, length, if◌then◌else◌};
+ghost use Rattle.std.specs.Prelude.{◌≡◌, ◌<◌, [], ◌∷◌, List, Bool, Some, length, if◌then◌else◌};
 ghost use Rattle.std.specs.List.{list_all};
 ghost use Rattle.text_rules.specs.Names.{Name, is_among};
 ghost use Rattle.text_rules.specs.Tokens.{words};
 ghost use Rattle.diag_edge.specs.Edge.{HasCause};
-ghost use Rattle.script_lang.specs.Script.{Next, Several, After};
+ghost use Rattle.script_lang.specs.Script.{Next, After};
 ghost use Rattle.session_rules.specs.GraphSystems.{system_of};
 ghost use Rattle.session_rules.specs.Replies.{diagnosis_line};
 ghost use Rattle.session_rules.specs.Sessions.{Entry, state_of, with_entry};
@@ -12,10 +12,10 @@ ghost use Rattle.session_rules.specs.Spelling.{Replies};
 ghost use Rattle.session_rules.specs.Carrying.{CarriesOut};
 ghost use Rattle.session_table.specs.Tables.{StandsAt};
 ghost use Rattle.session_core.specs.Services.{ChangesTable};
-ghost use Rattle.session_core.specs.inner.Obeying.{Obeys, MovesOn, NextMoves, IsTold, found_moves};
+ghost use Rattle.session_core.specs.inner.Obeying.{Obeys, IsOpen, MovesOn, NextMoves, IsTold, found_moves};
 
 use crate::replies::{put_faulty, put_refusal};
-use crate::sessions::Sessions;
+use crate::sessions::{OpenSession, Sessions};
 use diag_edge::{Sink, WriteFailed, put_line};
 use diagnosis_lister::Step;
 use minimiser::Steps;
@@ -34,128 +34,109 @@ pub(crate) enum Listed {
 
 impl Sessions {
     // Shows the next diagnosis of a session.
-    pub(crate) fn next<O: Sink>(&mut self, session: &[u8], out: &mut O) -> Result<(), WriteFailed>
-        ensures obeys { Obeys self.old self.new session.now Next (O.got out.old) (O.got out.new) result }
-        ensures cause { HasCause (O.faults out.old) (O.faults out.new) result }
-    {
-        match self.open.find(session) {
-            None => put_refusal(out, session, Refusal::NoSession),
-            Some(place) => {
-                self.show_next(place, session, out)?;
-                Ok(())
-            }
-        }
-    }
-
-    // Shows the next diagnoses of a session, up to so many.
-    pub(crate) fn list<O: Sink>(
+    pub(crate) fn next<O: Sink>(
         &mut self,
-        session: &[u8],
-        count: u32,
+        session: OpenSession<'_>,
         out: &mut O,
     ) -> Result<(), WriteFailed>
-        requires { 1 ≤ count }
-        ensures obeys { Obeys self.old self.new session.now (Several count) (O.got out.old) (O.got out.new) result }
+        requires { IsOpen self.old.table session }
+        ensures obeys { Obeys self.old self.new session.entry.name.now Next (O.got out.old) (O.got out.new) result }
         ensures cause { HasCause (O.faults out.old) (O.faults out.new) result }
     {
-        let Some(place) = self.open.find(session) else {
-            return put_refusal(out, session, Refusal::NoSession);
-        };
-        self.list_on(Listed::Diagnoses, place, session, count, out)
+        self.show_next(session, out)?;
+        Ok(())
     }
 
-    // Shows what comes next of a listing of the session at a place, up to so many times.
+    // Shows what comes next of a listing of a session, up to so many times.
     pub(crate) fn list_on<O: Sink>(
         &mut self,
         listed: Listed,
-        place: usize,
-        session: &[u8],
+        session: OpenSession<'_>,
         count: u32,
         out: &mut O,
     ) -> Result<(), WriteFailed>
-        requires place { place < length self.old.table }
+        requires place { session.place < length self.old.table }
         requires told { IsTold self.old.subject listed }
-        ensures listed { (entry : Entry) → StandsAt self.old.table place session.now entry
-            → CarriesOut self.old.table self.new.table (found_moves self.old listed session.now entry count)
+        ensures listed { (entry : Entry) → StandsAt self.old.table session.entry.place session.entry.name.now entry
+            → CarriesOut self.old.table self.new.table (found_moves self.old listed session.entry.name.now entry count)
             (O.got out.old) (O.got out.new) result }
         ensures stays { ChangesTable self.old self.new }
         ensures cause { HasCause (O.faults out.old) (O.faults out.new) result }
     {
         for _ in 0..count {
-            if !self.move_on(listed, place, session, out)? {
+            if !self.move_on(listed, session, out)? {
                 return Ok(());
             }
         }
         Ok(())
     }
 
-    // Shows what comes next of a listing of the session at a place, and tells whether anything did.
+    // Shows what comes next of a listing of a session, and tells whether anything did.
     fn move_on<O: Sink>(
         &mut self,
         listed: Listed,
-        place: usize,
-        session: &[u8],
+        session: OpenSession<'_>,
         out: &mut O,
     ) -> Result<bool, WriteFailed>
-        requires place { place < length self.old.table }
+        requires place { session.place < length self.old.table }
         requires told { IsTold self.old.subject listed }
-        ensures moves { (entry : Entry) → StandsAt self.old.table place session.now entry
-            → MovesOn self.old self.new listed place session.now entry (O.got out.old) (O.got out.new) result }
+        ensures moves { (entry : Entry) → StandsAt self.old.table session.entry.place session.entry.name.now entry
+            → MovesOn self.old self.new listed session.entry.place session.entry.name.now entry (O.got out.old) (O.got out.new) result }
         ensures stays { ChangesTable self.old self.new }
-        ensures still { place < length self.new.table }
+        ensures still { session.entry.place < length self.new.table }
         ensures cause { HasCause (O.faults out.old) (O.faults out.new) result }
     {
         match listed {
-            Listed::Diagnoses => self.show_next(place, session, out),
-            Listed::Levels => self.show_level(place, session, out),
+            Listed::Diagnoses => self.show_next(session, out),
+            Listed::Levels => self.show_level(session, out),
         }
     }
 
-    // Shows the next diagnosis of the session at a place, and tells whether there was one. The point moves before the reply.
+    // Shows the next diagnosis of a session, and tells whether there was one. The point moves before the reply.
     fn show_next<O: Sink>(
         &mut self,
-        place: usize,
-        session: &[u8],
+        session: OpenSession<'_>,
         out: &mut O,
     ) -> Result<bool, WriteFailed>
-        requires { place < length self.old.table }
-        ensures moves { (entry : Entry) → StandsAt self.old.table place session.now entry
-            → MovesOn self.old self.new Listed.Diagnoses place session.now entry (O.got out.old) (O.got out.new) result }
+        requires { session.place < length self.old.table }
+        ensures moves { (entry : Entry) → StandsAt self.old.table session.entry.place session.entry.name.now entry
+            → MovesOn self.old self.new Listed.Diagnoses session.entry.place session.entry.name.now entry (O.got out.old) (O.got out.new) result }
         ensures stays { ChangesTable self.old self.new }
-        ensures still { place < length self.new.table }
+        ensures still { session.entry.place < length self.new.table }
         ensures cause { HasCause (O.faults out.old) (O.faults out.new) result }
     {
-        match self.find_next::<Brand>(Blank::new(1), place) {
+        match self.find_next::<Brand>(Blank::new(1), session.place) {
             Step::Inconsistent => {
-                put_line(out, &[session, b"inconsistent"])?;
+                put_line(out, &[session.name, b"inconsistent"])?;
                 Ok(false)
             }
             Step::End => {
-                put_line(out, &[session, b"end"])?;
+                put_line(out, &[session.name, b"end"])?;
                 Ok(false)
             }
             Step::Found => {
-                self.put_point(place, session, out)?;
+                self.put_point(session, out)?;
                 Ok(true)
             }
         }
     }
 
-    // Shows the point of the session at a place, if it has one.
-    fn put_point<O: Sink>(
-        &self,
-        place: usize,
-        session: &[u8],
-        out: &mut O,
-    ) -> Result<(), WriteFailed>
-        requires { place < length self.now.table }
-        ensures reply { (entry : Entry) (state : List Bool) → StandsAt self.now.table place session.now entry
+    // Shows the point of a session, if it has one.
+    fn put_point<O: Sink>(&self, session: OpenSession<'_>, out: &mut O) -> Result<(), WriteFailed>
+        requires { session.place < length self.now.table }
+        ensures reply { (entry : Entry) (state : List Bool) → StandsAt self.now.table session.entry.place session.entry.name.now entry
             → entry.point ≡ Some state → Replies (O.got out.old) (O.got out.new) result
-            (diagnosis_line (system_of self.now.subject) session.now state ∷ []) }
+            (diagnosis_line (system_of self.now.subject) session.entry.name.now state ∷ []) }
         ensures cause { HasCause (O.faults out.old) (O.faults out.new) result }
     {
-        match self.open.point(place) {
-            Some(state) => put_faulty(out, session, &[b"diag"], self.desk.basis().parts(), state),
+        match self.open.point(session.place) {
+            Some(state) => put_faulty(
+                out,
+                session.name,
+                &[b"diag"],
+                self.desk.basis().parts(),
+                state,
+            ),
             None => Ok(()),
         }
     }
@@ -187,20 +168,19 @@ impl Sessions {
     // The session goes on after the state whose faulty parts are those named.
     pub(crate) fn after<O: Sink>(
         &mut self,
-        session: &[u8],
+        session: OpenSession<'_>,
         names: &[u8],
         out: &mut O,
     ) -> Result<(), WriteFailed>
-        ensures obeys { Obeys self.old self.new session.now (After (words names.now)) (O.got out.old) (O.got out.new) result }
+        requires { IsOpen self.old.table session }
+        ensures obeys { Obeys self.old self.new session.entry.name.now (After (words names.now))
+            (O.got out.old) (O.got out.new) result }
         ensures cause { HasCause (O.faults out.old) (O.faults out.new) result }
     {
-        let Some(place) = self.open.find(session) else {
-            return put_refusal(out, session, Refusal::NoSession);
-        };
-        if self.point_at(place, names) {
-            put_line(out, &[session, b"ok"])
+        if self.point_at(session.place, names) {
+            put_line(out, &[session.name, b"ok"])
         } else {
-            put_refusal(out, session, Refusal::NoPart)
+            put_refusal(out, session.name, Refusal::NoPart)
         }
     }
 

@@ -10,6 +10,7 @@ ghost use Rattle.script_lang.specs.Refusals as line_refusals;
 ghost use Rattle.session_rules.specs.Replies.{faulty_names, count_text};
 ghost use Rattle.session_core.specs.inner.Texts.{blame_text, spaced_before, min_text};
 
+use conditioner::is_faulty;
 use device_model::Name;
 use diag_edge::{Chunk, Sink, WriteFailed, put_line};
 use itoa::Buffer;
@@ -174,7 +175,7 @@ fn add_faulty<O: Sink>(
     ensures cause { HasCause (O.faults out.old) (O.faults out.new) result }
 {
     for (i, part) in parts.iter().enumerate() {
-        if state[i] != 0 {
+        if is_faulty(state[i]) {
             chunk.add_word(out, part.as_slice())?;
         }
     }

@@ -1,24 +1,32 @@
-ghost use Rattle.std.specs.Prelude.{◌≡◌, ◌≤◌, ◌<◌, [], Some, None, length, true, IfOk};
+ghost use Rattle.std.specs.Prelude.{◌≡◌, ◌≤◌, [], None, length, true, IfOk};
 ghost use Rattle.text_rules.specs.Names.{is_short_name};
 ghost use Rattle.diag_edge.specs.Edge.{HasCause};
-ghost use Rattle.script_lang.specs.Script.{Start, Stop};
+ghost use Rattle.script_lang.specs.Meaning.{asked};
+ghost use Rattle.script_lang.specs.Script.{Start, Stop, Note};
 ghost use Rattle.session_rules.specs.Carrying.{CarriesOut};
+ghost use Rattle.session_rules.specs.Sessions.{entry_of, no_such};
 ghost use Rattle.session_core.specs.Services.{moves_of, ChangesTable, IsSound};
-ghost use Rattle.session_core.specs.inner.Obeying.{Obeys, seen_request, held_request};
+ghost use Rattle.session_core.specs.inner.Obeying.{Obeys, IsOpen};
 
 use crate::basis::Basis;
 use crate::desk::Desk;
 use crate::limits::SESSION_LIMIT;
+use crate::listing::Listed;
 use crate::replies::{put_line_refusal, put_refusal};
 use crate::telling::Question;
-use device_model::Name;
 use diag_edge::{Sink, WriteFailed, put_line};
-use node_store::Graph;
-use script_lang::{Line, parse_line};
+use script_lang::{Line, Noted, Request, parse_line};
 use session_rules::Refusal;
 use session_table::OpenSessions;
 use std::alloc::{AllocError, Global};
 use std::marker::Model;
+
+/// An open session: its name, and its place among the open ones.
+#[derive(Clone, Copy, Debug)]
+pub(crate) struct OpenSession<'a> {
+    pub(crate) name: &'a [u8],
+    pub(crate) place: usize,
+}
 
 /// The sessions over names and a graph. All memory is taken when it is made, and it is spent by [`Sessions::finish`].
 pub(crate) struct Sessions {
@@ -86,101 +94,114 @@ impl Sessions {
         match parse_line(line) {
             Line::Blank => Ok(()),
             Line::Refused(refusal) => put_line_refusal(out, refusal),
-            Line::Start { session } => self.start(session, out),
-            Line::Stop { session } => self.stop(session, out),
-            Line::See { session, name, bit } => self.see(session, name, Some(bit), out),
-            Line::Unsee { session, name } => self.see(session, name, None, out),
-            Line::Hold { session, name, ok } => self.hold(session, name, Some(ok), out),
-            Line::Unhold { session, name } => self.hold(session, name, None, out),
-            Line::Min { session } => self.ask(session, Question::Minimum, out),
-            Line::Next { session } => self.next(session, out),
-            Line::List { session, count } => self.list(session, count, out),
-            Line::After { session, names } => self.after(session, names, out),
-            Line::Probe { session, name } => self.ask_wire(session, name, out),
-            Line::Probes { session } => self.ask(session, Question::Probes, out),
-            Line::Blame { session } => self.ask(session, Question::Blame, out),
-            Line::Dnnf { session } => self.ask_graph(session, out),
-            Line::Level { session } => self.level(session, out),
-            Line::Levels { session, count } => self.list_levels(session, count, out),
-            Line::LeastNnf { session } => self.ask_least(session, out),
+            Line::Ask { session, request } => self.ask(session, request, out),
         }
     }
 
-    // Opens a session, unless one of this name is open or as many are as may be.
-    fn start<O: Sink>(&mut self, session: &[u8], out: &mut O) -> Result<(), WriteFailed>
-        requires { is_short_name session.now ≡ true }
-        ensures obeys { Obeys self.old self.new session.now Start (O.got out.old) (O.got out.new) result }
+    // Does what is asked of a session, unless it has to be open and is not. Sessions are looked up here alone.
+    fn ask<O: Sink>(
+        &mut self,
+        name: &[u8],
+        request: Request<'_>,
+        out: &mut O,
+    ) -> Result<(), WriteFailed>
+        requires { is_short_name name.now ≡ true }
+        ensures obeys { Obeys self.old self.new name.now (asked request.entry) (O.got out.old) (O.got out.new) result }
         ensures cause { HasCause (O.faults out.old) (O.faults out.new) result }
     {
-        match self.open.find(session) {
-            Some(_) => put_refusal(out, session, Refusal::OpenAlready),
-            None if self.open.is_full() => put_refusal(out, session, Refusal::Full),
-            None => {
-                self.open.start(session);
-                put_line(out, &[session, b"open"])
-            }
+        match self.open.find(name) {
+            Some(place) => self.ask_open(OpenSession { name, place }, request, out),
+            None => match request {
+                Request::Start => self.start(name, out),
+                _ => put_refusal(out, name, Refusal::NoSession),
+            },
+        }
+    }
+
+    // Opens a session that is not open, unless as many are open as may be.
+    fn start<O: Sink>(&mut self, name: &[u8], out: &mut O) -> Result<(), WriteFailed>
+        requires short { is_short_name name.now ≡ true }
+        requires closed { entry_of name.now self.old.table ≡ None }
+        ensures obeys { Obeys self.old self.new name.now Start (O.got out.old) (O.got out.new) result }
+        ensures cause { HasCause (O.faults out.old) (O.faults out.new) result }
+    {
+        if self.open.is_full() {
+            return put_refusal(out, name, Refusal::Full);
+        }
+        self.open.start(name);
+        put_line(out, &[name, b"open"])
+    }
+
+    // Does what is asked of an open session.
+    fn ask_open<O: Sink>(
+        &mut self,
+        session: OpenSession<'_>,
+        request: Request<'_>,
+        out: &mut O,
+    ) -> Result<(), WriteFailed>
+        requires { IsOpen self.old.table session }
+        ensures obeys { Obeys self.old self.new session.entry.name.now (asked request.entry)
+            (O.got out.old) (O.got out.new) result }
+        ensures cause { HasCause (O.faults out.old) (O.faults out.new) result }
+    {
+        match request {
+            Request::Start => put_refusal(out, session.name, Refusal::OpenAlready),
+            Request::Stop => self.stop(session, out),
+            Request::Note { what, name, known } => self.note(session, what, name, known, out),
+            Request::Min => self.ask_case(session, Question::Minimum, out),
+            Request::Next => self.next(session, out),
+            Request::List { count } => self.list_on(Listed::Diagnoses, session, count, out),
+            Request::After { names } => self.after(session, names, out),
+            Request::Probe { name } => self.ask_wire(session, name, out),
+            Request::Probes => self.ask_case(session, Question::Probes, out),
+            Request::Blame => self.ask_case(session, Question::Blame, out),
+            Request::Dnnf => self.ask_graph(session, out),
+            Request::Level => self.level(session, out),
+            Request::Levels { count } => self.list_levels(session, count, out),
+            Request::LeastNnf => self.ask_least(session, out),
         }
     }
 
     // Closes a session.
-    fn stop<O: Sink>(&mut self, session: &[u8], out: &mut O) -> Result<(), WriteFailed>
-        ensures obeys { Obeys self.old self.new session.now Stop (O.got out.old) (O.got out.new) result }
+    fn stop<O: Sink>(&mut self, session: OpenSession<'_>, out: &mut O) -> Result<(), WriteFailed>
+        requires { IsOpen self.old.table session }
+        ensures obeys { Obeys self.old self.new session.entry.name.now Stop (O.got out.old) (O.got out.new) result }
         ensures cause { HasCause (O.faults out.old) (O.faults out.new) result }
     {
-        match self.open.find(session) {
-            None => put_refusal(out, session, Refusal::NoSession),
-            Some(place) => {
-                self.open.stop(place);
-                put_line(out, &[session, b"closed"])
-            }
-        }
+        self.open.stop(session.place);
+        put_line(out, &[session.name, b"closed"])
     }
 
-    // Notes what was seen of a wire, or that nothing is any more.
-    fn see<O: Sink>(
+    // Notes what is known of a wire or a part, or that nothing is any more.
+    fn note<O: Sink>(
         &mut self,
-        session: &[u8],
+        session: OpenSession<'_>,
+        what: Noted,
         name: &[u8],
-        bit: Option<bool>,
+        known: Option<bool>,
         out: &mut O,
     ) -> Result<(), WriteFailed>
-        ensures obeys { Obeys self.old self.new session.now (seen_request name.now bit)
+        requires { IsOpen self.old.table session }
+        ensures obeys { Obeys self.old self.new session.entry.name.now (Note what name.now known)
             (O.got out.old) (O.got out.new) result }
         ensures cause { HasCause (O.faults out.old) (O.faults out.new) result }
     {
-        let Some(place) = self.open.find(session) else {
-            return put_refusal(out, session, Refusal::NoSession);
-        };
-        match self.desk.basis().find_wire(name) {
-            None => put_refusal(out, session, Refusal::NoWire),
-            Some(wire) => {
-                self.open.see(place, wire, bit);
-                put_line(out, &[session, b"ok"])
+        match self.desk.basis().find(what, name) {
+            None => put_refusal(out, session.name, no_such(what)),
+            Some(at) => {
+                self.open.note(session.place, what, at, known);
+                put_line(out, &[session.name, b"ok"])
             }
         }
     }
+}
 
-    // Notes how a part is held, or that it is held no more.
-    fn hold<O: Sink>(
-        &mut self,
-        session: &[u8],
-        name: &[u8],
-        ok: Option<bool>,
-        out: &mut O,
-    ) -> Result<(), WriteFailed>
-        ensures obeys { Obeys self.old self.new session.now (held_request name.now ok)
-            (O.got out.old) (O.got out.new) result }
-        ensures cause { HasCause (O.faults out.old) (O.faults out.new) result }
-    {
-        let Some(place) = self.open.find(session) else {
-            return put_refusal(out, session, Refusal::NoSession);
-        };
-        match self.desk.basis().find_part(name) {
-            None => put_refusal(out, session, Refusal::NoPart),
-            Some(part) => {
-                self.open.hold(place, part, ok);
-                put_line(out, &[session, b"ok"])
-            }
-        }
+// Why nothing is noted of a wire, or a part, that there is not.
+fn no_such(what: Noted) -> Refusal
+    ensures { result ≡ no_such what }
+{
+    match what {
+        Noted::Wire => Refusal::NoWire,
+        Noted::Part => Refusal::NoPart,
     }
 }

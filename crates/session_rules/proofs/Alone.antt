@@ -6,14 +6,14 @@ use Rattle.std.specs.List.{list_all, flat_map}
 use Rattle.text_rules.specs.Names.{Name, is_among}
 use Rattle.text_rules.proofs.NameLemmas.{equal_if_same}
 use Rattle.device_model.specs.Devices.{place_of}
-use Rattle.script_lang.specs.Script.{Line, Blank, Refused, Ask, Request, Start, Stop, See, Unsee, Hold, Unhold, Min, Next, Several, After, Probe, Probes, Blame, Dnnf, Level, Levels, LeastNnf, line_of}
+use Rattle.script_lang.specs.Script.{Line, Blank, Refused, Ask, Request, Start, Stop, Note, Min, Next, Several, After, Probe, Probes, Blame, Dnnf, Level, Levels, LeastNnf, line_of}
 use Rattle.ranking.specs.Systems.{System, all_diagnoses}
 use Rattle.session_rules.specs.declared.refusal.Refusal.{Refusal}
 use Rattle.session_rules.specs.declared.refusal.Refusal.TheVariants.{OpenAlready, Full, NoWire, NoPart, NoLevels, NoLeast}
 use Rattle.session_rules.specs.Refusals.{refusal_number, refusal_text}
 use Rattle.session_rules.specs.Items.{Item, Plain, Projected, LeastText, Whole, line}
 use Rattle.session_rules.specs.Replies.{next_of, level_of, listing, point_after, probe_line, if_any}
-use Rattle.session_rules.specs.Sessions.{Table, Entry, Outcome, Declined, carried, step, entry_of, outcome, when_open, with_number, becomes, tells, goes_to, goes_through, with_seen, with_held, state_of, new_entry, replies}
+use Rattle.session_rules.specs.Sessions.{Table, Entry, Outcome, Declined, carried, step, entry_of, outcome, when_open, with_number, becomes, tells, goes_to, goes_through, names_of, no_such, with_noted, state_of, new_entry, replies}
 use Rattle.session_rules.specs.Moves.{line_step}
 use Rattle.session_rules.specs.Alone.{Answer, lines_of, dialogue, names_session, closes_session, own_answers, Opens, AreAnsweredAlone}
 use Rattle.session_rules.proofs.Locality.{after_outcome, same_as_itself, own_step, own_items, others-stay}
@@ -42,14 +42,8 @@ either-open entry false one other first second = second
 when_open-open : (system : System) (s : Name) (entry : Entry) (request : Request) → closes_session s (Ask s request) ≡ false → StaysOpen (when_open system s entry request) entry
 when_open-open system s entry Start goes = (entry, refl)
 when_open-open system s entry Stop goes = absurd (let closes = same_as_itself s in let never : ⊥ = cc in never)
-when_open-open system s entry (See name bit) goes =
-    with_number-open entry NoWire (λ wire. becomes s (with_seen entry wire (Some bit)) (codes "ok")) (place_of name system.wires) (λ i. (with_seen entry i (Some bit), refl))
-when_open-open system s entry (Unsee name) goes =
-    with_number-open entry NoWire (λ wire. becomes s (with_seen entry wire None) (codes "ok")) (place_of name system.wires) (λ i. (with_seen entry i None, refl))
-when_open-open system s entry (Hold name ok) goes =
-    with_number-open entry NoPart (λ part. becomes s (with_held entry part (Some ok)) (codes "ok")) (place_of name system.parts) (λ i. (with_held entry i (Some ok), refl))
-when_open-open system s entry (Unhold name) goes =
-    with_number-open entry NoPart (λ part. becomes s (with_held entry part None) (codes "ok")) (place_of name system.parts) (λ i. (with_held entry i None, refl))
+when_open-open system s entry (Note what name bit) goes =
+    with_number-open entry (no_such what) (λ i. becomes s (with_noted entry what i bit) (codes "ok")) (place_of name (names_of system what)) (λ i. (with_noted entry what i bit, refl))
 when_open-open system s entry Min goes = (entry, refl)
 when_open-open system s entry Next goes = (record entry { point = (next_of system s (all_diagnoses system entry.known) entry.point).point }, refl)
 when_open-open system s entry (Several count) goes =

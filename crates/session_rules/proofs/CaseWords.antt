@@ -8,9 +8,9 @@ use Rattle.ranking.specs.Ranking.{least, diagnoses}
 use Rattle.ranking.specs.Systems.{least_cost, all_diagnoses}
 use Rattle.text_rules.specs.Names.{Name}
 use Rattle.graph_rules.specs.Graphs.{Graph}
-use Rattle.conditioner.specs.Words.{known_of}
+use Rattle.conditioner.specs.Words.{known_of, word_of_known}
 use Rattle.conditioner.specs.Models.{models, least_under, diagnoses_under}
-use Rattle.session_rules.specs.GraphSystems.{word_of_known, case_words, graph_system}
+use Rattle.session_rules.specs.GraphSystems.{case_words, graph_system}
 use Rattle.session_rules.specs.CaseWords.{case_of_words, AreCaseWords, AreWords}
 use Rattle.session_rules.proofs.Meaning.{all_known}
 

@@ -11,13 +11,16 @@ use Rattle.std.proofs.lemmas.List.{length-set, length-replicate}
 use Rattle.text_rules.specs.Names.{Name, same_name, is_among}
 use Rattle.text_rules.proofs.NameLemmas.{equal_if_same}
 use Rattle.device_model.specs.Devices.{place_of}
-use Rattle.script_lang.specs.Script.{Line, Blank, Refused, Ask, Request, Start, Stop, See, Unsee, Hold, Unhold, Min, Next, Several, After, Probe, Probes, Blame, Dnnf, Level, Levels, LeastNnf}
+use Rattle.script_lang.specs.Script.{Line, Blank, Refused, Ask, Request, Start, Stop, Note, Min, Next, Several, After, Probe, Probes, Blame, Dnnf, Level, Levels, LeastNnf}
+use Rattle.script_lang.specs.declared.line.Noted.{Noted}
+use Rattle.script_lang.specs.declared.line.Noted.TheVariants.{Wire, Part}
+use Rattle.ranking.specs.Cases.{Case}
 use Rattle.ranking.specs.Systems.{System, all_diagnoses}
 use Rattle.session_rules.specs.declared.refusal.Refusal.{Refusal}
 use Rattle.session_rules.specs.declared.refusal.Refusal.TheVariants.{Full, NoWire, NoPart, NoLevels, NoLeast}
 use Rattle.session_rules.specs.Items.{LeastText, line}
 use Rattle.session_rules.specs.Replies.{level_of, listing, probe_line, if_any}
-use Rattle.session_rules.specs.Sessions.{Entry, Table, Outcome, Declined, Done, Change, Stays, Becomes, Ends, entry_of, without, changed, carried, when_open, outcome, outcome_in, with_number, becomes, tells, goes_to, goes_through, step, with_seen, with_held, state_of, new_entry}
+use Rattle.session_rules.specs.Sessions.{Entry, Table, Outcome, Declined, Done, Change, Stays, Becomes, Ends, entry_of, without, changed, carried, when_open, outcome, outcome_in, with_number, becomes, tells, goes_to, goes_through, step, names_of, no_such, noted, with_noted, state_of, new_entry}
 use Rattle.session_rules.specs.CaseSizes.{IsCaseOf, HasCasesOf}
 
 -- the empty table has no case
@@ -50,19 +53,15 @@ module _ (system : System) where
   chosen true one other h k = h
   chosen false one other h k = k
 
-  seen-keeps : (s : Name) (entry : Entry) (bit : Option Bool) → IsCaseOf system entry.known → (i : ℕ) → Keeps system (becomes s (with_seen entry i bit) (codes "ok"))
-  seen-keeps s entry bit h i = (length-set entry.known.seen i bit ∙ h.0, h.1)
-
-  held-keeps : (s : Name) (entry : Entry) (ok : Option Bool) → IsCaseOf system entry.known → (i : ℕ) → Keeps system (becomes s (with_held entry i ok) (codes "ok"))
-  held-keeps s entry ok h i = (h.0, length-set entry.known.held i ok ∙ h.1)
+  noted-keeps : (what : Noted) (known : Case) (i : ℕ) (bit : Option Bool) → IsCaseOf system known → IsCaseOf system (noted what known i bit)
+  noted-keeps Wire known i bit h = (length-set known.seen i bit ∙ h.0, h.1)
+  noted-keeps Part known i bit h = (h.0, length-set known.held i bit ∙ h.1)
 
   when_open-keeps : (s : Name) (entry : Entry) → IsCaseOf system entry.known → (request : Request) → Keeps system (when_open system s entry request)
   when_open-keeps s entry h Start = tt
   when_open-keeps s entry h Stop = tt
-  when_open-keeps s entry h (See name bit) = placed NoWire (λ i. becomes s (with_seen entry i (Some bit)) (codes "ok")) (place_of name system.wires) (seen-keeps s entry (Some bit) h)
-  when_open-keeps s entry h (Unsee name) = placed NoWire (λ i. becomes s (with_seen entry i None) (codes "ok")) (place_of name system.wires) (seen-keeps s entry None h)
-  when_open-keeps s entry h (Hold name ok) = placed NoPart (λ i. becomes s (with_held entry i (Some ok)) (codes "ok")) (place_of name system.parts) (held-keeps s entry (Some ok) h)
-  when_open-keeps s entry h (Unhold name) = placed NoPart (λ i. becomes s (with_held entry i None) (codes "ok")) (place_of name system.parts) (held-keeps s entry None h)
+  when_open-keeps s entry h (Note what name bit) =
+      placed (no_such what) (λ i. becomes s (with_noted entry what i bit) (codes "ok")) (place_of name (names_of system what)) (λ i. noted-keeps what entry.known i bit h)
   when_open-keeps s entry h Min = tt
   when_open-keeps s entry h Next = h
   when_open-keeps s entry h (Several count) = h

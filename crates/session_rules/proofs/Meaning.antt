@@ -13,9 +13,9 @@ use Rattle.device_model.specs.Devices.{Device, part_names, part_costs, fits}
 use Rattle.device_model.specs.Diagnosis.{is_consistent, fitting_system, device_system}
 use Rattle.session_rules.specs.Spelling.{IsGraphOf}
 use Rattle.graph_rules.specs.GraphsOver.{IsGraphOver}
-use Rattle.conditioner.specs.Words.{known_of}
+use Rattle.conditioner.specs.Words.{known_of, word_of_known}
 use Rattle.conditioner.specs.Models.{has_model, fits_words}
-use Rattle.session_rules.specs.GraphSystems.{word_of_known, case_words, graph_system, compiled_system}
+use Rattle.session_rules.specs.GraphSystems.{case_words, graph_system, compiled_system}
 use Rattle.session_rules.specs.CaseSizes.{IsCaseOf}
 use Rattle.session_rules.proofs.Enumerated.{Agree, passing-same, any-same, any-split, any-and}
 

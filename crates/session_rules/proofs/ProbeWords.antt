@@ -6,11 +6,11 @@ use Rattle.ranking.specs.Bits.{bit_in, same_bit}
 use Rattle.ranking.specs.Cases.{Case}
 use Rattle.ranking.specs.Ranking.{Test, passing, least}
 use Rattle.graph_rules.specs.Graphs.{Graph}
-use Rattle.conditioner.specs.Words.{known, known_of}
+use Rattle.conditioner.specs.Words.{known, known_of, word_of_known}
 use Rattle.conditioner.specs.Models.{has_model, fits_words, models, least_with}
 use Rattle.conditioner.proofs.ModelsWith.{with_bit-open, with_bit-known, with_bit-other}
 use Rattle.session_rules.specs.Replies.{least_at, seen_at}
-use Rattle.session_rules.specs.GraphSystems.{word_of_known, case_words, graph_system}
+use Rattle.session_rules.specs.GraphSystems.{case_words, graph_system}
 use Rattle.session_rules.specs.CaseWords.{case_of_words, AreWords}
 use Rattle.session_rules.proofs.Meaning.{known_of-word, known-case_words}
 use Rattle.session_rules.proofs.CaseWords.{words-of_case, length-held, length-seen, room-in_words, wire-written}

@@ -14,14 +14,14 @@ use Rattle.conditioner.specs.Models.{models}
 use Rattle.graph_rules.specs.StateGraphs.{IsSmoothGraphOfStates}
 use Rattle.projector.specs.Projecting.{projection, projected_text}
 use Rattle.projector.proofs.Projected.{projected_text-is_neat, projected_text-means}
-use Rattle.script_lang.specs.Script.{Line, Blank, Refused, Ask, Request, Start, Stop, See, Unsee, Hold, Unhold, Min, Next, Several, After, Probe, Probes, Blame, Dnnf, Level, Levels, LeastNnf, line_of}
+use Rattle.script_lang.specs.Script.{Line, Blank, Refused, Ask, Request, Start, Stop, Note, Min, Next, Several, After, Probe, Probes, Blame, Dnnf, Level, Levels, LeastNnf, line_of}
 use Rattle.session_rules.specs.declared.refusal.Refusal.{Refusal}
 use Rattle.session_rules.specs.declared.refusal.Refusal.TheVariants.{Full, NoWire, NoPart, NoLevels, NoLeast}
 use Rattle.smooth_nnf.specs.Layouts.{least_graph, least_text}
 use Rattle.smooth_nnf.proofs.WholeText.{least_text-is_neat, least_text-means}
 use Rattle.session_rules.specs.Items.{Item, Projected, LeastText, line}
 use Rattle.session_rules.specs.Replies.{Found, min_line, found, next_of, level_line, level_of, listing, seen_at, probe_line, probe_lines, blame_lines, if_any, end_line, diagnosis_line}
-use Rattle.session_rules.specs.Sessions.{Table, Entry, Outcome, Declined, Done, with_number, becomes, tells, goes_to, goes_through, with_seen, with_held, new_entry, state_of, when_open, outcome, outcome_in, entry_of, carried, step, replies}
+use Rattle.session_rules.specs.Sessions.{Table, Entry, Outcome, Declined, Done, with_number, becomes, tells, goes_to, goes_through, names_of, no_such, with_noted, new_entry, state_of, when_open, outcome, outcome_in, entry_of, carried, step, replies}
 use Rattle.session_rules.specs.Moves.{left_by, line_moves, script_moves}
 use Rattle.session_rules.specs.Spelling.{Spelled, WritesPart}
 use Rattle.session_rules.specs.Carrying.{BreaksOff}
@@ -81,10 +81,6 @@ told-has : (s : Name) (word : List ℕ) (item : Item) (told : Bool) → (told �
 told-has s word item true h = ((_, refl), (h refl, tt))
 told-has s word item false h = tt
 
--- a change after which one word is said
-ok_at : (s : Name) (changed : ℕ → Entry) (refusal : Refusal) (place : Option ℕ) → OutcomeHas (with_number refusal (λ i. becomes s (changed i) (codes "ok")) place)
-ok_at s changed refusal place = placed refusal (λ i. becomes s (changed i) (codes "ok")) place (λ i. ((_, refl), tt))
-
 carried-has : (s : Name) (o : Outcome) (table : Table) → OutcomeHas o → HaveSpellings (carried table s o).items
 carried-has s (Declined refusal) table h = ((_, refl), tt)
 carried-has s (Done change items) table h = h
@@ -118,10 +114,8 @@ module _ (system : System) where
     when_open-has : (s : Name) (entry : Entry) → IsCaseOf system entry.known → (request : Request) → OutcomeHas (when_open system s entry request)
     when_open-has s entry h Start = tt
     when_open-has s entry h Stop = ((_, refl), tt)
-    when_open-has s entry h (See name bit) = ok_at s (λ i. with_seen entry i (Some bit)) NoWire (place_of name system.wires)
-    when_open-has s entry h (Unsee name) = ok_at s (λ i. with_seen entry i None) NoWire (place_of name system.wires)
-    when_open-has s entry h (Hold name ok) = ok_at s (λ i. with_held entry i (Some ok)) NoPart (place_of name system.parts)
-    when_open-has s entry h (Unhold name) = ok_at s (λ i. with_held entry i None) NoPart (place_of name system.parts)
+    when_open-has s entry h (Note what name bit) =
+        placed (no_such what) (λ i. becomes s (with_noted entry what i bit) (codes "ok")) (place_of name (names_of system what)) (λ i. ((_, refl), tt))
     when_open-has s entry h Min = (min-has s (least_cost system entry.known) (all_diagnoses system entry.known), tt)
     when_open-has s entry h Next = (next-has s (all_diagnoses system entry.known) entry.point, tt)
     when_open-has s entry h (Several count) =

@@ -7,7 +7,8 @@ use Rattle.ranking.specs.Cases.{Case}
 use Rattle.ranking.specs.Ranking.{least, diagnoses}
 use Rattle.ranking.specs.Systems.{System}
 use Rattle.device_model.specs.Devices.{place_of}
-use Rattle.script_lang.specs.Script.{Line, Blank, Refused, Ask, Request, Start, Stop, See, Unsee, Hold, Unhold, Min, Next, Several, After, Probe, Probes, Blame, Dnnf, Level, Levels, LeastNnf, line_of}
+use Rattle.script_lang.specs.Script.{Line, Blank, Refused, Ask, Request, Start, Stop, Note, Min, Next, Several, After, Probe, Probes, Blame, Dnnf, Level, Levels, LeastNnf, line_of}
+use Rattle.script_lang.specs.declared.line.Noted.TheVariants.{Wire, Part}
 use Rattle.session_rules.specs.declared.refusal.Refusal.{Refusal}
 use Rattle.session_rules.specs.declared.refusal.Refusal.TheVariants.{NoWire, NoLevels, NoLeast}
 use Rattle.session_rules.specs.Items.{Item, Projected, LeastText, line}
@@ -65,10 +66,8 @@ module _ (system : System) (consistent : Case → List (List Bool)) (same : (kno
   when_open-same : (s : Name) (entry : Entry) (request : Request) → IsCaseOf system entry.known → when_open system s entry request ≡ when_open other s entry request
   when_open-same s entry Start h = refl
   when_open-same s entry Stop h = refl
-  when_open-same s entry (See name bit) h = refl
-  when_open-same s entry (Unsee name) h = refl
-  when_open-same s entry (Hold name ok) h = refl
-  when_open-same s entry (Unhold name) h = refl
+  when_open-same s entry (Note Wire name bit) h = refl
+  when_open-same s entry (Note Part name bit) h = refl
   when_open-same s entry Min h =
       ap (λ hs. tells (min_line system s (least system.costs hs) (diagnoses system.costs hs) ∷ [])) (same entry.known h)
   when_open-same s entry Next h =

@@ -1,5 +1,5 @@
 -- A system whose consistent states are the models of a graph. Its variables are the parts, then the wires, then inner ones.
-use Rattle.std.specs.Prelude.{◌≡◌, ℕ, ◌+◌, ◌-◌, ◌*◌, ◌^◌, ◌<◌, Bool, All, List, ◌++◌, map, length, replicate, Option, Some, None}
+use Rattle.std.specs.Prelude.{◌≡◌, ℕ, ◌+◌, ◌-◌, ◌*◌, ◌^◌, ◌<◌, All, List, ◌++◌, map, length, replicate}
 use Rattle.text_rules.specs.Names.{Name}
 use Rattle.ranking.specs.Cases.{Case}
 use Rattle.ranking.specs.declared.extras.Extras.{Extras}
@@ -7,13 +7,8 @@ use Rattle.ranking.specs.Systems.{System, no_extras, with_extras}
 use Rattle.graph_rules.specs.Graphs.{Graph}
 use Rattle.graph_rules.specs.GraphTexts.{edges}
 use Rattle.device_model.specs.Devices.{Device, part_names, part_costs}
-use Rattle.conditioner.specs.Words.{word_of}
+use Rattle.conditioner.specs.Words.{word_of_known}
 use Rattle.conditioner.specs.Models.{models}
-
--- the word that says what is known of a variable
-abbrev pub word_of_known : Option Bool → ℕ
-word_of_known None = 0
-word_of_known (Some bit) = word_of bit
 
 -- what a case says of so many variables: nothing of the inner ones
 abbrev pub case_words : ℕ → Case → List ℕ

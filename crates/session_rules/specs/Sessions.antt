@@ -8,8 +8,10 @@ use Rattle.std.specs.FinMap.{find, put}
 use Rattle.text_rules.specs.Names.{Name, same_name, is_among}
 use Rattle.ranking.specs.Cases.{Case, empty_case}
 use Rattle.device_model.specs.Devices.{place_of}
-use Rattle.script_lang.specs.Script.{Line, Blank, Refused, Ask, Request, Start, Stop, See, Unsee, Hold, Unhold, Min, Next, Several, After, Probe, Probes, Blame, Dnnf, Level, Levels, LeastNnf, line_of}
+use Rattle.script_lang.specs.Script.{Line, Blank, Refused, Ask, Request, Start, Stop, Note, Min, Next, Several, After, Probe, Probes, Blame, Dnnf, Level, Levels, LeastNnf, line_of}
 use Rattle.ranking.specs.Systems.{System, least_cost, all_diagnoses}
+use Rattle.script_lang.specs.declared.line.Noted.{Noted}
+use Rattle.script_lang.specs.declared.line.Noted.TheVariants.{Wire, Part}
 use Rattle.script_lang.specs.Refusals as line_refusals
 use Rattle.session_rules.specs.declared.refusal.Refusal.{Refusal}
 use Rattle.session_rules.specs.declared.refusal.Refusal.TheVariants.{NoSession, OpenAlready, Full, NoWire, NoPart, NoLevels, NoLeast}
@@ -62,22 +64,30 @@ abbrev pub with_number : Refusal → (ℕ → Outcome) → Option ℕ → Outcom
 with_number refusal act None = Declined refusal
 with_number refusal act (Some n) = act n
 
-abbrev pub at_wire : System → Name → (ℕ → Outcome) → Outcome
-at_wire system name act = with_number NoWire act (place_of name system.wires)
+-- the wires, or the parts, and the refusal of a name that none of them has
+abbrev pub names_of : System → Noted → List Name
+names_of system Wire = system.wires
+names_of system Part = system.parts
 
-abbrev pub at_part : System → Name → (ℕ → Outcome) → Outcome
-at_part system name act = with_number NoPart act (place_of name system.parts)
+abbrev pub no_such : Noted → Refusal
+no_such Wire = NoWire
+no_such Part = NoPart
+
+abbrev pub at_name : System → Noted → Name → (ℕ → Outcome) → Outcome
+at_name system what name act = with_number (no_such what) act (place_of name (names_of system what))
 
 -- what is done up to the cost up to which states are listed
 abbrev pub up_to_level : System → (ℕ → Outcome) → Outcome
 up_to_level system act = with_number NoLevels act system.extras.levels
 
--- A change of what is known leaves no point.
-abbrev pub with_seen : Entry → ℕ → Option Bool → Entry
-with_seen entry wire bit = record { known = record entry.known { seen = set entry.known.seen wire bit }; point = None }
+-- what is known once it is noted of the wire, or the part, at a place
+abbrev pub noted : Noted → Case → ℕ → Option Bool → Case
+noted Wire known place bit = record known { seen = set known.seen place bit }
+noted Part known place bit = record known { held = set known.held place bit }
 
-abbrev pub with_held : Entry → ℕ → Option Bool → Entry
-with_held entry part ok = record { known = record entry.known { held = set entry.known.held part ok }; point = None }
+-- A change of what is known leaves no point.
+abbrev pub with_noted : Entry → Noted → ℕ → Option Bool → Entry
+with_noted entry what place bit = record { known = noted what entry.known place bit; point = None }
 
 -- the state whose faulty parts are those named
 abbrev pub state_of : List Name → List Name → List Bool
@@ -98,10 +108,8 @@ goes_through entry found = moved entry (point_after entry.point found) (map (λ 
 abbrev pub when_open : System → Name → Entry → Request → Outcome
 when_open system s entry Start = Declined OpenAlready
 when_open system s entry Stop = Done Ends (line (s ∷ codes "closed" ∷ []) ∷ [])
-when_open system s entry (See name bit) = at_wire system name (λ wire. becomes s (with_seen entry wire (Some bit)) (codes "ok"))
-when_open system s entry (Unsee name) = at_wire system name (λ wire. becomes s (with_seen entry wire None) (codes "ok"))
-when_open system s entry (Hold name ok) = at_part system name (λ part. becomes s (with_held entry part (Some ok)) (codes "ok"))
-when_open system s entry (Unhold name) = at_part system name (λ part. becomes s (with_held entry part None) (codes "ok"))
+when_open system s entry (Note what name bit) =
+    at_name system what name (λ place. becomes s (with_noted entry what place bit) (codes "ok"))
 when_open system s entry Min =
     tells (min_line system s (least_cost system entry.known) (all_diagnoses system entry.known) ∷ [])
 when_open system s entry Next =
@@ -112,7 +120,7 @@ when_open system s entry (After names) =
     if list_all (λ name. is_among system.parts name) names
     then becomes s (record entry { point = Some (state_of names system.parts) }) (codes "ok")
     else Declined NoPart
-when_open system s entry (Probe name) = at_wire system name (λ wire.
+when_open system s entry (Probe name) = at_name system Wire name (λ wire.
     tells (if_any s (system.consistent entry.known) (probe_line system s entry.known name wire ∷ [])))
 when_open system s entry Probes =
     tells (if_any s (system.consistent entry.known) (probe_lines system s entry.known 0 system.wires ++ end_line s ∷ []))

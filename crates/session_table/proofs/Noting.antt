@@ -5,79 +5,88 @@ use Rattle.std.proofs.Math.Seq.{take-set-lt}
 use Rattle.std.proofs.lemmas.List.{length-set, length-replicate, take-set-le, drop-set-lt, take-replicate, drop-replicate, get_or-replicate}
 use Rattle.std.proofs.lemmas.List.Elements.{All-replicate}
 use Rattle.ranking.specs.Cases.{Case, empty_case}
-use Rattle.session_rules.specs.GraphSystems.{word_of_known}
-use Rattle.session_rules.specs.Sessions.{with_seen, with_held}
+use Rattle.conditioner.specs.Words.{word_of_known}
+use Rattle.script_lang.specs.declared.line.Noted.{Noted}
+use Rattle.script_lang.specs.declared.line.Noted.TheVariants.{Wire, Part}
+use Rattle.session_rules.specs.Sessions.{noted, with_noted}
 use Rattle.session_rules.specs.CaseWords.{case_of_words, AreWords}
 use Rattle.session_rules.proofs.CaseWords.{zeros-say, zeros-are, room-in_words, wire-says, wire-are, part-says, part-are}
-use Rattle.session_table.specs.inner.Blocks.{known_in, state_in, entry_in, noted, point_of, block_size, IsLaidOut}
+use Rattle.session_table.specs.Tables.{count_of}
+use Rattle.session_table.specs.inner.Blocks.{known_in, state_in, entry_in, point_of, block_size, IsLaidOut}
 use Rattle.session_table.specs.declared.block.Layout.{Layout}
+
+-- the block after the word of a variable was written, with no point
+abbrev pub with_word : Layout → List ℕ → ℕ → Option Bool → List ℕ
+with_word layout block place known = set (set block place (word_of_known known)) layout.vars 0
 
 module _ (layout : Layout) (block : List ℕ) (laid : IsLaidOut layout block) (place : ℕ) (within : place < layout.vars) (known : Option Bool) where
   abbrev w : ℕ
   w = word_of_known known
 
-  noted-known : known_in layout (noted layout block place known) ≡ set (known_in layout block) place (word_of_known known)
-  noted-known = take-set-le layout.vars (set block place w) layout.vars 0 (omega arith) ∙ take-set-lt layout.vars block place w within
+  with_word-known : known_in layout (with_word layout block place known) ≡ set (known_in layout block) place (word_of_known known)
+  with_word-known = take-set-le layout.vars (set block place w) layout.vars 0 (omega arith) ∙ take-set-lt layout.vars block place w within
 
-  noted-state : state_in layout (noted layout block place known) ≡ state_in layout block
-  noted-state =
+  with_word-state : state_in layout (with_word layout block place known) ≡ state_in layout block
+  with_word-state =
       drop-set-lt (layout.vars + 1) (set block place w) layout.vars 0 (omega arith)
       ∙ drop-set-lt (layout.vars + 1) block place w (omega (arith, within))
 
-  noted-point : point_of (get_or (noted layout block place known) layout.vars 0) (state_in layout (noted layout block place known)) ≡ None
-  noted-point =
+  with_word-point : point_of (get_or (with_word layout block place known) layout.vars 0) (state_in layout (with_word layout block place known)) ≡ None
+  with_word-point =
       let long = laid.long in
       let same = length-set block place w in
-      ap (λ n. point_of n (state_in layout (noted layout block place known))) (get_or-set_same (set block place w) layout.vars 0 0 (omega (arith, long, same)))
+      ap (λ n. point_of n (state_in layout (with_word layout block place known))) (get_or-set_same (set block place w) layout.vars 0 0 (omega (arith, long, same)))
 
   -- it is laid out again if its first words are those of a case
-  noted-laid : AreWords layout.parts layout.wires layout.vars (set (known_in layout block) place (word_of_known known))
-      → IsLaidOut layout (noted layout block place known)
-  noted-laid are = record {
+  with_word-laid : AreWords layout.parts layout.wires layout.vars (set (known_in layout block) place (word_of_known known))
+      → IsLaidOut layout (with_word layout block place known)
+  with_word-laid are = record {
     long = length-set (set block place w) layout.vars 0 ∙ (length-set block place w ∙ laid.long);
-    known = subst (AreWords layout.parts layout.wires layout.vars) (sym noted-known) are;
-    state = subst (All (λ s. s < 2)) (sym noted-state) laid.state;
+    known = subst (AreWords layout.parts layout.wires layout.vars) (sym with_word-known) are;
+    state = subst (All (λ s. s < 2)) (sym with_word-state) laid.state;
   }
 
   -- and holds the case that they say
-  noted-entry : (after : Case)
+  with_word-entry : (after : Case)
       → case_of_words layout.parts layout.wires (set (known_in layout block) place (word_of_known known)) ≡ after
-      → entry_in layout (noted layout block place known) ≡ record { known = after; point = None }
-  noted-entry after says = λ i. record { known = (ap (case_of_words layout.parts layout.wires) noted-known ∙ says) i; point = noted-point i }
+      → entry_in layout (with_word layout block place known) ≡ record { known = after; point = None }
+  with_word-entry after says = λ i. record { known = (ap (case_of_words layout.parts layout.wires) with_word-known ∙ says) i; point = with_word-point i }
+
+-- the place of the word of a wire, or of a part
+abbrev pub word_place : Layout → Noted → ℕ → ℕ
+word_place layout Wire place = layout.parts + place
+word_place layout Part place = place
 
 module _ (layout : Layout) (block : List ℕ) (laid : IsLaidOut layout block) where
-  pub block-room : layout.parts + layout.wires ≤ layout.vars
+  block-room : layout.parts + layout.wires ≤ layout.vars
   block-room = room-in_words layout.parts layout.wires layout.vars (known_in layout block) laid.known
 
-  -- a wire's word is written
-  module _ (wire : ℕ) (within : wire < layout.wires) (bit : Option Bool) where
-    wire_within : layout.parts + wire < layout.vars
-    wire_within = omega (arith, block-room, within)
+  word-within : (what : Noted) (place : ℕ) → place < count_of layout.parts layout.wires what → word_place layout what place < layout.vars
+  word-within Wire place within = omega (arith, block-room, within)
+  word-within Part place within = omega (arith, block-room, within)
 
-    pub seen-entry : entry_in layout (noted layout block (layout.parts + wire) bit) ≡ with_seen (entry_in layout block) wire bit
-    seen-entry =
-        noted-entry layout block laid (layout.parts + wire) wire_within bit (with_seen (entry_in layout block) wire bit).known
-        (wire-says layout.parts layout.wires layout.vars (known_in layout block) laid.known wire within bit)
+  -- the word that is written there says what is known of the wire, or of the part
+  module _ (known : Option Bool) where
+    word-says : (what : Noted) (place : ℕ) → place < count_of layout.parts layout.wires what
+        → case_of_words layout.parts layout.wires (set (known_in layout block) (word_place layout what place) (word_of_known known)) ≡ noted what (entry_in layout block).known place known
+    word-says Wire place within = wire-says layout.parts layout.wires layout.vars (known_in layout block) laid.known place within known
+    word-says Part place within = part-says layout.parts layout.wires layout.vars (known_in layout block) laid.known place within known
 
-    pub seen-laid : IsLaidOut layout (noted layout block (layout.parts + wire) bit)
-    seen-laid =
-        noted-laid layout block laid (layout.parts + wire) wire_within bit
-        (wire-are layout.parts layout.wires layout.vars (known_in layout block) laid.known wire within bit)
+    word-are : (what : Noted) (place : ℕ) → place < count_of layout.parts layout.wires what
+        → AreWords layout.parts layout.wires layout.vars (set (known_in layout block) (word_place layout what place) (word_of_known known))
+    word-are Wire place within = wire-are layout.parts layout.wires layout.vars (known_in layout block) laid.known place within known
+    word-are Part place within = part-are layout.parts layout.wires layout.vars (known_in layout block) laid.known place within known
 
-  -- a part's word is written
-  module _ (part : ℕ) (within : part < layout.parts) (ok : Option Bool) where
-    part_within : part < layout.vars
-    part_within = omega (arith, block-room, within)
+    pub noted-entry : (what : Noted) (place : ℕ) → place < count_of layout.parts layout.wires what
+        → entry_in layout (with_word layout block (word_place layout what place) known) ≡ with_noted (entry_in layout block) what place known
+    noted-entry what place within =
+        with_word-entry layout block laid (word_place layout what place) (word-within what place within) known
+        (noted what (entry_in layout block).known place known) (word-says what place within)
 
-    pub held-entry : entry_in layout (noted layout block part ok) ≡ with_held (entry_in layout block) part ok
-    held-entry =
-        noted-entry layout block laid part part_within ok (with_held (entry_in layout block) part ok).known
-        (part-says layout.parts layout.wires layout.vars (known_in layout block) laid.known part within ok)
-
-    pub held-laid : IsLaidOut layout (noted layout block part ok)
-    held-laid =
-        noted-laid layout block laid part part_within ok
-        (part-are layout.parts layout.wires layout.vars (known_in layout block) laid.known part within ok)
+    pub noted-laid : (what : Noted) (place : ℕ) → place < count_of layout.parts layout.wires what
+        → IsLaidOut layout (with_word layout block (word_place layout what place) known)
+    noted-laid what place within =
+        with_word-laid layout block laid (word_place layout what place) (word-within what place within) known (word-are what place within)
 
 -- a block of zeros is that of a session that opens
 module _ (layout : Layout) (room : layout.parts + layout.wires ≤ layout.vars) where

@@ -2,6 +2,8 @@
 use Rattle.std.specs.Prelude.{◌≡◌, ℕ, length, Some, None, slice_get}
 use Rattle.text_rules.specs.Names.{Name}
 use Rattle.ranking.specs.Cases.{empty_case}
+use Rattle.script_lang.specs.declared.line.Noted.{Noted}
+use Rattle.script_lang.specs.declared.line.Noted.TheVariants.{Wire, Part}
 use Rattle.session_rules.specs.Sessions.{Entry, Table, entry_of, with_entry}
 
 -- over how many parts, wires and variables they are, how many may be open, and those that are
@@ -19,6 +21,11 @@ fresh_entry opened = record { known = empty_case opened.wires opened.parts; poin
 -- the case of a session has a place for each wire and each part
 abbrev pub Fits : (parts wires : ℕ) → Entry → Type 0
 Fits parts wires entry = (length entry.known.seen ≡ wires) × (length entry.known.held ≡ parts)
+
+-- how many parts, or wires, there are
+abbrev pub count_of : (parts wires : ℕ) → Noted → ℕ
+count_of parts wires Wire = wires
+count_of parts wires Part = parts
 
 -- the session stands at this place of the table, with this entry, and nothing changes where that is put there again
 pub record StandsAt (table : Table) (place : ℕ) (session : Name) (entry : Entry) : Type 0 where

@@ -1,9 +1,12 @@
 ghost use Rattle.std.specs.Prelude.{◌≡◌, ◌<◌, length, All, IfSome};
 ghost use Rattle.std.specs.Option.{option_map};
 ghost use Rattle.conditioner.specs.Words.{bits_of};
-ghost use Rattle.session_rules.specs.GraphSystems.{word_of_known};
-ghost use Rattle.session_rules.specs.Sessions.{with_seen, with_held};
-ghost use Rattle.session_table.specs.inner.Blocks.{known_in, entry_in, noted, with_point, IsLaidOut};
+ghost use Rattle.session_rules.specs.Sessions.{with_noted};
+ghost use Rattle.session_table.specs.Tables.{count_of};
+ghost use Rattle.session_table.specs.inner.Blocks.{known_in, entry_in, with_point, IsLaidOut};
+
+use conditioner::word_of_known;
+use script_lang::Noted;
 
 /// How many parts, wires and variables a block of a session has words for: one for each variable, one that says whether there
 /// is a point, and one for each part of the point.
@@ -15,33 +18,18 @@ pub(crate) struct Layout {
 }
 
 impl Layout {
-    /// A wire was seen as a bit, or is not seen any more.
-    pub(crate) fn see(self, block: &mut [u32], wire: u32, bit: Option<bool>)
+    /// Notes what is known of a wire or of a part. The session has no point then.
+    pub(crate) fn note(self, block: &mut [u32], what: Noted, place: u32, known: Option<bool>)
         requires block { IsLaidOut self block.old }
-        requires wire { wire < self.wires }
-        ensures entry { entry_in self block.new ≡ with_seen (entry_in self block.old) wire bit }
+        requires place { place < count_of self.parts self.wires what }
+        ensures entry { entry_in self block.new ≡ with_noted (entry_in self block.old) what place known }
         ensures block { IsLaidOut self block.new }
     {
-        self.note(block, self.parts as usize + wire as usize, bit);
-    }
-
-    /// A part is held ok or faulty, or is not held any more.
-    pub(crate) fn hold(self, block: &mut [u32], part: u32, ok: Option<bool>)
-        requires block { IsLaidOut self block.old }
-        requires part { part < self.parts }
-        ensures entry { entry_in self block.new ≡ with_held (entry_in self block.old) part ok }
-        ensures block { IsLaidOut self block.new }
-    {
-        self.note(block, part as usize, ok);
-    }
-
-    // Writes what is known of a variable. The session has no point then.
-    fn note(self, block: &mut [u32], place: usize, known: Option<bool>)
-        requires place { place < self.vars }
-        requires room { self.vars < length block.old }
-        ensures { block.new ≡ noted self block.old place known }
-    {
-        block[place] = word_of(known);
+        let first = match what {
+            Noted::Part => 0,
+            Noted::Wire => self.parts as usize,
+        };
+        block[first + place as usize] = word_of_known(known);
         block[self.vars as usize] = 0;
     }
 
@@ -78,16 +66,5 @@ impl Layout {
         } else {
             Some(&block[vars + 1..])
         }
-    }
-}
-
-// The word that says what is known.
-fn word_of(known: Option<bool>) -> u32
-    ensures { result ≡ word_of_known known }
-{
-    match known {
-        None => 0,
-        Some(true) => 1,
-        Some(false) => 2,
     }
 }

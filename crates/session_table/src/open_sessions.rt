@@ -3,15 +3,16 @@ ghost use Rattle.std.specs.Option.{option_map};
 ghost use Rattle.text_rules.specs.Names.{Name, is_short_name};
 ghost use Rattle.conditioner.specs.Words.{bits_of};
 ghost use Rattle.scratch_pool.specs.declared.pool.TheConstants.{POOL_LIMIT};
-ghost use Rattle.session_rules.specs.Sessions.{Entry, entry_of, with_entry, without, with_seen, with_held};
+ghost use Rattle.session_rules.specs.Sessions.{Entry, entry_of, with_entry, without, with_noted};
 ghost use Rattle.session_rules.specs.CaseWords.{case_of_words, AreWords};
-ghost use Rattle.session_table.specs.Tables.{StandsAt, fresh_entry, Fits};
+ghost use Rattle.session_table.specs.Tables.{StandsAt, fresh_entry, Fits, count_of};
 
 use crate::block::Layout;
 use crate::in_order::{Open, find_place};
 use crate::in_pool;
 use crate::short_name::ShortName;
 use scratch_pool::Pool;
+use script_lang::Noted;
 use std::alloc::{AllocError, Global};
 use std::marker::Model;
 
@@ -110,26 +111,16 @@ impl OpenSessions {
         self.pool.give(block);
     }
 
-    /// In the session at a place a wire was seen as a bit, or is not seen any more. It has no point then.
-    pub fn see(&mut self, place: usize, wire: u32, bit: Option<bool>)
+    /// Notes in the session at a place what is known of the wire, or the part, at a place of its own: a bit, or nothing any more. The
+    /// session has no point then.
+    pub fn note(&mut self, place: usize, what: Noted, at: u32, known: Option<bool>)
         requires place { place < length self.old.table }
-        requires wire { wire < self.old.wires }
+        requires at { at < count_of self.old.parts self.old.wires what }
         ensures { (session : Name) (entry : Entry) → StandsAt self.old.table place session entry
-            → self.new ≡ record self.old { table = with_entry session (with_seen entry wire bit) self.old.table } }
+            → self.new ≡ record self.old { table = with_entry session (with_noted entry what at known) self.old.table } }
     {
         let block = &self.open[place].block;
-        in_pool::see(self.layout, &mut self.pool, block, wire, bit);
-    }
-
-    /// In the session at a place a part is held ok or faulty, or is not held any more. It has no point then.
-    pub fn hold(&mut self, place: usize, part: u32, ok: Option<bool>)
-        requires place { place < length self.old.table }
-        requires part { part < self.old.parts }
-        ensures { (session : Name) (entry : Entry) → StandsAt self.old.table place session entry
-            → self.new ≡ record self.old { table = with_entry session (with_held entry part ok) self.old.table } }
-    {
-        let block = &self.open[place].block;
-        in_pool::hold(self.layout, &mut self.pool, block, part, ok);
+        in_pool::note(self.layout, &mut self.pool, block, what, at, known);
     }
 
     /// What the session at a place knows: a word for each variable.

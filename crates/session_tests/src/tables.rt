@@ -1,5 +1,6 @@
 ghost use Rattle.std.specs.Prelude.{◌≡◌};
 
+use script_lang::Noted;
 use session_table::OpenSessions;
 use std::test::Fail;
 use text_rules::is_short_name;
@@ -9,8 +10,7 @@ use text_rules::is_short_name;
 enum Act {
     Start,
     Stop,
-    See(u32, Option<bool>),
-    Hold(u32, Option<bool>),
+    Note(Noted, u32, Option<bool>),
     Point(u32),
 }
 
@@ -22,8 +22,7 @@ fn apply(sessions: &mut OpenSessions, name: &[u8], act: Act) -> bool
     match (sessions.find(name), act) {
         (None, Act::Start) if is_short_name(name) && !sessions.is_full() => sessions.start(name),
         (Some(place), Act::Stop) => sessions.stop(place),
-        (Some(place), Act::See(wire, bit)) if wire < 2 => sessions.see(place, wire, bit),
-        (Some(place), Act::Hold(part, ok)) if part < 2 => sessions.hold(place, part, ok),
+        (Some(place), Act::Note(what, at, bit)) if at < 2 => sessions.note(place, what, at, bit),
         (Some(place), Act::Point(0)) => sessions.set_point(place, &[1, 0]),
         (Some(place), Act::Point(1)) => sessions.set_point(place, &[0, 1]),
         _ => return false,
@@ -62,14 +61,44 @@ fn keeps_sessions_apart(rt: HostRuntime) -> Result<(), Fail> {
     for (name, act, words, faulty) in [
         (b"b", Act::Start, Some(&[0, 0, 0, 0, 0]), None),
         (b"a", Act::Start, Some(&[0, 0, 0, 0, 0]), None),
-        (b"b", Act::See(1, Some(false)), Some(&[0, 0, 0, 2, 0]), None),
-        (b"a", Act::Hold(0, Some(true)), Some(&[1, 0, 0, 0, 0]), None),
+        (
+            b"b",
+            Act::Note(Noted::Wire, 1, Some(false)),
+            Some(&[0, 0, 0, 2, 0]),
+            None,
+        ),
+        (
+            b"a",
+            Act::Note(Noted::Part, 0, Some(true)),
+            Some(&[1, 0, 0, 0, 0]),
+            None,
+        ),
         (b"a", Act::Point(0), Some(&[1, 0, 0, 0, 0]), Some(0)),
         (b"b", Act::Point(1), Some(&[0, 0, 0, 2, 0]), Some(1)),
-        (b"b", Act::See(0, Some(true)), Some(&[0, 0, 1, 2, 0]), None),
-        (b"b", Act::See(1, None), Some(&[0, 0, 1, 0, 0]), None),
-        (b"a", Act::Hold(1, Some(true)), Some(&[1, 1, 0, 0, 0]), None),
-        (b"a", Act::Hold(0, None), Some(&[0, 1, 0, 0, 0]), None),
+        (
+            b"b",
+            Act::Note(Noted::Wire, 0, Some(true)),
+            Some(&[0, 0, 1, 2, 0]),
+            None,
+        ),
+        (
+            b"b",
+            Act::Note(Noted::Wire, 1, None),
+            Some(&[0, 0, 1, 0, 0]),
+            None,
+        ),
+        (
+            b"a",
+            Act::Note(Noted::Part, 1, Some(true)),
+            Some(&[1, 1, 0, 0, 0]),
+            None,
+        ),
+        (
+            b"a",
+            Act::Note(Noted::Part, 0, None),
+            Some(&[0, 1, 0, 0, 0]),
+            None,
+        ),
         (b"a", Act::Stop, None, None),
         (b"a", Act::Start, Some(&[0, 0, 0, 0, 0]), None),
     ] {

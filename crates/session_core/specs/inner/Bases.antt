@@ -50,7 +50,7 @@ HasSets subject levels sets =
 
 -- how many words a step by rising cost works with
 abbrev pub level_room : Subject → ℕ → ℕ
-level_room subject top = length subject.costs + (length subject.graph.nodes + 2) * (2 * cost_words top)
+level_room subject top = length subject.costs + length subject.graph.nodes + (length subject.graph.nodes + 2) * (2 * cost_words top)
 
 -- So many words are enough for each answer that takes some: for the probes of all wires, and for a step by rising cost. The graph of the
 -- diagnoses is drawn with fewer than the probes.

@@ -1,5 +1,5 @@
 -- What a request does with the sessions.
-use Rattle.std.specs.Prelude.{◌≡◌, ℕ, Bool, true, is_some, List, [], ◌∷◌, map, Option, Some, None, Result, IfOk, slice_index_or}
+use Rattle.std.specs.Prelude.{◌≡◌, ℕ, ◌<◌, Bool, true, is_some, List, [], ◌∷◌, length, map, Option, Some, Result, IfOk}
 use Rattle.text_rules.specs.Names.{Name}
 use Rattle.ranking.specs.Ranking.{rest}
 use Rattle.ranking.specs.Systems.{all_diagnoses}
@@ -7,7 +7,8 @@ use Rattle.diagnosis_lister.specs.declared.listing.Step.{Step as Answer}
 use Rattle.diagnosis_lister.specs.Listing.{step_of}
 use Rattle.level_lister.specs.declared.levels.LevelStep.{LevelStep}
 use Rattle.level_lister.specs.Listing.{level_step}
-use Rattle.script_lang.specs.Script.{Request, Ask, See, Unsee, Hold, Unhold, Min, Probe as ProbeOf, Probes as ProbesOf, Blame as BlameAll}
+use Rattle.device_model.specs.Devices.{place_of}
+use Rattle.script_lang.specs.Script.{Request, Ask, Min, Probe as ProbeOf, Probes as ProbesOf, Blame as BlameAll}
 use Rattle.session_rules.specs.GraphSystems.{Subject, system_of}
 use Rattle.session_rules.specs.Replies.{Found, listing}
 use Rattle.session_rules.specs.Moves.{goes_on, next_for, level_for}
@@ -19,6 +20,7 @@ use Rattle.session_core.specs.Services.{Shown, exact_moves, ChangesTable}
 use Rattle.session_core.specs.inner.Desks.{top_of, later_by_cost}
 use Rattle.session_core.specs.declared.listing.Listed.{Listed}
 use Rattle.session_core.specs.declared.listing.Listed.TheVariants.{Diagnoses, Levels}
+use Rattle.session_core.specs.declared.sessions.OpenSession.{OpenSession}
 use Rattle.session_core.specs.declared.telling.Question.{Question}
 use Rattle.session_core.specs.declared.telling.Question.TheVariants.{Minimum, Probe, Probes, Blame}
 
@@ -27,27 +29,18 @@ pub record Obeys {T E : Type 0} (old new : Shown) (session : Name) (request : Re
   pub carried : CarriesOut old.table new.table (exact_moves old old.table (Ask session request)) before after result
   pub stays : ChangesTable old new
 
--- what is asked where a wire was seen, or is not seen any more
-abbrev pub seen_request : Name → Option Bool → Request
-seen_request name (Some bit) = See name bit
-seen_request name None = Unsee name
+-- A session stands at its place of the table, with some entry.
+pub record IsOpen (table : Table) (session : OpenSession) : Type 0 where
+  pub within : session.place < length table
+  pub entry : Entry
+  pub stands : StandsAt table session.place session.name.now entry
 
--- and where a part is held, or is not held any more
-abbrev pub held_request : Name → Option Bool → Request
-held_request name (Some ok) = Hold name ok
-held_request name None = Unhold name
-
--- what a question asks, over these wires
-abbrev pub asked_request : List Name → Question → Request
-asked_request wires Minimum = Min
-asked_request wires (Probe wire) = ProbeOf (slice_index_or wires wire [])
-asked_request wires Probes = ProbesOf
-asked_request wires Blame = BlameAll
-
--- a question without a wire
-abbrev pub NamesNoWire : Question → Type 0
-NamesNoWire (Probe wire) = ⊥
-NamesNoWire question = Unit {0}
+-- A request asks a question, over these wires.
+abbrev pub Asks : List Name → Question → Request → Type 0
+Asks wires Minimum request = request ≡ Min
+Asks wires (Probe wire) request = (name : Name) × (request ≡ ProbeOf name) × (Some wire ≡ place_of name wires)
+Asks wires Probes request = request ≡ ProbesOf
+Asks wires Blame request = request ≡ BlameAll
 
 -- what comes after a point, of the diagnoses or of the states by rising cost
 abbrev pub found_by : Subject → Listed → Name → Entry → Option (List Bool) → Found

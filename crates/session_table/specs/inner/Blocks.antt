@@ -1,8 +1,7 @@
 -- What a block of a session holds: a word for each variable, one that says whether there is a point, and the words of the point.
-use Rattle.std.specs.Prelude.{◌≡◌, ℕ, zero, suc, ◌+◌, ◌<◌, Bool, List, take, drop, length, slice_index, slice_set, All, Option, Some, None}
+use Rattle.std.specs.Prelude.{◌≡◌, ℕ, zero, suc, ◌+◌, ◌<◌, Bool, List, take, drop, length, slice_index, All, Option, Some, None}
 use Rattle.conditioner.specs.Words.{bits_of}
 use Rattle.session_rules.specs.Sessions.{Entry}
-use Rattle.session_rules.specs.GraphSystems.{word_of_known}
 use Rattle.session_rules.specs.CaseWords.{case_of_words, AreWords}
 use Rattle.session_table.specs.declared.block.Layout.{Layout}
 
@@ -25,10 +24,6 @@ entry_in layout block = record {
   known = case_of_words layout.parts layout.wires (known_in layout block);
   point = point_of (slice_index block layout.vars) (state_in layout block);
 }
-
--- the block after it was noted what is known of a variable, with no point
-abbrev pub noted : Layout → List ℕ → ℕ → Option Bool → List ℕ
-noted layout block place known = slice_set (slice_set block place (word_of_known known)) layout.vars 0
 
 -- the entry that goes on after a state
 abbrev pub with_point : Entry → List ℕ → Entry

@@ -10,15 +10,10 @@ returns-in-Some-Stop c =
     let found = c.in-Some-Stop.ensures.some in
     stays c.args.sessions.now _ _ (c.stop.ensures c.args.name.now found.0 found.1) refl refl c.requires
 
-pub returns-in-Some-See : goal.returns-in-Some-See
-returns-in-Some-See c =
-    let found = c.in-Some-See.ensures.some in
-    stays c.args.sessions.now _ _ (c.see.ensures c.args.name.now found.0 found.1) refl refl c.requires
-
-pub returns-in-Some-Hold : goal.returns-in-Some-Hold
-returns-in-Some-Hold c =
-    let found = c.in-Some-Hold.ensures.some in
-    stays c.args.sessions.now _ _ (c.hold.ensures c.args.name.now found.0 found.1) refl refl c.requires
+pub returns-in-Some-Note : goal.returns-in-Some-Note
+returns-in-Some-Note c =
+    let found = c.in-Some-Note.ensures.some in
+    stays c.args.sessions.now _ _ (c.note.ensures c.args.name.now found.0 found.1) refl refl c.requires
 
 pub returns-in-Some-Point-eq0 : goal.returns-in-Some-Point-eq0
 returns-in-Some-Point-eq0 c =

@@ -1,32 +1,28 @@
-use Rattle.std.proofs.Common.{◌∙◌, subst}
-use Rattle.session_rules.specs.GraphSystems.{system_of}
-use Rattle.session_rules.specs.Sessions.{tells}
+use Rattle.std.proofs.Common.{◌≡◌, ◌<◌, None, length, subst}
+use Rattle.script_lang.specs.Meaning.{asked}
+use Rattle.session_rules.specs.declared.refusal.Refusal.TheVariants.{NoSession}
+use Rattle.session_rules.specs.Sessions.{entry_of}
 use Rattle.session_table.specs.Tables.{StandsAt}
 use Rattle.session_core.specs.Services.{Shown}
-use Rattle.session_core.specs.inner.Obeying.{Obeys, asked_request}
-use Rattle.session_core.specs.inner.Telling.{told_of}
-use Rattle.session_core.proofs.Asked.{question-move, question-needs, question-open, question-place}
-use Rattle.session_core.proofs.Holding.{shown_of}
-use Rattle.session_core.proofs.Obeying.{obeys_closed, obeys_outcome, asked_open}
+use Rattle.session_core.proofs.Obeying.{obeys_refusal, unopened}
 use Rattle.session_core.proofs.sessions.Sessions.ask.Goals as goal
 
-pub returns-in-None-clause-obeys : goal.returns-in-None-clause-obeys
-returns-in-None-clause-obeys g c =
-    let q = c.args.question in
-    let shown = shown_of c.self.inside.desk.subject c.self.inside.open in
-    subst (λ (v : Shown). Obeys v v c.args.session.now (asked_request c.args.self.now.subject.wires q) (g.O.Sink.got c.args.out.now) (g.O.Sink.got c.put_refusal.new.out) c.put_refusal.result) c.self.view_is
-    (obeys_closed shown c.args.session.now (asked_request c.args.self.now.subject.wires q) (question-move c.args.self.now.subject.wires q) _ _ _ (question-needs c.args.self.now.subject.wires q) c.in-None.ensures.none c.put_refusal.ensures.text)
-
-pub tell_at-requires-clause-question : goal.tell_at-requires-clause-question
-tell_at-requires-clause-question g c = question-place c.args.self.now.subject c.args.question c.requires
-
-pub returns-in-Some-clause-obeys : goal.returns-in-Some-clause-obeys
-returns-in-Some-clause-obeys g c =
-    let old = c.args.self.now in
-    let s = c.args.session.now in
-    let q = c.args.question in
+pub ask_open-requires : goal.ask_open-requires
+ask_open-requires g c =
+    let place = c.in-Some.place in
     let there = c.in-Some.ensures.some in
-    let here = subst (λ (v : Shown). StandsAt v.table c.in-Some.place s there.0) c.self.view_is there.1 in
-    obeys_outcome old s (asked_request c.args.self.now.subject.wires q) (question-move c.args.self.now.subject.wires q) _ _ _ (tells (told_of (system_of old.subject) s there.0.known q)) c.tell_at.new.self
-    (asked_open old s (asked_request c.args.self.now.subject.wires q) there.0 here.found ∙ question-open (system_of old.subject) s there.0 q c.requires)
-    c.tell_at.ensures.same (c.tell_at.ensures.reply there.0 here)
+    record {
+      within = subst (λ (v : Shown). place < length v.table) c.self.view_is c.in-Some.ensures.within;
+      entry = there.0;
+      stands = subst (λ (v : Shown). StandsAt v.table place c.args.name.now there.0) c.self.view_is there.1;
+    }
+
+pub start-requires-clause-closed : goal.start-requires-clause-closed
+start-requires-clause-closed g c = subst (λ (v : Shown). entry_of c.args.name.now v.table ≡ None) c.self.view_is c.in-None.ensures.none
+
+pub returns-in_default-clause-obeys : goal.returns-in_default-clause-obeys
+returns-in_default-clause-obeys g c =
+    let old = c.args.self.now in
+    let s = c.args.name.now in
+    let none = subst (λ (v : Shown). entry_of s v.table ≡ None) c.self.view_is c.in-None.ensures.none in
+    obeys_refusal old s (asked c.args.request) _ _ _ NoSession (unopened old s c.args.request c.in_default.not-Start none) c.put_refusal.ensures.text

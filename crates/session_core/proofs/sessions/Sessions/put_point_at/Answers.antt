@@ -14,11 +14,11 @@ use Rattle.session_core.proofs.sessions.Sessions.put_point_at.Goals as goal
 
 pub returns-in-Some-clause-reply : goal.returns-in-Some-clause-reply
 returns-in-Some-clause-reply g c = λ entry state stands is.
-    let s = c.args.session.now in
+    let s = c.args.session.name.now in
     let basis = c.self.inside.desk.subject in
     let before = g.O.Sink.got c.args.out.now in
     let after = g.O.Sink.got c.put_level.new.out in
-    let here = subst (λ (v : Shown). StandsAt v.table c.args.place s entry) (sym c.self.view_is) stands in
+    let here = subst (λ (v : Shown). StandsAt v.table c.args.session.place s entry) (sym c.self.view_is) stands in
     let both : Some (bits_of c.in-Some.state.now) ≡ Some state = sym (c.in-Some.ensures.point s entry here) ∙ is in
     let one : bits_of c.in-Some.state.now ≡ state = cc in
     subst (λ (v : Shown). Replies before after c.put_level.result (line (s ∷ codes "level" ∷ decimal c.args.cost ∷ faulty_names v.subject.parts state) ∷ [])) c.self.view_is

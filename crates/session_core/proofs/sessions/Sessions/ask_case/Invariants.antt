@@ -1,4 +1,4 @@
-use Rattle.session_core.proofs.sessions.Sessions.tell_at.Given as goal
+use Rattle.session_core.proofs.sessions.Sessions.ask_case.Given as goal
 
 -- the counter is that of the blank ledger
 abbrev pub ghosts-tell : goal.ghosts-tell

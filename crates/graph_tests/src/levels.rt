@@ -15,7 +15,7 @@ use std::test::Fail;
 type Row = ([u32; 3], [u32; 3], u32, &'static [([u32; 3], u32)]);
 
 // The first or the second part is faulty. No node mentions the third, which is free to be so too.
-const ROWS: [Row; 8] = [
+const ROWS: [Row; 10] = [
     (
         [0, 0, 0],
         [1, 1, 1],
@@ -74,6 +74,9 @@ const ROWS: [Row; 8] = [
             ([1, 1, 1], 2000),
         ],
     ),
+    // the first part alone costs more than what is listed, by few costs and by sets of several words; the third is held to be faulty
+    ([0, 0, 2], [5, 1, 1], 2, &[([0, 1, 1], 2)]),
+    ([0, 0, 2], [100, 40, 33], 80, &[([0, 1, 1], 73)]),
 ];
 
 // Words and a state as point, of which each part costs 1 and no more than two may be faulty; what there is after the point, and the
@@ -124,7 +127,7 @@ fn steps_through<L: Ledger>(
     requires parts { length levels.now.costs ≡ 3 }
     requires long { graph.now.vars ≡ 3 }
     requires words { All (λ w. w < 3) fixed.now }
-    requires room { length scratch.old ≡ 3 + (length graph.now.nodes + 2) * (2 * cost_words levels.now.top) }
+    requires room { length scratch.old ≡ 3 + length graph.now.nodes + (length graph.now.nodes + 2) * (2 * cost_words levels.now.top) }
 {
     let mut steps = Steps::<L>::new(blank);
     let mut words = *fixed;
@@ -155,7 +158,7 @@ fn points_through<L: Ledger>(
     requires graph { IsFor graph.now levels.now }
     requires parts { length levels.now.costs ≡ 3 }
     requires long { graph.now.vars ≡ 3 }
-    requires room { length scratch.old ≡ 3 + (length graph.now.nodes + 2) * (2 * cost_words levels.now.top) }
+    requires room { length scratch.old ≡ 3 + length graph.now.nodes + (length graph.now.nodes + 2) * (2 * cost_words levels.now.top) }
 {
     let mut steps = Steps::<L>::new(blank);
     for (fixed, point, wanted, later) in &POINTS {

@@ -6,6 +6,8 @@ use Rattle.part_sets.specs.Numbers.{has_number}
 use Rattle.level_lister.specs.declared.pairs.Groups.{Groups}
 use Rattle.level_lister.specs.inner.Pairs.{Meets, HasFault, FaultOf, group_in}
 use Rattle.level_lister.specs.inner.FaultSets.{IsWholeFaults}
+use Rattle.level_lister.specs.inner.Skips.{IsEnough}
+use Rattle.level_lister.proofs.Living.{living-true}
 use Rattle.level_lister.proofs.Whole.{among-all}
 use Rattle.level_lister.proofs.PairNodes.{IsGrouped, grouped, in_group}
 
@@ -53,11 +55,13 @@ module _ (graph : Graph) (words costs : List ℕ) (groups : Groups) (ok : IsGrap
       record { by = a.by; follows = a.agrees; holds = (a.holds, fault); cost_is = sym (among-all a.by 1 costs h f.is.long a.bits) ∙ f.is.cost_is }
 
   -- the set of the whole graph with a fault
-  module _ (set : List ℕ) (is : IsWholeFaults graph words costs groups set) where
+  module _ (skips : List ℕ) (top : ℕ) (enough : IsEnough graph skips words costs top) (set : List ℕ) (is : IsWholeFaults graph skips words costs groups set) where
     pub first_sound : (c : ℕ) → has_number set c ≡ true → FaultOf graph words costs c groups 0
-    first_sound c e = fault_state 0 c (is.sound c e)
+    first_sound c e =
+        let r = is.sound c e in
+        fault_state 0 c (record { by = r.by; follows = r.follows; holds = (living-true graph skips ok (length graph.nodes - 1) (omega (arith, ok.some)) r.by r.holds.0, r.holds.1); cost_is = r.cost_is })
 
-    pub first_whole : (c : ℕ) → c < 32 * length set → FaultOf graph words costs c groups 0 → has_number set c ≡ true
-    first_whole c lt f =
+    pub first_whole : (c : ℕ) → c ≤ top → c < 32 * length set → FaultOf graph words costs c groups 0 → has_number set c ≡ true
+    first_whole c le lt f =
         let r = state_fault 0 c f in
-        subst (λ n. has_number set n ≡ true) r.cost_is (is.whole r.by r.follows r.holds (omega (arith, r.cost_is)))
+        subst (λ n. has_number set n ≡ true) r.cost_is (is.whole r.by r.follows (enough.left r.by r.follows r.holds.0 (omega (arith, r.cost_is)), r.holds.1) (omega (arith, r.cost_is)))

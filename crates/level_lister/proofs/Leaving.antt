@@ -69,7 +69,7 @@ module _ (graph : Graph) (costs : List ℕ) (within : length costs ≤ graph.var
       apart : (k : ℕ) → k ≢ j → get_or (set words j 1) k 0 ≡ get_or words k 0
       apart k ne = get_or-set_other words j k 1 0 ne
 
-      kept : (k : ℕ) → get_or old k 0 ≢ 0 → get_or (set words j 1) k 0 ≡ get_or old k 0
+      pub kept : (k : ℕ) → get_or old k 0 ≢ 0 → get_or (set words j 1) k 0 ≡ get_or old k 0
       kept k ne = ⊎_elim
           (λ q. ap (λ i. get_or (set words j 1) i 0) q ∙ here ∙ one (get_or old j 0) few free (λ e. ne (ap (λ i. get_or old i 0) q ∙ e)) ∙ ap (λ i. get_or old i 0) (sym q))
           (λ q. apart k q ∙ back.kept k ne) (same_or_not k j) where

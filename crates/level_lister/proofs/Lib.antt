@@ -5,6 +5,7 @@ pub mod Among
 pub mod Reaching
 pub mod Meeting
 pub mod Growing
+pub mod Living
 pub mod Kids
 pub mod Stacks
 pub mod Whole
@@ -26,3 +27,4 @@ pub mod Told
 pub mod Faulting
 pub mod FaultGrowing
 pub mod FaultNodes
+pub mod Skips

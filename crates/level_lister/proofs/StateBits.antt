@@ -1,7 +1,7 @@
 -- The bits of a state.
-use Rattle.std.proofs.Common.{◌≡◌, ℕ, zero, suc, ◌<◌, true, false, List, [], ◌∷◌, length, get_or, refl, ◌∙◌, arith}
+use Rattle.std.proofs.Common.{◌≡◌, ◌≢◌, ℕ, zero, suc, ◌<◌, Bool, true, false, not, List, [], ◌∷◌, length, get_or, refl, sym, ap, ◌∙◌, arith}
 use Rattle.std.specs.Prelude.{◌==◌}
-use Rattle.std.proofs.lemmas.Bool.{eq-eqb, ne_eqb}
+use Rattle.std.proofs.lemmas.Bool.{eq-eqb, ne_eqb, eqb-true, false≢true}
 use Rattle.ranking.specs.Bits.{bit_in}
 use Rattle.conditioner.specs.Words.{bits_of}
 
@@ -15,3 +15,13 @@ is_ok state i h e = bit_in-bits state i h ∙ eq-eqb (get_or state i 0) 0 e
 
 pub is_faulty : (state : List ℕ) (i : ℕ) → i < length state → (get_or state i 0 ≡ 0 → ⊥) → bit_in (bits_of state) i ≡ false
 is_faulty state i h ne = bit_in-bits state i h ∙ ne_eqb (get_or state i 0) 0 ne
+
+-- what the test of a word says
+pub faulty_word : (word : ℕ) (faulty : Bool) → faulty ≡ not (word == 0) → faulty ≡ true → word ≢ 0
+faulty_word word faulty e t zero_ = false≢true (sym (e ∙ ap not (eq-eqb word 0 zero_)) ∙ t)
+
+pub ok_word : (word : ℕ) (faulty : Bool) → faulty ≡ not (word == 0) → faulty ≡ false → word ≡ 0
+ok_word word faulty e f = by_test (word == 0) refl where
+  by_test : (b : Bool) → (word == 0) ≡ b → word ≡ 0
+  by_test true q = eqb-true word 0 q
+  by_test false q = absurd (false≢true (sym f ∙ e ∙ ap not q))

@@ -4,3 +4,4 @@ pub mod NodeSets
 pub mod Searching
 pub mod Pairs
 pub mod FaultSets
+pub mod Skips

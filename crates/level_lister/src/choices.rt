@@ -6,6 +6,7 @@ ghost use Rattle.part_sets.specs.PartSets.{ArePartsOf};
 ghost use Rattle.level_lister.specs.inner.CostSets.{has_shifted, IsCostSet};
 
 use crate::sets::{add_shifted, shift};
+use conditioner::known_of;
 use part_sets::{PART_LIMIT, next_missing};
 
 // Lets each part be free that is below a node and not below a kid of it: the set of the kid's costs becomes one of the costs of all
@@ -43,13 +44,12 @@ pub(crate) fn add_part(word: u32, cost: u32, set: &mut [u32], spare: &mut [u32])
     ensures { (n : ℕ) → n < 32 * length set.old → has_number set.new n
         ≡ ((not (word == 2) && has_number set.old n) || (not (word == 1) && has_shifted set.old cost n)) }
 {
-    if word == 1 {
-        return;
+    match known_of(word) {
+        Some(true) => {}
+        Some(false) => shift(set, cost as usize),
+        None => {
+            spare.copy_from_slice(set);
+            add_shifted(set, spare, cost as usize);
+        }
     }
-    if word == 2 {
-        shift(set, cost as usize);
-        return;
-    }
-    spare.copy_from_slice(set);
-    add_shifted(set, spare, cost as usize);
 }

@@ -1,5 +1,5 @@
 //! One pass over the nodes, which brings for each the set of the costs at which an open part of a group is faulty.
-ghost use Rattle.std.specs.Prelude.{◌≡◌, ℕ, ◌+◌, ◌*◌, ◌<◌, ◌≤◌, Bool, true, false, ◌&&◌, ◌||◌, List, length, All, ◌==◌};
+ghost use Rattle.std.specs.Prelude.{◌≡◌, ℕ, ◌+◌, ◌*◌, ◌<◌, ◌≤◌, Bool, true, false, ◌&&◌, ◌||◌, List, length, slice_index, All, ◌==◌};
 ghost use Rattle.ranking.specs.Assignments.{Assignment};
 ghost use Rattle.ranking.specs.Bits.{same_bit};
 ghost use Rattle.graph_rules.specs.declared.NodeKind.TheVariants.{And, Or};
@@ -15,11 +15,12 @@ use crate::levels::Levels;
 use crate::pairs::Groups;
 use crate::pass::put_full;
 use crate::sets::{SET_LIMIT, add_shifted, put_sums};
+use conditioner::is_open;
 use graph_rules::NodeKind;
 use node_store::Graph;
 use part_sets::{clear, next_missing, part_words, put_one, set_at};
 
-// What the sets are put from: a graph, words, groups, and the sets of the costs of all nodes.
+// What the sets are put from: a graph, words, groups, the sets of the costs of all nodes, and which nodes are skipped.
 #[derive(Drop)]
 pub(crate) struct FaultPass<'a> {
     pub(crate) levels: &'a Levels,
@@ -27,11 +28,13 @@ pub(crate) struct FaultPass<'a> {
     pub(crate) words: &'a [u32],
     pub(crate) groups: Groups,
     pub(crate) sets: &'a [u32],
+    pub(crate) skips: &'a [u32],
     ghost for_graph: { IsFor graph.now levels.now },
     ghost long: { length words.now ≡ graph.now.vars },
     ghost small: { All (λ w. w < 3) words.now },
     ghost some: { 0 < groups.size },
     ghost room: { length sets.now ≡ length graph.now.nodes * cost_words levels.now.top },
+    ghost marks: { length skips.now ≡ length graph.now.nodes },
 }
 
 impl FaultPass<'_> {
@@ -43,13 +46,13 @@ impl FaultPass<'_> {
         all: &mut [u32],
         spare: &mut [u32],
     )
-        requires are { AreNodeSets self.now.graph.now self.now.words.now self.now.levels.now.costs (cost_words self.now.levels.now.top)
+        requires are { AreNodeSets self.now.graph.now self.now.skips.now self.now.words.now self.now.levels.now.costs (cost_words self.now.levels.now.top)
             self.now.sets.now (length self.now.graph.now.nodes) }
         requires faults { length faults.old ≡ length self.now.graph.now.nodes * cost_words self.now.levels.now.top }
         requires whole { length whole.old ≡ cost_words self.now.levels.now.top }
         requires all { length all.old ≡ cost_words self.now.levels.now.top }
         requires spare { length spare.old ≡ cost_words self.now.levels.now.top }
-        ensures { IsWholeFaults self.now.graph.now self.now.words.now self.now.levels.now.costs self.now.groups whole.new }
+        ensures { IsWholeFaults self.now.graph.now self.now.skips.now self.now.words.now self.now.levels.now.costs self.now.groups whole.new }
     {
         self.put_faults(faults, whole, all, spare);
         let root = self.graph.len() as usize - 1;
@@ -63,13 +66,13 @@ impl FaultPass<'_> {
     }
 
     fn put_faults(&self, faults: &mut [u32], own: &mut [u32], all: &mut [u32], spare: &mut [u32])
-        requires are { AreNodeSets self.now.graph.now self.now.words.now self.now.levels.now.costs (cost_words self.now.levels.now.top)
+        requires are { AreNodeSets self.now.graph.now self.now.skips.now self.now.words.now self.now.levels.now.costs (cost_words self.now.levels.now.top)
             self.now.sets.now (length self.now.graph.now.nodes) }
         requires faults { length faults.old ≡ length self.now.graph.now.nodes * cost_words self.now.levels.now.top }
         requires own { length own.old ≡ cost_words self.now.levels.now.top }
         requires all { length all.old ≡ cost_words self.now.levels.now.top }
         requires spare { length spare.old ≡ cost_words self.now.levels.now.top }
-        ensures { AreNodeFaults self.now.graph.now self.now.words.now self.now.levels.now.costs self.now.groups (cost_words self.now.levels.now.top)
+        ensures { AreNodeFaults self.now.graph.now self.now.skips.now self.now.words.now self.now.levels.now.costs self.now.groups (cost_words self.now.levels.now.top)
             faults.new (length self.now.graph.now.nodes) }
     {
         let size = self.levels.size();
@@ -80,7 +83,7 @@ impl FaultPass<'_> {
         }
     }
 
-    // The set of a node, from those of the nodes before it.
+    // The set of a node, from those of the nodes before it. One that is skipped has no cost.
     fn put_node(
         &self,
         earlier: &[u32],
@@ -90,20 +93,24 @@ impl FaultPass<'_> {
         all: &mut [u32],
         spare: &mut [u32],
     )
-        requires are { AreNodeSets self.now.graph.now self.now.words.now self.now.levels.now.costs (cost_words self.now.levels.now.top)
+        requires are { AreNodeSets self.now.graph.now self.now.skips.now self.now.words.now self.now.levels.now.costs (cost_words self.now.levels.now.top)
             self.now.sets.now (length self.now.graph.now.nodes) }
         requires at { at < length self.now.graph.now.nodes }
         requires sets { length earlier.now ≡ at * cost_words self.now.levels.now.top }
-        requires earlier { AreNodeFaults self.now.graph.now self.now.words.now self.now.levels.now.costs self.now.groups
+        requires earlier { AreNodeFaults self.now.graph.now self.now.skips.now self.now.words.now self.now.levels.now.costs self.now.groups
             (cost_words self.now.levels.now.top) earlier.now at }
         requires set { length set.old ≡ cost_words self.now.levels.now.top }
         requires own { length own.old ≡ cost_words self.now.levels.now.top }
         requires all { length all.old ≡ cost_words self.now.levels.now.top }
         requires spare { length spare.old ≡ cost_words self.now.levels.now.top }
-        ensures { IsNodeFaults self.now.graph.now self.now.words.now self.now.levels.now.costs self.now.groups at set.new }
+        ensures { IsNodeFaults self.now.graph.now self.now.skips.now self.now.words.now self.now.levels.now.costs self.now.groups at set.new }
     {
         // Its contract says that this is a graph.
         let _vars = self.graph.vars();
+        if self.skips[at as usize] != 0 {
+            clear(set);
+            return;
+        }
         match self.graph.what(at) {
             NodeKind::Literal { var, positive } => self.put_literal_faults(var, positive, set),
             NodeKind::And => self.put_and_faults(earlier, at, set, own, all, spare),
@@ -122,7 +129,10 @@ impl FaultPass<'_> {
         ensures marked { result ≡ in_first self.now.words.now self.now.levels.now.costs self.now.groups (part + 1) }
         ensures within { result ≡ true → part < length self.now.levels.now.costs }
     {
-        if part >= self.levels.costs().len() || self.words[part] != 0 || part < self.groups.low {
+        if part >= self.levels.costs().len()
+            || !is_open(self.words[part])
+            || part < self.groups.low
+        {
             return false;
         }
         part - self.groups.low < self.groups.size
@@ -155,18 +165,19 @@ impl FaultPass<'_> {
         all: &mut [u32],
         spare: &mut [u32],
     )
-        requires are { AreNodeSets self.now.graph.now self.now.words.now self.now.levels.now.costs (cost_words self.now.levels.now.top)
+        requires are { AreNodeSets self.now.graph.now self.now.skips.now self.now.words.now self.now.levels.now.costs (cost_words self.now.levels.now.top)
             self.now.sets.now (length self.now.graph.now.nodes) }
         requires at { at < length self.now.graph.now.nodes }
         requires what { (node_at self.now.graph.now.nodes at).what ≡ And }
+        requires lives { slice_index self.now.skips.now at ≡ 0 }
         requires sets { length earlier.now ≡ at * cost_words self.now.levels.now.top }
-        requires earlier { AreNodeFaults self.now.graph.now self.now.words.now self.now.levels.now.costs self.now.groups
+        requires earlier { AreNodeFaults self.now.graph.now self.now.skips.now self.now.words.now self.now.levels.now.costs self.now.groups
             (cost_words self.now.levels.now.top) earlier.now at }
         requires set { length set.old ≡ cost_words self.now.levels.now.top }
         requires other { length other.old ≡ cost_words self.now.levels.now.top }
         requires all { length all.old ≡ cost_words self.now.levels.now.top }
         requires spare { length spare.old ≡ cost_words self.now.levels.now.top }
-        ensures { IsNodeFaults self.now.graph.now self.now.words.now self.now.levels.now.costs self.now.groups at set.new }
+        ensures { IsNodeFaults self.now.graph.now self.now.skips.now self.now.words.now self.now.levels.now.costs self.now.groups at set.new }
     {
         // Its contract says that this is a graph.
         let _vars = self.graph.vars();
@@ -190,18 +201,19 @@ impl FaultPass<'_> {
         all: &mut [u32],
         spare: &mut [u32],
     )
-        requires are { AreNodeSets self.now.graph.now self.now.words.now self.now.levels.now.costs (cost_words self.now.levels.now.top)
+        requires are { AreNodeSets self.now.graph.now self.now.skips.now self.now.words.now self.now.levels.now.costs (cost_words self.now.levels.now.top)
             self.now.sets.now (length self.now.graph.now.nodes) }
         requires at { at < length self.now.graph.now.nodes }
         requires what { (node_at self.now.graph.now.nodes at).what ≡ Or }
+        requires lives { slice_index self.now.skips.now at ≡ 0 }
         requires sets { length earlier.now ≡ at * cost_words self.now.levels.now.top }
-        requires earlier { AreNodeFaults self.now.graph.now self.now.words.now self.now.levels.now.costs self.now.groups
+        requires earlier { AreNodeFaults self.now.graph.now self.now.skips.now self.now.words.now self.now.levels.now.costs self.now.groups
             (cost_words self.now.levels.now.top) earlier.now at }
         requires set { length set.old ≡ cost_words self.now.levels.now.top }
         requires own { length own.old ≡ cost_words self.now.levels.now.top }
         requires all { length all.old ≡ cost_words self.now.levels.now.top }
         requires spare { length spare.old ≡ cost_words self.now.levels.now.top }
-        ensures { IsNodeFaults self.now.graph.now self.now.words.now self.now.levels.now.costs self.now.groups at set.new }
+        ensures { IsNodeFaults self.now.graph.now self.now.skips.now self.now.words.now self.now.levels.now.costs self.now.groups at set.new }
     {
         // Its contract says that this is a graph.
         let _vars = self.graph.vars();

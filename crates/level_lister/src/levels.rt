@@ -114,14 +114,17 @@ impl Levels {
     /// How many words one step needs.
     pub fn room(&self, graph: &Graph) -> usize
         requires graph { IsFor graph.now self.now }
-        ensures { result ≡ length self.now.costs + (length graph.now.nodes + 2) * (2 * cost_words self.now.top) }
+        ensures { result ≡ length self.now.costs + length graph.now.nodes + (length graph.now.nodes + 2) * (2 * cost_words self.now.top) }
     {
-        self.costs.len() + (graph.len() as usize + 2) * (2 * self.size())
+        let nodes = graph.len() as usize;
+        self.costs.len() + nodes + (nodes + 2) * (2 * self.size())
     }
 
     /// The next of the states that agree with the words, by cost and then in their order: the first one of all, or the first one
     /// after the state, where `pointed` says that it is a point. A point need not be listed. It is worked out in words that are lent for
-    /// it, as many as `room` tells, whatever they hold; the passes over the graph are counted.
+    /// it, as many as `room` tells, whatever they hold; the passes over the graph are counted, and the one sweep from the root down is
+    /// not. As it is written, the passes skip each node through which every derivation of the graph costs more in open parts than what is
+    /// listed.
     ///
     /// The words are the same afterwards. Where nothing is found the state stays.
     pub fn next<L: Ledger>(
@@ -138,7 +141,7 @@ impl Levels {
         requires words { All (λ w. w < 3) words.old }
         requires state { length state.old ≡ length self.now.costs }
         requires state_words { All (λ s. s < 2) state.old }
-        requires room { length scratch.old ≡ length self.now.costs + (length graph.now.nodes + 2) * (2 * cost_words self.now.top) }
+        requires room { length scratch.old ≡ length self.now.costs + length graph.now.nodes + (length graph.now.nodes + 2) * (2 * cost_words self.now.top) }
         ensures step { result ≡ level_step self.now.costs (models graph.now words.old (length self.now.costs))
             (later_levels graph.now words.old self.now (point_if pointed (bits_of state.old))) }
         ensures next { bits_of state.new ≡ slice_index_or
@@ -150,14 +153,16 @@ impl Levels {
         ensures steps { (search : ℕ) → AreEnough (length self.now.costs) self.now.top search → steps.new ≤ steps.old
             + most_passes search (point_if pointed (bits_of state.old)) (bits_of state.new) }
     {
+        let (saved, rest) = scratch.split_at_mut(self.costs().len());
+        let (skips, work) = rest.split_at_mut(graph.len() as usize);
+        if !self.put_skips(graph, words, skips, work, steps) {
+            return LevelStep::Inconsistent;
+        }
         let search = Search {
             levels: self,
             graph,
+            skips,
         };
-        let (saved, work) = scratch.split_at_mut(self.costs().len());
-        if !search.has_state(words, work, steps) {
-            return LevelStep::Inconsistent;
-        }
         keep(words, saved);
         match search.find(words, saved, work, state, pointed, steps) {
             None => LevelStep::End,

@@ -12,6 +12,7 @@ mod search;
 mod searching;
 mod sets;
 mod settling;
+mod skipping;
 mod states;
 
 pub use bits::level_bits;

@@ -1,5 +1,5 @@
 //! One pass over the nodes, which brings two words for each, where only costs below 32 are listed.
-ghost use Rattle.std.specs.Prelude.{◌≡◌, ℕ, ◌+◌, ◌*◌, ◌<◌, ◌≤◌, Bool, true, false, ◌&&◌, List, length, All, ◌==◌};
+ghost use Rattle.std.specs.Prelude.{◌≡◌, ℕ, ◌+◌, ◌*◌, ◌<◌, ◌≤◌, Bool, true, false, ◌&&◌, List, length, slice_index, All, ◌==◌};
 ghost use Rattle.ranking.specs.Assignments.{Assignment};
 ghost use Rattle.ranking.specs.Bits.{same_bit};
 ghost use Rattle.ranking.specs.Cases.{agrees_at};
@@ -14,7 +14,7 @@ ghost use Rattle.level_lister.specs.inner.Pairs.{has_bit, Tells, TellsNode, Tell
 use crate::levels::Levels;
 use crate::pairs::{Groups, Pair, either, joined, one};
 use crate::search::Search;
-use conditioner::{Leaf, leaf};
+use conditioner::{Leaf, is_open, known_of, leaf};
 use graph_rules::NodeKind;
 use part_sets::{PART_LIMIT, next_missing, part_words, set_at};
 
@@ -100,7 +100,7 @@ impl Levels {
         ensures { (n g : ℕ) → n ≤ self.now.top → g < group_count self.now.top → has_bit result (group_count self.now.top * n + g)
             ≡ ((n == cost) && group_in words.now (length self.now.costs) groups g (part + 1)) }
     {
-        if words[part] != 0 || cost > self.top() || part < groups.low {
+        if !is_open(words[part]) || cost > self.top() || part < groups.low {
             return 0;
         }
         let count = self.group_count();
@@ -121,15 +121,10 @@ impl Levels {
         ensures { Tells words.now self.now.costs self.now.top (group_count self.now.top) (group_in words.now (length self.now.costs) groups)
             (λ a. true) (λ v. part + 1 == v) result }
     {
-        let word = words[part];
-        if word == 1 {
-            return FREE;
-        }
-        let faulty = self.fault_pair(words, groups, part);
-        if word == 2 {
-            faulty
-        } else {
-            either(FREE, faulty)
+        match known_of(words[part]) {
+            Some(true) => FREE,
+            Some(false) => self.fault_pair(words, groups, part),
+            None => either(FREE, self.fault_pair(words, groups, part)),
         }
     }
 
@@ -171,7 +166,7 @@ impl Search<'_> {
         requires top { self.now.levels.now.top < 32 }
         requires size { 0 < groups.size }
         requires room { 2 * length self.now.graph.now.nodes ≤ length values.old }
-        ensures { TellsWhole self.now.graph.now words.now self.now.levels.now.costs self.now.levels.now.top groups result }
+        ensures { TellsWhole self.now.graph.now self.now.skips.now words.now self.now.levels.now.costs self.now.levels.now.top groups result }
     {
         for at in 0..self.graph.len() {
             let pair = self.node_pair(words, groups, values, at);
@@ -186,7 +181,7 @@ impl Search<'_> {
         self.levels.widened(words, groups, pair, root, root + 1)
     }
 
-    // The two words of a node, from those of the nodes before it.
+    // The two words of a node, from those of the nodes before it. One that is skipped is never true.
     fn node_pair(&self, words: &[u32], groups: Groups, values: &[u32], at: u32) -> Pair
         requires long { length words.now ≡ self.now.graph.now.vars }
         requires words { All (λ w. w < 3) words.now }
@@ -194,11 +189,14 @@ impl Search<'_> {
         requires size { 0 < groups.size }
         requires at { at < length self.now.graph.now.nodes }
         requires room { 2 * length self.now.graph.now.nodes ≤ length values.now }
-        requires earlier { TellNodes self.now.graph.now words.now self.now.levels.now.costs self.now.levels.now.top groups values.now at }
-        ensures { TellsNode self.now.graph.now words.now self.now.levels.now.costs self.now.levels.now.top groups at result }
+        requires earlier { TellNodes self.now.graph.now self.now.skips.now words.now self.now.levels.now.costs self.now.levels.now.top groups values.now at }
+        ensures { TellsNode self.now.graph.now self.now.skips.now words.now self.now.levels.now.costs self.now.levels.now.top groups at result }
     {
         // Its contract says that this is a graph.
         let _vars = self.graph.vars();
+        if self.skips[at as usize] != 0 {
+            return NEVER;
+        }
         match self.graph.what(at) {
             NodeKind::Literal { var, positive } => self
                 .levels
@@ -218,10 +216,11 @@ impl Search<'_> {
         requires top { self.now.levels.now.top < 32 }
         requires at { at < length self.now.graph.now.nodes }
         requires what { (node_at self.now.graph.now.nodes at).what ≡ And }
+        requires lives { slice_index self.now.skips.now at ≡ 0 }
         requires room { 2 * length self.now.graph.now.nodes ≤ length values.now }
         ensures { (words : List ℕ) (groups : Groups)
-            → TellNodes self.now.graph.now words self.now.levels.now.costs self.now.levels.now.top groups values.now at
-            → TellsNode self.now.graph.now words self.now.levels.now.costs self.now.levels.now.top groups at result }
+            → TellNodes self.now.graph.now self.now.skips.now words self.now.levels.now.costs self.now.levels.now.top groups values.now at
+            → TellsNode self.now.graph.now self.now.skips.now words self.now.levels.now.costs self.now.levels.now.top groups at result }
     {
         // Its contract says that this is a graph.
         let _vars = self.graph.vars();
@@ -242,11 +241,12 @@ impl Search<'_> {
     fn full_pair(&self, values: &[u32], at: u32) -> Pair
         requires at { at < length self.now.graph.now.nodes }
         requires what { (node_at self.now.graph.now.nodes at).what ≡ Or }
+        requires lives { slice_index self.now.skips.now at ≡ 0 }
         requires same { SameBelow self.now.graph.now (length self.now.levels.now.costs) at }
         requires room { 2 * length self.now.graph.now.nodes ≤ length values.now }
         ensures { (words : List ℕ) (groups : Groups)
-            → TellNodes self.now.graph.now words self.now.levels.now.costs self.now.levels.now.top groups values.now at
-            → TellsNode self.now.graph.now words self.now.levels.now.costs self.now.levels.now.top groups at result }
+            → TellNodes self.now.graph.now self.now.skips.now words self.now.levels.now.costs self.now.levels.now.top groups values.now at
+            → TellsNode self.now.graph.now self.now.skips.now words self.now.levels.now.costs self.now.levels.now.top groups at result }
     {
         // Its contract says that this is a graph.
         let _vars = self.graph.vars();
@@ -265,9 +265,10 @@ impl Search<'_> {
         requires size { 0 < groups.size }
         requires at { at < length self.now.graph.now.nodes }
         requires what { (node_at self.now.graph.now.nodes at).what ≡ Or }
+        requires lives { slice_index self.now.skips.now at ≡ 0 }
         requires room { 2 * length self.now.graph.now.nodes ≤ length values.now }
-        requires earlier { TellNodes self.now.graph.now words.now self.now.levels.now.costs self.now.levels.now.top groups values.now at }
-        ensures { TellsNode self.now.graph.now words.now self.now.levels.now.costs self.now.levels.now.top groups at result }
+        requires earlier { TellNodes self.now.graph.now self.now.skips.now words.now self.now.levels.now.costs self.now.levels.now.top groups values.now at }
+        ensures { TellsNode self.now.graph.now self.now.skips.now words.now self.now.levels.now.costs self.now.levels.now.top groups at result }
     {
         // Its contract says that this is a graph.
         let _vars = self.graph.vars();

@@ -1,5 +1,5 @@
 //! One pass over the nodes, which brings the set of the costs of each.
-ghost use Rattle.std.specs.Prelude.{◌≡◌, ◌≢◌, ℕ, ◌+◌, ◌*◌, ◌<◌, ◌≤◌, false, List, length, All, ◌==◌, if◌then◌else◌};
+ghost use Rattle.std.specs.Prelude.{◌≡◌, ◌≢◌, ℕ, ◌+◌, ◌*◌, ◌<◌, ◌≤◌, false, List, length, slice_index, All, ◌==◌, if◌then◌else◌};
 ghost use Rattle.conditioner.specs.declared.leaves.Leaf.{Leaf};
 ghost use Rattle.part_sets.specs.Numbers.{has_number, part_words, set_at};
 ghost use Rattle.graph_rules.specs.declared.NodeKind.TheVariants.{And, Or};
@@ -32,7 +32,7 @@ impl Search<'_> {
         requires room { length whole.old ≤ SET_LIMIT }
         requires sets { length sets.old ≡ length self.now.graph.now.nodes * length whole.old }
         requires spare { length spare.old ≡ length whole.old }
-        ensures { IsWholeSet self.now.graph.now words.now self.now.levels.now.costs whole.new }
+        ensures { IsWholeSet self.now.graph.now self.now.skips.now words.now self.now.levels.now.costs whole.new }
     {
         self.put_sets(words, sets, whole, spare);
         let root = self.graph.len() as usize - 1;
@@ -66,7 +66,7 @@ impl Search<'_> {
         requires room { length spare.old ≤ SET_LIMIT }
         requires sets { length sets.old ≡ length self.now.graph.now.nodes * length spare.old }
         requires other { length other.old ≡ length spare.old }
-        ensures { AreNodeSets self.now.graph.now words.now self.now.levels.now.costs (length spare.old) sets.new (length self.now.graph.now.nodes) }
+        ensures { AreNodeSets self.now.graph.now self.now.skips.now words.now self.now.levels.now.costs (length spare.old) sets.new (length self.now.graph.now.nodes) }
     {
         let size = spare.len();
         for at in 0..self.graph.len() {
@@ -76,7 +76,7 @@ impl Search<'_> {
         }
     }
 
-    // The set of a node, from those of the nodes before it.
+    // The set of a node, from those of the nodes before it. One that is skipped has no cost.
     fn put_set(
         &self,
         words: &[u32],
@@ -91,13 +91,17 @@ impl Search<'_> {
         requires room { length set.old ≤ SET_LIMIT }
         requires at { at < length self.now.graph.now.nodes }
         requires sets { length sets.now ≡ at * length set.old }
-        requires earlier { AreNodeSets self.now.graph.now words.now self.now.levels.now.costs (length set.old) sets.now at }
+        requires earlier { AreNodeSets self.now.graph.now self.now.skips.now words.now self.now.levels.now.costs (length set.old) sets.now at }
         requires spare { length spare.old ≡ length set.old }
         requires other { length other.old ≡ length set.old }
-        ensures { IsNodeSet self.now.graph.now words.now self.now.levels.now.costs at set.new }
+        ensures { IsNodeSet self.now.graph.now self.now.skips.now words.now self.now.levels.now.costs at set.new }
     {
         // Its contract says that this is a graph.
         let _vars = self.graph.vars();
+        if self.skips[at as usize] != 0 {
+            clear(set);
+            return;
+        }
         match self.graph.what(at) {
             NodeKind::Literal { var, positive } => {
                 put_literal(
@@ -123,10 +127,11 @@ impl Search<'_> {
         requires room { length set.old ≤ SET_LIMIT }
         requires at { at < length self.now.graph.now.nodes }
         requires what { (node_at self.now.graph.now.nodes at).what ≡ And }
+        requires lives { slice_index self.now.skips.now at ≡ 0 }
         requires sets { length sets.now ≡ at * length set.old }
         requires spare { length spare.old ≡ length set.old }
-        ensures { (words costs : List ℕ) → AreNodeSets self.now.graph.now words costs (length set.old) sets.now at
-            → IsNodeSet self.now.graph.now words costs at set.new }
+        ensures { (words costs : List ℕ) → AreNodeSets self.now.graph.now self.now.skips.now words costs (length set.old) sets.now at
+            → IsNodeSet self.now.graph.now self.now.skips.now words costs at set.new }
     {
         // Its contract says that this is a graph.
         let _vars = self.graph.vars();
@@ -152,11 +157,12 @@ impl Search<'_> {
         requires words { All (λ w. w < 3) words.now }
         requires at { at < length self.now.graph.now.nodes }
         requires what { (node_at self.now.graph.now.nodes at).what ≡ Or }
+        requires lives { slice_index self.now.skips.now at ≡ 0 }
         requires sets { length sets.now ≡ at * length set.old }
-        requires earlier { AreNodeSets self.now.graph.now words.now self.now.levels.now.costs (length set.old) sets.now at }
+        requires earlier { AreNodeSets self.now.graph.now self.now.skips.now words.now self.now.levels.now.costs (length set.old) sets.now at }
         requires spare { length spare.old ≡ length set.old }
         requires other { length other.old ≡ length set.old }
-        ensures { IsNodeSet self.now.graph.now words.now self.now.levels.now.costs at set.new }
+        ensures { IsNodeSet self.now.graph.now self.now.skips.now words.now self.now.levels.now.costs at set.new }
     {
         // Its contract says that this is a graph.
         let _vars = self.graph.vars();
@@ -186,10 +192,10 @@ pub(crate) fn put_full(graph: &Graph, sets: &[u32], at: u32, set: &mut [u32])
     requires at { at < length graph.now.nodes }
     requires what { (node_at graph.now.nodes at).what ≡ Or }
     requires sets { length sets.now ≡ at * length set.old }
-    ensures all { (words costs : List ℕ) → SameBelow graph.now (length costs) at
-        → AreNodeSets graph.now words costs (length set.old) sets.now at → IsNodeSet graph.now words costs at set.new }
-    ensures faulty { (words costs : List ℕ) (groups : Groups) → SameBelow graph.now (length costs) at
-        → AreNodeFaults graph.now words costs groups (length set.old) sets.now at → IsNodeFaults graph.now words costs groups at set.new }
+    ensures all { (skips words costs : List ℕ) → slice_index skips at ≡ 0 → SameBelow graph.now (length costs) at
+        → AreNodeSets graph.now skips words costs (length set.old) sets.now at → IsNodeSet graph.now skips words costs at set.new }
+    ensures faulty { (skips words costs : List ℕ) (groups : Groups) → slice_index skips at ≡ 0 → SameBelow graph.now (length costs) at
+        → AreNodeFaults graph.now skips words costs groups (length set.old) sets.now at → IsNodeFaults graph.now skips words costs groups at set.new }
 {
     // Its contract says that this is a graph.
     let _vars = graph.vars();

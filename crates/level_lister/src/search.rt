@@ -1,46 +1,30 @@
 //! The search for the next state.
-ghost use Rattle.std.specs.Prelude.{◌≡◌, ◌≢◌, ℕ, ◌+◌, ◌*◌, ◌<◌, ◌≤◌, [], length, true, false, All, Some, MatchOption, slice_index};
-ghost use Rattle.conditioner.specs.Models.{models};
+ghost use Rattle.std.specs.Prelude.{◌≡◌, ℕ, ◌+◌, ◌*◌, ◌<◌, ◌≤◌, length, All, Some, MatchOption, slice_index};
 ghost use Rattle.diagnosis_lister.specs.Listing.{fault_count};
 ghost use Rattle.conditioner.specs.Words.{bits_of};
 ghost use Rattle.diagnosis_lister.specs.inner.Working.{fixed_bits};
 ghost use Rattle.level_lister.specs.Listing.{IsFor, cost_words, point_if};
 ghost use Rattle.level_lister.specs.Passes.{AreEnough, fixing_passes, point_faults};
 ghost use Rattle.level_lister.specs.inner.Searching.{FindsFirst, FindsNext};
+ghost use Rattle.level_lister.specs.inner.Skips.{IsEnough};
 
 use crate::levels::Levels;
 use crate::states::state_cost;
-use minimiser::{Steps, least};
+use minimiser::Steps;
 use node_store::Graph;
 use std::sync::ledger::Ledger;
 
-// What is searched: a graph, and what is kept of it.
+// What is searched: a graph, what is kept of it, and for each node whether the passes skip it: 0 where they do not.
 #[derive(Drop)]
 pub(crate) struct Search<'a> {
     pub(crate) levels: &'a Levels,
     pub(crate) graph: &'a Graph,
+    pub(crate) skips: &'a [u32],
     ghost for_graph: { IsFor graph.now levels.now },
+    ghost marks: { length skips.now ≡ length graph.now.nodes },
 }
 
 impl Search<'_> {
-    // Whether some state agrees with the words.
-    pub(crate) fn has_state<L: Ledger>(
-        &self,
-        words: &[u32],
-        work: &mut [u32],
-        steps: &mut Steps<L>,
-    ) -> bool
-        requires long { length words.now ≡ self.now.graph.now.vars }
-        requires words { All (λ w. w < 3) words.now }
-        requires work { length work.old ≡ (length self.now.graph.now.nodes + 2) * (2 * cost_words self.now.levels.now.top) }
-        ensures none { result ≡ false → models self.now.graph.now words.now (length self.now.levels.now.costs) ≡ [] }
-        ensures some { result ≡ true → models self.now.graph.now words.now (length self.now.levels.now.costs) ≢ [] }
-        ensures steps { steps.new ≡ steps.old + 1 }
-    {
-        let (values, _) = work.split_at_mut(self.graph.len() as usize);
-        least(self.graph, words, self.levels.costs(), values, steps).is_some()
-    }
-
     // Fixes the parts as the next state has them, if there is one; what it costs.
     pub(crate) fn find<L: Ledger>(
         &self,
@@ -53,6 +37,7 @@ impl Search<'_> {
     ) -> Option<u32>
         requires long { length words.old ≡ self.now.graph.now.vars }
         requires words { All (λ w. w < 3) words.old }
+        requires enough { IsEnough self.now.graph.now self.now.skips.now words.old self.now.levels.now.costs self.now.levels.now.top }
         requires saved { length saved.now ≡ length self.now.levels.now.costs }
         requires same { (k : ℕ) → k < length self.now.levels.now.costs → slice_index saved.now k ≡ slice_index words.old k }
         requires work { length work.old ≡ (length self.now.graph.now.nodes + 2) * (2 * cost_words self.now.levels.now.top) }
@@ -81,6 +66,7 @@ impl Search<'_> {
     ) -> Option<u32>
         requires long { length words.old ≡ self.now.graph.now.vars }
         requires words { All (λ w. w < 3) words.old }
+        requires enough { IsEnough self.now.graph.now self.now.skips.now words.old self.now.levels.now.costs self.now.levels.now.top }
         requires saved { length saved.now ≡ length self.now.levels.now.costs }
         requires same { (k : ℕ) → k < length self.now.levels.now.costs → slice_index saved.now k ≡ slice_index words.old k }
         requires work { length work.old ≡ (length self.now.graph.now.nodes + 2) * (2 * cost_words self.now.levels.now.top) }
@@ -115,6 +101,7 @@ impl Search<'_> {
     ) -> Option<u32>
         requires long { length words.old ≡ self.now.graph.now.vars }
         requires words { All (λ w. w < 3) words.old }
+        requires enough { IsEnough self.now.graph.now self.now.skips.now words.old self.now.levels.now.costs self.now.levels.now.top }
         requires work { length work.old ≡ (length self.now.graph.now.nodes + 2) * (2 * cost_words self.now.levels.now.top) }
         ensures found { FindsFirst self.now.graph.now words.old self.now.levels.now from words.new result }
         ensures steps { MatchOption result (steps.new ≤ steps.old + 1)

@@ -4,6 +4,7 @@ ghost use Rattle.level_lister.specs.Listing.{cost_words};
 ghost use Rattle.level_lister.specs.Passes.{AreEnough, first_passes, group_count, told_groups};
 ghost use Rattle.level_lister.specs.inner.NodeSets.{BeginWithSets, AreReady};
 ghost use Rattle.level_lister.specs.inner.Pairs.{FaultOf, FaultIn, OkAmong};
+ghost use Rattle.level_lister.specs.inner.Skips.{IsEnough};
 
 use crate::fault_pass::FaultPass;
 use crate::pairs::{Groups, has_bit};
@@ -19,7 +20,7 @@ impl Search<'_> {
         requires long { length words.now ≡ self.now.graph.now.vars }
         requires words { All (λ w. w < 3) words.now }
         requires work { length work.old ≡ (length self.now.graph.now.nodes + 2) * (2 * cost_words self.now.levels.now.top) }
-        ensures ready { AreReady self.now.graph.now words.now self.now.levels.now work.new }
+        ensures ready { AreReady self.now.graph.now self.now.skips.now words.now self.now.levels.now work.new }
         ensures steps { steps.new ≡ steps.old + first_passes self.now.levels.now.top }
     {
         if self.levels.top() < 32 {
@@ -38,15 +39,16 @@ impl Search<'_> {
     fn faulty_group(&self, words: &[u32], work: &mut [u32], cost: u32, groups: Groups) -> u32
         requires long { length words.now ≡ self.now.graph.now.vars }
         requires words { All (λ w. w < 3) words.now }
+        requires enough { IsEnough self.now.graph.now self.now.skips.now words.now self.now.levels.now.costs self.now.levels.now.top }
         requires size { 0 < groups.size }
         requires work { length work.old ≡ (length self.now.graph.now.nodes + 2) * (2 * cost_words self.now.levels.now.top) }
         requires cost { cost ≤ self.now.levels.now.top }
-        requires ready { AreReady self.now.graph.now words.now self.now.levels.now work.old }
+        requires ready { AreReady self.now.graph.now self.now.skips.now words.now self.now.levels.now work.old }
         ensures few { result ≤ told_groups self.now.levels.now.top }
         ensures found { result < told_groups self.now.levels.now.top
             → FaultOf self.now.graph.now words.now self.now.levels.now.costs cost groups result }
         ensures before { (g : ℕ) → g < result → FaultOf self.now.graph.now words.now self.now.levels.now.costs cost groups g → ⊥ }
-        ensures ready { AreReady self.now.graph.now words.now self.now.levels.now work.new }
+        ensures ready { AreReady self.now.graph.now self.now.skips.now words.now self.now.levels.now work.new }
     {
         if self.levels.top() < 32 {
             self.faulty_group_by_pairs(words, work, cost, groups)
@@ -65,6 +67,7 @@ impl Search<'_> {
     ) -> u32
         requires long { length words.now ≡ self.now.graph.now.vars }
         requires words { All (λ w. w < 3) words.now }
+        requires enough { IsEnough self.now.graph.now self.now.skips.now words.now self.now.levels.now.costs self.now.levels.now.top }
         requires top { self.now.levels.now.top < 32 }
         requires size { 0 < groups.size }
         requires work { 2 * length self.now.graph.now.nodes ≤ length work.old }
@@ -97,14 +100,15 @@ impl Search<'_> {
     ) -> u32
         requires long { length words.now ≡ self.now.graph.now.vars }
         requires words { All (λ w. w < 3) words.now }
+        requires enough { IsEnough self.now.graph.now self.now.skips.now words.now self.now.levels.now.costs self.now.levels.now.top }
         requires size { 0 < groups.size }
         requires work { length work.old ≡ (length self.now.graph.now.nodes + 2) * (2 * cost_words self.now.levels.now.top) }
         requires cost { cost ≤ self.now.levels.now.top }
-        requires sets { BeginWithSets self.now.graph.now words.now self.now.levels.now work.old }
+        requires sets { BeginWithSets self.now.graph.now self.now.skips.now words.now self.now.levels.now work.old }
         ensures few { result ≤ 1 }
         ensures found { result < 1 → FaultOf self.now.graph.now words.now self.now.levels.now.costs cost groups result }
         ensures before { (g : ℕ) → g < result → FaultOf self.now.graph.now words.now self.now.levels.now.costs cost groups g → ⊥ }
-        ensures sets { BeginWithSets self.now.graph.now words.now self.now.levels.now work.new }
+        ensures sets { BeginWithSets self.now.graph.now self.now.skips.now words.now self.now.levels.now work.new }
     {
         let size = self.levels.size();
         let all = self.graph.len() as usize * size;
@@ -119,6 +123,7 @@ impl Search<'_> {
             words,
             groups,
             sets,
+            skips: self.skips,
         };
         pass.put_all(faults, whole, other, spare);
         if has_number(whole, cost as usize) {
@@ -140,6 +145,7 @@ impl Search<'_> {
     ) -> Option<usize>
         requires long { length words.now ≡ self.now.graph.now.vars }
         requires words { All (λ w. w < 3) words.now }
+        requires enough { IsEnough self.now.graph.now self.now.skips.now words.now self.now.levels.now.costs self.now.levels.now.top }
         requires work { length work.old ≡ (length self.now.graph.now.nodes + 2) * (2 * cost_words self.now.levels.now.top) }
         requires cost { cost ≤ self.now.levels.now.top }
         requires from { from ≤ length self.now.levels.now.costs }

@@ -6,11 +6,12 @@ ghost use Rattle.diagnosis_lister.specs.inner.Working.{IsFirst, fixed_bits};
 ghost use Rattle.level_lister.specs.Listing.{cost_words};
 ghost use Rattle.level_lister.specs.Passes.{AreEnough, fixing_passes};
 ghost use Rattle.level_lister.specs.inner.Searching.{OfCost, HasCost, NoneAfter, Leaves};
+ghost use Rattle.level_lister.specs.inner.Skips.{IsEnough};
 
 use crate::pairs::{Groups, has_bit};
 use crate::search::Search;
 use crate::states::follow;
-use conditioner::fix_ok;
+use conditioner::{fix_ok, is_false, is_faulty};
 use minimiser::Steps;
 use part_sets::has_number;
 use std::sync::ledger::Ledger;
@@ -32,6 +33,7 @@ impl Search<'_> {
     ) -> bool
         requires long { length words.now ≡ self.now.graph.now.vars }
         requires words { All (λ w. w < 3) words.now }
+        requires enough { IsEnough self.now.graph.now self.now.skips.now words.now self.now.levels.now.costs self.now.levels.now.top }
         requires work { length work.old ≡ (length self.now.graph.now.nodes + 2) * (2 * cost_words self.now.levels.now.top) }
         requires cost { cost ≤ self.now.levels.now.top }
         ensures reached { IsTrue result ↔ HasCost self.now.graph.now words.now self.now.levels.now.costs cost }
@@ -48,6 +50,7 @@ impl Search<'_> {
     fn reaches_by_pairs(&self, words: &[u32], work: &mut [u32], cost: u32) -> bool
         requires long { length words.now ≡ self.now.graph.now.vars }
         requires words { All (λ w. w < 3) words.now }
+        requires enough { IsEnough self.now.graph.now self.now.skips.now words.now self.now.levels.now.costs self.now.levels.now.top }
         requires top { self.now.levels.now.top < 32 }
         requires work { 2 * length self.now.graph.now.nodes ≤ length work.old }
         requires cost { cost ≤ self.now.levels.now.top }
@@ -62,6 +65,7 @@ impl Search<'_> {
     fn reaches_by_sets(&self, words: &[u32], work: &mut [u32], cost: u32) -> bool
         requires long { length words.now ≡ self.now.graph.now.vars }
         requires words { All (λ w. w < 3) words.now }
+        requires enough { IsEnough self.now.graph.now self.now.skips.now words.now self.now.levels.now.costs self.now.levels.now.top }
         requires work { (length self.now.graph.now.nodes + 2) * cost_words self.now.levels.now.top ≤ length work.old }
         requires cost { cost ≤ self.now.levels.now.top }
         ensures { IsTrue result ↔ HasCost self.now.graph.now words.now self.now.levels.now.costs cost }
@@ -84,6 +88,7 @@ impl Search<'_> {
     ) -> Option<u32>
         requires long { length words.now ≡ self.now.graph.now.vars }
         requires words { All (λ w. w < 3) words.now }
+        requires enough { IsEnough self.now.graph.now self.now.skips.now words.now self.now.levels.now.costs self.now.levels.now.top }
         requires work { length work.old ≡ (length self.now.graph.now.nodes + 2) * (2 * cost_words self.now.levels.now.top) }
         ensures next { MatchOption result
             ((c : ℕ) → from ≤ c → c ≤ self.now.levels.now.top → HasCost self.now.graph.now words.now self.now.levels.now.costs c → ⊥)
@@ -102,6 +107,7 @@ impl Search<'_> {
     fn next_by_pairs(&self, words: &[u32], work: &mut [u32], from: u32) -> Option<u32>
         requires long { length words.now ≡ self.now.graph.now.vars }
         requires words { All (λ w. w < 3) words.now }
+        requires enough { IsEnough self.now.graph.now self.now.skips.now words.now self.now.levels.now.costs self.now.levels.now.top }
         requires top { self.now.levels.now.top < 32 }
         requires work { 2 * length self.now.graph.now.nodes ≤ length work.old }
         ensures { MatchOption result
@@ -123,6 +129,7 @@ impl Search<'_> {
     fn next_by_sets(&self, words: &[u32], work: &mut [u32], from: u32) -> Option<u32>
         requires long { length words.now ≡ self.now.graph.now.vars }
         requires words { All (λ w. w < 3) words.now }
+        requires enough { IsEnough self.now.graph.now self.now.skips.now words.now self.now.levels.now.costs self.now.levels.now.top }
         requires work { (length self.now.graph.now.nodes + 2) * cost_words self.now.levels.now.top ≤ length work.old }
         ensures { MatchOption result
             ((c : ℕ) → from ≤ c → c ≤ self.now.levels.now.top → HasCost self.now.graph.now words.now self.now.levels.now.costs c → ⊥)
@@ -154,6 +161,7 @@ impl Search<'_> {
     )
         requires long { length words.old ≡ self.now.graph.now.vars }
         requires words { All (λ w. w < 3) words.old }
+        requires enough { IsEnough self.now.graph.now self.now.skips.now words.old self.now.levels.now.costs self.now.levels.now.top }
         requires work { length work.old ≡ (length self.now.graph.now.nodes + 2) * (2 * cost_words self.now.levels.now.top) }
         requires cost { cost ≤ self.now.levels.now.top }
         requires from { from ≤ length self.now.levels.now.costs }
@@ -188,6 +196,7 @@ impl Search<'_> {
     ) -> Option<usize>
         requires long { length words.old ≡ self.now.graph.now.vars }
         requires words { All (λ w. w < 3) words.old }
+        requires enough { IsEnough self.now.graph.now self.now.skips.now words.old self.now.levels.now.costs self.now.levels.now.top }
         requires saved { length saved.now ≡ length self.now.levels.now.costs }
         requires same { (k : ℕ) → k < length self.now.levels.now.costs → slice_index saved.now k ≡ slice_index words.old k }
         requires work { length work.old ≡ (length self.now.graph.now.nodes + 2) * (2 * cost_words self.now.levels.now.top) }
@@ -202,7 +211,7 @@ impl Search<'_> {
         let end = follow(words, state);
         for part in (0..end).rev() {
             let word = saved[part];
-            if state[part] != 0 && word != 2 {
+            if is_faulty(state[part]) && !is_false(word) {
                 words[part] = 1;
                 if self.reaches(words, work, cost, steps) {
                     return Some(part);

@@ -5,6 +5,7 @@ ghost use Rattle.conditioner.specs.Models.{total_cost};
 ghost use Rattle.conditioner.specs.Words.{bits_of};
 ghost use Rattle.diagnosis_lister.specs.inner.Working.{Follows, fixed_bits};
 
+use conditioner::{is_false, is_faulty, is_open, word_of_known};
 use minimiser::TOTAL_LIMIT;
 
 // What a state costs.
@@ -16,7 +17,7 @@ pub(crate) fn state_cost(state: &[u32], costs: &[u32]) -> u32
 {
     let mut total = 0;
     for (part, cost) in costs.iter().enumerate() {
-        if state[part] != 0 {
+        if is_faulty(state[part]) {
             total += *cost;
         }
     }
@@ -32,8 +33,8 @@ pub(crate) fn follow(words: &mut [u32], state: &[u32]) -> usize
     ensures follows { Follows words.old (bits_of state.now) words.new result }
 {
     for (part, faulty) in state.iter().enumerate() {
-        let word = if *faulty == 0 { 1 } else { 2 };
-        if words[part] == 0 {
+        let word = word_of_known(Some(!is_faulty(*faulty)));
+        if is_open(words[part]) {
             words[part] = word;
         } else if words[part] != word {
             return part + 1;
@@ -49,7 +50,7 @@ pub(crate) fn read_state(words: &[u32], state: &mut [u32])
     ensures small { All (λ s. s < 2) state.new }
 {
     for (part, faulty) in state.iter_mut().enumerate() {
-        *faulty = u32::from(words[part] == 2);
+        *faulty = u32::from(is_false(words[part]));
     }
 }
 

@@ -5,6 +5,7 @@ use Rattle.graph_rules.specs.Graphs.{Graph, is_true, mentions}
 use Rattle.part_sets.specs.Numbers.{has_number, set_at}
 use Rattle.level_lister.specs.declared.pairs.Groups.{Groups}
 use Rattle.level_lister.specs.inner.CostSets.{Follows, cost_among, IsCostSet}
+use Rattle.level_lister.specs.inner.Skips.{living}
 use Rattle.level_lister.specs.inner.Pairs.{Meets, HasFault, group_in}
 
 -- The set has just the costs at which a condition is met, so far as it has room.
@@ -26,16 +27,16 @@ pub record AreBothSets (words costs : List ℕ) (group : ℕ → Bool) (test : A
   pub all : IsCostSet words costs test some set
   pub faulty : IsFaultSet words costs group test some faults
 
--- the set of the costs at which a node can be true and an open part of the first group below it faulty
-abbrev pub IsNodeFaults : Graph → List ℕ → List ℕ → Groups → ℕ → List ℕ → Type 0
-IsNodeFaults graph words costs groups k set =
-    IsFaultSet words costs (in_first words costs groups) (λ a. is_true graph.nodes k a) (λ v. mentions graph.nodes v k) set
+-- the set of the costs at which a node can be true, where some are skipped, and an open part of the first group below it faulty
+abbrev pub IsNodeFaults : Graph → List ℕ → List ℕ → List ℕ → Groups → ℕ → List ℕ → Type 0
+IsNodeFaults graph skips words costs groups k set =
+    IsFaultSet words costs (in_first words costs groups) (λ a. is_true (living graph.nodes skips) k a) (λ v. mentions graph.nodes v k) set
 
 -- those of the first nodes
-abbrev pub AreNodeFaults : Graph → List ℕ → List ℕ → Groups → ℕ → List ℕ → ℕ → Type 0
-AreNodeFaults graph words costs groups size sets n = (k : ℕ) → k < n → IsNodeFaults graph words costs groups k (set_at sets k size)
+abbrev pub AreNodeFaults : Graph → List ℕ → List ℕ → List ℕ → Groups → ℕ → List ℕ → ℕ → Type 0
+AreNodeFaults graph skips words costs groups size sets n = (k : ℕ) → k < n → IsNodeFaults graph skips words costs groups k (set_at sets k size)
 
 -- the set of the costs at which the last node can be true and any open part of the first group faulty
-abbrev pub IsWholeFaults : Graph → List ℕ → List ℕ → Groups → List ℕ → Type 0
-IsWholeFaults graph words costs groups set =
-    IsFaultSet words costs (in_first words costs groups) (λ a. is_true graph.nodes (length graph.nodes - 1) a) (λ v. true) set
+abbrev pub IsWholeFaults : Graph → List ℕ → List ℕ → List ℕ → Groups → List ℕ → Type 0
+IsWholeFaults graph skips words costs groups set =
+    IsFaultSet words costs (in_first words costs groups) (λ a. is_true (living graph.nodes skips) (length graph.nodes - 1) a) (λ v. true) set

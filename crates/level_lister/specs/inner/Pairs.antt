@@ -8,6 +8,7 @@ use Rattle.level_lister.specs.declared.pairs.Pair.{Pair}
 use Rattle.level_lister.specs.declared.pairs.Groups.{Groups}
 pub use Rattle.level_lister.specs.Passes.{group_count}
 use Rattle.level_lister.specs.inner.CostSets.{Follows, cost_among}
+use Rattle.level_lister.specs.inner.Skips.{living}
 use Rattle.level_lister.specs.inner.Searching.{OfCost}
 
 -- the bit of a number in a word
@@ -61,23 +62,23 @@ abbrev pub group_in : List ℕ → ℕ → Groups → ℕ → ℕ → Bool
 group_in words parts groups g v =
     (nat_le (groups.low + 1) v && nat_le v parts) && ((slice_index words (v - 1) == 0) && ((v - 1 - groups.low) / groups.size == g))
 
--- what is told of a node
-abbrev pub TellsNode : Graph → List ℕ → List ℕ → ℕ → Groups → ℕ → Pair → Type 0
-TellsNode graph words costs top groups k pair =
-    Tells words costs top (group_count top) (group_in words (length costs) groups) (λ a. is_true graph.nodes k a) (λ v. mentions graph.nodes v k) pair
+-- what is told of a node, where some are skipped
+abbrev pub TellsNode : Graph → List ℕ → List ℕ → List ℕ → ℕ → Groups → ℕ → Pair → Type 0
+TellsNode graph skips words costs top groups k pair =
+    Tells words costs top (group_count top) (group_in words (length costs) groups) (λ a. is_true (living graph.nodes skips) k a) (λ v. mentions graph.nodes v k) pair
 
 -- the two words of a node
 abbrev pub pair_at : List ℕ → ℕ → Pair
 pair_at values k = record { costs = slice_index values (2 * k); faults = slice_index values (2 * k + 1) }
 
 -- those of the first nodes
-abbrev pub TellNodes : Graph → List ℕ → List ℕ → ℕ → Groups → List ℕ → ℕ → Type 0
-TellNodes graph words costs top groups values n = (k : ℕ) → k < n → TellsNode graph words costs top groups k (pair_at values k)
+abbrev pub TellNodes : Graph → List ℕ → List ℕ → List ℕ → ℕ → Groups → List ℕ → ℕ → Type 0
+TellNodes graph skips words costs top groups values n = (k : ℕ) → k < n → TellsNode graph skips words costs top groups k (pair_at values k)
 
 -- what is told of the last node, of all faulty parts
-abbrev pub TellsWhole : Graph → List ℕ → List ℕ → ℕ → Groups → Pair → Type 0
-TellsWhole graph words costs top groups pair =
-    Tells words costs top (group_count top) (group_in words (length costs) groups) (λ a. is_true graph.nodes (length graph.nodes - 1) a) (λ v. true) pair
+abbrev pub TellsWhole : Graph → List ℕ → List ℕ → List ℕ → ℕ → Groups → Pair → Type 0
+TellsWhole graph skips words costs top groups pair =
+    Tells words costs top (group_count top) (group_in words (length costs) groups) (λ a. is_true (living graph.nodes skips) (length graph.nodes - 1) a) (λ v. true) pair
 
 -- an open part of a group is faulty in some state of a cost
 pub record FaultOf (graph : Graph) (words costs : List ℕ) (c : ℕ) (groups : Groups) (g : ℕ) : Type 0 where

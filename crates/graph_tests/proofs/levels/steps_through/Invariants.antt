@@ -7,5 +7,5 @@ abbrev pub invariant-loop-expected : goal.invariant-loop-expected
 invariant-loop-expected g l = record {
   words : All (λ w. w < 3) l.words;
   state : All (λ s. s < 2) l.state;
-  room : length l.scratch ≡ 3 + (length l.graph.nodes + 2) * (2 * cost_words l.levels.top);
+  room : length l.scratch ≡ 3 + length l.graph.nodes + (length l.graph.nodes + 2) * (2 * cost_words l.levels.top);
 }

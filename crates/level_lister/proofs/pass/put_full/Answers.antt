@@ -9,8 +9,8 @@ use Rattle.level_lister.proofs.pass.put_full.Goals as goal
 
 pub loop-kid-init : goal.loop-kid-init
 loop-kid-init c = record {
-  all = λ words costs same sets. empty_is words costs _ c.clear.new.set c.clear.ensures;
-  faulty = λ words costs groups same sets. or_faults_none c.args.graph.now c.args.at c.kids-kid-items.result.now c.vars-vars.ensures.valid c.requires.at c.kids-kid-items.ensures words costs groups c.clear.new.set c.clear.ensures;
+  all = λ skips words costs lives same sets. empty_is words costs _ c.clear.new.set c.clear.ensures;
+  faulty = λ skips words costs groups lives same sets. or_faults_none c.args.graph.now c.args.at c.kids-kid-items.result.now c.vars-vars.ensures.valid c.requires.at c.kids-kid-items.ensures skips lives words costs groups c.clear.new.set c.clear.ensures;
 }
 
 pub set_at-requires : goal.set_at-requires
@@ -32,26 +32,26 @@ loop-kid-preserved c =
     let size : length c.add_shifted.new.set ≡ length c.loop-kid.set = omega arith in
     let own : length c.add_shifted.new.set ≡ length c.args.set.now = omega arith in
     let below = kid-below graph at kids ok c.requires.at c.kids-kid-items.ensures j lt in record {
-      all = λ words costs same sets.
-          or_more graph at kids ok c.requires.at c.kids-kid-items.ensures words costs j c.loop-kid.set kid new lt (sym size) (omega (arith, c.set_at.ensures.long)) (λ n h. c.add_shifted.ensures n (omega arith))
-          (c.loop-kid.invariant.all words costs same (subst (λ n. AreNodeSets graph words costs n earlier at) size sets))
-          (set_full graph at kids ok c.requires.at c.kids-kid-items.ensures words costs j kid c.requires.what lt same
-          (subst (IsNodeSet graph words costs (get_or kids j 0)) (sym c.set_at.ensures.set) (subst (λ n. AreNodeSets graph words costs n earlier at) own sets (get_or kids j 0) below)));
-      faulty = λ words costs groups same sets.
-          or_faults_more graph at kids ok c.requires.at c.kids-kid-items.ensures words costs groups j c.loop-kid.set kid new lt (sym size) (omega (arith, c.set_at.ensures.long)) (λ n h. c.add_shifted.ensures n (omega arith))
-          (c.loop-kid.invariant.faulty words costs groups same (subst (λ n. AreNodeFaults graph words costs groups n earlier at) size sets))
-          (fault_full graph at kids ok c.requires.at c.kids-kid-items.ensures words costs groups j kid c.requires.what lt same
-          (subst (IsNodeFaults graph words costs groups (get_or kids j 0)) (sym c.set_at.ensures.set) (subst (λ n. AreNodeFaults graph words costs groups n earlier at) own sets (get_or kids j 0) below)));
+      all = λ skips words costs lives same sets.
+          or_more graph at kids ok c.requires.at c.kids-kid-items.ensures skips lives words costs j c.loop-kid.set kid new lt (sym size) (omega (arith, c.set_at.ensures.long)) (λ n h. c.add_shifted.ensures n (omega arith))
+          (c.loop-kid.invariant.all skips words costs lives same (subst (λ n. AreNodeSets graph skips words costs n earlier at) size sets))
+          (set_full graph at kids ok c.requires.at c.kids-kid-items.ensures skips lives words costs j kid c.requires.what lt same
+          (subst (IsNodeSet graph skips words costs (get_or kids j 0)) (sym c.set_at.ensures.set) (subst (λ n. AreNodeSets graph skips words costs n earlier at) own sets (get_or kids j 0) below)));
+      faulty = λ skips words costs groups lives same sets.
+          or_faults_more graph at kids ok c.requires.at c.kids-kid-items.ensures skips lives words costs groups j c.loop-kid.set kid new lt (sym size) (omega (arith, c.set_at.ensures.long)) (λ n h. c.add_shifted.ensures n (omega arith))
+          (c.loop-kid.invariant.faulty skips words costs groups lives same (subst (λ n. AreNodeFaults graph skips words costs groups n earlier at) size sets))
+          (fault_full graph at kids ok c.requires.at c.kids-kid-items.ensures skips lives words costs groups j kid c.requires.what lt same
+          (subst (IsNodeFaults graph skips words costs groups (get_or kids j 0)) (sym c.set_at.ensures.set) (subst (λ n. AreNodeFaults graph skips words costs groups n earlier at) own sets (get_or kids j 0) below)));
     }
 
 pub returns-clause-all : goal.returns-clause-all
-returns-clause-all c words costs same sets =
+returns-clause-all c skips words costs lives same sets =
     let size : length c.args.set.now ≡ length c.loop-kid.set = omega arith in
-    or_all c.args.graph.now c.args.at c.kids-kid-items.result.now c.vars-vars.ensures.valid c.requires.at c.kids-kid-items.ensures words costs c.loop-kid.kid-index c.loop-kid.set c.requires.what (omega arith)
-    (c.loop-kid.invariant.all words costs same (subst (λ n. AreNodeSets c.args.graph.now words costs n c.args.sets.now c.args.at) size sets))
+    or_all c.args.graph.now c.args.at c.kids-kid-items.result.now c.vars-vars.ensures.valid c.requires.at c.kids-kid-items.ensures skips lives words costs c.loop-kid.kid-index c.loop-kid.set c.requires.what (omega arith)
+    (c.loop-kid.invariant.all skips words costs lives same (subst (λ n. AreNodeSets c.args.graph.now skips words costs n c.args.sets.now c.args.at) size sets))
 
 pub returns-clause-faulty : goal.returns-clause-faulty
-returns-clause-faulty c words costs groups same sets =
+returns-clause-faulty c skips words costs groups lives same sets =
     let size : length c.args.set.now ≡ length c.loop-kid.set = omega arith in
-    or_faults_all c.args.graph.now c.args.at c.kids-kid-items.result.now c.vars-vars.ensures.valid c.requires.at c.kids-kid-items.ensures words costs groups c.loop-kid.kid-index c.loop-kid.set c.requires.what (omega arith)
-    (c.loop-kid.invariant.faulty words costs groups same (subst (λ n. AreNodeFaults c.args.graph.now words costs groups n c.args.sets.now c.args.at) size sets))
+    or_faults_all c.args.graph.now c.args.at c.kids-kid-items.result.now c.vars-vars.ensures.valid c.requires.at c.kids-kid-items.ensures skips lives words costs groups c.loop-kid.kid-index c.loop-kid.set c.requires.what (omega arith)
+    (c.loop-kid.invariant.faulty skips words costs groups lives same (subst (λ n. AreNodeFaults c.args.graph.now skips words costs groups n c.args.sets.now c.args.at) size sets))

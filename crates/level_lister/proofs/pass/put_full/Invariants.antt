@@ -1,7 +1,8 @@
-use Rattle.std.proofs.Common.{List, ℕ, map, take, length}
+use Rattle.std.proofs.Common.{◌≡◌, List, ℕ, map, take, length, get_or}
 use Rattle.std.specs.List.{list_any}
 use Rattle.graph_rules.specs.Graphs.{is_true, mentions}
 use Rattle.part_sets.specs.PartSets.{SameBelow}
+use Rattle.level_lister.specs.inner.Skips.{living}
 use Rattle.level_lister.specs.declared.pairs.Groups.{Groups}
 use Rattle.level_lister.specs.inner.CostSets.{IsCostSet}
 use Rattle.level_lister.specs.inner.NodeSets.{AreNodeSets}
@@ -11,8 +12,8 @@ use Rattle.level_lister.proofs.pass.put_full.Given as goal
 -- the set is that of an Or of the kids before the place, over the variables below all of them
 abbrev pub invariant-loop-kid : goal.invariant-loop-kid
 invariant-loop-kid l = record {
-  all : (words costs : List ℕ) → SameBelow l.graph (length costs) l.at → AreNodeSets l.graph words costs (length l.set) l.sets l.at
-      → IsCostSet words costs (λ a. list_any (λ b. b) (map (λ k. is_true l.graph.nodes k a) (take l.kid-index l.kid-items))) (λ v. mentions l.graph.nodes v l.at) l.set;
-  faulty : (words costs : List ℕ) (groups : Groups) → SameBelow l.graph (length costs) l.at → AreNodeFaults l.graph words costs groups (length l.set) l.sets l.at
-      → IsFaultSet words costs (in_first words costs groups) (λ a. list_any (λ b. b) (map (λ k. is_true l.graph.nodes k a) (take l.kid-index l.kid-items))) (λ v. mentions l.graph.nodes v l.at) l.set;
+  all : (skips words costs : List ℕ) → get_or skips l.at 0 ≡ 0 → SameBelow l.graph (length costs) l.at → AreNodeSets l.graph skips words costs (length l.set) l.sets l.at
+      → IsCostSet words costs (λ a. list_any (λ b. b) (map (λ k. is_true (living l.graph.nodes skips) k a) (take l.kid-index l.kid-items))) (λ v. mentions l.graph.nodes v l.at) l.set;
+  faulty : (skips words costs : List ℕ) (groups : Groups) → get_or skips l.at 0 ≡ 0 → SameBelow l.graph (length costs) l.at → AreNodeFaults l.graph skips words costs groups (length l.set) l.sets l.at
+      → IsFaultSet words costs (in_first words costs groups) (λ a. list_any (λ b. b) (map (λ k. is_true (living l.graph.nodes skips) k a) (take l.kid-index l.kid-items))) (λ v. mentions l.graph.nodes v l.at) l.set;
 }

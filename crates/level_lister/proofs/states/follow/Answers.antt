@@ -1,30 +1,39 @@
-use Rattle.std.proofs.Common.{◌≡◌, ◌+◌, ◌<◌, length, All, List, ℕ, sym, ◌∙◌, ap, subst, arith}
+use Rattle.std.proofs.Common.{◌≡◌, ◌+◌, ◌<◌, Bool, true, false, not, length, get_or, All, List, ℕ, refl, sym, ◌∙◌, ap, subst, arith}
+use Rattle.std.specs.Prelude.{◌==◌}
+use Rattle.std.proofs.lemmas.Bool.{eqb-true}
 use Rattle.std.proofs.lemmas.List.Elements.{All-set}
 use Rattle.ranking.specs.Bits.{bit_in}
 use Rattle.conditioner.specs.Words.{word_of, bits_of}
 use Rattle.diagnosis_lister.proofs.Marking.{length-bits}
 use Rattle.diagnosis_lister.proofs.Points.{FollowsTo, FollowsTo-set, FollowsTo-stay, Follows-all}
-use Rattle.level_lister.proofs.StateBits.{is_ok, is_faulty}
+use Rattle.level_lister.proofs.StateBits.{bit_in-bits}
 use Rattle.level_lister.proofs.states.follow.Goals as goal
-use Rattle.level_lister.proofs.states.follow.Goals.{then-faulty-eq0, else-faulty-eq0, then-words-part-eq0, else-words-part-eq0+else-words-part}
+use Rattle.level_lister.proofs.states.follow.Goals.{then-is_open, else-is_open+else-words-part}
+
+own_bit : (state : List ℕ) (i : ℕ) → i < length state → (faulty : Bool) → faulty ≡ not (get_or state i 0 == 0) → not faulty ≡ bit_in (bits_of state) i
+own_bit state i h faulty e = ap not e ∙ twice (get_or state i 0 == 0) ∙ sym (bit_in-bits state i h) where
+  twice : (b : Bool) → not (not b) ≡ b
+  twice true = refl
+  twice false = refl
+
+few_words : (b : Bool) (word : ℕ) → word ≡ word_of b → word < 3
+few_words true word e = omega arith
+few_words false word e = omega arith
 
 pub loop-part-preserved : goal.loop-part-preserved
 loop-part-preserved c =
     let state = c.args.state.now in
     let point = bits_of state in
     let i = c.loop-part.part in
-    let word : c.if-faulty-eq0.word ≡ word_of (bit_in point i) = elim c.if-faulty-eq0.branch [
-      | then-faulty-eq0 v ↦ v.word-is ∙ ap word_of (sym (is_ok state i c.loop-part-test.true v.if-faulty-eq0.true))
-      | else-faulty-eq0 v ↦ v.word-is ∙ ap word_of (sym (is_faulty state i c.loop-part-test.true v.if-faulty-eq0.false))
-    ] in
-    let few : c.if-faulty-eq0.word < 3 = elim c.if-faulty-eq0.branch [ then-faulty-eq0 v ↦ omega arith | else-faulty-eq0 v ↦ omega arith ] in
-    elim c.if-words-part-eq0.branch [
-      | then-words-part-eq0 w ↦ record {
-        small = subst (λ (ws : List ℕ). All (λ w. w < 3) ws) (sym w.words-is) (All-set (λ w. w < 3) c.loop-part.words i c.if-faulty-eq0.word few c.loop-part.invariant.small);
-        follows = FollowsTo-set c.args.words.now point c.loop-part.words c.if-words-part-eq0.words i c.if-faulty-eq0.word (omega arith) c.loop-part.invariant.follows word
-            (sym (c.loop-part.invariant.follows.behind i (omega arith)) ∙ w.if-words-part-eq0.true) w.words-is;
+    let word : c.word_of_known-word.result ≡ word_of (bit_in point i) = c.word_of_known-word.ensures ∙ ap word_of (own_bit state i c.loop-part-test.true c.is_faulty.result c.is_faulty.ensures) in
+    let few : c.word_of_known-word.result < 3 = few_words (bit_in point i) c.word_of_known-word.result word in
+    elim c.if-is_open.branch [
+      | then-is_open w ↦ record {
+        small = subst (λ (ws : List ℕ). All (λ w. w < 3) ws) (sym w.words-is) (All-set (λ w. w < 3) c.loop-part.words i c.word_of_known-word.result few c.loop-part.invariant.small);
+        follows = FollowsTo-set c.args.words.now point c.loop-part.words c.if-is_open.words i c.word_of_known-word.result (omega arith) c.loop-part.invariant.follows word
+            (sym (c.loop-part.invariant.follows.behind i (omega arith)) ∙ eqb-true _ 0 (sym c.is_open.ensures ∙ w.if-is_open.true)) w.words-is;
       }
-      | else-words-part-eq0+else-words-part w ↦ record {
+      | else-is_open+else-words-part w ↦ record {
         small = subst (λ (ws : List ℕ). All (λ w. w < 3) ws) (sym w.words-is) c.loop-part.invariant.small;
         follows = subst (λ (ws : List ℕ). FollowsTo c.args.words.now point ws (i + 1)) (sym w.words-is) (FollowsTo-stay c.args.words.now point c.loop-part.words i c.loop-part.invariant.follows (w.if-words-part.false ∙ word));
       }

@@ -2,6 +2,7 @@ use Rattle.std.proofs.Common.{◌≡◌, ◌+◌, ◌-◌, ◌<◌, true, length
 use Rattle.graph_rules.specs.Graphs.{is_true, mentions}
 use Rattle.part_sets.specs.Numbers.{part_words, set_at}
 use Rattle.part_sets.specs.PartSets.{ArePartsOf}
+use Rattle.level_lister.specs.inner.Skips.{living}
 use Rattle.level_lister.specs.inner.NodeSets.{IsNodeSet}
 use Rattle.level_lister.specs.inner.FaultSets.{IsNodeFaults}
 use Rattle.level_lister.proofs.FaultNodes.{whole_faults_full}
@@ -17,8 +18,8 @@ returns-then-lacking-root-eq0 c =
     let root : c.len.result - 1 ≡ length graph.nodes - 1 = omega (arith, c.len.ensures.len) in
     let next : c.len.result - 1 + 1 ≡ length graph.nodes = omega (arith, c.len.ensures.len, c.len.ensures.valid.some) in
     let full : get_or c.args.self.now.levels.now.lacking (length graph.nodes) 0 ≡ 0 = sym (λ i. get_or (c.lacking.ensures i) (next i) 0) ∙ c.if-lacking-root-eq0.true in
-    whole_faults_full graph words costs (c.args.self.now.for_graph.lacking.all.0 full) groups c.copy_from_slice.new.self
-    (subst (IsNodeFaults graph words costs groups (length graph.nodes - 1)) (sym (c.copy_from_slice.ensures.after ∙ c.set_at.ensures.set ∙ (λ i. set_at c.put_faults.new.faults (root i) (c.size-size.ensures i))))
+    whole_faults_full graph c.args.self.now.skips.now words costs (c.args.self.now.for_graph.lacking.all.0 full) groups c.copy_from_slice.new.self
+    (subst (IsNodeFaults graph c.args.self.now.skips.now words costs groups (length graph.nodes - 1)) (sym (c.copy_from_slice.ensures.after ∙ c.set_at.ensures.set ∙ (λ i. set_at c.put_faults.new.faults (root i) (c.size-size.ensures i))))
     (c.put_faults.ensures (length graph.nodes - 1) inside))
 
 pub returns : goal.returns
@@ -32,12 +33,12 @@ returns c =
     let inside : length graph.nodes - 1 < length graph.nodes = omega (arith, c.len.ensures.valid.some) in
     let root : c.len.result - 1 ≡ length graph.nodes - 1 = omega (arith, c.len.ensures.len) in
     let next : c.len.result - 1 + 1 ≡ length graph.nodes = omega (arith, c.len.ensures.len, c.len.ensures.valid.some) in
-    let all : IsNodeSet graph words costs (length graph.nodes - 1) c.copy_from_slice-2.new.self =
-    subst (IsNodeSet graph words costs (length graph.nodes - 1)) (sym (c.copy_from_slice-2.ensures.after ∙ c.set_at-2.ensures.set ∙ (λ i. set_at c.args.self.now.sets.now (root i) (c.size-size.ensures i)))) (c.requires.are (length graph.nodes - 1) inside) in
-    let faults : IsNodeFaults graph words costs groups (length graph.nodes - 1) c.copy_from_slice.new.self =
-    subst (IsNodeFaults graph words costs groups (length graph.nodes - 1)) (sym (c.copy_from_slice.ensures.after ∙ c.set_at.ensures.set ∙ (λ i. set_at c.put_faults.new.faults (root i) (c.size-size.ensures i))))
+    let all : IsNodeSet graph c.args.self.now.skips.now words costs (length graph.nodes - 1) c.copy_from_slice-2.new.self =
+    subst (IsNodeSet graph c.args.self.now.skips.now words costs (length graph.nodes - 1)) (sym (c.copy_from_slice-2.ensures.after ∙ c.set_at-2.ensures.set ∙ (λ i. set_at c.args.self.now.sets.now (root i) (c.size-size.ensures i)))) (c.requires.are (length graph.nodes - 1) inside) in
+    let faults : IsNodeFaults graph c.args.self.now.skips.now words costs groups (length graph.nodes - 1) c.copy_from_slice.new.self =
+    subst (IsNodeFaults graph c.args.self.now.skips.now words costs groups (length graph.nodes - 1)) (sym (c.copy_from_slice.ensures.after ∙ c.set_at.ensures.set ∙ (λ i. set_at c.put_faults.new.faults (root i) (c.size-size.ensures i))))
     (c.put_faults.ensures (length graph.nodes - 1) inside) in
-    let wide = c.widen_both.ensures (λ a. is_true graph.nodes (length graph.nodes - 1) a) (λ v. mentions graph.nodes v (length graph.nodes - 1)) (λ v. true)
+    let wide = c.widen_both.ensures (λ a. is_true (living graph.nodes c.args.self.now.skips.now) (length graph.nodes - 1) a) (λ v. mentions graph.nodes v (length graph.nodes - 1)) (λ v. true)
     (subst (λ k. ArePartsOf (length costs) (λ v. mentions graph.nodes v (length graph.nodes - 1)) (set_at below k size)) (sym root) (c.args.self.now.for_graph.below.nodes (length graph.nodes - 1) inside))
     (subst (λ k. ArePartsOf (length costs) (λ v. true) (set_at below k size)) (sym next) c.args.self.now.for_graph.below.all)
     (λ v e. refl) (record { all = all; faulty = faults }) in

@@ -42,14 +42,14 @@ loop-kid-preserved c =
     let lt = c.loop-kid-test.true in
     let below = kid-below graph at kids ok c.requires.at c.kids-kid-items.ensures j lt in
     let inside : kid < length graph.nodes = omega (arith, below, c.requires.at) in
-    let own : IsNodeSet graph words costs kid c.set_at-own.result.now =
-    subst (IsNodeSet graph words costs kid) (sym (c.set_at-own.ensures.set ∙ ap (λ n. set_at c.args.self.now.sets.now kid n) c.size-size.ensures)) (c.requires.are kid inside) in
-    let faults : IsNodeFaults graph words costs groups kid c.set_at-faults.result.now =
-    subst (IsNodeFaults graph words costs groups kid) (sym (c.set_at-faults.ensures.set ∙ ap (λ n. set_at c.args.earlier.now kid n) c.size-size.ensures)) (c.requires.earlier kid below) in
-    and_faults_more graph at kids ok c.requires.at c.kids-kid-items.ensures words costs groups j c.put_both_sums.new.all c.put_both_sums.new.set lt
-    (c.put_both_sums.ensures words costs (in_first words costs groups) _ _ _ _ (and_faults_apart graph at kids ok c.requires.at c.kids-kid-items.ensures words costs groups j c.requires.what lt)
+    let own : IsNodeSet graph c.args.self.now.skips.now words costs kid c.set_at-own.result.now =
+    subst (IsNodeSet graph c.args.self.now.skips.now words costs kid) (sym (c.set_at-own.ensures.set ∙ ap (λ n. set_at c.args.self.now.sets.now kid n) c.size-size.ensures)) (c.requires.are kid inside) in
+    let faults : IsNodeFaults graph c.args.self.now.skips.now words costs groups kid c.set_at-faults.result.now =
+    subst (IsNodeFaults graph c.args.self.now.skips.now words costs groups kid) (sym (c.set_at-faults.ensures.set ∙ ap (λ n. set_at c.args.earlier.now kid n) c.size-size.ensures)) (c.requires.earlier kid below) in
+    and_faults_more graph at kids ok c.requires.at c.kids-kid-items.ensures c.args.self.now.skips.now c.requires.lives words costs groups j c.put_both_sums.new.all c.put_both_sums.new.set lt
+    (c.put_both_sums.ensures words costs (in_first words costs groups) _ _ _ _ (and_faults_apart graph at kids ok c.requires.at c.kids-kid-items.ensures c.args.self.now.skips.now c.requires.lives words costs groups j c.requires.what lt)
     c.loop-kid.invariant (record { all = own; faulty = faults }))
 
 pub returns : goal.returns
-returns c = and_faults_all c.args.self.now.graph.now c.args.at c.kids-kid-items.result.now c.vars-vars.ensures.valid c.requires.at c.kids-kid-items.ensures c.args.self.now.words.now c.args.self.now.levels.now.costs c.args.self.now.groups
+returns c = and_faults_all c.args.self.now.graph.now c.args.at c.kids-kid-items.result.now c.vars-vars.ensures.valid c.requires.at c.kids-kid-items.ensures c.args.self.now.skips.now c.requires.lives c.args.self.now.words.now c.args.self.now.levels.now.costs c.args.self.now.groups
     c.loop-kid.kid-index c.loop-kid.all c.loop-kid.set c.requires.what (omega arith) c.loop-kid.invariant

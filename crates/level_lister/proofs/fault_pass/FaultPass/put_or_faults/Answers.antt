@@ -2,13 +2,14 @@ use Rattle.std.proofs.Common.{◌*◌, ◌<◌, length, get_or, sym, ◌∙◌, 
 use Rattle.graph_rules.specs.Graphs.{is_true, mentions}
 use Rattle.part_sets.specs.Numbers.{set_at}
 use Rattle.part_sets.proofs.Kids.{room_for, kid-below, kid-mentions}
+use Rattle.level_lister.specs.inner.Skips.{living}
 use Rattle.level_lister.specs.inner.NodeSets.{IsNodeSet}
 use Rattle.level_lister.specs.inner.FaultSets.{IsNodeFaults}
 use Rattle.level_lister.proofs.FaultNodes.{or_faults_none, or_faults_more, or_faults_all}
 use Rattle.level_lister.proofs.fault_pass.FaultPass.put_or_faults.Goals as goal
 
 pub loop-kid-init : goal.loop-kid-init
-loop-kid-init c = or_faults_none c.args.self.now.graph.now c.args.at c.kids-kid-items.result.now c.vars-vars.ensures.valid c.requires.at c.kids-kid-items.ensures c.args.self.now.words.now c.args.self.now.levels.now.costs c.args.self.now.groups c.clear.new.set c.clear.ensures
+loop-kid-init c = or_faults_none c.args.self.now.graph.now c.args.at c.kids-kid-items.result.now c.vars-vars.ensures.valid c.requires.at c.kids-kid-items.ensures c.args.self.now.skips.now c.requires.lives c.args.self.now.words.now c.args.self.now.levels.now.costs c.args.self.now.groups c.clear.new.set c.clear.ensures
 
 pub set_at-requires : goal.set_at-requires
 set_at-requires c =
@@ -49,16 +50,16 @@ loop-kid-preserved c =
     let lt = c.loop-kid-test.true in
     let below = kid-below graph at kids ok c.requires.at c.kids-kid-items.ensures j lt in
     let inside : kid < length graph.nodes = omega (arith, below, c.requires.at) in
-    let all : IsNodeSet graph words costs kid c.copy_from_slice.new.self =
-    subst (IsNodeSet graph words costs kid) (sym (c.copy_from_slice.ensures.after ∙ c.set_at.ensures.set ∙ ap (λ n. set_at c.args.self.now.sets.now kid n) c.size-size.ensures)) (c.requires.are kid inside) in
-    let faults : IsNodeFaults graph words costs groups kid c.copy_from_slice-in-loop-kid.new.self =
-    subst (IsNodeFaults graph words costs groups kid) (sym (c.copy_from_slice-in-loop-kid.ensures.after ∙ c.set_at-in-loop-kid.ensures.set ∙ ap (λ n. set_at c.args.earlier.now kid n) c.size-size.ensures)) (c.requires.earlier kid below) in
-    let wide = c.widen_both.ensures (λ a. is_true graph.nodes kid a) (λ v. mentions graph.nodes v kid) (λ v. mentions graph.nodes v at)
+    let all : IsNodeSet graph c.args.self.now.skips.now words costs kid c.copy_from_slice.new.self =
+    subst (IsNodeSet graph c.args.self.now.skips.now words costs kid) (sym (c.copy_from_slice.ensures.after ∙ c.set_at.ensures.set ∙ ap (λ n. set_at c.args.self.now.sets.now kid n) c.size-size.ensures)) (c.requires.are kid inside) in
+    let faults : IsNodeFaults graph c.args.self.now.skips.now words costs groups kid c.copy_from_slice-in-loop-kid.new.self =
+    subst (IsNodeFaults graph c.args.self.now.skips.now words costs groups kid) (sym (c.copy_from_slice-in-loop-kid.ensures.after ∙ c.set_at-in-loop-kid.ensures.set ∙ ap (λ n. set_at c.args.earlier.now kid n) c.size-size.ensures)) (c.requires.earlier kid below) in
+    let wide = c.widen_both.ensures (λ a. is_true (living graph.nodes c.args.self.now.skips.now) kid a) (λ v. mentions graph.nodes v kid) (λ v. mentions graph.nodes v at)
     (c.args.self.now.for_graph.below.nodes kid inside) (c.args.self.now.for_graph.below.nodes at c.requires.at)
     (kid-mentions graph at kids ok c.requires.at c.kids-kid-items.ensures j c.requires.what lt) (record { all = all; faulty = faults }) in
-    or_faults_more graph at kids ok c.requires.at c.kids-kid-items.ensures words costs groups j c.loop-kid.set c.widen_both.new.faults c.add_shifted.new.set lt
+    or_faults_more graph at kids ok c.requires.at c.kids-kid-items.ensures c.args.self.now.skips.now c.requires.lives words costs groups j c.loop-kid.set c.widen_both.new.faults c.add_shifted.new.set lt
     (omega arith) (omega arith) (λ n h. c.add_shifted.ensures n (omega arith)) c.loop-kid.invariant wide.faulty
 
 pub returns : goal.returns
-returns c = or_faults_all c.args.self.now.graph.now c.args.at c.kids-kid-items.result.now c.vars-vars.ensures.valid c.requires.at c.kids-kid-items.ensures c.args.self.now.words.now c.args.self.now.levels.now.costs c.args.self.now.groups
+returns c = or_faults_all c.args.self.now.graph.now c.args.at c.kids-kid-items.result.now c.vars-vars.ensures.valid c.requires.at c.kids-kid-items.ensures c.args.self.now.skips.now c.requires.lives c.args.self.now.words.now c.args.self.now.levels.now.costs c.args.self.now.groups
     c.loop-kid.kid-index c.loop-kid.set c.requires.what (omega arith) c.loop-kid.invariant

@@ -8,17 +8,17 @@ use Rattle.level_lister.proofs.Listed.{next-first, next-none, none-none, step-en
 use Rattle.level_lister.proofs.Behind.{same_behind}
 use Rattle.level_lister.proofs.levels.Levels.next.Goals as goal
 
-pub returns-then-not-has_state-clause-next : goal.returns-then-not-has_state-clause-next
-returns-then-not-has_state-clause-next g c =
+pub returns-then-not-put_skips-clause-next : goal.returns-then-not-put_skips-clause-next
+returns-then-not-put_skips-clause-next g c =
     let kept = c.args.self.now in
     let state = bits_of c.args.state.now in
     let point = point_if c.args.pointed state in
-    λ i. get_or (sym (next-none kept.costs c.args.graph.now c.args.words.now kept.top point (none-none kept.costs c.args.graph.now c.args.words.now kept.top point (c.has_state.ensures.none c.if-not-has_state.true))) i) 0 state
+    λ i. get_or (sym (next-none kept.costs c.args.graph.now c.args.words.now kept.top point (none-none kept.costs c.args.graph.now c.args.words.now kept.top point (c.put_skips.ensures.none c.if-not-put_skips.true))) i) 0 state
 
 pub returns-in-None-clause-step : goal.returns-in-None-clause-step
 returns-in-None-clause-step g c =
     let kept = c.args.self.now in
-    step-end kept.costs c.args.graph.now c.args.words.now kept.top (point_if c.args.pointed (bits_of c.args.state.now)) (c.has_state.ensures.some c.if-not-has_state.false) c.in-None.ensures.found.1
+    step-end kept.costs c.args.graph.now c.args.words.now kept.top (point_if c.args.pointed (bits_of c.args.state.now)) (c.put_skips.ensures.some c.if-not-put_skips.false) c.in-None.ensures.found.1
 
 pub returns-in-None-clause-next : goal.returns-in-None-clause-next
 returns-in-None-clause-next g c =
@@ -31,7 +31,7 @@ returns-in-Some-clause-step g c =
     let kept = c.args.self.now in
     let fixes = c.in-Some.ensures.found in
     ap Found (sym fixes.cost_is) ∙ step-found kept.costs c.args.graph.now c.args.words.now kept.top (point_if c.args.pointed (bits_of c.args.state.now)) (fixed_bits (length kept.costs) c.find.new.words)
-    (c.has_state.ensures.some c.if-not-has_state.false) fixes.first
+    (c.put_skips.ensures.some c.if-not-put_skips.false) fixes.first
 
 pub returns-in-Some-clause-next : goal.returns-in-Some-clause-next
 returns-in-Some-clause-next g c =
@@ -52,10 +52,10 @@ pub returns-in-Some-clause-steps : goal.returns-in-Some-clause-steps
 returns-in-Some-clause-steps g c search h =
     let kept = c.args.self.now in
     let same : bits_of c.read_state.new.state ≡ fixed_bits (length kept.costs) c.find.new.words = c.read_state.ensures.bits ∙ ap (λ n. fixed_bits n c.find.new.words) c.requires.state in
-    omega (arith, c.has_state.ensures.steps, c.in-Some.ensures.steps search h, ap (fixing_passes search) same)
+    omega (arith, c.put_skips.ensures.steps, c.in-Some.ensures.steps search h, ap (fixing_passes search) same)
 
 pub returns-in-None-clause-steps : goal.returns-in-None-clause-steps
-returns-in-None-clause-steps g c search h = omega (arith, c.has_state.ensures.steps, c.in-None.ensures.steps)
+returns-in-None-clause-steps g c search h = omega (arith, c.put_skips.ensures.steps, c.in-None.ensures.steps)
 
-pub returns-then-not-has_state-clause-steps : goal.returns-then-not-has_state-clause-steps
-returns-then-not-has_state-clause-steps g c search h = omega (arith, c.has_state.ensures.steps)
+pub returns-then-not-put_skips-clause-steps : goal.returns-then-not-put_skips-clause-steps
+returns-then-not-put_skips-clause-steps g c search h = omega (arith, c.put_skips.ensures.steps)

@@ -1,12 +1,14 @@
 use Rattle.std.specs.Prelude.{MatchOption}
-use Rattle.std.proofs.Common.{◌≡◌, ◌+◌, ℕ, Option, Some, None, true, length, refl, ◌∙◌, ap, subst, arith}
+use Rattle.std.proofs.Common.{◌≡◌, ◌+◌, ℕ, Option, Some, None, true, List, length, refl, sym, ◌∙◌, ap, subst, arith}
 use Rattle.ranking.specs.Ranking.{cost, is_before}
 use Rattle.conditioner.specs.Words.{bits_of}
 use Rattle.diagnosis_lister.specs.inner.Working.{IsFirst, fixed_bits}
 use Rattle.diagnosis_lister.proofs.Marking.{length-bits}
 use Rattle.level_lister.specs.inner.Searching.{OfCost, NoneAfter, FindsFirst, IsListed}
+use Rattle.level_lister.specs.inner.Skips.{IsEnough}
 use Rattle.level_lister.proofs.Leaving.{leaves-first}
 use Rattle.level_lister.proofs.Finding.{Later, first-same, later-dearer, dearer-later, none-too_dear, finds-alike}
+use Rattle.level_lister.proofs.Skips.{enough_more}
 use Rattle.level_lister.proofs.search.Search.find_after.Goals as goal
 
 pub returns-then-own-top-clause-found : goal.returns-then-own-top-clause-found
@@ -62,3 +64,9 @@ returns-in-Some-clause-steps g c search h = omega (arith, c.in-Some.ensures.step
 
 pub returns-in-None-clause-steps : goal.returns-in-None-clause-steps
 returns-in-None-clause-steps g c = more c.find_from.result _ _ _ _ (λ s. omega (arith, c.in-None.ensures.steps, s)) (λ n s search h. omega (arith, c.in-None.ensures.steps, s search h)) c.find_from.ensures.steps
+
+pub settle-requires-clause-enough : goal.settle-requires-clause-enough
+settle-requires-clause-enough g c = enough_more c.args.self.now.graph.now c.args.self.now.skips.now c.args.self.now.levels.now.costs c.args.self.now.levels.now.top c.args.words.now c.leave.new.words c.in-Some.ensures.left.kept c.requires.enough
+
+pub find_from-requires-clause-enough : goal.find_from-requires-clause-enough
+find_from-requires-clause-enough g c = subst (λ (ws : List ℕ). IsEnough c.args.self.now.graph.now c.args.self.now.skips.now ws c.args.self.now.levels.now.costs c.args.self.now.levels.now.top) (sym c.in-None.ensures.left.0) c.requires.enough

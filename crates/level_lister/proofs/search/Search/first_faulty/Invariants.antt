@@ -11,7 +11,7 @@ invariant-loop-span g l = record {
   some : 0 < l.span;
   small : l.low + 33 * l.span ≤ 34 * (length l.self.levels.now.costs + 1);
   passes : (k : ℕ) → length l.self.levels.now.costs < (told_groups l.self.levels.now.top + 1) ^ k → PassesLeft (told_groups l.self.levels.now.top) l.span l.steps (l.fn.steps + first_passes l.self.levels.now.top + k);
-  ready : AreReady l.self.graph.now l.words l.self.levels.now l.work;
+  ready : AreReady l.self.graph.now l.self.skips.now l.words l.self.levels.now l.work;
 }
 
 abbrev pub decreases-loop-span : goal.decreases-loop-span

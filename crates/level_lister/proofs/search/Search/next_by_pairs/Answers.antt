@@ -10,7 +10,7 @@ returns-then-has_bit c =
     let kept = c.args.self.now.levels.now in (
       omega arith,
       omega (arith, c.loop-cost.invariant.end),
-      pair_sound graph c.args.words.now kept.costs kept.top (record { low = 18446744073709551615; size = 1 }) c.put_pairs-pair.result c.vars-vars.ensures.valid c.requires.long c.args.self.now.for_graph.parts c.put_pairs-pair.ensures c.loop-cost.cost (omega (arith, c.loop-cost.invariant.end)) (sym c.has_bit.ensures ∙ c.if-has_bit.true),
+      pair_sound graph c.args.self.now.skips.now c.args.words.now kept.costs kept.top (record { low = 18446744073709551615; size = 1 }) c.put_pairs-pair.result c.vars-vars.ensures.valid c.requires.long c.args.self.now.for_graph.parts c.put_pairs-pair.ensures c.requires.enough c.loop-cost.cost (omega (arith, c.loop-cost.invariant.end)) (sym c.has_bit.ensures ∙ c.if-has_bit.true),
       c.loop-cost.invariant.none,
     )
 
@@ -21,7 +21,7 @@ loop-cost-preserved c =
       none = λ d low lt has. ⊎_elim
           (λ (p : d < c.loop-cost.cost). c.loop-cost.invariant.none d low p has)
           (λ (p : c.loop-cost.cost ≤ d). let same : d ≡ c.loop-cost.cost = omega arith in
-          absurd (false≢true (sym (sym c.has_bit.ensures ∙ c.if-has_bit.false) ∙ pair_whole graph c.args.words.now kept.costs kept.top (record { low = 18446744073709551615; size = 1 }) c.put_pairs-pair.result c.vars-vars.ensures.valid c.requires.long c.args.self.now.for_graph.parts c.put_pairs-pair.ensures c.loop-cost.cost
+          absurd (false≢true (sym (sym c.has_bit.ensures ∙ c.if-has_bit.false) ∙ pair_whole graph c.args.self.now.skips.now c.args.words.now kept.costs kept.top (record { low = 18446744073709551615; size = 1 }) c.put_pairs-pair.result c.vars-vars.ensures.valid c.requires.long c.args.self.now.for_graph.parts c.put_pairs-pair.ensures c.requires.enough c.loop-cost.cost
           (omega (arith, c.loop-cost.invariant.end)) (subst (HasCost graph c.args.words.now kept.costs) same has))))
           (cases_lt d c.loop-cost.cost);
       end = c.loop-cost.invariant.end;

@@ -11,10 +11,10 @@ returns-then-has_number c =
     let words = c.args.words.now in
     let costs = c.args.self.now.levels.now.costs in
     let whole = c.put_whole.new.whole in
-    let is : IsWholeSet graph words costs whole = c.put_whole.ensures in (
+    let is : IsWholeSet graph c.args.self.now.skips.now words costs whole = c.put_whole.ensures in (
       omega arith,
       omega (arith, c.loop-cost.invariant.end),
-      whole_sound graph words costs whole c.len.ensures.valid c.requires.long c.args.self.now.for_graph.parts is c.loop-cost.cost (sym c.has_number.ensures ∙ c.if-has_number.true),
+      whole_sound graph c.args.self.now.skips.now words costs whole c.args.self.now.levels.now.top c.requires.enough c.len.ensures.valid c.requires.long c.args.self.now.for_graph.parts is c.loop-cost.cost (sym c.has_number.ensures ∙ c.if-has_number.true),
       c.loop-cost.invariant.none,
     )
 
@@ -24,11 +24,11 @@ loop-cost-preserved c =
     let words = c.args.words.now in
     let costs = c.args.self.now.levels.now.costs in
     let whole = c.put_whole.new.whole in
-    let is : IsWholeSet graph words costs whole = c.put_whole.ensures in record {
+    let is : IsWholeSet graph c.args.self.now.skips.now words costs whole = c.put_whole.ensures in record {
       none = λ d low lt has. ⊎_elim
           (λ (p : d < c.loop-cost.cost). c.loop-cost.invariant.none d low p has)
           (λ (p : c.loop-cost.cost ≤ d). let same : d ≡ c.loop-cost.cost = omega arith in
-          absurd (false≢true (sym (sym c.has_number.ensures ∙ c.if-has_number.false) ∙ whole_all graph words costs whole c.len.ensures.valid c.requires.long c.args.self.now.for_graph.parts is c.loop-cost.cost
+          absurd (false≢true (sym (sym c.has_number.ensures ∙ c.if-has_number.false) ∙ whole_all graph c.args.self.now.skips.now words costs whole c.args.self.now.levels.now.top c.requires.enough c.len.ensures.valid c.requires.long c.args.self.now.for_graph.parts is c.loop-cost.cost (omega (arith, c.loop-cost.invariant.end))
           (omega (arith, c.split_at_mut-whole.ensures.front_len, c.size-size.ensures, c.loop-cost.invariant.end)) (subst (HasCost graph words costs) same has))))
           (cases_lt d c.loop-cost.cost);
       end = c.loop-cost.invariant.end;

@@ -1,5 +1,6 @@
 use Rattle.std.proofs.Common.{◌≡◌, ◌<◌, ◌+◌, ◌*◌, List, ℕ, length, get_or, sym, ◌∙◌, ap, subst, arith}
 use Rattle.graph_rules.specs.Graphs.{is_true, mentions}
+use Rattle.level_lister.specs.inner.Skips.{living}
 use Rattle.level_lister.specs.inner.CostSets.{IsCostSet}
 use Rattle.part_sets.specs.Numbers.{part_words, set_at}
 use Rattle.part_sets.specs.PartSets.{ArePartsOf}
@@ -46,15 +47,15 @@ loop-kid-preserved c =
     subst (ArePartsOf parts (λ v. mentions graph.nodes v c.args.at)) (sym (c.set_at-own.ensures.set ∙ (λ i. set_at (c.below-below.ensures i) c.args.at (size i)))) (c.args.self.now.for_graph.below.nodes c.args.at c.requires.at) in
     let on_inner : ArePartsOf parts (λ v. mentions graph.nodes v kid) c.set_at-in-loop-kid.result.now =
     subst (ArePartsOf parts (λ v. mentions graph.nodes v kid)) (sym (c.set_at-in-loop-kid.ensures.set ∙ (λ i. set_at (c.below-below.ensures i) kid (size i)))) (c.args.self.now.for_graph.below.nodes kid inside) in
-    let is = subst (λ (cs : List ℕ). IsCostSet words cs (λ a. is_true graph.nodes kid a) (λ v. mentions graph.nodes v kid) (set_at c.args.sets.now kid (length c.args.set.now))) (sym c.costs-costs.ensures) (c.requires.earlier kid below) in
-    let own = subst (IsCostSet words c.costs-costs.result.now (λ a. is_true graph.nodes kid a) (λ v. mentions graph.nodes v kid)) (sym (c.copy_from_slice.ensures.after ∙ c.set_at.ensures.set)) is in
-    or_more graph c.args.at kids ok c.requires.at c.kids-kid-items.ensures words kept.costs j c.loop-kid.set c.widen.new.set c.add_shifted.new.set c.loop-kid-test.true
+    let is = subst (λ (cs : List ℕ). IsCostSet words cs (λ a. is_true (living graph.nodes c.args.self.now.skips.now) kid a) (λ v. mentions graph.nodes v kid) (set_at c.args.sets.now kid (length c.args.set.now))) (sym c.costs-costs.ensures) (c.requires.earlier kid below) in
+    let own = subst (IsCostSet words c.costs-costs.result.now (λ a. is_true (living graph.nodes c.args.self.now.skips.now) kid a) (λ v. mentions graph.nodes v kid)) (sym (c.copy_from_slice.ensures.after ∙ c.set_at.ensures.set)) is in
+    or_more graph c.args.at kids ok c.requires.at c.kids-kid-items.ensures c.args.self.now.skips.now c.requires.lives words kept.costs j c.loop-kid.set c.widen.new.set c.add_shifted.new.set c.loop-kid-test.true
     (omega arith) (omega arith) (λ n h. c.add_shifted.ensures n (omega arith)) c.loop-kid.invariant
-    (subst (λ (cs : List ℕ). IsCostSet words cs (λ a. is_true graph.nodes kid a) (λ v. mentions graph.nodes v c.args.at) c.widen.new.set) c.costs-costs.ensures
-    (c.widen.ensures (λ a. is_true graph.nodes kid a) (λ v. mentions graph.nodes v kid) (λ v. mentions graph.nodes v c.args.at)
+    (subst (λ (cs : List ℕ). IsCostSet words cs (λ a. is_true (living graph.nodes c.args.self.now.skips.now) kid a) (λ v. mentions graph.nodes v c.args.at) c.widen.new.set) c.costs-costs.ensures
+    (c.widen.ensures (λ a. is_true (living graph.nodes c.args.self.now.skips.now) kid a) (λ v. mentions graph.nodes v kid) (λ v. mentions graph.nodes v c.args.at)
     (subst (λ n. ArePartsOf n (λ v. mentions graph.nodes v kid) c.set_at-in-loop-kid.result.now) many on_inner)
     (subst (λ n. ArePartsOf n (λ v. mentions graph.nodes v c.args.at) c.set_at-own.result.now) many on_outer)
     (kid-mentions graph c.args.at kids ok c.requires.at c.kids-kid-items.ensures j c.requires.what c.loop-kid-test.true) own))
 
 pub returns : goal.returns
-returns c = or_all c.args.self.now.graph.now c.args.at c.kids-kid-items.result.now c.vars-vars.ensures.valid c.requires.at c.kids-kid-items.ensures c.args.words.now c.args.self.now.levels.now.costs c.loop-kid.kid-index c.loop-kid.set c.requires.what (omega arith) c.loop-kid.invariant
+returns c = or_all c.args.self.now.graph.now c.args.at c.kids-kid-items.result.now c.vars-vars.ensures.valid c.requires.at c.kids-kid-items.ensures c.args.self.now.skips.now c.requires.lives c.args.words.now c.args.self.now.levels.now.costs c.loop-kid.kid-index c.loop-kid.set c.requires.what (omega arith) c.loop-kid.invariant

@@ -2,6 +2,7 @@ use Rattle.std.proofs.Common.{◌≡◌, ◌+◌, ◌-◌, ◌<◌, true, length
 use Rattle.graph_rules.specs.Graphs.{is_true, mentions}
 use Rattle.part_sets.specs.Numbers.{part_words, set_at}
 use Rattle.part_sets.specs.PartSets.{ArePartsOf}
+use Rattle.level_lister.specs.inner.Skips.{living}
 use Rattle.level_lister.specs.inner.Pairs.{TellsNode, pair_at}
 use Rattle.part_sets.proofs.Kids.{room_for}
 use Rattle.level_lister.proofs.PairNodes.{nodes_more, whole_full}
@@ -9,7 +10,7 @@ use Rattle.level_lister.proofs.search.Search.put_pairs.Goals as goal
 
 pub loop-at-preserved : goal.loop-at-preserved
 loop-at-preserved c = record {
-  told = nodes_more c.args.self.now.graph.now c.args.words.now c.args.self.now.levels.now.costs c.args.self.now.levels.now.top c.args.groups c.loop-at.values c.loop-at.at c.node_pair-pair.result (omega (arith, c.requires.room, c.loop-at.invariant.end, c.loop-at-test.true, c.loop-at.auto.values)) c.loop-at.invariant.told c.node_pair-pair.ensures;
+  told = nodes_more c.args.self.now.graph.now c.args.self.now.skips.now c.args.words.now c.args.self.now.levels.now.costs c.args.self.now.levels.now.top c.args.groups c.loop-at.values c.loop-at.at c.node_pair-pair.result (omega (arith, c.requires.room, c.loop-at.invariant.end, c.loop-at-test.true, c.loop-at.auto.values)) c.loop-at.invariant.told c.node_pair-pair.ensures;
   end = c.loop-at.invariant.end;
 }
 
@@ -23,8 +24,8 @@ returns-then-lacking-root-eq0 c =
     let all : c.loop-at.at ≡ length graph.nodes = omega (arith, c.loop-at-test.false, c.loop-at.invariant.end, c.loop-at.auto.at-end) in
     let pair : c.pair_at-pair.result ≡ pair_at c.loop-at.values (length graph.nodes - 1) = c.pair_at-pair.ensures ∙ ap (pair_at c.loop-at.values) root in
     let full : get_or c.args.self.now.levels.now.lacking (length graph.nodes) 0 ≡ 0 = sym (λ i. get_or (c.lacking.ensures i) (next i) 0) ∙ c.if-lacking-root-eq0.true in
-    whole_full graph c.args.words.now costs c.args.self.now.levels.now.top c.args.groups c.pair_at-pair.result (c.args.self.now.for_graph.lacking.all.0 full)
-    (subst (TellsNode graph c.args.words.now costs c.args.self.now.levels.now.top c.args.groups (length graph.nodes - 1)) (sym pair) (c.loop-at.invariant.told (length graph.nodes - 1) (omega (arith, inside, all))))
+    whole_full graph c.args.self.now.skips.now c.args.words.now costs c.args.self.now.levels.now.top c.args.groups c.pair_at-pair.result (c.args.self.now.for_graph.lacking.all.0 full)
+    (subst (TellsNode graph c.args.self.now.skips.now c.args.words.now costs c.args.self.now.levels.now.top c.args.groups (length graph.nodes - 1)) (sym pair) (c.loop-at.invariant.told (length graph.nodes - 1) (omega (arith, inside, all))))
 
 pub returns : goal.returns
 returns c =
@@ -37,11 +38,11 @@ returns c =
     let next : c.len.result - 1 + 1 ≡ length graph.nodes = omega (arith, c.len.ensures.len, c.len.ensures.valid.some) in
     let all : c.loop-at.at ≡ length graph.nodes = omega (arith, c.loop-at-test.false, c.loop-at.invariant.end, c.loop-at.auto.at-end) in
     let pair : c.pair_at-pair.result ≡ pair_at c.loop-at.values (length graph.nodes - 1) = c.pair_at-pair.ensures ∙ ap (pair_at c.loop-at.values) root in
-    c.widened.ensures (λ a. is_true graph.nodes (length graph.nodes - 1) a) (λ v. mentions graph.nodes v (length graph.nodes - 1)) (λ v. true)
+    c.widened.ensures (λ a. is_true (living graph.nodes c.args.self.now.skips.now) (length graph.nodes - 1) a) (λ v. mentions graph.nodes v (length graph.nodes - 1)) (λ v. true)
     (subst (λ k. ArePartsOf (length costs) (λ v. mentions graph.nodes v (length graph.nodes - 1)) (set_at below k size)) (sym root) (c.args.self.now.for_graph.below.nodes (length graph.nodes - 1) inside))
     (subst (λ k. ArePartsOf (length costs) (λ v. true) (set_at below k size)) (sym next) c.args.self.now.for_graph.below.all)
     (λ v e. refl)
-    (subst (TellsNode graph c.args.words.now costs c.args.self.now.levels.now.top c.args.groups (length graph.nodes - 1)) (sym pair) (c.loop-at.invariant.told (length graph.nodes - 1) (omega (arith, inside, all))))
+    (subst (TellsNode graph c.args.self.now.skips.now c.args.words.now costs c.args.self.now.levels.now.top c.args.groups (length graph.nodes - 1)) (sym pair) (c.loop-at.invariant.told (length graph.nodes - 1) (omega (arith, inside, all))))
 
 pub widened-requires-clause-inner : goal.widened-requires-clause-inner
 widened-requires-clause-inner c =

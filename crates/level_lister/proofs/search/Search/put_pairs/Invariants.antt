@@ -5,6 +5,6 @@ use Rattle.level_lister.proofs.search.Search.put_pairs.Given as goal
 -- the words of the nodes before this one are there
 abbrev pub invariant-loop-at : goal.invariant-loop-at
 invariant-loop-at l = record {
-  told : TellNodes l.self.graph.now l.words l.self.levels.now.costs l.self.levels.now.top l.groups l.values l.at;
+  told : TellNodes l.self.graph.now l.self.skips.now l.words l.self.levels.now.costs l.self.levels.now.top l.groups l.values l.at;
   end : l.at-end ≡ length l.self.graph.now.nodes;
 }

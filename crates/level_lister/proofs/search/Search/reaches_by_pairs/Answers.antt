@@ -6,6 +6,6 @@ pub returns : goal.returns
 returns c =
     let graph = c.args.self.now.graph.now in
     let kept = c.args.self.now.levels.now in (
-      λ t. pair_sound graph c.args.words.now kept.costs kept.top (record { low = 18446744073709551615; size = 1 }) c.put_pairs-pair.result c.vars-vars.ensures.valid c.requires.long c.args.self.now.for_graph.parts c.put_pairs-pair.ensures c.args.cost c.requires.cost (sym c.has_bit.ensures ∙ t),
-      λ has. c.has_bit.ensures ∙ pair_whole graph c.args.words.now kept.costs kept.top (record { low = 18446744073709551615; size = 1 }) c.put_pairs-pair.result c.vars-vars.ensures.valid c.requires.long c.args.self.now.for_graph.parts c.put_pairs-pair.ensures c.args.cost c.requires.cost has,
+      λ t. pair_sound graph c.args.self.now.skips.now c.args.words.now kept.costs kept.top (record { low = 18446744073709551615; size = 1 }) c.put_pairs-pair.result c.vars-vars.ensures.valid c.requires.long c.args.self.now.for_graph.parts c.put_pairs-pair.ensures c.requires.enough c.args.cost c.requires.cost (sym c.has_bit.ensures ∙ t),
+      λ has. c.has_bit.ensures ∙ pair_whole graph c.args.self.now.skips.now c.args.words.now kept.costs kept.top (record { low = 18446744073709551615; size = 1 }) c.put_pairs-pair.result c.vars-vars.ensures.valid c.requires.long c.args.self.now.for_graph.parts c.put_pairs-pair.ensures c.requires.enough c.args.cost c.requires.cost has,
     )

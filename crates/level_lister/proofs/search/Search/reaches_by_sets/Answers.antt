@@ -9,8 +9,8 @@ returns c =
     let words = c.args.words.now in
     let costs = c.args.self.now.levels.now.costs in
     let whole = c.put_whole.new.whole in
-    let is : IsWholeSet graph words costs whole = c.put_whole.ensures in (
-      λ t. whole_sound graph words costs whole c.len.ensures.valid c.requires.long c.args.self.now.for_graph.parts is c.args.cost (sym c.has_number.ensures ∙ t),
-      λ has. c.has_number.ensures ∙ whole_all graph words costs whole c.len.ensures.valid c.requires.long c.args.self.now.for_graph.parts is c.args.cost
+    let is : IsWholeSet graph c.args.self.now.skips.now words costs whole = c.put_whole.ensures in (
+      λ t. whole_sound graph c.args.self.now.skips.now words costs whole c.args.self.now.levels.now.top c.requires.enough c.len.ensures.valid c.requires.long c.args.self.now.for_graph.parts is c.args.cost (sym c.has_number.ensures ∙ t),
+      λ has. c.has_number.ensures ∙ whole_all graph c.args.self.now.skips.now words costs whole c.args.self.now.levels.now.top c.requires.enough c.len.ensures.valid c.requires.long c.args.self.now.for_graph.parts is c.args.cost c.requires.cost
           (omega (arith, c.split_at_mut-whole.ensures.front_len, c.size-size.ensures, c.requires.cost)) has,
     )

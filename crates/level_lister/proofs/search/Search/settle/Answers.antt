@@ -8,6 +8,7 @@ use Rattle.level_lister.specs.inner.Pairs.{FaultIn, OkAmong}
 use Rattle.part_sets.proofs.Kids.{room_for}
 use Rattle.level_lister.proofs.Exact.{Refines-start, settle_end}
 use Rattle.level_lister.proofs.Grouping.{settle_ok, settle_found}
+use Rattle.level_lister.proofs.Skips.{enough_more}
 use Rattle.level_lister.proofs.search.Search.settle.Goals as goal
 
 pub loop-part-init : goal.loop-part-init
@@ -76,3 +77,6 @@ returns-clause-steps g c search h =
       c.loop-part.invariant.steps search h,
       room_for (fault_count (fixed_bits (length costs) old)) (fault_count (fixed_bits (length costs) new) + 1) search (omega (arith, kept)),
     )
+
+pub first_faulty-requires-clause-enough : goal.first_faulty-requires-clause-enough
+first_faulty-requires-clause-enough g c = enough_more c.args.self.now.graph.now c.args.self.now.skips.now c.args.self.now.levels.now.costs c.args.self.now.levels.now.top c.args.words.now c.loop-part.words c.loop-part.invariant.settles.refines.kept c.requires.enough

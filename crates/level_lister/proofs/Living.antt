@@ -1,0 +1,89 @@
+-- What is left of a graph without the nodes that are skipped.
+use Rattle.std.proofs.Common.{◌≡◌, ◌≢◌, ℕ, zero, suc, ◌<◌, Bool, true, false, cond, List, [], ◌∷◌, map, length, get_or, refl, ap, sym, ◌∙◌, subst, arith, ⊎_elim}
+use Rattle.std.specs.List.{list_all, list_any}
+use Rattle.std.proofs.lemmas.Bool.{ne_eqb, eq-eqb, and_parts, and_from, or_cases, or_left, or_right, false≢true}
+use Rattle.ranking.specs.Assignments.{Assignment}
+use Rattle.graph_rules.specs.declared.NodeKind.{NodeKind}
+use Rattle.graph_rules.specs.declared.NodeKind.TheVariants.{Literal, And, Or}
+use Rattle.graph_rules.specs.Graphs.{Graph, Node, node_at, truth_by, is_true, IsGraph}
+use Rattle.graph_rules.proofs.NodeValues.{are_below, value_of-at}
+use Rattle.graph_rules.proofs.NodesFit.{fits-at}
+use Rattle.minimiser.proofs.Models.{same_or_not}
+use Rattle.part_sets.proofs.Kids.{kid-below}
+use Rattle.level_lister.specs.inner.Skips.{false_node, living}
+
+length-living : (nodes : List Node) (skips : List ℕ) → length (living nodes skips) ≡ length nodes
+length-living [] skips = refl
+length-living (node ∷ nodes) [] = refl
+length-living (node ∷ nodes) (skip ∷ skips) = ap suc (length-living nodes skips)
+
+living-at : (nodes : List Node) (skips : List ℕ) (k : ℕ) → get_or skips k 0 ≡ 0 → node_at (living nodes skips) k ≡ node_at nodes k
+living-at [] skips k e = refl
+living-at (node ∷ nodes) [] k e = refl
+living-at (node ∷ nodes) (skip ∷ skips) zero e = ap (λ b. cond b node false_node) (eq-eqb skip 0 e)
+living-at (node ∷ nodes) (skip ∷ skips) (suc k) e = living-at nodes skips k e
+
+skipped-at : (nodes : List Node) (skips : List ℕ) (k : ℕ) → k < length nodes → get_or skips k 0 ≢ 0 → node_at (living nodes skips) k ≡ false_node
+skipped-at [] skips k h ne = absurd (omega arith)
+skipped-at (node ∷ nodes) [] k h ne = absurd (ne refl)
+skipped-at (node ∷ nodes) (skip ∷ skips) zero h ne = ap (λ b. cond b node false_node) (ne_eqb skip 0 ne)
+skipped-at (node ∷ nodes) (skip ∷ skips) (suc k) h ne = skipped-at nodes skips k (omega arith) ne
+
+-- a node is true where it was, if its kids are
+all_more : (f g : ℕ → Bool) (kids : List ℕ) → ((j : ℕ) → j < length kids → f (get_or kids j 0) ≡ true → g (get_or kids j 0) ≡ true) → list_all (λ b. b) (map f kids) ≡ true → list_all (λ b. b) (map g kids) ≡ true
+all_more f g [] more h = refl
+all_more f g (k ∷ kids) more h =
+    let both = and_parts (f k) (list_all (λ b. b) (map f kids)) h in
+    and_from _ _ (more zero (omega arith) both.0) (all_more f g kids (λ j lt. more (suc j) (omega arith)) both.1)
+
+any_more : (f g : ℕ → Bool) (kids : List ℕ) → ((j : ℕ) → j < length kids → f (get_or kids j 0) ≡ true → g (get_or kids j 0) ≡ true) → list_any (λ b. b) (map f kids) ≡ true → list_any (λ b. b) (map g kids) ≡ true
+any_more f g [] more h = absurd (false≢true h)
+any_more f g (k ∷ kids) more h = ⊎_elim
+    (λ p. or_left _ _ (more zero (omega arith) p))
+    (λ p. or_right _ _ (any_more f g kids (λ j lt. more (suc j) (omega arith)) p))
+    (or_cases (f k) (list_any (λ b. b) (map f kids)) h)
+
+pub truth_more : (a : Assignment) (what : NodeKind) (f g : ℕ → Bool) (kids : List ℕ) → ((j : ℕ) → j < length kids → f (get_or kids j 0) ≡ true → g (get_or kids j 0) ≡ true)
+    → truth_by a what (map f kids) ≡ true → truth_by a what (map g kids) ≡ true
+truth_more a (Literal positive var) f g kids more h = h
+truth_more a And f g kids more h = all_more f g kids more h
+truth_more a Or f g kids more h = any_more f g kids more h
+
+module _ (graph : Graph) (skips : List ℕ) (ok : IsGraph graph) where
+  below : (at : ℕ) → at < length graph.nodes → are_below at (node_at graph.nodes at).kids ≡ true
+  below at inside = (fits-at graph.vars graph.nodes at ok.nodes.fit inside).below
+
+  there : (at : ℕ) → at < length graph.nodes → at < length (living graph.nodes skips)
+  there at inside = subst (λ n. at < n) (sym (length-living graph.nodes skips)) inside
+
+  -- a node of the graph, by its kids
+  pub graph-is : (at : ℕ) → at < length graph.nodes → (a : Assignment) → is_true graph.nodes at a ≡ truth_by a (node_at graph.nodes at).what (map (λ k. is_true graph.nodes k a) (node_at graph.nodes at).kids)
+  graph-is at inside a = value_of-at (truth_by a) graph.nodes at inside (below at inside)
+
+  -- one that is not skipped, by what is left of its kids
+  pub living-is : (at : ℕ) → at < length graph.nodes → get_or skips at 0 ≡ 0 → (a : Assignment)
+      → is_true (living graph.nodes skips) at a ≡ truth_by a (node_at graph.nodes at).what (map (λ k. is_true (living graph.nodes skips) k a) (node_at graph.nodes at).kids)
+  living-is at inside e a =
+      let same = living-at graph.nodes skips at e in
+      value_of-at (truth_by a) (living graph.nodes skips) at (there at inside) (subst (λ (n : Node). are_below at n.kids ≡ true) (sym same) (below at inside))
+      ∙ ap (λ (n : Node). truth_by a n.what (map (λ k. is_true (living graph.nodes skips) k a) n.kids)) same
+
+  -- and one that is
+  pub skipped-is : (at : ℕ) → at < length graph.nodes → get_or skips at 0 ≢ 0 → (a : Assignment) → is_true (living graph.nodes skips) at a ≡ false
+  skipped-is at inside ne a =
+      let same = skipped-at graph.nodes skips at inside ne in
+      value_of-at (truth_by a) (living graph.nodes skips) at (there at inside) (subst (λ (n : Node). are_below at n.kids ≡ true) (sym same) refl)
+      ∙ ap (λ (n : Node). truth_by a n.what (map (λ k. is_true (living graph.nodes skips) k a) n.kids)) same
+
+  -- what is left is true only where the graph is
+  sound : (fuel k : ℕ) → k < fuel → k < length graph.nodes → (a : Assignment) → is_true (living graph.nodes skips) k a ≡ true → is_true graph.nodes k a ≡ true
+  sound zero k h inside a e = absurd (omega arith)
+  sound (suc fuel) k h inside a e = ⊎_elim
+      (λ (q : get_or skips k 0 ≡ 0). graph-is k inside a ∙ truth_more a (node_at graph.nodes k).what (λ j. is_true (living graph.nodes skips) j a) (λ j. is_true graph.nodes j a) (node_at graph.nodes k).kids
+      (λ j lt. let low = kid-below graph k (node_at graph.nodes k).kids ok inside refl j lt in sound fuel (get_or (node_at graph.nodes k).kids j 0) (omega arith) (omega arith) a)
+      (sym (living-is k inside q a) ∙ e))
+      (λ (ne : get_or skips k 0 ≢ 0). absurd (false≢true (sym (skipped-is k inside ne a) ∙ e)))
+      (same_or_not (get_or skips k 0) 0)
+
+  pub living-true : (k : ℕ) → k < length graph.nodes → (a : Assignment) → is_true (living graph.nodes skips) k a ≡ true → is_true graph.nodes k a ≡ true
+  living-true k inside a e = sound (suc k) k (omega arith) inside a e

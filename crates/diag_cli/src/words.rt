@@ -80,11 +80,17 @@ pub struct Options {
 /// An option of the command line. Its methods are the table: its word, its numbers and the commands that take it.
 #[derive(Clone, Copy, Debug)]
 pub enum OptionKind {
+    /// `--budget N`: the greatest sum.
     Budget,
+    /// `--sessions N`: how many sessions may be open at a time.
     Sessions,
+    /// `--frames N`: over how many times a netlist is served.
     Frames,
+    /// `--levels C`: up to which cost states are listed.
     Levels,
+    /// `--narrow`: another order of the clauses is looked for.
     Narrow,
+    /// `--least`: the graph of the diagnoses may be asked for.
     Least,
 }
 

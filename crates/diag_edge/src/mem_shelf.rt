@@ -1,5 +1,5 @@
 //! A shelf in memory.
-ghost use Rattle.std.specs.Prelude.{◌≡◌, ◌≢◌, ◌↔◌, ◌+◌, ◌^◌, ◌<◌, ◌≤◌, ◌⊎◌, min, Some, [], List, length, drop, IsErr, OnOk, OnErr, IfOk, IfSome, IfNone, MatchResult};
+ghost use Rattle.std.specs.Prelude.{◌≡◌, ◌≢◌, ◌↔◌, ◌+◌, ◌^◌, ◌<◌, ◌≤◌, ◌⊎◌, min, Some, [], List, length, drop, IsErr, OnOk, OnErr, IfOk, IfSome, IfNone, MatchResult, refl};
 ghost use Rattle.std.specs.Io.{ReadsAtMost};
 ghost use Rattle.std.specs.Io.KnownBytes.{ReadConsumes};
 ghost use Rattle.diag_edge.specs.Edge.{HasCause, absent, holds, told_bytes};
@@ -93,6 +93,10 @@ impl Source for MemShelf {
     ghost taken = { λ s. s.taken };
 
     ghost faults = { λ s. s.faults };
+
+    ghost shown = { λ s. record { left = Some s.left; taken = s.taken; faults = s.faults } };
+
+    ghost shown_is = { λ s. refl };
 
     ghost Fixed = { List NamedFile };
 

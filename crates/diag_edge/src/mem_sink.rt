@@ -1,5 +1,5 @@
 //! A sink in memory.
-ghost use Rattle.std.specs.Prelude.{◌≡◌, ◌↔◌, ◌+◌, ◌-◌, ◌<◌, ◌≤◌, ◌⊎◌, min, Some, [], ◌++◌, length, take, IsErr, OnErr, IfOk, vec_len, vec_capacity};
+ghost use Rattle.std.specs.Prelude.{◌≡◌, ◌↔◌, ◌+◌, ◌-◌, ◌<◌, ◌≤◌, ◌⊎◌, min, Some, [], ◌++◌, length, take, IsErr, OnErr, IfOk, vec_len, vec_capacity, refl};
 ghost use Rattle.diag_edge.specs.Edge.{HasCause, Puts};
 ghost use Rattle.diag_edge.specs.InMemory.{SinkInMemory, IsNextFailing, after_call, no_calls, one_more};
 
@@ -72,6 +72,10 @@ impl Sink for MemSink {
     ghost got = { λ s. Some s.got };
 
     ghost faults = { λ s. s.faults };
+
+    ghost shown = { λ s. record { got = Some s.got; faults = s.faults } };
+
+    ghost shown_is = { λ s. refl };
 
     fn put(&mut self, bytes: &[u8]) -> Result<(), WriteFailed>
         // What every sink does.

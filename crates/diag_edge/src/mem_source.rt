@@ -1,5 +1,5 @@
 //! A source in memory.
-ghost use Rattle.std.specs.Prelude.{◌≡◌, ◌↔◌, ◌+◌, ◌-◌, ◌^◌, ◌<◌, ◌≤◌, min, Some, length, drop, IsErr, OnErr, IfOk, MatchResult, vec_len};
+ghost use Rattle.std.specs.Prelude.{◌≡◌, ◌↔◌, ◌+◌, ◌-◌, ◌^◌, ◌<◌, ◌≤◌, min, Some, length, drop, IsErr, OnErr, IfOk, MatchResult, vec_len, refl};
 ghost use Rattle.std.specs.Io.{ReadsAtMost};
 ghost use Rattle.std.specs.Io.KnownBytes.{ReadConsumes};
 ghost use Rattle.diag_edge.specs.Edge.{HasCause};
@@ -66,6 +66,10 @@ impl Source for MemSource {
     ghost taken = { λ s. s.taken };
 
     ghost faults = { λ s. s.faults };
+
+    ghost shown = { λ s. record { left = Some s.left; taken = s.taken; faults = s.faults } };
+
+    ghost shown_is = { λ s. refl };
 
     ghost Fixed = { Unit {0} };
 

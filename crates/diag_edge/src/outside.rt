@@ -2,7 +2,7 @@
 ghost use Rattle.std.specs.Prelude.{◌≡◌, ◌≢◌, ◌↔◌, ◌+◌, ◌^◌, ◌<◌, ℕ, List, Option, Some, OnOk, IfSome, MatchResult};
 ghost use Rattle.std.specs.Io.{ReadsAtMost};
 ghost use Rattle.std.specs.Io.KnownBytes.{ReadConsumes};
-ghost use Rattle.diag_edge.specs.Edge.{HasCause, Holding, absent, told_bytes, Puts};
+ghost use Rattle.diag_edge.specs.Edge.{HasCause, Holding, absent, told_bytes, Puts, Reading, Writing};
 
 /// A read, or the pick of a file, failed.
 #[derive(Clone, Copy, Debug, PartialEq, Eq)]
@@ -32,6 +32,12 @@ pub trait Source {
 
     /// What no call changes.
     ghost fixed: { Self → Fixed };
+
+    /// What it shows at a time.
+    ghost shown: { Self → Reading };
+
+    /// That is these three.
+    ghost shown_is: { (s : Self) → shown s ≡ record { left = left s; taken = taken s; faults = faults s } };
 
     /// Reads some of the bytes still to come into the front of `into`, and answers how many.
     /// With room for a byte it answers 0 only at the end of the input. What `into` has behind
@@ -86,6 +92,12 @@ pub trait Sink {
 
     /// How often a call has failed, up to the greatest u64.
     ghost faults: { Self → ℕ };
+
+    /// What it shows at a time.
+    ghost shown: { Self → Writing };
+
+    /// That is these two.
+    ghost shown_is: { (s : Self) → shown s ≡ record { got = got s; faults = faults s } };
 
     /// Writes all the bytes, or at `WriteFailed` some of the first of them.
     fn put(&mut self, bytes: &[u8]) -> Result<(), WriteFailed>

@@ -1,5 +1,5 @@
 //! Ends whose calls never fail, for runs of which the whole output is wanted.
-ghost use Rattle.std.specs.Prelude.{◌≡◌, ◌≢◌, ◌+◌, ◌-◌, ◌%◌, ◌^◌, ◌<◌, ◌≤◌, min, Some, None, [], List, ℕ, length, drop, IsOk, IfOk, IfSome, OnOk, MatchResult, vec_len};
+ghost use Rattle.std.specs.Prelude.{◌≡◌, ◌≢◌, ◌+◌, ◌-◌, ◌%◌, ◌^◌, ◌<◌, ◌≤◌, min, Some, None, [], List, ℕ, length, drop, IsOk, IfOk, IfSome, OnOk, MatchResult, vec_len, refl};
 ghost use Rattle.std.specs.Io.{ReadsAtMost};
 ghost use Rattle.std.specs.Io.KnownBytes.{ReadConsumes};
 ghost use Rattle.diag_edge.specs.Edge.{HasCause, Puts, absent, holds, told_bytes};
@@ -48,6 +48,10 @@ impl Source for SureSource {
     ghost taken = { λ s. s.taken };
 
     ghost faults = { λ s. 0 };
+
+    ghost shown = { λ s. record { left = Some s.left; taken = s.taken; faults = 0 } };
+
+    ghost shown_is = { λ s. refl };
 
     ghost Fixed = { Unit {0} };
 
@@ -114,6 +118,10 @@ impl Source for SureShelf {
     ghost taken = { λ s. s.taken };
 
     ghost faults = { λ s. 0 };
+
+    ghost shown = { λ s. record { left = Some s.left; taken = s.taken; faults = 0 } };
+
+    ghost shown_is = { λ s. refl };
 
     ghost Fixed = { List ℕ };
 
@@ -202,6 +210,10 @@ impl Sink for TallySink {
     ghost got = { λ s. None };
 
     ghost faults = { λ s. 0 };
+
+    ghost shown = { λ s. record { got = None; faults = 0 } };
+
+    ghost shown_is = { λ s. refl };
 
     fn put(&mut self, bytes: &[u8]) -> Result<(), WriteFailed>
         // What every sink does.

@@ -1,5 +1,5 @@
 //! The real shelf, source, sink and words: a few lines over std, which the system's side is trusted to serve.
-ghost use Rattle.std.specs.Prelude.{◌≡◌, None};
+ghost use Rattle.std.specs.Prelude.{◌≡◌, None, refl};
 ghost use Rattle.std.specs.Io.{ReadsAtMost};
 ghost use Rattle.std.specs.Io.KnownBytes.{ReadConsumes};
 ghost use Rattle.diag_edge.specs.Edge.{untold, Rose};
@@ -56,6 +56,10 @@ impl Source for FileShelf {
     ghost taken = { λ s. s.taken };
 
     ghost faults = { λ s. s.faults };
+
+    ghost shown = { λ s. record { left = None; taken = s.taken; faults = s.faults } };
+
+    ghost shown_is = { λ s. refl };
 
     ghost Fixed = { Unit {0} };
 
@@ -129,6 +133,10 @@ impl<R: Read + Drop> Source for StdSource<R> {
 
     ghost faults = { λ s. s.faults };
 
+    ghost shown = { λ s. record { left = R.remaining s.input; taken = s.taken; faults = s.faults } };
+
+    ghost shown_is = { λ s. refl };
+
     ghost Fixed = { Unit {0} };
 
     ghost fixed = { λ s. tt };
@@ -177,6 +185,10 @@ impl<W: Write + Drop> Sink for StdSink<W> {
     ghost got = { λ s. W.contents s.out };
 
     ghost faults = { λ s. s.faults };
+
+    ghost shown = { λ s. record { got = W.contents s.out; faults = s.faults } };
+
+    ghost shown_is = { λ s. refl };
 
     fn put(&mut self, bytes: &[u8]) -> Result<(), WriteFailed> {
         let mut rest = bytes;

@@ -6,7 +6,7 @@ use Rattle.device_model.specs.declared.component.Kind.TheVariants.{And, Nand, Xo
 use Rattle.device_model.specs.declared.component.Component.{Component}
 use Rattle.device_model.specs.Devices.{Device}
 use Rattle.std.specs.Prelude.{Result, Ok, Err}
-use Rattle.bench_reader.specs.Faults.{Fault, fault_number}
+use Rattle.bench_reader.specs.Faults.{Fault, fault_row}
 use Rattle.bench_reader.specs.declared.kinds.FlipFlops.TheVariants.{Taken}
 use Rattle.bench_reader.specs.Netlists.{netlist, netlist_with}
 
@@ -18,7 +18,7 @@ text (line ∷ lines) = line ++ 10 ∷ text lines
 -- the line and the number of a fault
 abbrev shown : Result Device Fault → List ℕ
 shown (Ok device) = []
-shown (Err fault) = fault.line ∷ fault_number fault.what ∷ []
+shown (Err fault) = fault.line ∷ (fault_row fault.what).0 ∷ []
 
 abbrev fault_of : List (List ℕ) → List ℕ
 fault_of lines = shown (netlist (text lines))

@@ -38,9 +38,9 @@ lower_from_capitals (b ∷ word) (k ∷ keyword) h e =
     cc
 
 -- words that are the same in small letters have the same capitals
-pub spells-test : (test : Bool) (word keyword : List ℕ) → list_all is_capital keyword ≡ true
+pub spells_in_any_case-test : (test : Bool) (word keyword : List ℕ) → list_all is_capital keyword ≡ true
     → (IsTrue test ↔ (map to_ascii_lowercase word ≡ map to_ascii_lowercase keyword)) → test ≡ same_name (capitals word) keyword
-spells-test test word keyword h e =
+spells_in_any_case-test test word keyword h e =
     same_from_decides test (same_name (capitals word) keyword)
     (λ t. capitals_from_lower word keyword h (e.0 t), λ c. e.1 (lower_from_capitals word keyword h c))
     (bytes_eq-Decides (capitals word) keyword)

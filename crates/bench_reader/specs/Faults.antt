@@ -5,25 +5,16 @@ use Rattle.bench_reader.specs.declared.fault.BenchFault.TheVariants.{Line, Name,
 use Rattle.bench_reader.specs.declared.fault.BenchError.{BenchError}
 use Rattle.bench_reader.specs.declared.fault.BenchError.TheVariants.{Bad, Memory}
 
-abbrev pub fault_number : BenchFault → ℕ
-fault_number Line = 1
-fault_number Name = 2
-fault_number Kind = 3
-fault_number Inputs = 4
-fault_number Sequential = 5
-fault_number DrivenTwice = 6
-fault_number Undriven = 7
-fault_number TooMany = 8
-
-abbrev pub fault_name : BenchFault → List ℕ
-fault_name Line = codes "line"
-fault_name Name = codes "name"
-fault_name Kind = codes "kind"
-fault_name Inputs = codes "inputs"
-fault_name Sequential = codes "sequential"
-fault_name DrivenTwice = codes "driven twice"
-fault_name Undriven = codes "undriven"
-fault_name TooMany = codes "too many"
+-- the number of a fault, and its name
+abbrev pub fault_row : BenchFault → ℕ × List ℕ
+fault_row Line = (1, codes "line")
+fault_row Name = (2, codes "name")
+fault_row Kind = (3, codes "kind")
+fault_row Inputs = (4, codes "inputs")
+fault_row Sequential = (5, codes "sequential")
+fault_row DrivenTwice = (6, codes "driven twice")
+fault_row Undriven = (7, codes "undriven")
+fault_row TooMany = (8, codes "too many")
 
 -- what is wrong with a text, and in which line
 pub record Fault : Type 0 where

@@ -1,5 +1,5 @@
 ghost use Rattle.std.specs.Prelude.{◌≡◌};
-ghost use Rattle.bench_reader.specs.Faults.{fault_number, fault_name};
+ghost use Rattle.bench_reader.specs.Faults.{fault_row};
 ghost use Rattle.bench_reader.specs.declared.fault.BenchError.TheVariants.{Memory};
 
 use std::alloc::{AllocError, AllocFailed};
@@ -29,33 +29,32 @@ pub enum BenchFault {
 impl BenchFault {
     /// The number of the fault, 1 to 8.
     pub fn number(self) -> u32
-        ensures { result ≡ fault_number self }
+        ensures { result ≡ (fault_row self).0 }
     {
-        match self {
-            BenchFault::Line => 1,
-            BenchFault::Name => 2,
-            BenchFault::Kind => 3,
-            BenchFault::Inputs => 4,
-            BenchFault::Sequential => 5,
-            BenchFault::DrivenTwice => 6,
-            BenchFault::Undriven => 7,
-            BenchFault::TooMany => 8,
-        }
+        self.row().0
     }
 
     /// The name of the fault, as it is told.
     pub fn name(self) -> &'static str
-        ensures { result.now ≡ fault_name self }
+        ensures { result.now ≡ (fault_row self).1 }
+    {
+        self.row().1
+    }
+
+    // Its number and its name.
+    fn row(self) -> (u32, &'static str)
+        ensures number { result.0 ≡ (fault_row self).0 }
+        ensures name { result.1.now ≡ (fault_row self).1 }
     {
         match self {
-            BenchFault::Line => "line",
-            BenchFault::Name => "name",
-            BenchFault::Kind => "kind",
-            BenchFault::Inputs => "inputs",
-            BenchFault::Sequential => "sequential",
-            BenchFault::DrivenTwice => "driven twice",
-            BenchFault::Undriven => "undriven",
-            BenchFault::TooMany => "too many",
+            BenchFault::Line => (1, "line"),
+            BenchFault::Name => (2, "name"),
+            BenchFault::Kind => (3, "kind"),
+            BenchFault::Inputs => (4, "inputs"),
+            BenchFault::Sequential => (5, "sequential"),
+            BenchFault::DrivenTwice => (6, "driven twice"),
+            BenchFault::Undriven => (7, "undriven"),
+            BenchFault::TooMany => (8, "too many"),
         }
     }
 }

@@ -40,7 +40,7 @@ impl NamedKind {
 }
 
 // Whether a word is a keyword of capital letters, which may be written in capital letters, small letters or both.
-pub fn spells(word: &[u8], keyword: &[u8]) -> bool
+pub fn spells_in_any_case(word: &[u8], keyword: &[u8]) -> bool
     requires { list_all is_capital keyword.now ≡ true }
     ensures { result ≡ same_name (capitals word.now) keyword.now }
 {
@@ -52,7 +52,7 @@ fn gate_spelled(word: &[u8]) -> Option<Kind>
     ensures { result ≡ gate_named (capitals word.now) }
 {
     for gate in Kind::GATES {
-        if spells(word, gate.word()) {
+        if spells_in_any_case(word, gate.word()) {
             return Some(gate);
         }
     }
@@ -65,9 +65,9 @@ pub fn kind_named(word: &[u8]) -> NamedKind
 {
     if let Some(gate) = gate_spelled(word) {
         NamedKind::Combinational(gate)
-    } else if spells(word, b"BUF") {
+    } else if spells_in_any_case(word, b"BUF") {
         NamedKind::Combinational(Kind::Buff)
-    } else if spells(word, b"DFF") {
+    } else if spells_in_any_case(word, b"DFF") {
         NamedKind::Sequential
     } else {
         NamedKind::Unknown

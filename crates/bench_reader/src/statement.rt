@@ -7,7 +7,7 @@ ghost use Rattle.bench_reader.specs.Signals.{driven_by_gate};
 ghost use Rattle.bench_reader.specs.inner.Lines.{line_tokens, behind_bracket, input_tokens, input_names, meaning, meaning_of_line, unnumbered, is_close, count_names};
 
 use crate::fault::BenchFault;
-use crate::kinds::{FlipFlops, NamedKind, kind_named, spells};
+use crate::kinds::{FlipFlops, NamedKind, kind_named, spells_in_any_case};
 use text_rules::{Tokens, is_mark, is_short_name, uncommented};
 
 /// What a line says.
@@ -125,9 +125,9 @@ fn signal_of<'a>(keyword: &[u8], mut tokens: Tokens<'a>) -> Option<Statement<'a>
     if !has_no_mark(signal) || !closes(tokens) {
         return None;
     }
-    if spells(keyword, b"INPUT") {
+    if spells_in_any_case(keyword, b"INPUT") {
         Some(Statement::Input(signal))
-    } else if spells(keyword, b"OUTPUT") {
+    } else if spells_in_any_case(keyword, b"OUTPUT") {
         Some(Statement::Output(signal))
     } else {
         None

@@ -1,5 +1,5 @@
 ghost use Rattle.std.specs.Prelude.{◌≡◌};
-ghost use Rattle.component_lang.specs.Faults.{fault_number, fault_name};
+ghost use Rattle.component_lang.specs.Faults.{fault_row};
 ghost use Rattle.component_lang.specs.declared.fault.LangError.TheVariants.{Memory};
 
 use std::alloc::{AllocError, AllocFailed};
@@ -30,35 +30,33 @@ pub enum LangFault {
 impl LangFault {
     /// The number of the fault, 1 to 9.
     pub fn number(self) -> u32
-        ensures { result ≡ fault_number self }
+        ensures { result ≡ (fault_row self).0 }
     {
-        match self {
-            LangFault::Line => 1,
-            LangFault::Name => 2,
-            LangFault::Twice => 3,
-            LangFault::Unknown => 4,
-            LangFault::Ports => 5,
-            LangFault::Row => 6,
-            LangFault::NoTop => 7,
-            LangFault::AfterTop => 8,
-            LangFault::Cost => 9,
-        }
+        self.row().0
     }
 
     /// The name of the fault, as it is told.
     pub fn name(self) -> &'static str
-        ensures { result.now ≡ fault_name self }
+        ensures { result.now ≡ (fault_row self).1 }
+    {
+        self.row().1
+    }
+
+    // Its number and its name.
+    fn row(self) -> (u32, &'static str)
+        ensures number { result.0 ≡ (fault_row self).0 }
+        ensures name { result.1.now ≡ (fault_row self).1 }
     {
         match self {
-            LangFault::Line => "line",
-            LangFault::Name => "name",
-            LangFault::Twice => "twice",
-            LangFault::Unknown => "unknown",
-            LangFault::Ports => "ports",
-            LangFault::Row => "row",
-            LangFault::NoTop => "no top",
-            LangFault::AfterTop => "after top",
-            LangFault::Cost => "cost",
+            LangFault::Line => (1, "line"),
+            LangFault::Name => (2, "name"),
+            LangFault::Twice => (3, "twice"),
+            LangFault::Unknown => (4, "unknown"),
+            LangFault::Ports => (5, "ports"),
+            LangFault::Row => (6, "row"),
+            LangFault::NoTop => (7, "no top"),
+            LangFault::AfterTop => (8, "after top"),
+            LangFault::Cost => (9, "cost"),
         }
     }
 }

@@ -1,5 +1,5 @@
 -- Bits that agree with words, place by place.
-use Rattle.std.proofs.Common.{◌≡◌, ℕ, zero, suc, ◌<◌, Bool, true, false, List, [], ◌∷◌, ◌++◌, length, take, get_or, Some, None, refl, sym, ◌∙◌, subst}
+use Rattle.std.proofs.Common.{◌≡◌, ℕ, zero, suc, ◌<◌, Bool, true, false, List, [], ◌∷◌, ◌++◌, length, take, get_or, Some, None, refl, sym, ◌∙◌, subst, arith}
 use Rattle.std.proofs.lemmas.Bool.{and_parts, and_from}
 use Rattle.std.proofs.lemmas.List.{length-map}
 use Rattle.ranking.specs.Bits.{bit_in}
@@ -11,6 +11,10 @@ use Rattle.conditioner.specs.Models.{fits_words}
 pub known_of-word_of : (b : Bool) → known_of (word_of b) ≡ Some b
 known_of-word_of true = refl
 known_of-word_of false = refl
+
+pub word_of-small : (b : Bool) → word_of b < 3
+word_of-small true = omega arith
+word_of-small false = omega arith
 
 pub known-at : (words : List ℕ) (i : ℕ) → get_or (known words) i None ≡ known_of (get_or words i 0)
 known-at [] i = refl

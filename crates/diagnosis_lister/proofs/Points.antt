@@ -25,11 +25,6 @@ pub length-marked : (marks : List ℕ) → length (marked_bits marks) ≡ length
 length-marked marks = length-map marks (λ mark. mark % 2 == 0)
 
 -- a mark that is odd says faulty
--- a word that says a bit is one of those that may stand
-pub word_of-small : (b : Bool) → word_of b < 3
-word_of-small true = omega arith
-word_of-small false = omega arith
-
 pub marked-odd : (marks : List ℕ) (i : ℕ) → i < length marks → get_or marks i 0 % 2 ≡ 1 → bit_in (marked_bits marks) i ≡ false
 marked-odd marks i h e = bit_in-marked marks i h ∙ (λ j. e j == 0)
 

@@ -10,7 +10,7 @@ use Rattle.ranking.proofs.Members.{bits_length, filter_same}
 use Rattle.graph_rules.specs.Graphs.{Graph, is_true, mentions, IsGraph}
 use Rattle.conditioner.specs.Models.{has_model, fits_words, models, least_under, diagnoses_under}
 use Rattle.minimiser.specs.Costs.{part_cost, known_at}
-use Rattle.minimiser.specs.Held.{held_cost}
+use Rattle.minimiser.specs.inner.Held.{held_cost}
 use Rattle.minimiser.proofs.Totals.{total, total-le}
 use Rattle.minimiser.proofs.Costs.{fault, all_faults, and_left, and_right}
 use Rattle.minimiser.proofs.Models.{same_or_not}

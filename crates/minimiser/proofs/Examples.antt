@@ -4,7 +4,7 @@ use Rattle.graph_rules.specs.declared.NodeKind.TheVariants.{Or}
 use Rattle.graph_rules.specs.Graphs.{Graph, literal_node, true_node}
 use Rattle.conditioner.specs.Models.{least_under, least_with, models_with, diagnoses_under, total_cost}
 use Rattle.minimiser.specs.Costs.{part_cost}
-use Rattle.minimiser.specs.Held.{held_cost}
+use Rattle.minimiser.specs.inner.Held.{held_cost}
 use Rattle.minimiser.specs.Stored.{costs_to}
 
 abbrev always : Graph

@@ -5,7 +5,7 @@ use Rattle.std.proofs.lemmas.List.Sums.{sum_by-cons, sum_by-drop_more}
 use Rattle.conditioner.specs.Models.{total_cost}
 use Rattle.conditioner.specs.Words.{known_of}
 use Rattle.minimiser.specs.Costs.{part_cost}
-use Rattle.minimiser.specs.Held.{held_one, held_cost}
+use Rattle.minimiser.specs.inner.Held.{held_one, held_cost}
 use Rattle.minimiser.proofs.Totals.{total}
 
 pub held-drop : (costs words : List ℕ) (i : ℕ) → i < length costs → i < length words

@@ -16,7 +16,7 @@ use Rattle.graph_rules.proofs.NodeValues.{below-each}
 use Rattle.graph_rules.proofs.NodesFit.{nodes_fit-at, fits-get, literal}
 use Rattle.conditioner.specs.Models.{least_under, total_cost}
 use Rattle.minimiser.specs.Costs.{part_cost, known_at, cost_at, sum_costs, node_cost}
-use Rattle.minimiser.specs.Held.{held_cost}
+use Rattle.minimiser.specs.inner.Held.{held_cost}
 use Rattle.minimiser.specs.Stored.{cost_in, costs_to, AreLeastCosts}
 use Rattle.minimiser.proofs.Totals.{total-le}
 use Rattle.minimiser.proofs.Costs.{fault, false_is, faults_in}

@@ -13,7 +13,7 @@ use Rattle.graph_rules.proofs.NodesFit.{fits-get, literal}
 use Rattle.conditioner.specs.Words.{known_of}
 use Rattle.conditioner.specs.Models.{least_under, total_cost}
 use Rattle.minimiser.specs.Costs.{part_cost, known_at, cost_at, sum_costs, node_cost}
-use Rattle.minimiser.specs.Held.{held_cost}
+use Rattle.minimiser.specs.inner.Held.{held_cost}
 use Rattle.minimiser.specs.Stored.{cost_in, costs_to, AreLeastCosts}
 use Rattle.minimiser.specs.Suspects.{Suspect, LeastState, OkBelow}
 use Rattle.minimiser.specs.inner.Marked.{IsValue, has_mark, unmarked, IsMarked, is_kid, spread_value, HasMarkedParent, IsSwept, suspect_of, suspect_at}

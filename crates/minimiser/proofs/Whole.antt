@@ -15,7 +15,7 @@ use Rattle.conditioner.specs.Words.{known_of}
 use Rattle.conditioner.specs.Models.{has_model, fits_words, models}
 use Rattle.conditioner.proofs.FittingWords.{fits_words-at, fits_words-from}
 use Rattle.minimiser.specs.Costs.{part_cost, known_at, cost_at, node_cost}
-use Rattle.minimiser.specs.Held.{held_one, held_cost}
+use Rattle.minimiser.specs.inner.Held.{held_one, held_cost}
 use Rattle.minimiser.proofs.Totals.{total, total-le}
 use Rattle.minimiser.proofs.Costs.{fault, false_is, IsCost, Agrees, faults_in, all_faults, and_left, and_right}
 use Rattle.minimiser.proofs.Nodes.{nodes_are}

@@ -2,7 +2,7 @@ ghost use Rattle.std.specs.Prelude.{◌≡◌, ℕ, ◌+◌, ◌-◌, ◌<◌, �
 ghost use Rattle.conditioner.specs.Models.{least_under, total_cost};
 ghost use Rattle.graph_rules.specs.Graphs.{node_fits};
 ghost use Rattle.minimiser.specs.Costs.{part_cost, known_at, node_cost, literal_cost, cost_at, cost_by, sum_costs, cheapest};
-ghost use Rattle.minimiser.specs.Held.{held_cost};
+ghost use Rattle.minimiser.specs.inner.Held.{held_cost};
 ghost use Rattle.minimiser.specs.Stored.{cost_in, AreLeastCosts};
 
 use crate::steps::Steps;

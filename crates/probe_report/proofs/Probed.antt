@@ -14,7 +14,7 @@ use Rattle.conditioner.specs.Words.{known_of, word_of, leaf_of}
 use Rattle.conditioner.specs.Models.{has_model, fits_words, least_under, least_with, total_cost}
 use Rattle.minimiser.specs.Costs.{part_cost}
 use Rattle.minimiser.specs.Stored.{cost_in, AreLeastCosts}
-use Rattle.minimiser.specs.Held.{held_one, held_cost}
+use Rattle.minimiser.specs.inner.Held.{held_one, held_cost}
 use Rattle.minimiser.proofs.Costs.{and_left, and_right}
 use Rattle.minimiser.proofs.Sums.{cost_in-some}
 use Rattle.minimiser.proofs.Passes.{is_least, value_small, length-least_costs}

@@ -22,7 +22,7 @@ use Rattle.graph_rules.specs.GraphTexts.{edges, parsed}
 use Rattle.graph_rules.proofs.NodeValues.{value_of}
 use Rattle.conditioner.specs.Models.{models, least_under, diagnoses_under}
 use Rattle.minimiser.specs.Costs.{part_cost, known_at, cost_at, node_cost}
-use Rattle.minimiser.specs.Held.{held_cost}
+use Rattle.minimiser.specs.inner.Held.{held_cost}
 use Rattle.minimiser.proofs.Whole.{AddHeld, least_is, state_of, assignment_of}
 use Rattle.minimiser.proofs.Models.{diagnosis-in, diagnosis-out}
 use Rattle.nnf_text.proofs.ReadingBack.{IsList, edges-le, graph_text-read, graph_text-is_neat}

@@ -8,6 +8,7 @@ ghost use Rattle.part_sets.specs.Numbers.{part_words};
 ghost use Rattle.smooth_nnf.specs.inner.Sets.{has_bit, part_at};
 ghost use Rattle.smooth_nnf.specs.inner.Drawings.{IsDrawing, IsNodeOf, IsUnder, is_over, missing_in, part_count, set_parts};
 
+use conditioner::is_false;
 use node_store::Graph;
 use part_sets::{PartSets, part_words, set_at};
 use std::marker::Model;
@@ -161,7 +162,7 @@ impl<'a> Drawing<'a> {
         requires { (1 ≤ part) × (part ≤ self.now.parts) }
         ensures { result ≡ filler self.now.words part }
     {
-        literal_line(part, self.words[part as usize - 1] != 2)
+        literal_line(part, !is_false(self.words[part as usize - 1]))
     }
 }
 

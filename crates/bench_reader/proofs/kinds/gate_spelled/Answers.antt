@@ -8,11 +8,11 @@ use Rattle.bench_reader.specs.inner.Lines.{is_capital}
 use Rattle.bench_reader.proofs.Words.{capitals-word_of}
 use Rattle.bench_reader.proofs.kinds.gate_spelled.Goals as goal
 
-pub spells-requires : goal.spells-requires
-spells-requires c = ap (list_all is_capital) c.word.ensures ∙ capitals-word_of _
+pub spells_in_any_case-requires : goal.spells_in_any_case-requires
+spells_in_any_case-requires c = ap (list_all is_capital) c.word.ensures ∙ capitals-word_of _
 
 pub loop-gate-preserved : goal.loop-gate-preserved
 loop-gate-preserved c =
     let capital_word = capitals c.args.word.now in
     c.loop-gate.invariant
-    ∙ first_named-later (same_name capital_word) gate_kinds c.loop-gate.gate-index _ c.loop-gate-test.true (sym (ap (same_name capital_word) c.word.ensures) ∙ sym c.spells.ensures ∙ c.if-spells.false)
+    ∙ first_named-later (same_name capital_word) gate_kinds c.loop-gate.gate-index _ c.loop-gate-test.true (sym (ap (same_name capital_word) c.word.ensures) ∙ sym c.spells_in_any_case.ensures ∙ c.if-spells_in_any_case.false)

@@ -1,4 +1,4 @@
-use Rattle.std.proofs.Common.{◌≡◌, ◌++◌, ◌+◌, true, drop, ap, sym, ◌∙◌, arith}
+use Rattle.std.proofs.Common.{◌++◌, ◌+◌, drop, ap, sym, ◌∙◌, arith}
 use Rattle.device_model.specs.Devices.{part_names}
 use Rattle.bench_reader.specs.inner.FlipFlops.{is_kept}
 use Rattle.bench_reader.specs.SequentialNetlists.{places_where}

@@ -1,7 +1,5 @@
-use Rattle.std.proofs.Common.{map, ap, sym, ◌∙◌, subst}
+use Rattle.std.proofs.Common.{map, ap, sym, ◌∙◌}
 use Rattle.std.specs.List.{list_all}
-use Rattle.std.proofs.lemmas.Result.{err_from_is_err_and}
-use Rattle.text_rules.specs.Expected.{Fulfils}
 use Rattle.text_rules.specs.Names.{is_among}
 use Rattle.device_model.specs.Devices.{part_names}
 use Rattle.bench_reader.specs.declared.kinds.FlipFlops.TheVariants.{Taken}

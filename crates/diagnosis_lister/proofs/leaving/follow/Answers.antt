@@ -2,8 +2,9 @@ use Rattle.std.proofs.Common.{◌≡◌, ◌+◌, ◌<◌, length, All, List, �
 use Rattle.std.proofs.lemmas.List.Elements.{All-set}
 use Rattle.ranking.specs.Bits.{bit_in}
 use Rattle.conditioner.specs.Words.{word_of}
+use Rattle.conditioner.proofs.FittingWords.{word_of-small}
 use Rattle.diagnosis_lister.specs.inner.Marks.{marked_bits}
-use Rattle.diagnosis_lister.proofs.Points.{FollowsTo, FollowsTo-set, FollowsTo-stay, Follows-all, bit_in-marked, word_of-small, marked-open, length-marked}
+use Rattle.diagnosis_lister.proofs.Points.{FollowsTo, FollowsTo-set, FollowsTo-stay, Follows-all, bit_in-marked, marked-open, length-marked}
 use Rattle.diagnosis_lister.proofs.leaving.follow.Goals as goal
 use Rattle.diagnosis_lister.proofs.leaving.follow.Goals.{then-mark-ge2, else-mark-ge2+else-words-part}
 

@@ -4,6 +4,7 @@ use Rattle.std.proofs.lemmas.Bool.{eqb-true}
 use Rattle.std.proofs.lemmas.List.Elements.{All-set}
 use Rattle.ranking.specs.Bits.{bit_in}
 use Rattle.conditioner.specs.Words.{word_of, bits_of}
+use Rattle.conditioner.proofs.FittingWords.{word_of-small}
 use Rattle.diagnosis_lister.proofs.Marking.{length-bits}
 use Rattle.diagnosis_lister.proofs.Points.{FollowsTo, FollowsTo-set, FollowsTo-stay, Follows-all}
 use Rattle.level_lister.proofs.StateBits.{bit_in-bits}
@@ -16,17 +17,13 @@ own_bit state i h faulty e = ap not e ∙ twice (get_or state i 0 == 0) ∙ sym 
   twice true = refl
   twice false = refl
 
-few_words : (b : Bool) (word : ℕ) → word ≡ word_of b → word < 3
-few_words true word e = omega arith
-few_words false word e = omega arith
-
 pub loop-part-preserved : goal.loop-part-preserved
 loop-part-preserved c =
     let state = c.args.state.now in
     let point = bits_of state in
     let i = c.loop-part.part in
     let word : c.word_of_known-word.result ≡ word_of (bit_in point i) = c.word_of_known-word.ensures ∙ ap word_of (own_bit state i c.loop-part-test.true c.is_faulty.result c.is_faulty.ensures) in
-    let few : c.word_of_known-word.result < 3 = few_words (bit_in point i) c.word_of_known-word.result word in
+    let few : c.word_of_known-word.result < 3 = subst (λ (w : ℕ). w < 3) (sym word) (word_of-small (bit_in point i)) in
     elim c.if-is_open.branch [
       | then-is_open w ↦ record {
         small = subst (λ (ws : List ℕ). All (λ w. w < 3) ws) (sym w.words-is) (All-set (λ w. w < 3) c.loop-part.words i c.word_of_known-word.result few c.loop-part.invariant.small);

@@ -1,6 +1,6 @@
 use Rattle.std.proofs.Common.{◌≡◌, ◌≤◌, ◌+◌, drop}
 use Rattle.conditioner.specs.Models.{total_cost}
-use Rattle.minimiser.specs.Held.{held_cost}
+use Rattle.minimiser.specs.inner.Held.{held_cost}
 use Rattle.minimiser.proofs.pass.held_cost.Given as goal
 
 -- the cost so far and that of the parts that are left; and they fit

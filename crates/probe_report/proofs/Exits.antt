@@ -1,5 +1,5 @@
 -- The least cost at the root where a variable has a bit, from what derivations cost outside of the nodes.
-use Rattle.std.proofs.Common.{◌≡◌, ◌≢◌, ℕ, zero, suc, ◌+◌, ◌-◌, ◌<◌, ◌≤◌, Bool, true, false, cond, eqb, ◌&&◌, List, [], ◌∷◌, map, length, get_or, set, Option, Some, None, refl, ap, sym, ◌∙◌, subst, arith, inl, inr, ⊎_elim}
+use Rattle.std.proofs.Common.{◌≡◌, ◌≢◌, ℕ, zero, suc, ◌+◌, ◌-◌, ◌<◌, ◌≤◌, Bool, true, false, cond, ◌&&◌, List, [], ◌∷◌, map, length, get_or, set, Option, Some, None, refl, ap, sym, ◌∙◌, subst, arith, inl, inr, ⊎_elim}
 use Rattle.std.specs.Prelude.{◌⊎◌, slice_get, nat_lt}
 use Rattle.std.specs.List.{list_any}
 use Rattle.std.proofs.Math.Seq.{take-length}
@@ -8,8 +8,7 @@ use Rattle.std.proofs.lemmas.List.{get_or-set_same, get_or-set_other}
 use Rattle.std.proofs.lemmas.List.Sums.{sum_by-cons}
 use Rattle.std.proofs.lemmas.Option.{slice_get-get_or, slice_get_within}
 use Rattle.ranking.specs.Values.{values}
-use Rattle.ranking.proofs.Lists.{list_any-map}
-use Rattle.ranking.proofs.Members.{In, Passing, any_from, any_in, AtMost, AtMost-le}
+use Rattle.ranking.proofs.Members.{In, AtMost, AtMost-le}
 use Rattle.graph_rules.specs.declared.NodeKind.{NodeKind}
 use Rattle.graph_rules.specs.declared.NodeKind.TheVariants.{Literal, And, Or}
 use Rattle.graph_rules.specs.Graphs.{at_most_one, Node, Graph, true_node, node_at, mention_by, mentions, IsGraph}
@@ -19,24 +18,18 @@ use Rattle.graph_rules.proofs.NodesFit.{fits-get, apart-get, literal}
 use Rattle.conditioner.specs.Words.{known_of, word_of, leaf_of}
 use Rattle.conditioner.specs.Models.{total_cost}
 use Rattle.conditioner.proofs.FittingWords.{known_of-word_of}
-use Rattle.minimiser.specs.Costs.{part_cost, known_at, cost_at, min_costs, add_costs, sum_costs, cheapest, node_cost, literal_cost}
+use Rattle.minimiser.specs.Costs.{part_cost, known_at, cost_at, add_costs, sum_costs, cheapest, node_cost, literal_cost}
 use Rattle.minimiser.specs.Stored.{cost_in, costs_to, AreLeastCosts}
-use Rattle.minimiser.proofs.Costs.{from_add}
+use Rattle.minimiser.proofs.Costs.{from_add, from_min}
 use Rattle.minimiser.proofs.Sums.{cost_in-some, cost_at-map}
 use Rattle.minimiser.proofs.Passes.{length-least_costs, literal_at, cost_small}
-use Rattle.minimiser.proofs.Derivations.{cheapest-kid, costs-at, below, all-below}
+use Rattle.minimiser.proofs.Derivations.{any-kid, kid-with, cheapest-kid, costs-at, below, all-below}
 use Rattle.minimiser.proofs.Whole.{from_bounds}
-use Rattle.minimiser.proofs.Sweeping.{node_least}
-use Rattle.probe_report.specs.inner.Outside.{IsLowered, is_kid, total_value, outside_kid, HasOuterParent, AreOuter, Without, With}
-use Rattle.probe_report.proofs.Lowering.{kid-in, kid-out}
+use Rattle.minimiser.proofs.Sweeping.{node_least, cost_in-is, kid-in, kid-out}
+use Rattle.minimiser.specs.inner.Marked.{is_kid}
+use Rattle.probe_report.specs.inner.Outside.{IsLowered, total_value, outside_kid, HasOuterParent, AreOuter, Without, With}
 
 -- ---- costs
-
-cost_in-is : (v c : ℕ) → cost_in v ≡ Some c → v ≡ c
-cost_in-is v c e = by_test (eqb v 4294967295) e where
-  by_test : (b : Bool) → cond b None (Some v) ≡ Some c → v ≡ c
-  by_test true q = absurd (cc)
-  by_test false q = cc
 
 record Within (o : Option ℕ) (n : ℕ) : Type 0 where
   cost : ℕ
@@ -52,11 +45,6 @@ record HasKid (C : ℕ → Option ℕ) (kids : List ℕ) (c : ℕ) : Type 0 wher
   is_in : In kid kids
   is : C kid ≡ Some c
 
-from_min : (c d : Option ℕ) (n : ℕ) → min_costs c d ≡ Some n → (c ≡ Some n) ⊎ (d ≡ Some n)
-from_min None d n e = inr e
-from_min (Some c) None n e = inl e
-from_min (Some c) (Some d) n e = grind arith
-
 -- an or costs what some kid does
 cheapest-has : (C : ℕ → Option ℕ) (kids : List ℕ) (c : ℕ) → cheapest (map C kids) ≡ Some c → HasKid C kids c
 cheapest-has C [] c e = absurd (cc)
@@ -64,12 +52,6 @@ cheapest-has C (k ∷ kids) c e = ⊎_elim
     (λ h. record { kid = k; is_in = inl refl; is = h })
     (λ h. let r = cheapest-has C kids c h in record { kid = r.kid; is_in = inr r.is_in; is = r.is })
     (from_min (C k) (cheapest (map C kids)) c e)
-
-any-kid : (f : ℕ → Bool) (kids : List ℕ) (k : ℕ) → In k kids → f k ≡ true → list_any (λ b. b) (map f kids) ≡ true
-any-kid f kids k m e = list_any-map (λ b. b) f kids ∙ any_in f k kids m e
-
-kid-with : (f : ℕ → Bool) (kids : List ℕ) → list_any (λ b. b) (map f kids) ≡ true → Passing f kids
-kid-with f kids e = any_from f kids (sym (list_any-map (λ b. b) f kids) ∙ e)
 
 true-or-false : (b : Bool) → (b ≡ true) ⊎ (b ≡ false)
 true-or-false true = inl refl

@@ -2,11 +2,11 @@
 use Rattle.std.proofs.Common.{◌≡◌, ℕ, ◌+◌, ◌-◌, ◌<◌, ◌≤◌, min, Bool, true, false, not, ◌&&◌, ◌||◌, List, [], ◌∷◌, ◌++◌, length, take, get_or, refl, ap, sym, ◌∙◌, subst, arith, inl, inr, ⊎_elim}
 use Rattle.std.specs.Prelude.{◌⊎◌, ◌==◌, nat_le, nat_lt}
 use Rattle.std.specs.List.{list_any}
-use Rattle.std.proofs.lemmas.Bool.{cases_lt, eqb-true, eq-eqb, leb-true, le-leb, ltb-true, lt-ltb}
+use Rattle.std.proofs.lemmas.Bool.{cases_lt, leb-true, le-leb, ltb-true, lt-ltb}
 use Rattle.std.proofs.lemmas.List.{take_more}
 use Rattle.std.proofs.lemmas.List.Folds.{list_any-append}
-use Rattle.ranking.proofs.Members.{In, any_from, any_in}
-use Rattle.probe_report.specs.inner.Outside.{lowered, IsLowered, is_kid, has_bit, is_left}
+use Rattle.minimiser.specs.inner.Marked.{is_kid}
+use Rattle.probe_report.specs.inner.Outside.{lowered, IsLowered, has_bit, is_left}
 use Rattle.probe_report.specs.inner.Leaving.{LowersBlock}
 
 -- ---- one number
@@ -46,12 +46,6 @@ any-more bs f x = list_any-append f bs (x ∷ []) ∙ ap (λ y. list_any f bs ||
 
 pub is_kid-more : (kids : List ℕ) (i j : ℕ) → i < length kids → is_kid (take (i + 1) kids) j ≡ (is_kid (take i kids) j || (get_or kids i 0 == j))
 is_kid-more kids i j h = ap (λ ks. is_kid ks j) (take_more kids i 0 h) ∙ any-more (take i kids) (λ k. k == j) (get_or kids i 0)
-
-pub kid-in : (kids : List ℕ) (j : ℕ) → In j kids → is_kid kids j ≡ true
-kid-in kids j m = any_in (λ k. k == j) j kids m (eq-eqb j j refl)
-
-pub kid-out : (kids : List ℕ) (j : ℕ) → is_kid kids j ≡ true → In j kids
-kid-out kids j e = let s = any_from (λ k. k == j) kids e in subst (λ x. In x kids) (eqb-true s.item j s.passes) s.is_in
 
 -- ---- the wires that are left
 

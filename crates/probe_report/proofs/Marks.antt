@@ -10,11 +10,12 @@ use Rattle.graph_rules.specs.Graphs.{Node, Graph, node_at, mention_by, mentions,
 use Rattle.graph_rules.proofs.NodeValues.{map-below, value_of-at}
 use Rattle.graph_rules.proofs.NodesFit.{fits-at}
 use Rattle.minimiser.proofs.Models.{same_or_not}
-use Rattle.probe_report.specs.inner.Outside.{lowered, IsLowered, is_kid, AtLiteral, AtKid, Without, With, has_bit, mark_at, is_left}
+use Rattle.minimiser.specs.inner.Marked.{is_kid}
+use Rattle.probe_report.specs.inner.Outside.{lowered, IsLowered, AtLiteral, AtKid, Without, With, has_bit, mark_at, is_left}
 use Rattle.probe_report.specs.inner.Leaving.{IsMarked, LeftKid, LeftNode, LowersBlock}
 use Rattle.probe_report.proofs.Lowering.{lowered-is, lowered-then, lowered-as, is_kid-more, is_left-before, is_left-behind, is_left-in, block-lowered, block-then, block-as, block-none}
 use Rattle.probe_report.proofs.Bits.{has_bit-all, has_bit-zero}
-use Rattle.probe_report.proofs.Outers.{kid_before}
+use Rattle.minimiser.proofs.Sweeping.{kid_before}
 
 -- ---- one more kid
 

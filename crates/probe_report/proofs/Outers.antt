@@ -4,10 +4,10 @@ use Rattle.graph_rules.specs.declared.NodeKind.{NodeKind}
 use Rattle.graph_rules.specs.declared.NodeKind.TheVariants.{Literal, And, Or}
 use Rattle.graph_rules.specs.Graphs.{Node, Graph, node_at, kind_fits, IsGraph}
 use Rattle.graph_rules.proofs.NodesFit.{fits-at, literal}
-use Rattle.minimiser.proofs.Derivations.{all-below}
 use Rattle.minimiser.proofs.Models.{same_or_not}
-use Rattle.probe_report.specs.inner.Outside.{lowered, IsLowered, is_kid, outside_kid, outside, HasOuterParent, AreOuter}
-use Rattle.probe_report.proofs.Lowering.{lowered-is, kid-out}
+use Rattle.minimiser.specs.inner.Marked.{is_kid}
+use Rattle.probe_report.specs.inner.Outside.{lowered, IsLowered, outside_kid, outside, HasOuterParent, AreOuter}
+use Rattle.probe_report.proofs.Lowering.{lowered-is}
 
 outside-le : (values : List ℕ) (what : NodeKind) (kids : List ℕ) (a b j : ℕ) → a ≤ b → outside_kid values what kids a j ≤ outside_kid values what kids b j
 outside-le values (Literal positive var) kids a b j h = h
@@ -55,7 +55,3 @@ pub no-kids : (graph : Graph) (at var : ℕ) (positive : Bool) (cost old j : ℕ
 no-kids graph at var positive cost old j ok h e =
     let alone = (literal graph.vars var positive (node_at graph.nodes at).kids (subst (λ w. kind_fits graph.vars w (node_at graph.nodes at).kids ≡ true) (sym e) (fits-at graph.vars graph.nodes at ok.nodes.fit h).kind)).alone in
     sym (ap (λ ks. lowered (is_kid ks j) cost old) alone)
-
--- kids stand before their parents
-pub kid_before : (graph : Graph) (k j : ℕ) → IsGraph graph → k < length graph.nodes → is_kid (node_at graph.nodes k).kids j ≡ true → j < k
-kid_before graph k j ok h i = all-below k (node_at graph.nodes k).kids j (fits-at graph.vars graph.nodes k ok.nodes.fit h).below (kid-out (node_at graph.nodes k).kids j i)

@@ -1,6 +1,7 @@
 ghost use Rattle.std.specs.Prelude.{◌≡◌, ℕ, ◌+◌, ◌-◌, ◌*◌, ◌^◌, ◌<◌, ◌≤◌, length, All, slice_index};
 ghost use Rattle.graph_rules.specs.Graphs.{node_at};
-ghost use Rattle.probe_report.specs.inner.Outside.{lowered, is_kid, total_value, outside_kid, AreOuter};
+ghost use Rattle.minimiser.specs.inner.Marked.{is_kid};
+ghost use Rattle.probe_report.specs.inner.Outside.{lowered, total_value, outside_kid, AreOuter};
 
 use graph_rules::NodeKind;
 use minimiser::TOTAL_LIMIT;

@@ -2,7 +2,8 @@
 use Rattle.std.specs.Prelude.{◌≡◌, ℕ, ◌+◌, ◌-◌, ◌<◌, ◌≤◌, ◌⊎◌, true, false, List, length, slice_index}
 use Rattle.graph_rules.specs.declared.NodeKind.TheVariants.{Or}
 use Rattle.graph_rules.specs.Graphs.{Node, node_at, mentions}
-use Rattle.probe_report.specs.inner.Outside.{IsLowered, is_kid, has_bit, mark_at}
+use Rattle.minimiser.specs.inner.Marked.{is_kid}
+use Rattle.probe_report.specs.inner.Outside.{IsLowered, has_bit, mark_at}
 
 -- the marks of the nodes before one say which of the variables from the first on they mention
 abbrev pub IsMarked : List Node → ℕ → ℕ → List ℕ → Type 0

@@ -1,10 +1,10 @@
 -- What a derivation of the root costs outside of a node, and where it leaves the nodes that mention a variable.
 use Rattle.std.specs.Prelude.{◌≡◌, ℕ, ◌+◌, ◌-◌, ◌*◌, ◌<◌, ◌≤◌, ◌⊎◌, min, Bool, true, false, not, ◌&&◌, ◌==◌, nat_le, nat_lt, List, length, sum_by, slice_index, if◌then◌else◌}
 use Rattle.std.specs.Int.{bit_at}
-use Rattle.std.specs.List.{list_any}
 use Rattle.graph_rules.specs.declared.NodeKind.{NodeKind}
 use Rattle.graph_rules.specs.declared.NodeKind.TheVariants.{Literal, And, Or}
 use Rattle.graph_rules.specs.Graphs.{Node, node_at, mentions}
+use Rattle.minimiser.specs.inner.Marked.{is_kid}
 
 -- ---- numbers that are lowered
 
@@ -18,9 +18,6 @@ pub record IsLowered (Cost : ℕ → Type 0) (old new : ℕ) : Type 0 where
   pub from : (new ≡ old) ⊎ Cost new
 
 -- ---- outside of each node
-
-abbrev pub is_kid : List ℕ → ℕ → Bool
-is_kid kids node = list_any (λ k. k == node) kids
 
 abbrev pub total_value : List ℕ → List ℕ → ℕ
 total_value values kids = sum_by (λ k. slice_index values k) kids

@@ -2,7 +2,7 @@ use Rattle.std.proofs.Common.{◌≡◌, ℕ, ◌+◌, ◌-◌, subst, arith}
 use Rattle.std.proofs.Math.ListN.{length-set}
 use Rattle.probe_report.specs.inner.Outside.{AreOuter}
 use Rattle.probe_report.proofs.Outers.{outers-met}
-use Rattle.probe_report.proofs.Outers.{kid_before}
+use Rattle.minimiser.proofs.Sweeping.{kid_before}
 use Rattle.probe_report.proofs.outside.find_outers.Goals as goal
 
 pub loop-at-preserved-then-outer-lt-TOTAL_LIMIT : goal.loop-at-preserved-then-outer-lt-TOTAL_LIMIT

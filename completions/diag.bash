@@ -38,7 +38,10 @@ _diag() {
     --budget | --sessions | --frames | --levels) return ;;
   esac
   # Each option stands at most once.
-  for given in "${COMP_WORDS[@]:2:COMP_CWORD-2}"; do options=${options//$given/}; done
+  for given in "${COMP_WORDS[@]:2:COMP_CWORD-2}"; do
+    options=" $options "
+    options=${options/" $given "/ }
+  done
   mapfile -t COMPREPLY < <(compgen -W "$options" -- "$word")
 }
 

@@ -40,7 +40,7 @@ def find_program() -> str:
     launcher, built = TOP / "diag", TOP / "crates/diag/out/diag"
     if not launcher.exists():
         raise NotBuilt(f"there is no launcher {launcher}: give program=, or set DIAG_PROGRAM, to the path of the built program")
-    build = f"`{launcher} --build` proves and builds it, which takes some minutes and needs the kit"
+    build = f"`{launcher} --build` proves and builds it, which takes about an hour where nothing is proved yet, and needs the kit"
     if not built.exists():
         raise NotBuilt(f"diag is not built: {build}")
     # The launcher knows which files a program is made of.

@@ -1,45 +1,29 @@
 -- The states of a level, each counted once.
-use Rattle.std.proofs.Common.{◌≡◌, ℕ, zero, suc, ◌+◌, ◌-◌, ◌*◌, ◌/◌, ◌<◌, ◌≤◌, inl, inr, Bool, true, false, not, ◌&&◌, ◌||◌, cond, List, [], ◌∷◌, ◌++◌, map, length, take, drop, get_or, refl, ap, sym, ◌∙◌, subst, arith, Global}
-use Rattle.std.specs.Prelude.{if◌then◌else◌, nat_lt}
+use Rattle.std.proofs.Common.{◌≡◌, ℕ, zero, suc, ◌+◌, ◌-◌, ◌*◌, ◌/◌, ◌<◌, ◌≤◌, inl, inr, Bool, true, false, not, ◌&&◌, ◌||◌, cond, List, [], ◌∷◌, ◌++◌, map, length, take, drop, get_or, refl, ap, sym, ◌∙◌, subst, arith}
+use Rattle.std.specs.Prelude.{if◌then◌else◌, nat_lt, slice_get, Some}
 use Rattle.std.specs.List.{list_any, list_all, filter, flat_map, sum_by, range_with_len, refill, AllByRecursion}
 use Rattle.std.specs.Str.{bytes_eq}
 use Rattle.std.proofs.lemmas.Bool.{false≢true, cases_Bool, or_from, and_parts, and_right, not-true, cases_lt, le-ltb, false_from_ne_true}
 use Rattle.std.proofs.lemmas.Slice.Eq.{bytes_eq-Decides}
+use Rattle.std.proofs.lemmas.Option.{slice_get_within, get_or_from_slice_get}
 use Rattle.std.proofs.lemmas.List.{map-append, length-append, length-map, append-nil, append_assoc, take-append-drop, take_more, take_all, drop_all, get_or-map}
 use Rattle.std.proofs.Math.Nat.{div-lt_iff_lt-mul}
 use Rattle.std.proofs.lemmas.List.Concat.{flat_map-append}
 use Rattle.std.proofs.lemmas.List.Sums.{sum_by-append}
 use Rattle.ranking.proofs.Bits.{pointwise-refl, pointwise-equal}
-use Rattle.ranking.proofs.Lists.{list_any-map}
-use Rattle.smallvec.specs.declared.small_vec.SmallVec.{SmallVec}
+use Rattle.indexmap.specs.IndexSet.{insert_key}
 use Rattle.clause_encoder.specs.Clauses.{Clause, ClauseList, var_of, is_clause, is_clause_list}
 use Rattle.branch_states.specs.Branches.{order, place, left, is_touched, is_covered, is_open, some_passes, is_dead, same_list, different, living, size, bits_of, words_of, state_of, weight, sum_of, branch, IsLiving}
+use Rattle.branch_states.specs.Forks.{sum_to}
 use Rattle.branch_states.proofs.Branching.{branches}
-use Rattle.branch_states.specs.inner.Steps.{with_state, followed, AreFound, AreStates}
+use Rattle.branch_states.specs.inner.Following.{followed, AreFound, AreStates}
 use Rattle.branch_states.proofs.Lists.{each-different, is_among, different-append}
 use Rattle.branch_states.proofs.Branching.{left-next, living_lists-next, living_are_living, equal_states-equal_lists}
 use Rattle.branch_states.proofs.Ordering.{clauses-valid}
 
--- a state as a set keeps it
-abbrev pub State : Type 0
-State = SmallVec ℕ 2 Global
-
-abbrev pub items : State → List ℕ
-items state = state.items
-
 -- a list that is written over as a whole
 pub refill-whole : (xs ws : List ℕ) → length ws ≡ length xs → refill (length xs) xs ws ≡ ws
 refill-whole xs ws e = ap (λ ys. take (length xs) (ws ++ ys)) (drop_all (length ws) xs (omega arith)) ∙ ap (take (length xs)) (append-nil ws) ∙ take_all (length xs) ws (omega arith)
-
--- what an insert leaves of the items
-pub with-items : {X : Type 0} (f : X → List ℕ) (xs : List X) (x : X) → map f (if list_any (λ y. bytes_eq (f x) (f y)) xs then xs else xs ++ x ∷ []) ≡ with_state (map f xs) (f x)
-with-items f xs x = by_test (list_any (λ y. bytes_eq (f x) (f y)) xs) ∙ ap (λ t. if t then map f xs else map f xs ++ f x ∷ []) (sym (list_any-map (bytes_eq (f x)) f xs)) where
-  by_test : (t : Bool) → map f (if t then xs else xs ++ x ∷ []) ≡ (if t then map f xs else map f xs ++ f x ∷ [])
-  by_test true = refl
-  by_test false = map-append f xs (x ∷ [])
-
-pub with-items-there : {X : Type 0} (f : X → List ℕ) (xs : List X) (x : X) → list_any (λ y. bytes_eq (f x) (f y)) xs ≡ true → map f xs ≡ with_state (map f xs) (f x)
-with-items-there f xs x e = ap (λ t. map f (if t then xs else xs ++ x ∷ [])) (sym e) ∙ with-items f xs x
 
 -- ---- one list more
 
@@ -59,7 +43,7 @@ among-different (a ∷ ls) x = by_test (same_list a x) refl (among-different ls 
   by_test false t rest = among-filter a x (different ls) t ∙ rest
 
 -- two living lists are the same where their states are
-same-test : (clauses : List Clause) (i : ℕ) (x d : List Bool) → IsLiving clauses i x → IsLiving clauses i d → bytes_eq (state_of clauses i x) (state_of clauses i d) ≡ same_list d x
+pub same-test : (clauses : List Clause) (i : ℕ) (x d : List Bool) → IsLiving clauses i x → IsLiving clauses i d → bytes_eq (state_of clauses i x) (state_of clauses i d) ≡ same_list d x
 same-test clauses i x d h k = elim (cases_Bool (bytes_eq (state_of clauses i x) (state_of clauses i d))) [
   | inl same ↦
       let e : x ≡ d = equal_states-equal_lists clauses i x d h k ((bytes_eq-Decides (state_of clauses i x) (state_of clauses i d)).0 same) in
@@ -79,10 +63,10 @@ each-push P [] x h p = (p, tt)
 each-push P (y ∷ xs) x h p = (h.0, each-push P xs x h.1 p)
 
 pub found-more : (clauses : List Clause) (i : ℕ) (states : List (List ℕ)) (ls : List (List Bool)) (x : List Bool) → AreFound clauses i states ls → IsLiving clauses i x
-    → AreFound clauses i (with_state states (state_of clauses i x)) (ls ++ x ∷ [])
+    → AreFound clauses i (insert_key bytes_eq states (state_of clauses i x)) (ls ++ x ∷ [])
 found-more clauses i states ls x f h = record {
   counted =
-      ap (λ ss. with_state ss (state_of clauses i x)) f.counted
+      ap (λ ss. insert_key bytes_eq ss (state_of clauses i x)) f.counted
       ∙ ap (λ t. if t then map (state_of clauses i) (different ls) else map (state_of clauses i) (different ls) ++ state_of clauses i x ∷ [])
       (seen-test clauses i x (different ls) h (each-different (IsLiving clauses i) ls f.living) ∙ among-different ls x)
       ∙ by_test (is_among ls x)
@@ -107,10 +91,10 @@ next-living clauses i list bit h low alive = record {
 pub followed-alive : (clauses : List Clause) (i : ℕ) (states : List (List ℕ)) (ls : List (List Bool)) (list : List Bool) (bit : Bool) (state : List ℕ)
     → i < length (order clauses) → IsLiving clauses i list → AreFound clauses (i + 1) states ls
     → true ≡ not (is_dead clauses (i + 1) (branch clauses i list bit)) → state ≡ state_of clauses (i + 1) (branch clauses i list bit)
-    → AreFound clauses (i + 1) (with_state states state) (ls ++ followed clauses i list bit)
+    → AreFound clauses (i + 1) (insert_key bytes_eq states state) (ls ++ followed clauses i list bit)
 followed-alive clauses i states ls list bit state low h f alive e =
-    subst (λ t. AreFound clauses (i + 1) (with_state states state) (ls ++ cond t (branch clauses i list bit ∷ []) [])) alive
-    (subst (λ s. AreFound clauses (i + 1) (with_state states s) (ls ++ branch clauses i list bit ∷ [])) (sym e)
+    subst (λ t. AreFound clauses (i + 1) (insert_key bytes_eq states state) (ls ++ cond t (branch clauses i list bit ∷ []) [])) alive
+    (subst (λ s. AreFound clauses (i + 1) (insert_key bytes_eq states s) (ls ++ branch clauses i list bit ∷ [])) (sym e)
     (found-more clauses (i + 1) states ls (branch clauses i list bit) f (next-living clauses i list bit h low (not-true (is_dead clauses (i + 1) (branch clauses i list bit)) (sym alive)))))
 
 -- ---- a level
@@ -161,19 +145,28 @@ each-at P (x ∷ xs) (suc k) d h l = each-at P xs k d h.1 (omega arith)
 pub living-at : (clauses : List Clause) (i k : ℕ) → k < length (living clauses i) → IsLiving clauses i (get_or (living clauses i) k [])
 living-at clauses i k h = each-at (IsLiving clauses i) (living clauses i) k [] (living_are_living clauses i) h
 
+pub living-there : (clauses : List Clause) (i j : ℕ) (list : List Bool) → slice_get (living clauses i) j ≡ Some list → IsLiving clauses i list
+living-there clauses i j list e =
+    subst (IsLiving clauses i) (get_or_from_slice_get (living clauses i) j list [] e) (living-at clauses i j (slice_get_within (living clauses i) j list e))
+
 pub length-words : (n : ℕ) (bits : List Bool) → length (words_of n bits) ≡ n
 length-words zero bits = refl
 length-words (suc n) bits = ap suc (length-words n (drop 64 bits))
 
--- the state at a place is that of the living list there
-pub state-at : {X : Type 0} (f : X → List ℕ) (clauses : List Clause) (i k : ℕ) (xs : List X) (d : X) → AreStates clauses i (map f xs) → k < length xs
-    → f (get_or xs k d) ≡ state_of clauses i (get_or (living clauses i) k [])
-state-at f clauses i k xs d h low =
-    let long : length xs ≡ length (living clauses i) = sym (length-map xs f) ∙ ap length h ∙ length-map (living clauses i) (state_of clauses i) in
-    sym (get_or-map f xs k d [] low) ∙ ap (λ ss. get_or ss k []) h ∙ get_or-map (state_of clauses i) (living clauses i) k [] [] (omega arith)
+pub state-within : (clauses : List Clause) (i k : ℕ) (states : List (List ℕ)) (state : List ℕ) → AreStates clauses i states → slice_get states k ≡ Some state → k < length (living clauses i)
+state-within clauses i k states state h e = omega (arith, slice_get_within states k state e, ap length h, length-map (living clauses i) (state_of clauses i))
 
-pub length-states : {X : Type 0} (f : X → List ℕ) (clauses : List Clause) (i : ℕ) (xs : List X) → AreStates clauses i (map f xs) → length xs ≡ length (living clauses i)
-length-states f clauses i xs h = sym (length-map xs f) ∙ ap length h ∙ length-map (living clauses i) (state_of clauses i)
+-- the state at a place is that of the living list there
+pub state-at : (clauses : List Clause) (i k : ℕ) (states : List (List ℕ)) (state : List ℕ) → AreStates clauses i states → slice_get states k ≡ Some state
+    → state ≡ state_of clauses i (get_or (living clauses i) k [])
+state-at clauses i k states state h e =
+    sym (get_or_from_slice_get states k state [] e) ∙ ap (λ ss. get_or ss k []) h ∙ get_or-map (state_of clauses i) (living clauses i) k [] [] (state-within clauses i k states state h e)
+
+pub state-long : (clauses : List Clause) (i k : ℕ) (states : List (List ℕ)) (state : List ℕ) → AreStates clauses i states → slice_get states k ≡ Some state → length state ≡ size clauses i
+state-long clauses i k states state h e = ap length (state-at clauses i k states state h e) ∙ length-words (size clauses i) _
+
+pub length-states : (clauses : List Clause) (i : ℕ) (states : List (List ℕ)) → AreStates clauses i states → length states ≡ length (living clauses i)
+length-states clauses i states h = ap length h ∙ length-map (living clauses i) (state_of clauses i)
 
 -- ---- level 0
 
@@ -216,13 +209,9 @@ first-weight cnf e = λ j. length (first-living cnf e j) * first-size cnf.clause
 
 -- ---- the sum
 
-range-more : (a n : ℕ) → range_with_len a (suc n) ≡ range_with_len a n ++ (a + n) ∷ []
+pub range-more : (a n : ℕ) → range_with_len a (suc n) ≡ range_with_len a n ++ (a + n) ∷ []
 range-more a zero = ap (λ k. k ∷ []) (omega arith)
 range-more a (suc n) = ap (λ ks. a ∷ ks) (range-more (a + 1) n ∙ ap (λ k. range_with_len (a + 1) n ++ k ∷ []) (omega arith))
-
--- the sum of the first levels
-abbrev pub sum_to : List Clause → ℕ → ℕ
-sum_to clauses n = sum_by (weight clauses) (range_with_len 0 n)
 
 pub sum-more : (clauses : List Clause) (n : ℕ) → sum_to clauses (suc n) ≡ sum_to clauses n + weight clauses n
 sum-more clauses n =
@@ -234,7 +223,7 @@ pub sum-fewer : (clauses : List Clause) (n more : ℕ) → sum_to clauses n ≤ 
 sum-fewer clauses n zero = let e : n + 0 ≡ n = omega arith in omega (arith, ap (sum_to clauses) e)
 sum-fewer clauses n (suc more) = let e : n + suc more ≡ suc (n + more) = omega arith in omega (arith, sum-fewer clauses n more, sum-more clauses (n + more), ap (sum_to clauses) e)
 
-first-sum : (cnf : ClauseList) → is_clause_list cnf ≡ true → sum_to cnf.clauses 1 ≡ 1
+pub first-sum : (cnf : ClauseList) → is_clause_list cnf ≡ true → sum_to cnf.clauses 1 ≡ 1
 first-sum cnf e = sum-more cnf.clauses 0 ∙ omega (arith, first-weight cnf e)
 
 pub sum-least : (cnf : ClauseList) → is_clause_list cnf ≡ true → 1 ≤ sum_of cnf.clauses
@@ -243,18 +232,17 @@ sum-least cnf e =
     omega (arith, sum-fewer cnf.clauses 1 (length (order cnf.clauses)), first-sum cnf e, ap (sum_to cnf.clauses) all)
 
 -- what is above at a level is above as a whole
-pub sum-above : (clauses : List Clause) (i top so_far : ℕ) → i < length (order clauses) → so_far ≡ sum_to clauses (suc i) → so_far ≤ top → top - so_far < weight clauses (i + 1) → top < sum_of clauses
+pub sum-above : (clauses : List Clause) (i top so_far : ℕ) → i < length (order clauses) → so_far ≡ sum_to clauses (i + 1) → so_far ≤ top → top - so_far < weight clauses (i + 1) → top < sum_of clauses
 sum-above clauses i top so_far low e fits far =
-    let n : ℕ = length (order clauses) in
-    let at : i + 1 ≡ suc i = omega arith in
-    let all : suc (suc i) + (length (order clauses) - suc i) ≡ length (order clauses) + 1 = omega arith in
-    omega (arith, e, far, sum-more clauses (suc i), ap (weight clauses) at, sum-fewer clauses (suc (suc i)) (length (order clauses) - suc i), ap (sum_to clauses) all)
+    let at : suc (i + 1) ≡ i + 2 = omega arith in
+    let all : i + 2 + (length (order clauses) - suc i) ≡ length (order clauses) + 1 = omega arith in
+    omega (arith, e, far, sum-more clauses (i + 1), ap (sum_to clauses) at, sum-fewer clauses (i + 2) (length (order clauses) - suc i), ap (sum_to clauses) all)
 
 -- the sum with one level more
-pub sum-next : (clauses : List Clause) (i so_far many words : ℕ) → so_far ≡ sum_to clauses (suc i) → many ≡ length (living clauses (i + 1)) → words ≡ size clauses (i + 1) → so_far + many * words ≡ sum_to clauses (suc (i + 1))
+pub sum-next : (clauses : List Clause) (i so_far many words : ℕ) → so_far ≡ sum_to clauses (i + 1) → many ≡ length (living clauses (i + 1)) → words ≡ size clauses (i + 1) → so_far + many * words ≡ sum_to clauses (i + 1 + 1)
 sum-next clauses i so_far many words e m w =
-    let at : i + 1 ≡ suc i = omega arith in
-    (λ j. e j + m j * w j) ∙ ap (λ k. sum_to clauses (suc i) + weight clauses k) at ∙ sym (sum-more clauses (suc i)) ∙ ap (λ k. sum_to clauses (suc k)) (sym at)
+    let next : suc (i + 1) ≡ i + 1 + 1 = omega arith in
+    (λ j. e j + m j * w j) ∙ sym (sum-more clauses (i + 1)) ∙ ap (sum_to clauses) next
 
 -- ---- so many words
 

@@ -1,4 +1,4 @@
--- The two laws of living lists: states tell them apart, and those of a level lead to those of the next.
+-- The laws of living lists: states tell them apart, those of a level lead to those of the next, and forks say where.
 
 -- ---- states tell living lists apart
 
@@ -14,3 +14,9 @@ pub use Rattle.branch_states.proofs.Branching.{left-next}
 pub use Rattle.branch_states.proofs.Branching.{dead-next}
 -- The living lists of the next level are the different living lists that one further bit leaves of those of this level.
 pub use Rattle.branch_states.proofs.Branching.{living_lists-next}
+-- ---- forks
+
+-- What a bit leaves of a living list stands where its fork leads to.
+pub use Rattle.branch_states.proofs.Leading.{leads-some}
+-- Where the fork leads nowhere, what the bit leaves is dead.
+pub use Rattle.branch_states.proofs.Leading.{leads-none}

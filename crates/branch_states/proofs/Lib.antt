@@ -8,7 +8,11 @@ pub mod Filling
 pub mod Adding
 pub mod Spanning
 pub mod Turning
+pub mod Finding
+pub mod Kept
 pub mod Counting
+pub mod Leading
+pub mod Descending
 pub mod Holding
 pub mod Laws
 pub mod Examples

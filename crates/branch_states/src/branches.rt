@@ -35,7 +35,8 @@ impl<'a> Model for Branches<'a> {
 impl<'a> Branches<'a> {
     /// The order of a clause list's variables; level 0.
     pub fn of(alloc: Global, cnf: &'a Cnf) -> Result<Branches<'a>, AllocError>
-        ensures { IfOk result (λ b. b ≡ record { cnf = cnf.now; level = 0 }) }
+        ensures start { IfOk result (λ b. b ≡ record { cnf = cnf.now; level = 0 }) }
+        ensures valid { IfOk result (λ _. is_clause_list cnf.now ≡ true) }
     {
         let order = find_order(alloc, cnf)?;
         let walks = find_walks(alloc, cnf, &order.variables, &order.places)?;

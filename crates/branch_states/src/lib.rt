@@ -4,12 +4,17 @@
 mod bits;
 mod branches;
 mod counts;
+mod descent;
+mod forks;
 mod levels;
 mod measuring;
 mod order;
 mod spans;
+mod states;
 mod walk;
 mod walks;
 
 pub use branches::Branches;
+pub use descent::Descent;
+pub use forks::Fork;
 pub use measuring::{BUDGET_LIMIT, MeasureError, measure};

@@ -9,11 +9,10 @@ use Rattle.graph_rules.specs.declared.NodeKind.TheVariants.{And, Or}
 use Rattle.graph_rules.specs.Graphs.{Node, true_node, at_most_one, is_true, mentions}
 use Rattle.node_store.specs.Stores.{Stored, IsStore, Makes, Means, AddsAtMost, HasNoBareKid}
 use Rattle.node_store.proofs.Literals.{slice_get-before}
-use Rattle.dnnf_compiler.specs.declared.forks.Fork.{Fork}
+use Rattle.branch_states.specs.declared.forks.Fork.{Fork}
 use Rattle.dnnf_compiler.specs.declared.maker.Maker.{Maker}
-use Rattle.dnnf_compiler.specs.inner.Forks.{way}
 use Rattle.dnnf_compiler.specs.inner.Joining.{Grows, AddsBoth}
-use Rattle.dnnf_compiler.specs.inner.Making.{IsMaker, AreFree, Adds, may_be_true, may_mention, node_at, IsApart, IsBranch, IsJoin, IsDecision, IsMade}
+use Rattle.dnnf_compiler.specs.inner.Making.{IsMaker, AreFree, Adds, may_be_true, may_mention, node_at, way, IsApart, IsBranch, IsJoin, IsDecision, IsMade}
 use Rattle.dnnf_compiler.proofs.Growing.{grows_not, grows_then, constant_grows, grows_by}
 
 pub kept_in : (old new : List Node) (node : Node) → AddsAtMost old node new → (k : ℕ) (n : Node) → slice_get old k ≡ Some n → slice_get new k ≡ Some n

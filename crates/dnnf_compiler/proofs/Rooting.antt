@@ -1,24 +1,27 @@
--- The nodes of a level's states, from those of the next one.
-use Rattle.std.proofs.Common.{◌≡◌, ℕ, zero, suc, ◌+◌, ◌*◌, ◌<◌, ◌≤◌, Bool, true, false, List, [], ◌∷◌, length, get_or, All, Some, None, Option, refl, ap, sym, ◌∙◌, subst, arith}
-use Rattle.std.specs.Prelude.{slice_get, slice_index, replicate, IfSome, ◌==◌, Vec}
+-- The nodes of a level's living lists, from those of the next one.
+use Rattle.std.proofs.Common.{◌≡◌, ℕ, zero, suc, ◌+◌, ◌-◌, ◌*◌, ◌<◌, ◌≤◌, Bool, true, false, List, [], ◌∷◌, ◌++◌, map, length, get_or, All, Some, None, Option, refl, ap, sym, ◌∙◌, subst, arith}
+use Rattle.std.specs.Prelude.{slice_get, slice_index, replicate, option_map, IfSome, ◌==◌, Vec}
 use Rattle.std.specs.declared.alloc.Global.{Global}
+use Rattle.std.specs.List.{range_with_len}
 use Rattle.std.proofs.lemmas.Bool.{eqb-true}
-use Rattle.std.proofs.lemmas.Option.{slice_get_within, slice_get-get_or}
+use Rattle.std.proofs.lemmas.List.{length-map, map-append, get_or-map}
+use Rattle.std.proofs.lemmas.List.FromFn.{length-map-range_with_len, get_or-map-range_with_len}
+use Rattle.std.proofs.lemmas.Option.{slice_get-map, slice_get_within, slice_get-get_or}
 use Rattle.graph_rules.specs.Graphs.{Node}
 use Rattle.ranking.specs.Assignments.{Assignment}
 use Rattle.clause_encoder.specs.Clauses.{Clause, ClauseList, is_clause_list}
-use Rattle.branch_states.specs.Branches.{order, place, branch, left, sum_of}
-use Rattle.branch_states.proofs.Counting.{sum_to, sum-more, sum-fewer}
-use Rattle.dnnf_compiler.specs.declared.forks.Fork.{Fork}
+use Rattle.branch_states.specs.Branches.{order, place, branch, left, living, size, weight, sum_of}
+use Rattle.branch_states.specs.declared.forks.Fork.{Fork}
+use Rattle.branch_states.specs.Forks.{leads_to, fork_of, forks_of, sum_to}
+use Rattle.branch_states.proofs.Counting.{range-more, sum-more, sum-fewer, first-living, living-there}
+use Rattle.branch_states.proofs.Laws.{leads-some, leads-none}
 use Rattle.dnnf_compiler.specs.declared.maker.Maker.{Maker}
-use Rattle.dnnf_compiler.specs.inner.Forks.{IsWay, way, forks_at, IsStep, LeadTo}
 use Rattle.dnnf_compiler.specs.inner.Joining.{IsConstant}
-use Rattle.dnnf_compiler.specs.inner.Making.{IsMaker, AreFree, AreWithin, may_be_true, node_at, IsDecision, AreMade}
-use Rattle.dnnf_compiler.specs.inner.Meaning.{left_holds, HasState, IsNodeOf}
+use Rattle.dnnf_compiler.specs.inner.Making.{IsMaker, AreFree, AreWithin, may_be_true, node_at, way, IsDecision, AreMade}
+use Rattle.dnnf_compiler.specs.inner.Meaning.{left_holds, IsNodeOf}
 use Rattle.dnnf_compiler.specs.inner.Rooting.{AreNodesOf, IsRoot}
 use Rattle.dnnf_compiler.proofs.Orders.{place_in_order}
 use Rattle.dnnf_compiler.proofs.Expanding.{expand, dead_fails, last_holds, all_left}
-use Rattle.dnnf_compiler.proofs.Reaching.{first_has, reached_few}
 
 -- ---- the last level
 
@@ -31,13 +34,13 @@ length-replicate : (n x : ℕ) → length (replicate n x) ≡ n
 length-replicate zero x = refl
 length-replicate (suc n) x = ap suc (length-replicate n x)
 
-pub last_nodes : (clauses : List Clause) (i : ℕ) (states : List (List ℕ)) (nodes : List Node) (top n : ℕ) (numbers : List ℕ) → i ≡ length (order clauses) → IsConstant nodes true top → length states ≡ n → numbers ≡ replicate n top
-    → AreNodesOf clauses i states nodes numbers
-last_nodes clauses i states nodes top n numbers last is long all = record {
-  long = ap length all ∙ length-replicate n top ∙ sym long;
-  right = λ j s m here there. subst (IsNodeOf clauses i s nodes) (get-replicate n top j m (ap (λ ns. slice_get ns j) (sym all) ∙ there)) (record {
+pub last_nodes : (clauses : List Clause) (i : ℕ) (nodes : List Node) (top n : ℕ) (numbers : List ℕ) → i ≡ length (order clauses) → IsConstant nodes true top → n ≡ length (living clauses i) → numbers ≡ replicate n top
+    → AreNodesOf clauses i nodes numbers
+last_nodes clauses i nodes top n numbers last is long all = record {
+  long = ap length all ∙ length-replicate n top ∙ long;
+  right = λ j list m here there. subst (IsNodeOf clauses i list nodes) (get-replicate n top j m (ap (λ ns. slice_get ns j) (sym all) ∙ there)) (record {
     within = is.within;
-    truth = λ list has a. is.truth a ∙ sym (last_holds clauses i a list last has.living);
+    truth = λ a. is.truth a ∙ sym (last_holds clauses i a list last (living-there clauses i j list here));
     variables = λ v h. is.variables v;
   });
 }
@@ -50,115 +53,133 @@ apart_var clauses i v h below = by (slice_index (order clauses) i == v) refl whe
   by true e = let s : slice_index (order clauses) i ≡ v = eqb-true _ _ e in absurd (omega (arith, ap (place (order clauses)) s, place_in_order clauses i h))
   by false e = refl
 
-abbrev nothing : Fork
-nothing = record { zero = None; one = None }
+way_is : (clauses : List Clause) (i : ℕ) (list : List Bool) (bit : Bool) → way (fork_of clauses i list) bit ≡ leads_to clauses i list bit
+way_is clauses i list false = refl
+way_is clauses i list true = refl
 
-module _ (clauses : List Clause) (i : ℕ) (states next : List (List ℕ)) (forks : List Fork) (nodes : List Node) (below : List ℕ) (h : i < length (order clauses)) (step : IsStep clauses i states next forks) (are : AreNodesOf clauses (i + 1) next nodes below) where
-  -- a node below is that of some state
-  node_below : (j n : ℕ) → slice_get below j ≡ Some n → IsNodeOf clauses (i + 1) (get_or next j []) nodes n
-  node_below j n e = are.right j (get_or next j []) n (slice_get-get_or next j [] (omega (arith, slice_get_within below j n e, are.long))) e
+module _ (clauses : List Clause) (i : ℕ) (nodes : List Node) (below : List ℕ) (h : i < length (order clauses)) (are : AreNodesOf clauses (i + 1) nodes below) where
+  -- a node below is that of some living list
+  node_below : (j n : ℕ) → slice_get below j ≡ Some n → IsNodeOf clauses (i + 1) (get_or (living clauses (i + 1)) j []) nodes n
+  node_below j n e =
+      are.right j (get_or (living clauses (i + 1)) j []) n (slice_get-get_or (living clauses (i + 1)) j [] (omega (arith, slice_get_within below j n e, are.long))) e
 
   pub level_free : AreFree nodes (slice_index (order clauses) i) below
   level_free j n e = let is = node_below j n e in (is.within, is.variables (slice_index (order clauses) i) (omega (arith, place_in_order clauses i h)))
 
-  way_within : (s : List ℕ) (bit : Bool) (o : Option ℕ) → IsWay clauses i s next bit o → IfSome o (λ place. place < length below)
-  way_within s bit None is = tt
-  way_within s bit (Some place) is = omega (arith, slice_get_within next place is.0 is.1, are.long)
+  way_within : (list : List Bool) (bit : Bool) (o : Option ℕ) → leads_to clauses i list bit ≡ o → IfSome o (λ place. place < length below)
+  way_within list bit None e = tt
+  way_within list bit (Some place) e = omega (arith, slice_get_within (living clauses (i + 1)) place (branch clauses i list bit) (leads-some clauses i list bit place e), are.long)
 
-  pub forks_within : All (AreWithin (length below)) forks
+  pub forks_within : All (AreWithin (length below)) (forks_of clauses i)
   forks_within j d lt =
-      let at = slice_get-get_or states j [] (omega (arith, step.long)) in
-      let f = slice_get-get_or forks j d lt in
-      let each = step.each j (get_or states j []) (get_or forks j d) at f in
-      (way_within (get_or states j []) false (get_or forks j d).zero (each false), way_within (get_or states j []) true (get_or forks j d).one (each true))
+      let list = get_or (living clauses i) j [] in
+      subst (AreWithin (length below)) (sym (get_or-map (fork_of clauses i) (living clauses i) j [] d (omega (arith, length-map (living clauses i) (fork_of clauses i)))))
+      (way_within list false (leads_to clauses i list false) refl, way_within list true (leads_to clauses i list true) refl)
 
-  by_way : (s : List ℕ) (bit : Bool) (o : Option ℕ) → IsWay clauses i s next bit o → (list : List Bool) → HasState clauses i list s → (a : Assignment) → a (slice_index (order clauses) i) ≡ bit → may_be_true nodes a (node_at below o) ≡ left_holds clauses i a list
-  by_way s bit None dies list has a e = sym (expand clauses i a list h ∙ (λ j. left_holds clauses (i + 1) a (branch clauses i list (e j))) ∙ dead_fails clauses (i + 1) a (branch clauses i list bit) (dies list has))
-  by_way s bit (Some place) is list has a e =
+  by_way : (list : List Bool) (bit : Bool) (j : ℕ) (o : Option ℕ) → slice_get (living clauses i) j ≡ Some list → leads_to clauses i list bit ≡ o
+      → (a : Assignment) → a (slice_index (order clauses) i) ≡ bit → may_be_true nodes a (node_at below o) ≡ left_holds clauses i a list
+  by_way list bit j None here leads a e =
+      sym (expand clauses i a list h ∙ (λ k. left_holds clauses (i + 1) a (branch clauses i list (e k)))
+      ∙ dead_fails clauses (i + 1) a (branch clauses i list bit) (leads-none clauses i list bit j h here leads))
+  by_way list bit j (Some place) here leads a e =
       let n = slice_index below place in
-      let here : slice_get below place ≡ Some n = slice_get-get_or below place 0 (omega (arith, slice_get_within next place is.0 is.1, are.long)) in
-      let right = are.right place is.0 n is.1 here in
-      right.truth (branch clauses i list bit) (is.2 list has) a ∙ sym (expand clauses i a list h ∙ (λ j. left_holds clauses (i + 1) a (branch clauses i list (e j))))
+      let there = leads-some clauses i list bit place leads in
+      let at : slice_get below place ≡ Some n = slice_get-get_or below place 0 (omega (arith, slice_get_within (living clauses (i + 1)) place (branch clauses i list bit) there, are.long)) in
+      (are.right place (branch clauses i list bit) n there at).truth a ∙ sym (expand clauses i a list h ∙ (λ k. left_holds clauses (i + 1) a (branch clauses i list (e k))))
 
-  decided : (new : List Node) (s : List ℕ) (f : Fork) (n : ℕ) → ((bit : Bool) → IsWay clauses i s next bit (way f bit)) → IsDecision nodes new (slice_index (order clauses) i) below f n → IsNodeOf clauses i s new n
-  decided new s f n ways is = record {
+  decided : (new : List Node) (list : List Bool) (j n : ℕ) → slice_get (living clauses i) j ≡ Some list → IsDecision nodes new (slice_index (order clauses) i) below (fork_of clauses i list) n → IsNodeOf clauses i list new n
+  decided new list j n here is = record {
     within = is.within;
-    truth = λ list has a. let bit = a (slice_index (order clauses) i) in is.truth a ∙ by_way s bit (way f bit) (ways bit) list has a refl;
+    truth = λ a.
+        let bit = a (slice_index (order clauses) i) in
+        is.truth a ∙ by_way list bit j (way (fork_of clauses i list) bit) here (sym (way_is clauses i list bit)) a refl;
     variables = λ v low. is.variables v (record { other = apart_var clauses i v h low; none = λ j n e. (node_below j n e).variables v (omega arith) });
   }
 
-  pub level_nodes : (old new : Maker) (numbers : List ℕ) → nodes ≡ old.store.nodes → AreMade old new (slice_index (order clauses) i) below forks numbers → AreNodesOf clauses i states new.store.nodes numbers
+  pub level_nodes : (old new : Maker) (numbers : List ℕ) → nodes ≡ old.store.nodes → AreMade old new (slice_index (order clauses) i) below (forks_of clauses i) numbers → AreNodesOf clauses i new.store.nodes numbers
   level_nodes old new numbers same made = record {
-    long = made.long ∙ step.long;
-    right = λ j s n here there.
-        let f = slice_get-get_or forks j nothing (omega (arith, slice_get_within numbers j n there, made.long)) in
-        decided new.store.nodes s (get_or forks j nothing) n (step.each j s (get_or forks j nothing) here f)
-        (subst (λ (ns : List Node). IsDecision ns new.store.nodes (slice_index (order clauses) i) below (get_or forks j nothing) n) (sym same) (made.right j (get_or forks j nothing) n f there));
+    long = made.long ∙ length-map (living clauses i) (fork_of clauses i);
+    right = λ j list n here there. decided new.store.nodes list j n here
+        (subst (λ (ns : List Node). IsDecision ns new.store.nodes (slice_index (order clauses) i) below (fork_of clauses i list) n) (sym same)
+        (made.right j (fork_of clauses i list) n (slice_get-map (fork_of clauses i) (living clauses i) j ∙ ap (option_map (fork_of clauses i)) here) there));
   }
 
 -- ---- the way up
 
 -- The levels from one on are done.
-pub record IsRooting (cnf : ClauseList) (levels : List (Vec Fork Global)) (i : ℕ) (m : Maker) (numbers : List ℕ) : Type 0 where
+pub record IsRooting (cnf : ClauseList) (i : ℕ) (m : Maker) (numbers : List ℕ) : Type 0 where
   pub maker : IsMaker m
   pub vars : m.store.vars ≡ cnf.vars
-  pub states : List (List ℕ)
-  pub lead : LeadTo cnf.clauses levels i states
-  pub nodes : AreNodesOf cnf.clauses i states m.store.nodes numbers
+  pub nodes : AreNodesOf cnf.clauses i m.store.nodes numbers
   pub made : m.store.made + 3 * sum_to cnf.clauses i ≤ 2 + 3 * sum_of cnf.clauses
   pub handed : m.store.handed + 6 * sum_to cnf.clauses i ≤ 6 * sum_of cnf.clauses
 
 pub sum_below : (clauses : List Clause) → sum_to clauses (length (order clauses)) ≤ sum_of clauses
 sum_below clauses = sum-fewer clauses (length (order clauses)) 1
 
-pub forks_read : (levels : List (Vec Fork Global)) (i : ℕ) (v : Vec Fork Global) → i < length levels → v ≡ get_or levels i v → forks_at levels i ≡ v.items
-forks_read [] i v h e = absurd (omega arith)
-forks_read (l ∷ levels) zero v h e = ap (λ (u : Vec Fork Global). u.items) (sym e)
-forks_read (l ∷ levels) (suc i) v h e = forks_read levels i v (omega arith) e
+-- the forks of one level more
+pub forks_more : (clauses : List Clause) (k : ℕ) → map (forks_of clauses) (range_with_len 0 (k + 1)) ≡ map (forks_of clauses) (range_with_len 0 k) ++ forks_of clauses k ∷ []
+forks_more clauses k =
+    let next : k + 1 ≡ suc k = omega arith in
+    let at : 0 + k ≡ k = omega arith in
+    ap (λ n. map (forks_of clauses) (range_with_len 0 n)) next
+    ∙ ap (map (forks_of clauses)) (range-more 0 k)
+    ∙ map-append (forks_of clauses) (range_with_len 0 k) ((0 + k) ∷ [])
+    ∙ ap (λ n. map (forks_of clauses) (range_with_len 0 k) ++ forks_of clauses n ∷ []) at
 
-module _ (cnf : ClauseList) (levels : List (Vec Fork Global)) (i : ℕ) (m : Maker) (below : List ℕ) (h : i < length (order cnf.clauses)) (is : IsRooting cnf levels (suc i) m below) where
-  abbrev before : List (List ℕ)
-  before = is.lead.0
+-- as many levels as are told
+pub levels_long : (clauses : List Clause) (levels : List (Vec Fork Global)) (count : ℕ) → map (λ forks. forks.items) levels ≡ map (forks_of clauses) (range_with_len 0 count) → length levels ≡ count
+levels_long clauses levels count are = sym (length-map levels (λ (forks : Vec Fork Global). forks.items)) ∙ ap length are ∙ length-map-range_with_len (forks_of clauses) 0 count
 
-  pub the_step : IsStep cnf.clauses i before is.states (forks_at levels i)
-  the_step = is.lead.1
+-- the forks of a level are read
+pub forks_read : (clauses : List Clause) (levels : List (Vec Fork Global)) (count i : ℕ) (forks : Vec Fork Global) → map (λ forks. forks.items) levels ≡ map (forks_of clauses) (range_with_len 0 count) → i < count
+    → forks ≡ get_or levels i forks → forks.items ≡ forks_of clauses i
+forks_read clauses levels count i forks are low e =
+    ap (λ (forks : Vec Fork Global). forks.items) e
+    ∙ sym (get_or-map (λ (forks : Vec Fork Global). forks.items) levels i forks [] (omega (arith, levels_long clauses levels count are)))
+    ∙ ap (λ fs. get_or fs i []) are
+    ∙ get_or-map-range_with_len (forks_of clauses) 0 count i i [] low (omega arith)
 
-  are : AreNodesOf cnf.clauses (i + 1) is.states m.store.nodes below
-  are = let e : suc i ≡ i + 1 = omega arith in subst (λ n. AreNodesOf cnf.clauses n is.states m.store.nodes below) e is.nodes
+forks_few : (clauses : List Clause) (i : ℕ) → length (forks_of clauses i) ≤ weight clauses i
+forks_few clauses i = omega (arith, length-map (living clauses i) (fork_of clauses i), times (length (living clauses i)) (size clauses i - 1)) where
+  times : (n m : ℕ) → n ≤ n * (m + 1)
+  times n m = omega arith
+
+module _ (cnf : ClauseList) (i : ℕ) (m : Maker) (below : List ℕ) (h : i < length (order cnf.clauses)) (is : IsRooting cnf (suc i) m below) where
+  are : AreNodesOf cnf.clauses (i + 1) m.store.nodes below
+  are = let e : suc i ≡ i + 1 = omega arith in subst (λ n. AreNodesOf cnf.clauses n m.store.nodes below) e is.nodes
 
   pub up_free : AreFree m.store.nodes (slice_index (order cnf.clauses) i) below
-  up_free = level_free cnf.clauses i before is.states (forks_at levels i) m.store.nodes below h the_step are
+  up_free = level_free cnf.clauses i m.store.nodes below h are
 
-  pub up_within : All (AreWithin (length below)) (forks_at levels i)
-  up_within = forks_within cnf.clauses i before is.states (forks_at levels i) m.store.nodes below h the_step are
+  pub up_within : All (AreWithin (length below)) (forks_of cnf.clauses i)
+  up_within = forks_within cnf.clauses i m.store.nodes below h are
 
-  pub up_few : m.store.made + 3 * length (forks_at levels i) ≤ 2 + 3 * sum_of cnf.clauses
-  up_few = omega (arith, is.made, the_step.long, reached_few cnf.clauses i before the_step.reached, sum-more cnf.clauses i)
+  pub up_few : m.store.made + 3 * length (forks_of cnf.clauses i) ≤ 2 + 3 * sum_of cnf.clauses
+  up_few = omega (arith, is.made, forks_few cnf.clauses i, sum-more cnf.clauses i)
 
-  pub up_rooting : (new : Maker) (numbers : List ℕ) → AreMade m new (slice_index (order cnf.clauses) i) below (forks_at levels i) numbers → IsRooting cnf levels i new numbers
+  pub up_rooting : (new : Maker) (numbers : List ℕ) → AreMade m new (slice_index (order cnf.clauses) i) below (forks_of cnf.clauses i) numbers → IsRooting cnf i new numbers
   up_rooting new numbers made = record {
     maker = made.adds.maker;
     vars = made.adds.vars ∙ is.vars;
-    states = before;
-    lead = is.lead.2;
-    nodes = level_nodes cnf.clauses i before is.states (forks_at levels i) m.store.nodes below h the_step are m new numbers refl made;
-    made = omega (arith, made.adds.made, made.long, is.made, the_step.long, reached_few cnf.clauses i before the_step.reached, sum-more cnf.clauses i);
-    handed = omega (arith, made.adds.handed, made.long, is.handed, the_step.long, reached_few cnf.clauses i before the_step.reached, sum-more cnf.clauses i);
+    nodes = level_nodes cnf.clauses i m.store.nodes below h are m new numbers refl made;
+    made = omega (arith, made.adds.made, made.long, is.made, forks_few cnf.clauses i, sum-more cnf.clauses i);
+    handed = omega (arith, made.adds.handed, made.long, is.handed, forks_few cnf.clauses i, sum-more cnf.clauses i);
   }
 
 -- ---- the top
 
-pub root_long : (cnf : ClauseList) (levels : List (Vec Fork Global)) (m : Maker) (numbers : List ℕ) → IsRooting cnf levels 0 m numbers → length numbers ≡ 1
-root_long cnf levels m numbers is = is.nodes.long ∙ ap length is.lead
+pub root_long : (cnf : ClauseList) (m : Maker) (numbers : List ℕ) → is_clause_list cnf ≡ true → IsRooting cnf 0 m numbers → length numbers ≡ 1
+root_long cnf m numbers valid is = is.nodes.long ∙ ap length (first-living cnf valid)
 
-pub the_root : (cnf : ClauseList) (levels : List (Vec Fork Global)) (m : Maker) (numbers : List ℕ) (node : ℕ) → is_clause_list cnf ≡ true → IsRooting cnf levels 0 m numbers → slice_get numbers 0 ≡ Some node → IsRoot cnf m.store node
-the_root cnf levels m numbers node valid is e =
-    let right = is.nodes.right 0 (0 ∷ []) node (ap (λ ss. slice_get ss 0) is.lead) e in
+pub the_root : (cnf : ClauseList) (m : Maker) (numbers : List ℕ) (node : ℕ) → is_clause_list cnf ≡ true → IsRooting cnf 0 m numbers → slice_get numbers 0 ≡ Some node → IsRoot cnf m.store node
+the_root cnf m numbers node valid is e =
+    let right = is.nodes.right 0 (left cnf.clauses []) node (ap (λ ls. slice_get ls 0) (first-living cnf valid)) e in
     record {
       within = right.within;
       vars = is.vars;
       bare = is.maker.bare;
-      truth = λ a. right.truth (left cnf.clauses []) (first_has cnf valid) a ∙ all_left cnf.clauses a;
+      truth = λ a. right.truth a ∙ all_left cnf.clauses a;
       made = omega (arith, is.made);
       handed = omega (arith, is.handed);
     }

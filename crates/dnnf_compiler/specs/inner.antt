@@ -1,8 +1,6 @@
 -- What only private contracts cite.
-pub mod Forks
 pub mod Joining
 pub mod Making
 pub mod Meaning
 pub mod Noting
 pub mod Rooting
-pub mod States

@@ -7,7 +7,7 @@ ghost use Rattle.dnnf_compiler.specs.inner.Rooting.{IsRoot};
 
 use crate::forks::{count_forks, find_forks};
 use crate::maker::Maker;
-use branch_states::{BUDGET_LIMIT, Branches, MeasureError};
+use branch_states::{BUDGET_LIMIT, Descent, MeasureError};
 use clause_encoder::Cnf;
 use node_store::{Graph, Store};
 use std::alloc::{AllocError, Global};
@@ -40,8 +40,10 @@ pub fn compile_within(alloc: Global, cnf: &Cnf, top: u32) -> Result<Compiled, Me
     ensures above { result ≡ Err Above → top < sum_of cnf.now.clauses }
     ensures compiled { IfOk result (IsCompiled cnf.now) }
 {
-    let mut branches = Branches::of(alloc, cnf)?;
-    let (levels, last) = find_forks(alloc, &mut branches, top)?;
+    let mut descent = Descent::begin(alloc, cnf, top)?;
+    let levels = find_forks(alloc, &mut descent)?;
+    let last = descent.count();
+    let mut branches = descent.into_branches();
     // Mostly there are no more nodes than states.
     let mut maker = Maker::new(alloc, cnf.vars(), count_forks(&levels))?;
     let mut nodes = vec![in alloc; maker.yes; last]?;

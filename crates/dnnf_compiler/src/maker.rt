@@ -7,7 +7,7 @@ ghost use Rattle.dnnf_compiler.specs.inner.Noting.{IsNoting};
 ghost use Rattle.dnnf_compiler.specs.inner.Making.{IsMaker, IsVariable, AreFree, AreWithin, IsBranch, IsJoin, IsMade, AreMade};
 
 use crate::ands::Ands;
-use crate::forks::Fork;
+use branch_states::Fork;
 use node_store::Store;
 use std::alloc::{AllocError, Global};
 

@@ -1,10 +1,9 @@
 -- What the steps from one level to the next say to each other. Only private contracts cite it.
 use Rattle.std.specs.Prelude.{◌≡◌, ℕ, ◌+◌, ◌-◌, ◌/◌, ◌^◌, ◌<◌, ◌≤◌, Bool, true, false, not, ◌&&◌, ◌||◌, List, [], ◌∷◌, ◌++◌, map, length, drop, replicate, min, max, slice_index, slice_index_or, take, ◌⊎◌, All, ◌==◌, ℤ, count_by, if◌then◌else◌}
-use Rattle.std.specs.List.{filter, list_any, range_with_len, AllByRecursion}
-use Rattle.std.specs.Str.{bytes_eq}
+use Rattle.std.specs.List.{filter, list_any, range_with_len}
 use Rattle.ranking.specs.Bits.{bit_in}
 use Rattle.clause_encoder.specs.Clauses.{Clause, ClauseList, var_of, is_clause_list}
-use Rattle.branch_states.specs.Branches.{order, different, living, is_dead, branch, state_of, IsLiving, place, has_true, is_touched, is_covered}
+use Rattle.branch_states.specs.Branches.{order, place, has_true, is_touched, is_covered}
 use Rattle.branch_states.specs.declared.walk.Span.{Span}
 use Rattle.branch_states.specs.declared.walk.Entry.{Entry}
 use Rattle.branch_states.specs.declared.walk.Event.{Event}
@@ -195,22 +194,3 @@ pub record IsKept (cnf : ClauseList) (level : ℕ) (variables : List ℕ) (walks
   pub few : length variables ≤ cnf.vars
   pub within : level ≤ length variables
   pub walked : AreWalks variables cnf.clauses walks
-
--- ---- states that are counted
-
--- one state more, unless it is there
-abbrev pub with_state : List (List ℕ) → List ℕ → List (List ℕ)
-with_state states state = if list_any (bytes_eq state) states then states else states ++ state ∷ []
-
--- the list that a bit leaves, if it is living
-abbrev pub followed : List Clause → ℕ → List Bool → Bool → List (List Bool)
-followed clauses i list bit = filter (λ next. not (is_dead clauses (i + 1) next)) (branch clauses i list bit ∷ [])
-
--- the states of lists of a level, each once
-pub record AreFound (clauses : List Clause) (i : ℕ) (states : List (List ℕ)) (lists : List (List Bool)) : Type 0 where
-  pub counted : states ≡ map (state_of clauses i) (different lists)
-  pub living : AllByRecursion (IsLiving clauses i) lists
-
--- the states of all living lists of a level
-abbrev pub AreStates : List Clause → ℕ → List (List ℕ) → Type 0
-AreStates clauses i states = states ≡ map (state_of clauses i) (living clauses i)

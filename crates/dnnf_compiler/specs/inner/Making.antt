@@ -5,9 +5,8 @@ use Rattle.ranking.specs.Assignments.{Assignment}
 use Rattle.graph_rules.specs.declared.NodeKind.TheVariants.{Or}
 use Rattle.graph_rules.specs.Graphs.{Node, true_node, is_true, mentions}
 use Rattle.node_store.specs.Stores.{IsStore, HasNoBareKid}
-use Rattle.dnnf_compiler.specs.declared.forks.Fork.{Fork}
+use Rattle.branch_states.specs.declared.forks.Fork.{Fork}
 use Rattle.dnnf_compiler.specs.declared.maker.Maker.{Maker}
-use Rattle.dnnf_compiler.specs.inner.Forks.{way}
 use Rattle.dnnf_compiler.specs.inner.Joining.{Grows, IsConstant}
 
 -- what holds of a maker at any time
@@ -26,6 +25,11 @@ IsVariable m var = (1 ≤ var) × (var ≤ m.store.vars)
 -- nodes that do not mention a variable
 abbrev pub AreFree : List Node → ℕ → List ℕ → Type 0
 AreFree nodes var below = (j n : ℕ) → slice_get below j ≡ Some n → (n < length nodes) × (mentions nodes var n ≡ false)
+
+-- where a fork leads to by a bit
+abbrev pub way : Fork → Bool → Option ℕ
+way fork false = fork.zero
+way fork true = fork.one
 
 -- a fork leads to nothing but the first places
 abbrev pub AreWithin : ℕ → Fork → Type 0

@@ -5,7 +5,7 @@ use Rattle.ranking.specs.Bits.{same_bit}
 use Rattle.ranking.specs.Assignments.{Assignment}
 use Rattle.graph_rules.specs.Graphs.{Node, is_true, mentions}
 use Rattle.clause_encoder.specs.Clauses.{Clause, var_of, is_positive}
-use Rattle.branch_states.specs.Branches.{order, place, some_passes, IsLiving, state_of}
+use Rattle.branch_states.specs.Branches.{order, place, some_passes}
 
 -- a literal is true whose variable is not among the first ones
 abbrev pub rest_holds : List ℕ → ℕ → Assignment → Clause → Bool
@@ -15,13 +15,8 @@ rest_holds vs i a clause = list_any (λ l. not (nat_lt (place vs (var_of l)) i) 
 abbrev pub left_holds : List Clause → ℕ → Assignment → List Bool → Bool
 left_holds clauses i a list = not (some_passes (λ c. not (rest_holds (order clauses) i a c)) clauses list)
 
--- the list has this state
-pub record HasState (clauses : List Clause) (i : ℕ) (list : List Bool) (state : List ℕ) : Type 0 where
-  pub living : IsLiving clauses i list
-  pub same : state ≡ state_of clauses i list
-
--- A node is true where the clauses left hold, for whatever list has the state, and mentions no variable that has a bit.
-pub record IsNodeOf (clauses : List Clause) (i : ℕ) (state : List ℕ) (nodes : List Node) (node : ℕ) : Type 0 where
+-- A node is true where the clauses of a list that is left hold, and mentions no variable that has a bit.
+pub record IsNodeOf (clauses : List Clause) (i : ℕ) (list : List Bool) (nodes : List Node) (node : ℕ) : Type 0 where
   pub within : node < length nodes
-  pub truth : (list : List Bool) → HasState clauses i list state → (a : Assignment) → is_true nodes node a ≡ left_holds clauses i a list
+  pub truth : (a : Assignment) → is_true nodes node a ≡ left_holds clauses i a list
   pub variables : (v : ℕ) → place (order clauses) v < i → mentions nodes v node ≡ false

@@ -1,5 +1,6 @@
 -- By which order of clauses a run goes.
 use Rattle.std.proofs.Common.{◌≡◌, ◌<◌, ◌≤◌, ℕ, Bool, true, false, Result, Ok, Err, nat_lt, sym, ap, subst, ◌∙◌, arith}
+use Rattle.std.specs.Result.{result_map_both}
 use Rattle.device_model.specs.Devices.{Device}
 use Rattle.clause_encoder.specs.declared.encoding.EncodeError.{EncodeError}
 use Rattle.clause_encoder.specs.Clauses.{ClauseList}
@@ -9,7 +10,7 @@ use Rattle.clause_order.proofs.Orders.{narrowed-given, reordered-holds}
 use Rattle.clause_order.proofs.Choosing.{order_of, order_narrows, order_finds}
 use Rattle.device_files.specs.declared.status.Status.TheVariants.{AboveBudget}
 use Rattle.device_files.specs.Output.{says}
-use Rattle.device_files.specs.Orders.{list_by, put_into, ByOrder, ByClauses, IsInOrder, IsListOf}
+use Rattle.device_files.specs.Orders.{list_by, ByOrder, ByClauses, IsInOrder, IsListOf}
 use Rattle.device_files.specs.Planning.{within, sum_line}
 
 -- what holds by every order holds by the given one
@@ -66,4 +67,4 @@ module _ (narrow : Bool) (device : Device) (found : ClauseList) (of : IsListOf n
   -- By some order of clauses they are those of the device, so that what holds of them holds of these.
   pub list_gives : (Gives : Result ClauseList EncodeError → Type 0) → Gives (Ok found) → ByClauses narrow (λ clauses. Gives (clauses device))
   list_gives Gives given =
-      by_same (by_list of.given found narrow of.in_order) (λ order is. subst Gives (sym (ap (put_into (list_by narrow order)) of.encoded ∙ ap Ok is)) given)
+      by_same (by_list of.given found narrow of.in_order) (λ order is. subst Gives (sym (ap (result_map_both (list_by narrow order) (λ error. error)) of.encoded ∙ ap Ok is)) given)

@@ -1,13 +1,14 @@
 -- The device that a file describes, or what is said of a file that gives none.
-use Rattle.std.specs.Prelude.{ℕ, List, length, Result, Ok, Err, codes, nat_le, if◌then◌else◌}
+use Rattle.std.specs.Prelude.{ℕ, List, length, Result, Err, codes, nat_le, if◌then◌else◌}
+use Rattle.std.specs.Result.{result_map_both}
 use Rattle.text_rules.specs.declared.text_lines.TheConstants.{TEXT_LIMIT}
 use Rattle.device_model.specs.declared.limits.TheConstants.{NAME_LIMIT, PART_LIMIT, WIRE_LIMIT}
 use Rattle.device_model.specs.Devices.{Device}
 use Rattle.bench_reader.specs.Netlists.{netlist}
-use Rattle.bench_reader.specs.Faults.{Fault as NetlistFault, fault_number as netlist_number, fault_name as netlist_name}
+use Rattle.bench_reader.specs.Faults.{Fault as NetlistFault, fault_row as netlist_row}
 use Rattle.component_lang.specs.Designs.{Design}
 use Rattle.component_lang.specs.Reading.{Fault as DesignFault, design}
-use Rattle.component_lang.specs.Faults.{fault_number as design_number, fault_name as design_name}
+use Rattle.component_lang.specs.Faults.{fault_row as design_row}
 use Rattle.flattener.specs.declared.flattening.FlattenError.{FlattenError}
 use Rattle.flattener.specs.declared.flattening.FlattenError.TheVariants.{TooManyParts, TooManyWires, TooManyBlocks, PathTooLong, Memory}
 use Rattle.flattener.specs.declared.flattening.TheConstants.{INSTANCE_LIMIT}
@@ -15,13 +16,13 @@ use Rattle.flattener.specs.Flat.{flattened}
 use Rattle.diag_edge.specs.ErrorLines.{fault_line, above_line}
 use Rattle.device_files.specs.Paths.{is_design_path}
 use Rattle.device_files.specs.declared.status.Status.TheVariants.{Refused}
-use Rattle.device_files.specs.Output.{Output, says, too_long_line, no_memory_line}
+use Rattle.device_files.specs.Output.{Output, says, too_long_line, no_memory_line, result_and_then}
 
 abbrev pub netlist_line : NetlistFault → List ℕ
-netlist_line fault = fault_line fault.line (netlist_number fault.what) (netlist_name fault.what)
+netlist_line fault = fault_line fault.line (netlist_row fault.what).0 (netlist_row fault.what).1
 
 abbrev pub design_line : DesignFault → List ℕ
-design_line fault = fault_line fault.line (design_number fault.what) (design_name fault.what)
+design_line fault = fault_line fault.line (design_row fault.what).0 (design_row fault.what).1
 
 abbrev pub flatten_line : FlattenError → List ℕ
 flatten_line (TooManyParts count) = above_line (codes "parts") count PART_LIMIT
@@ -33,14 +34,12 @@ flatten_line Memory = no_memory_line
 abbrev pub long_file_line : List ℕ
 long_file_line = too_long_line (codes "file") TEXT_LIMIT
 
--- a device, or the line that refuses its file
+-- what a file gives, or the line that refuses it
 abbrev pub or_line : {A F : Type 0} → (F → List ℕ) → Result A F → Result A Output
-or_line line (Ok device) = Ok device
-or_line line (Err fault) = Err (says (line fault) Refused)
+or_line line found = result_map_both (λ given. given) (λ fault. says (line fault) Refused) found
 
 abbrev pub design_device : Result Design DesignFault → Result Device Output
-design_device (Ok made) = or_line flatten_line (flattened made)
-design_device (Err fault) = Err (says (design_line fault) Refused)
+design_device found = result_and_then (λ made. or_line flatten_line (flattened made)) (or_line design_line found)
 
 -- the device that a text describes, by the path of its file
 abbrev pub described : List ℕ → List ℕ → Result Device Output

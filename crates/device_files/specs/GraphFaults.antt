@@ -4,23 +4,14 @@ use Rattle.graph_rules.specs.GraphTexts.{LineFault, WrongLine, WrongChild, Wrong
 use Rattle.device_files.specs.declared.graph_fault.GraphFault.{GraphFault}
 use Rattle.device_files.specs.declared.graph_fault.GraphFault.TheVariants.{Header, Line, Child, Variable, Counts, Bits, Shared}
 
-abbrev pub graph_fault_number : GraphFault → ℕ
-graph_fault_number Header = 1
-graph_fault_number Line = 2
-graph_fault_number Child = 3
-graph_fault_number Variable = 4
-graph_fault_number Counts = 5
-graph_fault_number Bits = 6
-graph_fault_number Shared = 7
-
-abbrev pub graph_fault_name : GraphFault → List ℕ
-graph_fault_name Header = codes "header"
-graph_fault_name Line = codes "line"
-graph_fault_name Child = codes "child"
-graph_fault_name Variable = codes "variable"
-graph_fault_name Counts = codes "counts"
-graph_fault_name Bits = codes "bits"
-graph_fault_name Shared = codes "shared"
+abbrev pub graph_fault_row : GraphFault → ℕ × List ℕ
+graph_fault_row Header = (1, codes "header")
+graph_fault_row Line = (2, codes "line")
+graph_fault_row Child = (3, codes "child")
+graph_fault_row Variable = (4, codes "variable")
+graph_fault_row Counts = (5, codes "counts")
+graph_fault_row Bits = (6, codes "bits")
+graph_fault_row Shared = (7, codes "shared")
 
 -- what is wrong with a line
 abbrev pub fault_of_line : LineFault → GraphFault

@@ -1,5 +1,5 @@
 -- What a run writes, and the status that it ends with.
-use Rattle.std.specs.Prelude.{◌≡◌, ◌≢◌, ◌⊎◌, ℕ, List, [], ◌∷◌, Option, codes}
+use Rattle.std.specs.Prelude.{◌≡◌, ◌≢◌, ◌⊎◌, ℕ, List, [], ◌∷◌, Option, Result, Ok, Err, codes}
 use Rattle.std.specs.Fmt.{decimal}
 use Rattle.text_rules.specs.Tokens.{spaced}
 use Rattle.device_files.specs.declared.status.Status.{Status}
@@ -25,6 +25,20 @@ no_memory_line = codes "error: memory\n"
 -- memory ran out
 abbrev pub no_memory : Output
 no_memory = says no_memory_line NoMemory
+
+-- ---- what was found, or an output that refuses it
+
+-- goes on with what was found; an error stays
+abbrev pub result_and_then : {A B E : Type 0} → (A → Result B E) → Result A E → Result B E
+result_and_then next (Ok found) = next found
+result_and_then next (Err error) = Err error
+
+-- the output that tells what was found, or the one that refuses it
+abbrev pub told_or_refused : {A : Type 0} → (A → Output) → Result A Output → Output
+told_or_refused told (Ok found) = told found
+told_or_refused told (Err output) = output
+
+-- ---- what a run gives
 
 -- A run that is to give an output ends with its status, and what it writes, where the sink tells, spells the items of the
 -- output. Where a write failed, what it wrote begins such a text.

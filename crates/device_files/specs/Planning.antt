@@ -1,5 +1,6 @@
 -- What a device is told by that is planned: its sizes, and the sum of its clauses, which a budget limits.
 use Rattle.std.specs.Prelude.{ℕ, List, [], ◌∷◌, length, Result, Ok, Err, codes, nat_lt, if◌then◌else◌}
+use Rattle.std.specs.Result.{result_map_both}
 use Rattle.std.specs.Fmt.{decimal}
 use Rattle.text_rules.specs.Tokens.{spaced}
 use Rattle.device_model.specs.Devices.{Device}
@@ -12,7 +13,7 @@ use Rattle.branch_states.specs.Branches.{sum_of}
 use Rattle.session_rules.specs.Items.{Item, line}
 use Rattle.device_files.specs.declared.planning.Sizes.{Sizes}
 use Rattle.device_files.specs.declared.status.Status.TheVariants.{Done, Refused, AboveBudget}
-use Rattle.device_files.specs.Output.{Output, says, no_memory}
+use Rattle.device_files.specs.Output.{Output, says, no_memory, result_and_then, told_or_refused}
 use Rattle.diag_edge.specs.ErrorLines.{above_line}
 
 -- a word and a number
@@ -38,16 +39,12 @@ within budget (Ok cnf) = if nat_lt budget (sum_of cnf.clauses) then Err (says (s
 within budget (Err error) = Err (not_encoded error)
 
 -- the numbers of parts, wires and clauses, and the sum of the clauses
-abbrev pub sizes_by : Device → Result ClauseList Output → Result Sizes Output
-sizes_by device (Ok cnf) =
-    Ok (record { parts = length device.parts; wires = length device.wires; clauses = length cnf.clauses; sum = sum_of cnf.clauses })
-sizes_by device (Err output) = Err output
+abbrev pub sizes_by : Device → ClauseList → Sizes
+sizes_by device cnf = record { parts = length device.parts; wires = length device.wires; clauses = length cnf.clauses; sum = sum_of cnf.clauses }
 
 -- by what the clauses of devices are
 abbrev pub sizes_in : (Device → Result ClauseList EncodeError) → Result Device Output → Result Sizes Output
-sizes_in clauses (Ok device) = sizes_by device (within BUDGET_LIMIT (clauses device))
-sizes_in clauses (Err output) = Err output
+sizes_in clauses found = result_and_then (λ device. result_map_both (sizes_by device) (λ output. output) (within BUDGET_LIMIT (clauses device))) found
 
 abbrev pub planned : Result Sizes Output → Output
-planned (Ok sizes) = record { items = size_lines sizes; status = Done }
-planned (Err output) = output
+planned found = told_or_refused (λ sizes. record { items = size_lines sizes; status = Done }) found

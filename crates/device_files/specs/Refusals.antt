@@ -1,5 +1,5 @@
 -- Why a file gives nothing of what the words ask for, and what is told of it.
-use Rattle.std.specs.Prelude.{ℕ, List, Option, Some, None, Result}
+use Rattle.std.specs.Prelude.{ℕ, List, Option, Some, None, Result, unwrap_or}
 use Rattle.text_rules.specs.Expected.{Fulfils}
 use Rattle.device_files.specs.declared.refusal.Refusal.{Refusal}
 use Rattle.device_files.specs.declared.refusal.Refusal.TheVariants.{Fault, Header, Counts, Bits, Shared, Above, Sum, Memory}
@@ -34,8 +34,7 @@ told_by Memory = None
 told_by refusal = Some (says (refusal_line refusal) (refusal_status refusal))
 
 abbrev pub or_memory : Option Output → Output
-or_memory None = no_memory
-or_memory (Some output) = output
+or_memory told = unwrap_or told no_memory
 
 -- An `Ok` is what is expected, or a refusal tells the output that is.
 abbrev pub Finds : {A : Type 0} → Result A Output → Result A Refusal → Type 0

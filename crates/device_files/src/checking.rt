@@ -5,7 +5,7 @@ ghost use Rattle.diag_edge.specs.ErrorLines.{fault_line};
 ghost use Rattle.nnf_text.specs.Refusals.{told};
 ghost use Rattle.device_files.specs.Output.{Gives, says, GivesUnlessMemory};
 ghost use Rattle.device_files.specs.Checking.{checked, graph_fault_line, graph_in};
-ghost use Rattle.device_files.specs.GraphFaults.{graph_fault_number, graph_fault_name};
+ghost use Rattle.device_files.specs.GraphFaults.{graph_fault_row};
 ghost use Rattle.device_files.specs.Refusals.{Finds, told_by};
 
 use crate::graph_fault::GraphFault;
@@ -20,7 +20,7 @@ use text_rules::TEXT_LIMIT;
 
 // The refusal that tells a fault of a line.
 fn at_line(line: u32, fault: GraphFault) -> Refusal
-    ensures { told_by result ≡ Some (says (fault_line line (graph_fault_number fault) (graph_fault_name fault)) Status.Refused) }
+    ensures { told_by result ≡ Some (says (fault_line line (graph_fault_row fault).0 (graph_fault_row fault).1) Status.Refused) }
 {
     Refusal::Fault {
         line,

@@ -1,6 +1,6 @@
 //! What is wrong with the text of a graph: one table of numbers and names.
 ghost use Rattle.std.specs.Prelude.{◌≡◌};
-ghost use Rattle.device_files.specs.GraphFaults.{graph_fault_number, graph_fault_name};
+ghost use Rattle.device_files.specs.GraphFaults.{graph_fault_row};
 
 /// A fault of the text of a graph.
 #[derive(Clone, Copy, Debug, PartialEq, Eq)]
@@ -22,33 +22,33 @@ pub enum GraphFault {
 }
 
 impl GraphFault {
-    /// The number of the fault, 1 to 7.
-    pub fn number(self) -> u32
-        ensures { result ≡ graph_fault_number self }
+    // The number and the name of the fault.
+    fn row(self) -> (u32, &'static str)
+        ensures number { result.0 ≡ (graph_fault_row self).0 }
+        ensures name { result.1.now ≡ (graph_fault_row self).1 }
     {
         match self {
-            GraphFault::Header => 1,
-            GraphFault::Line => 2,
-            GraphFault::Child => 3,
-            GraphFault::Variable => 4,
-            GraphFault::Counts => 5,
-            GraphFault::Bits => 6,
-            GraphFault::Shared => 7,
+            GraphFault::Header => (1, "header"),
+            GraphFault::Line => (2, "line"),
+            GraphFault::Child => (3, "child"),
+            GraphFault::Variable => (4, "variable"),
+            GraphFault::Counts => (5, "counts"),
+            GraphFault::Bits => (6, "bits"),
+            GraphFault::Shared => (7, "shared"),
         }
+    }
+
+    /// The number of the fault, 1 to 7.
+    pub fn number(self) -> u32
+        ensures { result ≡ (graph_fault_row self).0 }
+    {
+        self.row().0
     }
 
     /// The name of the fault, as it is told.
     pub fn name(self) -> &'static str
-        ensures { result.now ≡ graph_fault_name self }
+        ensures { result.now ≡ (graph_fault_row self).1 }
     {
-        match self {
-            GraphFault::Header => "header",
-            GraphFault::Line => "line",
-            GraphFault::Child => "child",
-            GraphFault::Variable => "variable",
-            GraphFault::Counts => "counts",
-            GraphFault::Bits => "bits",
-            GraphFault::Shared => "shared",
-        }
+        self.row().1
     }
 }

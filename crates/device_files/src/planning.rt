@@ -3,7 +3,7 @@ ghost use Rattle.diag_edge.specs.Edge.{HasCause, RoseExactly};
 ghost use Rattle.device_files.specs.Describing.{device_in};
 ghost use Rattle.device_files.specs.Output.{Gives, GivesUnlessMemory};
 ghost use Rattle.device_files.specs.Orders.{ByClauses};
-ghost use Rattle.device_files.specs.Planning.{count_line, size_lines, within, sizes_by, sizes_in, planned};
+ghost use Rattle.device_files.specs.Planning.{count_line, size_lines, sizes_in, planned};
 ghost use Rattle.session_rules.specs.Spelling.{Replies};
 ghost use Rattle.device_files.specs.Refusals.{Finds};
 
@@ -32,7 +32,7 @@ pub struct Sizes {
 }
 
 fn sizes_of(alloc: Global, device: &Device, is_narrow: bool) -> Result<Sizes, Refusal>
-    ensures { ByClauses is_narrow (λ clauses. Finds (sizes_by device.now (within BUDGET_LIMIT (clauses device.now))) result) }
+    ensures { ByClauses is_narrow (λ clauses. Finds (sizes_in clauses (Ok device.now)) result) }
 {
     let (cnf, sum) = clauses_within(alloc, device, BUDGET_LIMIT, is_narrow)?;
     Ok(Sizes {

@@ -1,4 +1,4 @@
-ghost use Rattle.std.specs.Prelude.{◌≡◌, ◌≢◌, ◌⊎◌, ◌-◌, ◌^◌, ◌<◌, ◌≤◌, Some};
+ghost use Rattle.std.specs.Prelude.{◌≡◌, ◌≢◌, ◌-◌, ◌^◌, ◌<◌, ◌≤◌, Some};
 ghost use Rattle.diag_edge.specs.Edge.{HasCause, RoseExactly, Puts};
 ghost use Rattle.diag_edge.specs.ErrorLines.{above_line};
 ghost use Rattle.graph_rules.specs.GraphTexts.{NoHeader, Counts, TooLarge, Shared};
@@ -65,8 +65,7 @@ impl From<AllocError> for Refusal {
 impl Refusal {
     // The status that goes with it.
     fn status(self) -> Status
-        ensures value { result ≡ refusal_status self }
-        ensures few { (result ≡ Status.Refused) ⊎ ((result ≡ Status.AboveBudget) ⊎ (result ≡ Status.NoMemory)) }
+        ensures { result ≡ refusal_status self }
     {
         match self {
             Refusal::Sum { budget: _ } => Status::AboveBudget,

@@ -3,10 +3,11 @@ use Rattle.std.proofs.Common.{◌≡◌, ℕ, sym, subst}
 use Rattle.std.specs.Prelude.{Result, Ok}
 use Rattle.session_rules.specs.GraphSystems.{Subject, system_of}
 use Rattle.session_core.specs.Services.{Shown}
+use Rattle.diag_edge.specs.Edge.{Reading, Writing}
 use Rattle.device_files.specs.declared.status.Status.{Status}
 use Rattle.device_files.specs.Output.{Output}
 use Rattle.diag_cli.specs.Courses.{answers_of, served_or_refused}
-use Rattle.diag_cli.specs.Following.{Reading, Writing, IsServed, Follows}
+use Rattle.diag_cli.specs.Following.{IsServed, Follows}
 use Rattle.diag_cli.specs.inner.Serving.{IsReady}
 
 -- It follows the course of what was found, which is what it is over.

@@ -7,7 +7,7 @@ use Rattle.std.proofs.lemmas.List.{length-replicate}
 use Rattle.text_rules.specs.declared.text_lines.TheConstants.{TEXT_LIMIT}
 use Rattle.text_rules.specs.TextLines.{whole_lines}
 use Rattle.text_rules.specs.Expected.{IsExpectedFault}
-use Rattle.diag_edge.specs.Edge.{RoseExactly, Holding, absent, told_bytes}
+use Rattle.diag_edge.specs.Edge.{Reading, Writing, RoseExactly, Holding, absent, told_bytes}
 use Rattle.diag_edge.specs.declared.loading.LoadError.{LoadError}
 use Rattle.diag_edge.specs.declared.loading.LoadError.TheVariants.{Failed as LoadFailed, Long, Memory}
 use Rattle.session_rules.specs.Items.{Item}
@@ -30,7 +30,7 @@ use Rattle.diag_cli.specs.Courses.{End, Ended, Failed, Cut, Course, Tells, Serve
 use Rattle.diag_cli.specs.Loads.{loaded}
 use Rattle.device_files.specs.Refusals.{or_memory}
 use Rattle.diag_cli.specs.Runs.{GivesUnlessShort, IsDone, IsRun}
-use Rattle.diag_cli.specs.Following.{Reading, Writing, IsIdle, EndsAs, AreTaken, CameTo, IsServed, WritesFirst, IsStopped, Follows}
+use Rattle.diag_cli.specs.Following.{IsIdle, EndsAs, AreTaken, CameTo, IsServed, WritesFirst, IsStopped, Follows}
 use Rattle.device_files.proofs.Failing.{gives_part}
 use Rattle.device_files.proofs.PlannedDevices.{short_file}
 use Rattle.diag_cli.proofs.Unread.{IsUnread}

@@ -4,6 +4,7 @@ pub mod WordLemmas
 pub mod OptionOrder
 pub mod FewBits
 pub mod Running
+pub mod Shown
 pub mod ServedDevices
 pub mod AskedGraphs
 pub mod ServedFrames

@@ -20,10 +20,11 @@ use Rattle.session_rules.proofs.GraphReplies.{graph_replies}
 use Rattle.session_rules.proofs.Keeping.{HasCases-empty}
 use Rattle.session_core.specs.Services.{Shown}
 use Rattle.diag_cli.specs.declared.words.ServeOptions.{ServeOptions}
+use Rattle.diag_edge.specs.Edge.{Reading, Writing}
 use Rattle.device_files.specs.declared.status.Status.{Status}
 use Rattle.device_files.specs.Output.{Output}
 use Rattle.diag_cli.specs.Courses.{ready_line, answers_of, if_within, served_device, served_or_refused}
-use Rattle.diag_cli.specs.Following.{Reading, Writing, IsServed, Follows}
+use Rattle.diag_cli.specs.Following.{IsServed, Follows}
 use Rattle.diag_cli.specs.inner.Serving.{IsServable, IsServiceOf}
 
 -- ---- the graph of a device is such as a service takes

@@ -1,6 +1,7 @@
 -- A service over a netlist and several times answers as its system does.
 use Rattle.std.proofs.Common.{◌≡◌, ◌≤◌, ◌+◌, ◌*◌, ℕ, List, [], ◌∷◌, length, ap, sym, subst, ◌∙◌, arith}
 use Rattle.std.specs.Prelude.{Result, Ok, Option}
+use Rattle.std.specs.Result.{result_and}
 use Rattle.text_rules.specs.Expected.{IsExpectedFault}
 use Rattle.branch_states.specs.Branches.{sum_of}
 use Rattle.frame_unroller.specs.declared.unrolling.Unrolled.{Unrolled}
@@ -13,6 +14,7 @@ use Rattle.clause_order.specs.Orders.{SameTruth}
 use Rattle.frame_unroller.specs.Unrolling.{unrolled, reason, IsUnrolled}
 use Rattle.frame_unroller.proofs.Refusing.{unrolled-names}
 use Rattle.dnnf_compiler.proofs.Laws.{graph_over}
+use Rattle.diag_edge.specs.Edge.{Reading, Writing}
 use Rattle.device_files.specs.declared.status.Status.{Status}
 use Rattle.device_files.specs.declared.status.Status.TheVariants.{NoMemory}
 use Rattle.device_files.specs.Planning.{within}
@@ -35,8 +37,8 @@ use Rattle.diag_cli.specs.declared.words.ServeOptions.{ServeOptions}
 use Rattle.device_files.specs.Output.{Output}
 use Rattle.diag_cli.specs.Besides.{in_few_bits}
 use Rattle.diag_cli.specs.Courses.{ready_line, answers_of, served_frames, served_or_refused}
-use Rattle.diag_cli.specs.Frames.{unrolled_within, netlist_by, if_unrolled}
-use Rattle.diag_cli.specs.Following.{Reading, Writing, IsServed, Follows}
+use Rattle.diag_cli.specs.Frames.{unrolled_within, if_unrolled}
+use Rattle.diag_cli.specs.Following.{IsServed, Follows}
 use Rattle.diag_cli.specs.inner.Serving.{IsFrameService, frames_told}
 use Rattle.device_files.proofs.Ordering.{by_same, by_list}
 
@@ -70,18 +72,18 @@ module _ (seq : Sequential) (frames : ℕ) (options : ServeOptions) where
   not_unrolled_told put error told is h = subst (λ o. IsExpectedFault o (if_unrolled frames options put (Ok seq))) (sym is) (by error h)
     where
       by : (e : UnrollError) → IsExpectedFault (reason e) (unrolled seq frames) → IsExpectedFault (frames_told e) (if_unrolled frames options put (Ok seq))
-      by (TooManyParts count) h = ap (λ r. netlist_by seq (in_few_bits options.extras (length seq.device.parts) (unrolled_within options.budget put r))) h
-      by (TooManyWires count) h = ap (λ r. netlist_by seq (in_few_bits options.extras (length seq.device.parts) (unrolled_within options.budget put r))) h
-      by (TooManyClauses count) h = ap (λ r. netlist_by seq (in_few_bits options.extras (length seq.device.parts) (unrolled_within options.budget put r))) h
+      by (TooManyParts count) h = ap (λ r. result_and (in_few_bits options.extras (length seq.device.parts) (unrolled_within options.budget put r)) (Ok seq)) h
+      by (TooManyWires count) h = ap (λ r. result_and (in_few_bits options.extras (length seq.device.parts) (unrolled_within options.budget put r)) (Ok seq)) h
+      by (TooManyClauses count) h = ap (λ r. result_and (in_few_bits options.extras (length seq.device.parts) (unrolled_within options.budget put r)) (Ok seq)) h
       by NoMemory h = tt
 
   -- what its clauses come to in the order in which they were put
   pub unrolled_gives : (made : Unrolled) → unrolled seq frames ≡ Ok made → (found : ClauseList) → IsInOrder options.narrow made.cnf found → (Gives : Result Sequential Output → Type 0)
-      → Gives (netlist_by seq (in_few_bits options.extras (length seq.device.parts) (within options.budget (Ok found)))) → ByOrder (λ order. Gives (if_unrolled frames options (list_by options.narrow order) (Ok seq)))
+      → Gives (result_and (in_few_bits options.extras (length seq.device.parts) (within options.budget (Ok found))) (Ok seq)) → ByOrder (λ order. Gives (if_unrolled frames options (list_by options.narrow order) (Ok seq)))
   unrolled_gives made is found in_order Gives given =
       by_same (by_list made.cnf found options.narrow in_order) (λ order same.
-      let so = ap (λ r. netlist_by seq (in_few_bits options.extras (length seq.device.parts) (unrolled_within options.budget (list_by options.narrow order) r))) is
-      ∙ ap (λ cnf. netlist_by seq (in_few_bits options.extras (length seq.device.parts) (within options.budget (Ok cnf)))) same in
+      let so = ap (λ r. result_and (in_few_bits options.extras (length seq.device.parts) (unrolled_within options.budget (list_by options.narrow order) r)) (Ok seq)) is
+      ∙ ap (λ cnf. result_and (in_few_bits options.extras (length seq.device.parts) (within options.budget (Ok cnf))) (Ok seq)) same in
       subst Gives (sym so) given)
 
 -- ---- the service of what was unrolled

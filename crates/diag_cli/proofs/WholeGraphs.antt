@@ -17,7 +17,7 @@ use Rattle.session_rules.specs.Spelling.{IsWholeOf}
 use Rattle.session_rules.proofs.Spellings.{replies_one}
 use Rattle.device_files.specs.declared.status.Status.{Status}
 use Rattle.device_files.specs.declared.status.Status.TheVariants.{Done, WriteFailed}
-use Rattle.device_files.specs.Output.{Output, Gives, GivesUnlessMemory}
+use Rattle.device_files.specs.Output.{Output, Gives, GivesUnlessMemory, told_or_refused}
 use Rattle.device_files.specs.Describing.{described, device_in}
 use Rattle.device_files.specs.Planning.{within}
 use Rattle.diag_cli.specs.Courses.{graph_by, compiled}
@@ -35,7 +35,7 @@ pub not_compiled : (fault : Option Output) (path file : List ℕ) (budget : ℕ)
     → IsExpectedFault fault (within budget (clauses device)) → Gives (or_memory fault) status a b → GivesUnlessMemory (compiled budget clauses (device_in path file)) status a b
 not_compiled None path file budget clauses device status a b short is fault said = inl said
 not_compiled (Some output) path file budget clauses device status a b short is fault said =
-    inr (subst (λ (o : Output). Gives o status a b) (sym (ap (compiled budget clauses) (in_file path file device short is) ∙ ap (graph_by device) fault)) said)
+    inr (subst (λ (o : Output). Gives o status a b) (sym (ap (compiled budget clauses) (in_file path file device short is) ∙ ap (told_or_refused (graph_by device)) fault)) said)
 
 module _ (path file : List ℕ) (budget : ℕ) (clauses : Device → Result ClauseList EncodeError) (device : Device) (cnf : ClauseList) (graph : Graph) (status : Status) (a b : Option (List ℕ)) where
   abbrev most : ℕ
@@ -45,7 +45,7 @@ module _ (path file : List ℕ) (budget : ℕ) (clauses : Device → Result Clau
   output = record { items = Whole device cnf.vars most ∷ []; status = Done }
 
   output_is : length file ≤ TEXT_LIMIT → described path file ≡ Ok device → within budget (clauses device) ≡ Ok cnf → compiled budget clauses (device_in path file) ≡ output
-  output_is short is list = ap (compiled budget clauses) (in_file path file device short is) ∙ ap (graph_by device) list
+  output_is short is list = ap (compiled budget clauses) (in_file path file device short is) ∙ ap (told_or_refused (graph_by device)) list
 
   is_whole : IsServable device graph → graph.vars ≡ cnf.vars → length graph.nodes ≤ most → IsWholeOf device cnf.vars most (Ok graph)
   is_whole is vars few_nodes = (vars, is.valid.nodes.apart, few_nodes, is.meaning)

@@ -1,5 +1,6 @@
 -- What is told besides, and how many bits it may take.
-use Rattle.std.specs.Prelude.{ℕ, ◌+◌, ◌*◌, Bool, true, false, List, Option, Some, None, Result, Ok, Err, codes, nat_lt, if◌then◌else◌}
+use Rattle.std.specs.Prelude.{ℕ, ◌+◌, ◌*◌, Bool, List, Option, Result, Ok, Err, codes, nat_lt, if◌then◌else◌}
+use Rattle.std.specs.Option.{option_map_or}
 use Rattle.ranking.specs.declared.extras.Extras.{Extras}
 use Rattle.diag_edge.specs.ErrorLines.{above_line}
 use Rattle.clause_encoder.specs.Clauses.{ClauseList}
@@ -8,17 +9,15 @@ use Rattle.level_lister.specs.Bits.{level_bits}
 use Rattle.smooth_nnf.specs.Sizes.{drawing_bits}
 use Rattle.session_core.specs.declared.limits.TheConstants.{SERVED_BITS}
 use Rattle.device_files.specs.declared.status.Status.TheVariants.{Refused}
-use Rattle.device_files.specs.Output.{Output, says}
+use Rattle.device_files.specs.Output.{Output, says, result_and_then}
 
 -- the bits of states by rising cost, where these are told, over the greatest graph that is compiled from clauses of this sum
 abbrev pub levels_bits : (sum vars parts : ℕ) → Option ℕ → ℕ
-levels_bits sum vars parts None = 0
-levels_bits sum vars parts (Some top) = level_bits sum vars parts top
+levels_bits sum vars parts levels = option_map_or (level_bits sum vars parts) levels 0
 
 -- and those with which the graph of the diagnoses is drawn
 abbrev pub least_bits : (sum vars parts : ℕ) → Bool → ℕ
-least_bits sum vars parts false = 0
-least_bits sum vars parts true = drawing_bits (3 * sum + 2 * vars + 2) parts
+least_bits sum vars parts least = if least then drawing_bits (3 * sum + 2 * vars + 2) parts else 0
 
 abbrev pub bits_line : ℕ → List ℕ
 bits_line bits = above_line (codes "bits") bits SERVED_BITS
@@ -29,7 +28,6 @@ if_few bits other = if nat_lt SERVED_BITS bits then Err (says (bits_line bits) R
 
 -- clauses over so many parts, where what is told besides takes few bits: first states by rising cost, then the graph
 abbrev pub in_few_bits : Extras → ℕ → Result ClauseList Output → Result ClauseList Output
-in_few_bits extras parts (Err output) = Err output
-in_few_bits extras parts (Ok cnf) =
+in_few_bits extras parts found = result_and_then (λ cnf.
     if_few (levels_bits (sum_of cnf.clauses) cnf.vars parts extras.levels)
-    (if_few (least_bits (sum_of cnf.clauses) cnf.vars parts extras.least) (Ok cnf))
+    (if_few (least_bits (sum_of cnf.clauses) cnf.vars parts extras.least) (Ok cnf))) found

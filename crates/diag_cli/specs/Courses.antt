@@ -1,5 +1,7 @@
 -- What a run comes to by its words and its file: an output, or a script whose lines are answered.
 use Rattle.std.specs.Prelude.{ℕ, ◌+◌, ◌*◌, List, [], ◌∷◌, ◌++◌, length, take, Option, Some, None, Result, Ok, Err, codes, nat_lt, if◌then◌else◌}
+use Rattle.std.specs.Option.{option_map}
+use Rattle.std.specs.Result.{result_and}
 use Rattle.std.specs.Fmt.{decimal}
 use Rattle.text_rules.specs.TextLines.{whole_lines, all_lines}
 use Rattle.diag_edge.specs.declared.loading.LoadError.{LoadError}
@@ -17,7 +19,7 @@ use Rattle.diag_cli.specs.declared.serving.TheConstants.{SCRIPT_LIMIT}
 use Rattle.diag_cli.specs.declared.words.ServeOptions.{ServeOptions}
 use Rattle.diag_cli.specs.Words.{Form, Load, Over, Command, Serve, ServeFrames, Ask, Plan, Check, Compile}
 use Rattle.device_files.specs.declared.status.Status.TheVariants.{Done, Refused, Usage, ReadFailed, CutShort}
-use Rattle.device_files.specs.Output.{Output, says, too_long_line, no_memory}
+use Rattle.device_files.specs.Output.{Output, says, too_long_line, no_memory, result_and_then, told_or_refused}
 use Rattle.device_files.specs.Describing.{long_file_line, device_in}
 use Rattle.device_files.specs.Orders.{list_by, clauses_by}
 use Rattle.device_files.specs.Planning.{within, sizes_in, planned}
@@ -79,15 +81,12 @@ wholly_served answers script = served answers (take SCRIPT_LIMIT script) (end_of
 -- ---- a device is compiled
 
 -- its graph, over the variables of the clauses, with at most so many nodes
-abbrev pub graph_by : Device → Result ClauseList Output → Output
-graph_by device (Ok cnf) =
-    record { items = Whole device cnf.vars (3 * sum_of cnf.clauses + 2 * cnf.vars + 2) ∷ []; status = Done }
-graph_by device (Err output) = output
+abbrev pub graph_by : Device → ClauseList → Output
+graph_by device cnf = record { items = Whole device cnf.vars (3 * sum_of cnf.clauses + 2 * cnf.vars + 2) ∷ []; status = Done }
 
 -- by what the clauses of devices are
 abbrev pub compiled : ℕ → (Device → Result ClauseList EncodeError) → Result Device Output → Output
-compiled budget clauses (Ok device) = graph_by device (within budget (clauses device))
-compiled budget clauses (Err output) = output
+compiled budget clauses found = told_or_refused (λ device. told_or_refused (graph_by device) (within budget (clauses device))) found
 
 -- ---- all forms
 
@@ -96,14 +95,9 @@ pub data Course : Type 0 where
   Serves : (answers : List (List ℕ) → List Item) → Course
 
 -- the sum of a device is within the budget, and what is told besides takes few bits
-abbrev pub device_by : Device → Result ClauseList Output → Result Device Output
-device_by device (Ok cnf) = Ok device
-device_by device (Err output) = Err output
-
 abbrev pub if_within : ServeOptions → (Device → Result ClauseList EncodeError) → Result Device Output → Result Device Output
-if_within options clauses (Ok device) =
-    device_by device (in_few_bits options.extras (length device.parts) (within options.budget (clauses device)))
-if_within options clauses (Err output) = Err output
+if_within options clauses found = result_and_then (λ device.
+    result_and (in_few_bits options.extras (length device.parts) (within options.budget (clauses device))) (Ok device)) found
 
 -- the systems of a device, and of a netlist over so many times, with what is told besides
 abbrev pub served_device : ServeOptions → Device → System
@@ -120,8 +114,7 @@ served_or_refused system sessions (Err output) = Tells output
 -- the output of a course, where the script that it may need is told
 abbrev pub whole_output : Course → Option (List ℕ) → Option Output
 whole_output (Tells output) left = Some output
-whole_output (Serves answers) None = None
-whole_output (Serves answers) (Some script) = Some (wholly_served answers script)
+whole_output (Serves answers) left = option_map (wholly_served answers) left
 
 -- by the command, over a file, and by the order of clauses that is used where another one is asked for
 abbrev pub course_by : (ClauseList → ClauseList) → List ℕ → Command → List ℕ → Course

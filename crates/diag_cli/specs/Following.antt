@@ -2,6 +2,7 @@
 use Rattle.std.specs.Prelude.{◌≡◌, ◌⊎◌, ◌+◌, ◌<◌, ◌≤◌, ℕ, List, ◌++◌, length, Option}
 use Rattle.std.specs.Io.KnownBytes.{Appends, Consumes, IsAtEnd}
 use Rattle.text_rules.specs.TextLines.{whole_lines, all_lines}
+use Rattle.diag_edge.specs.Edge.{Reading, Writing}
 use Rattle.session_rules.specs.Items.{Item}
 use Rattle.session_rules.specs.Spelling.{Writes, WritesPart}
 use Rattle.session_core.specs.declared.serving.TheConstants.{READ_LIMIT}
@@ -10,17 +11,6 @@ use Rattle.device_files.specs.declared.status.Status.{Status}
 use Rattle.device_files.specs.declared.status.Status.TheVariants.{Done, WriteFailed}
 use Rattle.device_files.specs.Output.{Gives, GivesUnlessMemory, no_memory}
 use Rattle.diag_cli.specs.Courses.{End, Ended, Failed, Cut, Course, Tells, Serves, served}
-
--- what a source of bytes shows at a time: the bytes still to come, where they are told, how many were taken, and its faults
-pub record Reading : Type 0 where
-  pub left : Option (List ℕ)
-  pub taken : ℕ
-  pub faults : ℕ
-
--- what a sink shows at a time: the bytes accepted, where they are told, and its faults
-pub record Writing : Type 0 where
-  pub got : Option (List ℕ)
-  pub faults : ℕ
 
 -- nothing was taken, no call failed, and what was to come still is
 pub record IsIdle (before after : Reading) : Type 0 where
@@ -89,6 +79,5 @@ pub record IsServed (answers : List (List ℕ) → List Item) (input new_input :
 
 -- what was done, by the course
 abbrev pub Follows : Course → Reading → Reading → Writing → Writing → Status → Type 0
-Follows (Tells output) input new_input out new_out status =
-    IsIdle input new_input × GivesUnlessMemory output status out.got new_out.got
+Follows (Tells output) input new_input out new_out status = IsIdle input new_input × GivesUnlessMemory output status out.got new_out.got
 Follows (Serves answers) input new_input out new_out status = IsServed answers input new_input out new_out status

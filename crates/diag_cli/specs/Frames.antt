@@ -1,5 +1,6 @@
 -- What a run comes to over a netlist with flip-flops and several times.
 use Rattle.std.specs.Prelude.{ℕ, List, length, Result, Ok, Err, codes, nat_le, if◌then◌else◌}
+use Rattle.std.specs.Result.{result_and}
 use Rattle.text_rules.specs.declared.text_lines.TheConstants.{TEXT_LIMIT}
 use Rattle.device_model.specs.declared.limits.TheConstants.{PART_LIMIT, WIRE_LIMIT}
 use Rattle.bench_reader.specs.declared.sequential.Sequential.{Sequential}
@@ -12,7 +13,7 @@ use Rattle.frame_unroller.specs.declared.unrolling.UnrollError.TheVariants.{TooM
 use Rattle.frame_unroller.specs.Unrolling.{unrolled}
 use Rattle.diag_edge.specs.ErrorLines.{above_line}
 use Rattle.device_files.specs.declared.status.Status.TheVariants.{Refused}
-use Rattle.device_files.specs.Output.{Output, says, no_memory}
+use Rattle.device_files.specs.Output.{Output, says, no_memory, result_and_then}
 use Rattle.device_files.specs.Describing.{netlist_line, long_file_line, or_line}
 use Rattle.diag_cli.specs.declared.words.ServeOptions.{ServeOptions}
 use Rattle.device_files.specs.Planning.{within}
@@ -35,11 +36,6 @@ unrolled_within budget put (Ok made) = within budget (Ok (put made.cnf))
 unrolled_within budget put (Err error) = Err (not_unrolled error)
 
 -- the netlist, where it is unrolled within the budget, and what is told besides takes few bits
-abbrev pub netlist_by : Sequential → Result ClauseList Output → Result Sequential Output
-netlist_by seq (Ok cnf) = Ok seq
-netlist_by seq (Err output) = Err output
-
 abbrev pub if_unrolled : ℕ → ServeOptions → (ClauseList → ClauseList) → Result Sequential Output → Result Sequential Output
-if_unrolled frames options put (Ok seq) =
-    netlist_by seq (in_few_bits options.extras (length seq.device.parts) (unrolled_within options.budget put (unrolled seq frames)))
-if_unrolled frames options put (Err output) = Err output
+if_unrolled frames options put found = result_and_then (λ seq.
+    result_and (in_few_bits options.extras (length seq.device.parts) (unrolled_within options.budget put (unrolled seq frames))) (Ok seq)) found

@@ -1,5 +1,5 @@
 -- What is told of an adder whose readings disagree with its design.
-use Rattle.std.specs.Prelude.{ℕ, ◌-◌, Bool, List, [], ◌∷◌, length, take, Option, Some, None, Result, Ok, Err, codes, slice_index_or}
+use Rattle.std.specs.Prelude.{ℕ, ◌-◌, Bool, List, [], ◌∷◌, length, take, Option, Some, None, Result, codes, slice_index_or}
 use Rattle.text_rules.specs.Names.{Name}
 use Rattle.ranking.specs.Cases.{Case}
 use Rattle.ranking.specs.Systems.{System, least_cost, all_diagnoses}
@@ -15,7 +15,7 @@ use Rattle.session_rules.specs.Replies.{faulty_names}
 use Rattle.diag_cli.specs.declared.words.TheConstants.{DEFAULT_BUDGET}
 use Rattle.diag_cli.specs.declared.loading.TheConstants.{LISTED_LIMIT}
 use Rattle.device_files.specs.declared.status.Status.TheVariants.{Done}
-use Rattle.device_files.specs.Output.{Output}
+use Rattle.device_files.specs.Output.{Output, told_or_refused}
 use Rattle.device_files.specs.Describing.{or_line, netlist_line}
 use Rattle.device_files.specs.Planning.{count_line, within}
 
@@ -33,19 +33,16 @@ listed_lines parts (Some fewest) listed =
 -- the sizes, and what a case comes to
 abbrev pub summary_lines : System → ℕ → Case → List Item
 summary_lines system clauses known =
-    count_line (codes "parts") (length system.parts) ∷ count_line (codes "wires") (length system.wires)
-    ∷ count_line (codes "clauses") clauses
+    count_line (codes "parts") (length system.parts) ∷ count_line (codes "wires") (length system.wires) ∷ count_line (codes "clauses") clauses
     ∷ listed_lines system.parts (least_cost system known) (take LISTED_LIMIT (all_diagnoses system known))
 
--- by the clauses of the device, whose sum is within the budget
-abbrev pub summary_by : ℕ → Device → Result ClauseList Output → Output
-summary_by places device (Ok cnf) =
-    record { items = summary_lines (device_system device) (length cnf.clauses) (adder_case device places); status = Done }
-summary_by places device (Err output) = output
+-- the output for a device, by its clauses
+abbrev pub summary_by : ℕ → Device → ClauseList → Output
+summary_by places device cnf = record { items = summary_lines (device_system device) (length cnf.clauses) (adder_case device places); status = Done }
 
+-- where their sum is within the budget
 abbrev pub summary_of : ℕ → Result Device Output → Output
-summary_of places (Ok device) = summary_by places device (within DEFAULT_BUDGET (encoded device))
-summary_of places (Err output) = output
+summary_of places found = told_or_refused (λ device. told_or_refused (summary_by places device) (within DEFAULT_BUDGET (encoded device))) found
 
 -- the adder of so many places, and what was seen of it
 abbrev pub loaded : ℕ → Output

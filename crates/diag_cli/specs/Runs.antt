@@ -4,7 +4,7 @@ use Rattle.std.specs.Option.{IsSome}
 use Rattle.std.specs.Io.KnownBytes.{Consumes, IsAtEnd}
 use Rattle.text_rules.specs.TextLines.{whole_lines}
 use Rattle.text_rules.specs.declared.text_lines.TheConstants.{TEXT_LIMIT}
-use Rattle.diag_edge.specs.Edge.{RoseExactly, Holding, absent}
+use Rattle.diag_edge.specs.Edge.{RoseExactly, Holding, absent, Reading, Writing}
 use Rattle.clause_encoder.specs.Clauses.{ClauseList}
 use Rattle.session_rules.specs.Items.{Item}
 use Rattle.session_rules.specs.Spelling.{Writes}
@@ -13,7 +13,7 @@ use Rattle.diag_cli.specs.Words.{Form, named_file, told_file, asks_script}
 use Rattle.device_files.specs.declared.status.Status.{Status}
 use Rattle.device_files.specs.declared.status.Status.TheVariants.{Done, Usage, ReadFailed, WriteFailed, NoMemory, CutShort}
 use Rattle.device_files.specs.Output.{Output, Gives, no_memory, says}
-use Rattle.diag_cli.specs.Following.{Reading, Writing, IsIdle, WritesFirst, IsStopped, Follows}
+use Rattle.diag_cli.specs.Following.{IsIdle, WritesFirst, IsStopped, Follows}
 use Rattle.diag_cli.specs.Courses.{Failed, Tells, Serves, read_error, served, whole_output, course_of}
 
 -- the output was given, or memory ran out, which it cannot where the words have no form

@@ -34,14 +34,10 @@ pub data Form : Type 0 where
   Load : (places : ℕ) → Form
   Over : (path : List ℕ) (command : Command) → Form
 
--- the file that a form names, if it names one
-abbrev pub path_of : Form → Option (List ℕ)
-path_of (Load places) = None
-path_of (Over path command) = Some path
-
 -- the file that the words name, if they have a form that names one
 abbrev pub named_file : Option Form → Option (List ℕ)
-named_file form = option_and_then path_of form
+named_file (Some (Over path command)) = Some path
+named_file form = None
 
 -- what is told of a file by its name; where none is named it is as good as empty
 abbrev pub told_file : (List ℕ → Holding) → Option (List ℕ) → Option (List ℕ)

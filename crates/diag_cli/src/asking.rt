@@ -93,10 +93,7 @@ pub(crate) fn ask_file<I: Source, O: Sink>(
     ensures read_fault { result ≢ Status.WriteFailed → RoseExactly (I.faults input.old) (I.faults input.new) (result ≡ Status.ReadFailed) }
     ensures not_usage { result ≢ Status.Usage }
     ensures follows { Follows (served_or_refused system_of sessions (asked health (graph_in file.now)))
-        (record { left = I.left input.old; taken = I.taken input.old; faults = I.faults input.old })
-        (record { left = I.left input.new; taken = I.taken input.new; faults = I.faults input.new })
-        (record { got = O.got out.old; faults = O.faults out.old })
-        (record { got = O.got out.new; faults = O.faults out.new }) result }
+        (I.shown input.old) (I.shown input.new) (O.shown out.old) (O.shown out.new) result }
     ensures cut { result ≡ Status.CutShort → I.taken input.new ≡ I.taken input.old + SCRIPT_LIMIT }
     ensures short { result ≢ Status.WriteFailed → result ≢ Status.CutShort → I.taken input.new < I.taken input.old + SCRIPT_LIMIT }
 {

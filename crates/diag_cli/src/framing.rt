@@ -126,10 +126,7 @@ fn serve_sequential<I: Source, O: Sink>(
     ensures not_usage { result ≢ Status.Usage }
     ensures follows { ByOrder (λ order.
         Follows (served_or_refused (served_frames frames options) options.sessions (if_unrolled frames options (list_by options.narrow order) (Ok seq)))
-        (record { left = I.left input.old; taken = I.taken input.old; faults = I.faults input.old })
-        (record { left = I.left input.new; taken = I.taken input.new; faults = I.faults input.new })
-        (record { got = O.got out.old; faults = O.faults out.old })
-        (record { got = O.got out.new; faults = O.faults out.new }) result) }
+        (I.shown input.old) (I.shown input.new) (O.shown out.old) (O.shown out.new) result) }
     ensures cut { result ≡ Status.CutShort → I.taken input.new ≡ I.taken input.old + SCRIPT_LIMIT }
     ensures short { result ≢ Status.WriteFailed → result ≢ Status.CutShort → I.taken input.new < I.taken input.old + SCRIPT_LIMIT }
 {
@@ -164,10 +161,7 @@ pub(crate) fn serve_frames<I: Source, O: Sink>(
     ensures not_usage { result ≢ Status.Usage }
     ensures follows { ByOrder (λ order.
         Follows (served_or_refused (served_frames frames options) options.sessions (if_unrolled frames options (list_by options.narrow order) (sequential_in file.now)))
-        (record { left = I.left input.old; taken = I.taken input.old; faults = I.faults input.old })
-        (record { left = I.left input.new; taken = I.taken input.new; faults = I.faults input.new })
-        (record { got = O.got out.old; faults = O.faults out.old })
-        (record { got = O.got out.new; faults = O.faults out.new }) result) }
+        (I.shown input.old) (I.shown input.new) (O.shown out.old) (O.shown out.new) result) }
     ensures cut { result ≡ Status.CutShort → I.taken input.new ≡ I.taken input.old + SCRIPT_LIMIT }
     ensures short { result ≢ Status.WriteFailed → result ≢ Status.CutShort → I.taken input.new < I.taken input.old + SCRIPT_LIMIT }
 {

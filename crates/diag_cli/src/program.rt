@@ -30,12 +30,7 @@ fn run_over<H: Shelf, I: Source, O: Sink>(
     requires input_faults { I.faults input.old < 2 ^ 64 - 1 }
     requires out_faults { O.faults out.old < 2 ^ 64 - 1 }
     ensures { ByOrder (λ order. IsRun order (Some (Over path.now (command_meant command))) (H.held shelf.old)
-        (record { left = H.left shelf.old; taken = H.taken shelf.old; faults = H.faults shelf.old })
-        (record { left = H.left shelf.new; taken = H.taken shelf.new; faults = H.faults shelf.new })
-        (record { left = I.left input.old; taken = I.taken input.old; faults = I.faults input.old })
-        (record { left = I.left input.new; taken = I.taken input.new; faults = I.faults input.new })
-        (record { got = O.got out.old; faults = O.faults out.old })
-        (record { got = O.got out.new; faults = O.faults out.new }) result) }
+        (H.shown shelf.old) (H.shown shelf.new) (I.shown input.old) (I.shown input.new) (O.shown out.old) (O.shown out.new) result) }
 {
     match load(alloc, shelf, path, TEXT_LIMIT) {
         Ok(file) => run_file(alloc, path, command, &file, input, out),
@@ -62,12 +57,7 @@ pub fn diag<H: Shelf, I: Source, O: Sink>(
     requires input_faults { I.faults input.old < 2 ^ 64 - 1 }
     requires out_faults { O.faults out.old < 2 ^ 64 - 1 }
     ensures { ByOrder (λ order. IsRun order (form_of (map string_bytes words.now)) (H.held shelf.old)
-        (record { left = H.left shelf.old; taken = H.taken shelf.old; faults = H.faults shelf.old })
-        (record { left = H.left shelf.new; taken = H.taken shelf.new; faults = H.faults shelf.new })
-        (record { left = I.left input.old; taken = I.taken input.old; faults = I.faults input.old })
-        (record { left = I.left input.new; taken = I.taken input.new; faults = I.faults input.new })
-        (record { got = O.got out.old; faults = O.faults out.old })
-        (record { got = O.got out.new; faults = O.faults out.new }) result) }
+        (H.shown shelf.old) (H.shown shelf.new) (I.shown input.old) (I.shown input.new) (O.shown out.old) (O.shown out.new) result) }
 {
     match form_of(words) {
         None => say_usage(out),

@@ -96,10 +96,7 @@ pub(crate) fn answer<I: Source, O: Sink>(
     ensures read_fault { result ≢ Status.WriteFailed → RoseExactly (I.faults input.old) (I.faults input.new) (result ≡ Status.ReadFailed) }
     ensures not_usage { result ≢ Status.Usage }
     ensures served { IsServed (answers_of (system_of service.old.subject) service.old.limit)
-        (record { left = I.left input.old; taken = I.taken input.old; faults = I.faults input.old })
-        (record { left = I.left input.new; taken = I.taken input.new; faults = I.faults input.new })
-        (record { got = O.got out.old; faults = O.faults out.old })
-        (record { got = O.got out.new; faults = O.faults out.new }) result }
+        (I.shown input.old) (I.shown input.new) (O.shown out.old) (O.shown out.new) result }
     ensures cut { result ≡ Status.CutShort → I.taken input.new ≡ I.taken input.old + SCRIPT_LIMIT }
     ensures short { result ≢ Status.WriteFailed → result ≢ Status.CutShort → I.taken input.new < I.taken input.old + SCRIPT_LIMIT }
 {
@@ -132,10 +129,7 @@ fn serve_device<I: Source, O: Sink>(
     ensures not_usage { result ≢ Status.Usage }
     ensures follows { ByClauses options.narrow (λ clauses.
         Follows (served_or_refused (served_device options) options.sessions (if_within options clauses (Ok device)))
-        (record { left = I.left input.old; taken = I.taken input.old; faults = I.faults input.old })
-        (record { left = I.left input.new; taken = I.taken input.new; faults = I.faults input.new })
-        (record { got = O.got out.old; faults = O.faults out.old })
-        (record { got = O.got out.new; faults = O.faults out.new }) result) }
+        (I.shown input.old) (I.shown input.new) (O.shown out.old) (O.shown out.new) result) }
     ensures cut { result ≡ Status.CutShort → I.taken input.new ≡ I.taken input.old + SCRIPT_LIMIT }
     ensures short { result ≢ Status.WriteFailed → result ≢ Status.CutShort → I.taken input.new < I.taken input.old + SCRIPT_LIMIT }
 {
@@ -168,10 +162,7 @@ pub(crate) fn serve_file<I: Source, O: Sink>(
     ensures not_usage { result ≢ Status.Usage }
     ensures follows { ByClauses options.narrow (λ clauses.
         Follows (served_or_refused (served_device options) options.sessions (if_within options clauses (device_in path.now file.now)))
-        (record { left = I.left input.old; taken = I.taken input.old; faults = I.faults input.old })
-        (record { left = I.left input.new; taken = I.taken input.new; faults = I.faults input.new })
-        (record { got = O.got out.old; faults = O.faults out.old })
-        (record { got = O.got out.new; faults = O.faults out.new }) result) }
+        (I.shown input.old) (I.shown input.new) (O.shown out.old) (O.shown out.new) result) }
     ensures cut { result ≡ Status.CutShort → I.taken input.new ≡ I.taken input.old + SCRIPT_LIMIT }
     ensures short { result ≢ Status.WriteFailed → result ≢ Status.CutShort → I.taken input.new < I.taken input.old + SCRIPT_LIMIT }
 {

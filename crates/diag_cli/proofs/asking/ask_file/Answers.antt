@@ -3,6 +3,7 @@ use Rattle.session_rules.specs.GraphSystems.{system_of}
 use Rattle.device_files.specs.Checking.{graph_in}
 use Rattle.diag_cli.specs.Asking.{asked}
 use Rattle.device_files.specs.Refusals.{told_by}
+use Rattle.diag_cli.proofs.Shown.{gives_shown}
 use Rattle.diag_cli.proofs.Headline.{follows_refusal}
 use Rattle.diag_cli.proofs.AskedGraphs.{subject_served}
 use Rattle.diag_cli.proofs.asking.ask_file.Goals as goal
@@ -14,4 +15,4 @@ returns-in-Ok-clause-follows g c =
 pub returns-in-Err-clause-follows : goal.returns-in-Err-clause-follows
 returns-in-Err-clause-follows g c =
     follows_refusal _ _ _ _ _ system_of c.args.sessions (asked c.args.health (graph_in c.args.file.now)) (told_by c.in-Err.refusal)
-    c.in-Err.ensures.asked (record { left = refl; taken = refl; faults = refl }) c.tell.ensures.said
+    c.in-Err.ensures.asked (record { left = refl; taken = refl; faults = refl }) (gives_shown (g.O.Sink.shown_is _) (g.O.Sink.shown_is _) c.tell.ensures.said)

@@ -1,10 +1,10 @@
 use Rattle.std.proofs.Common.{◌≡◌, ℕ, Ok, ap, refl, sym, subst, ◌∙◌, length, arith}
+use Rattle.std.specs.Result.{result_and}
 use Rattle.std.proofs.lemmas.Result.{err_from_is_err_and}
 use Rattle.text_rules.specs.Expected.{IsExpectedFault}
 use Rattle.clause_encoder.proofs.Sizes.{encoded-few_vars}
 use Rattle.branch_states.specs.Branches.{sum_of}
 use Rattle.diag_cli.specs.Besides.{in_few_bits}
-use Rattle.diag_cli.specs.Courses.{device_by}
 use Rattle.device_files.specs.Orders.{clauses_by}
 use Rattle.device_files.specs.Planning.{within}
 use Rattle.device_files.specs.Refusals.{told_by}
@@ -19,7 +19,7 @@ returns-in_err-cnf-clause-within c =
     let options = c.args.options in
     let device = c.args.device.now in
     rw (p.1, p.2) (by_any (λ order.
-    fault_through (λ clauses. device_by device (in_few_bits options.extras (length device.parts) clauses)) (λ output. refl) (told_by c.in_err-cnf.field-0.0)
+    fault_through (λ clauses. result_and (in_few_bits options.extras (length device.parts) clauses) (Ok device)) (λ output. refl) (told_by c.in_err-cnf.field-0.0)
     (within options.budget (clauses_by options.narrow order device)) (c.in_err-cnf.ensures.fault order options.budget)))
 
 pub compile_in_few_bits-requires-clause-vars : goal.compile_in_few_bits-requires-clause-vars
@@ -36,8 +36,8 @@ returns-in_err-compiled-clause-within c =
     let cnf = c.in_ok-cnf.cnf in
     let fault = told_by c.in_err-compiled.field-0.0 in
     rw (p.1, p.2) (list_gives options.narrow device cnf c.in_ok-cnf.ensures.list
-    (λ clauses. IsExpectedFault fault (device_by device (in_few_bits options.extras (length device.parts) (within options.budget clauses))))
-    (fault_through (device_by device) (λ output. refl) fault (in_few_bits options.extras (length device.parts) (within options.budget (Ok cnf)))
+    (λ clauses. IsExpectedFault fault (result_and (in_few_bits options.extras (length device.parts) (within options.budget clauses)) (Ok device)))
+    (fault_through (λ few. result_and few (Ok device)) (λ output. refl) fault (in_few_bits options.extras (length device.parts) (within options.budget (Ok cnf)))
     (subst (λ (parts : ℕ). IsExpectedFault fault (in_few_bits options.extras parts (within options.budget (Ok cnf)))) (ap length c.parts.ensures.parts) c.in_err-compiled.ensures.list)))
 
 pub returns-clause-within : goal.returns-clause-within
@@ -46,8 +46,8 @@ returns-clause-within c =
     let device = c.args.device.now in
     let cnf = c.in_ok-cnf.cnf in
     list_gives options.narrow device cnf c.in_ok-cnf.ensures.list
-    (λ clauses. device_by device (in_few_bits options.extras (length device.parts) (within options.budget clauses)) ≡ Ok device)
-    (ap (device_by device) ((λ i. in_few_bits options.extras (length (sym c.parts.ensures.parts i)) (within options.budget (Ok cnf))) ∙ c.in_ok-compiled.ensures.list))
+    (λ clauses. result_and (in_few_bits options.extras (length device.parts) (within options.budget clauses)) (Ok device) ≡ Ok device)
+    (ap (λ few. result_and few (Ok device)) ((λ i. in_few_bits options.extras (length (sym c.parts.ensures.parts i)) (within options.budget (Ok cnf))) ∙ c.in_ok-compiled.ensures.list))
 
 pub returns-clause-servable : goal.returns-clause-servable
 returns-clause-servable c =

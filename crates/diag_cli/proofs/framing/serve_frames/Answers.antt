@@ -3,6 +3,7 @@ use Rattle.diag_cli.specs.Courses.{served_frames}
 use Rattle.device_files.specs.Orders.{list_by}
 use Rattle.diag_cli.specs.Frames.{sequential_in, if_unrolled}
 use Rattle.device_files.specs.Refusals.{told_by}
+use Rattle.diag_cli.proofs.Shown.{gives_shown}
 use Rattle.diag_cli.proofs.Headline.{refused_frames, follows_refusal}
 use Rattle.device_files.proofs.Ordering.{by_any}
 use Rattle.diag_cli.proofs.framing.serve_frames.Goals as goal
@@ -14,4 +15,4 @@ returns-in-Err-clause-follows g c =
     by_any (λ order.
     let put = list_by options.narrow order in
     follows_refusal _ _ _ _ _ (served_frames c.args.frames options) options.sessions (if_unrolled c.args.frames options put (sequential_in c.args.file.now)) fault
-    (refused_frames fault c.args.file.now c.args.frames options put c.requires.short c.in-Err.ensures.read) (record { left = refl; taken = refl; faults = refl }) c.tell.ensures.said)
+    (refused_frames fault c.args.file.now c.args.frames options put c.requires.short c.in-Err.ensures.read) (record { left = refl; taken = refl; faults = refl }) (gives_shown (g.O.Sink.shown_is _) (g.O.Sink.shown_is _) c.tell.ensures.said))

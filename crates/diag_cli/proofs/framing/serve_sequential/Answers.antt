@@ -3,6 +3,7 @@ use Rattle.diag_cli.specs.Courses.{served_frames}
 use Rattle.device_files.specs.Orders.{list_by}
 use Rattle.diag_cli.specs.Frames.{if_unrolled}
 use Rattle.device_files.specs.Refusals.{told_by}
+use Rattle.diag_cli.proofs.Shown.{gives_shown}
 use Rattle.diag_cli.proofs.Headline.{follows_refusal}
 use Rattle.device_files.proofs.Ordering.{by_same}
 use Rattle.diag_cli.proofs.ServedFrames.{frames_served}
@@ -18,4 +19,4 @@ returns-clause-follows g c =
     let options = c.args.options in
     by_same c.in-Err.ensures.within (λ order is.
     follows_refusal _ _ _ _ _ (served_frames c.args.frames options) options.sessions (if_unrolled c.args.frames options (list_by options.narrow order) (Ok c.args.seq)) (told_by c.in-Err.refusal) is
-    (record { left = refl; taken = refl; faults = refl }) c.tell.ensures.said)
+    (record { left = refl; taken = refl; faults = refl }) (gives_shown (g.O.Sink.shown_is _) (g.O.Sink.shown_is _) c.tell.ensures.said))

@@ -1,10 +1,10 @@
 use Rattle.std.proofs.Common.{◌≡◌, ℕ, [], Ok, IfSome, length, ap, refl, sym, subst, ◌∙◌, arith}
+use Rattle.std.specs.Result.{result_and}
 use Rattle.std.proofs.lemmas.Result.{err_from_is_err_and}
 use Rattle.text_rules.specs.Expected.{IsExpectedFault}
 use Rattle.ranking.specs.Ranking.{plain_costs}
 use Rattle.session_core.specs.Services.{CanList, CanDraw}
 use Rattle.diag_cli.specs.Besides.{in_few_bits}
-use Rattle.diag_cli.specs.Frames.{netlist_by}
 use Rattle.device_files.specs.Orders.{list_by}
 use Rattle.device_files.specs.Planning.{within}
 use Rattle.device_files.specs.Refusals.{told_by}
@@ -43,7 +43,7 @@ returns-in_err-compiled-clause-within c =
     let cnf = c.in_ok-cnf.cnf in
     let fault = told_by c.in_err-compiled.field-0.0 in
     rw (p.1, p.2) (unrolled_gives seq c.args.frames options c.in-Ok.made c.in-Ok.ensures.unrolled cnf c.in_ok-cnf.ensures (λ expected. IsExpectedFault fault expected)
-    (fault_through (netlist_by seq) (λ output. refl) fault (in_few_bits options.extras (length seq.device.parts) (within options.budget (Ok cnf)))
+    (fault_through (λ few. result_and few (Ok seq)) (λ output. refl) fault (in_few_bits options.extras (length seq.device.parts) (within options.budget (Ok cnf)))
     (subst (λ (parts : ℕ). IsExpectedFault fault (in_few_bits options.extras parts (within options.budget (Ok cnf)))) (ap length c.parts-count.ensures.parts) c.in_err-compiled.ensures.list)))
 
 pub over-requires-clause-costs : goal.over-requires-clause-costs
@@ -85,7 +85,7 @@ returns-in-Ok-over-clause-within c =
     let options = c.args.options in
     let cnf = c.in_ok-cnf.cnf in
     unrolled_gives seq c.args.frames options c.in-Ok.made c.in-Ok.ensures.unrolled cnf c.in_ok-cnf.ensures (λ expected. expected ≡ Ok seq)
-    (ap (netlist_by seq) ((λ i. in_few_bits options.extras (length (sym c.parts-count.ensures.parts i)) (within options.budget (Ok cnf))) ∙ c.in_ok-compiled.ensures.list))
+    (ap (λ few. result_and few (Ok seq)) ((λ i. in_few_bits options.extras (length (sym c.parts-count.ensures.parts i)) (within options.budget (Ok cnf))) ∙ c.in_ok-compiled.ensures.list))
 
 pub returns-in-Ok-over-clause-service : goal.returns-in-Ok-over-clause-service
 returns-in-Ok-over-clause-service c =

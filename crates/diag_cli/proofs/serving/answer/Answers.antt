@@ -6,12 +6,13 @@ use Rattle.session_core.specs.Services.{moves_of}
 use Rattle.diag_cli.specs.Courses.{Ended, Failed, Cut, read_error, script_too_long, answers_of}
 use Rattle.device_files.proofs.Failing.{gives_all, gives_after}
 use Rattle.diag_cli.proofs.Running.{breaks_behind, breaks_at_once, ready_then, ready_begun, lines_begun, first_given, answered_first, stopped_at_once, stopped_at_end}
+use Rattle.diag_cli.proofs.Shown.{served_shown}
 use Rattle.diag_cli.proofs.serving.answer.Goals as goal
 
 pub returns-in-Err-clause-served : goal.returns-in-Err-clause-served
 returns-in-Err-clause-served g c =
     let shown = c.args.service.now in
-    record {
+    served_shown (g.I.Source.shown_is _) (g.I.Source.shown_is _) (g.O.Sink.shown_is _) (g.O.Sink.shown_is _) (record {
       answer = inr (inr (
         refl,
         record {
@@ -26,14 +27,14 @@ returns-in-Err-clause-served g c =
         },
       ));
       all_read = λ zero. absurd (let never : ⊥ = cc in never);
-    }
+    })
 
 pub returns-in-WriteFault-clause-served : goal.returns-in-WriteFault-clause-served
 returns-in-WriteFault-clause-served g c =
     let shown = c.args.service.now in
     let done = c.in-WriteFault.ensures.served in
     let kept = c.in-WriteFault.ensures.read_fault.stayed (λ e. let never : ⊥ = cc in never) in
-    record {
+    served_shown (g.I.Source.shown_is _) (g.I.Source.shown_is _) (g.O.Sink.shown_is _) (g.O.Sink.shown_is _) (record {
       answer = inr (inr (
         refl,
         elim done.3.1 [
@@ -62,13 +63,13 @@ returns-in-WriteFault-clause-served g c =
         ],
       ));
       all_read = λ zero. absurd (let never : ⊥ = cc in never);
-    }
+    })
 
 pub returns-in-Done-clause-served : goal.returns-in-Done-clause-served
 returns-in-Done-clause-served g c =
     let shown = c.args.service.now in
     let done = c.in-Done.ensures.served in
-    record {
+    served_shown (g.I.Source.shown_is _) (g.I.Source.shown_is _) (g.O.Sink.shown_is _) (g.O.Sink.shown_is _) (record {
       answer = inr (inl (record {
         bytes = done.0;
         counted = done.1;
@@ -80,7 +81,7 @@ returns-in-Done-clause-served g c =
             (ready_then shown c.parts.ensures.sound _ _ (all_lines done.0) _ _ _ _ _ c.requires.none_open c.parts.ensures.parts c.wires.ensures c.in-Ok.ensures.text done.3.2);
       }));
       all_read = λ _. done.3.0;
-    }
+    })
 
 pub returns-in-ReadFault-clause-served : goal.returns-in-ReadFault-clause-served
 returns-in-ReadFault-clause-served g c =
@@ -90,7 +91,7 @@ returns-in-ReadFault-clause-served g c =
     let answers = answers_of (system_of shown.subject) shown.limit in
     let written =
     ready_then shown c.parts.ensures.sound _ _ (whole_lines done.0) _ _ _ _ _ c.requires.none_open c.parts.ensures.parts c.wires.ensures c.in-Ok.ensures.text done.3.1 in
-    record {
+    served_shown (g.I.Source.shown_is _) (g.I.Source.shown_is _) (g.O.Sink.shown_is _) (g.O.Sink.shown_is _) (record {
       answer = inr (inl (record {
         bytes = done.0;
         counted = done.1;
@@ -101,7 +102,7 @@ returns-in-ReadFault-clause-served g c =
         gives = gives_after (answers (whole_lines done.0)) read_error _ _ _ _ _ written said;
       }));
       all_read = λ zero. absurd (let same = (said.whole (λ five. let never : ⊥ = cc in never)).0 in let never : ⊥ = cc in never);
-    }
+    })
 
 pub returns-in-Limit-clause-served : goal.returns-in-Limit-clause-served
 returns-in-Limit-clause-served g c =
@@ -111,7 +112,7 @@ returns-in-Limit-clause-served g c =
     let answers = answers_of (system_of shown.subject) shown.limit in
     let written =
     ready_then shown c.parts.ensures.sound _ _ (whole_lines done.0) _ _ _ _ _ c.requires.none_open c.parts.ensures.parts c.wires.ensures c.in-Ok.ensures.text done.3.1 in
-    record {
+    served_shown (g.I.Source.shown_is _) (g.I.Source.shown_is _) (g.O.Sink.shown_is _) (g.O.Sink.shown_is _) (record {
       answer = inr (inl (record {
         bytes = done.0;
         counted = done.1;
@@ -122,4 +123,4 @@ returns-in-Limit-clause-served g c =
         gives = gives_after (answers (whole_lines done.0)) script_too_long _ _ _ _ _ written said;
       }));
       all_read = λ zero. absurd (let same = (said.whole (λ five. let never : ⊥ = cc in never)).0 in let never : ⊥ = cc in never);
-    }
+    })

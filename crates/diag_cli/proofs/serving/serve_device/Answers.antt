@@ -1,6 +1,7 @@
 use Rattle.std.proofs.Common.{Ok, refl}
 use Rattle.diag_cli.specs.Courses.{if_within, served_device}
 use Rattle.device_files.specs.Refusals.{told_by}
+use Rattle.diag_cli.proofs.Shown.{gives_shown}
 use Rattle.diag_cli.proofs.Headline.{follows_refusal}
 use Rattle.diag_cli.proofs.ServedDevices.{device_served}
 use Rattle.device_files.specs.Orders.{clauses_by}
@@ -17,4 +18,4 @@ returns-in-Err-clause-follows g c =
     let options = c.args.options in
     by_same c.in-Err.ensures.within (λ order is.
     follows_refusal _ _ _ _ _ (served_device options) options.sessions (if_within options (clauses_by options.narrow order) (Ok c.args.device)) (told_by c.in-Err.refusal) is
-    (record { left = refl; taken = refl; faults = refl }) c.tell.ensures.said)
+    (record { left = refl; taken = refl; faults = refl }) (gives_shown (g.O.Sink.shown_is _) (g.O.Sink.shown_is _) c.tell.ensures.said))

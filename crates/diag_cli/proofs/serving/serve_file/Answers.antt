@@ -2,6 +2,7 @@ use Rattle.std.proofs.Common.{refl}
 use Rattle.device_files.specs.Describing.{device_in}
 use Rattle.diag_cli.specs.Courses.{if_within, served_device}
 use Rattle.device_files.specs.Refusals.{told_by}
+use Rattle.diag_cli.proofs.Shown.{gives_shown}
 use Rattle.diag_cli.proofs.Headline.{refused_in, follows_refusal}
 use Rattle.device_files.specs.Orders.{clauses_by}
 use Rattle.device_files.proofs.Ordering.{by_any}
@@ -14,4 +15,4 @@ returns-in-Err-clause-follows g c =
     by_any (λ order.
     let clauses = clauses_by options.narrow order in
     follows_refusal _ _ _ _ _ (served_device options) options.sessions (if_within options clauses (device_in c.args.path.now c.args.file.now)) fault
-    (refused_in fault c.args.path.now c.args.file.now options clauses c.requires.short c.in-Err.ensures) (record { left = refl; taken = refl; faults = refl }) c.tell.ensures.said)
+    (refused_in fault c.args.path.now c.args.file.now options clauses c.requires.short c.in-Err.ensures) (record { left = refl; taken = refl; faults = refl }) (gives_shown (g.O.Sink.shown_is _) (g.O.Sink.shown_is _) c.tell.ensures.said))

@@ -1,0 +1,45 @@
+-- What holds of what the ends are at holds of what they show.
+use Rattle.std.proofs.Common.{◌≡◌, ℕ, List, Option, sym, ap, subst₂, refl}
+use Rattle.diag_edge.specs.Edge.{Reading, Writing, Holding}
+use Rattle.clause_encoder.specs.Clauses.{ClauseList}
+use Rattle.session_rules.specs.Items.{Item}
+use Rattle.device_files.specs.declared.status.Status.{Status}
+use Rattle.device_files.specs.Output.{Output, Gives, GivesUnlessMemory}
+use Rattle.diag_cli.specs.Words.{Form}
+use Rattle.diag_cli.specs.Courses.{Tells}
+use Rattle.diag_cli.specs.Following.{IsServed, Follows}
+use Rattle.diag_cli.specs.Runs.{IsRun}
+
+pub at_ends : (Holds : Reading → Reading → Writing → Writing → Type 0) {input new_input input_shown new_input_shown : Reading} {out new_out out_shown new_out_shown : Writing}
+    → input_shown ≡ input → new_input_shown ≡ new_input → out_shown ≡ out → new_out_shown ≡ new_out
+    → Holds input new_input out new_out → Holds input_shown new_input_shown out_shown new_out_shown
+at_ends Holds {input_shown = x} {new_input_shown = y} {out = u} {new_out = v} a b c d holds =
+    subst₂ (λ u v. Holds x y u v) (sym c) (sym d) (subst₂ (λ x y. Holds x y u v) (sym a) (sym b) holds)
+
+-- where only what was written counts
+pub at_sink : (Holds : Option (List ℕ) → Option (List ℕ) → Type 0) {before after : Option (List ℕ)} {faults new_faults : ℕ} {out new_out : Writing}
+    → out ≡ record { got = before; faults = faults } → new_out ≡ record { got = after; faults = new_faults } → Holds before after → Holds out.got new_out.got
+at_sink Holds a b holds = subst₂ Holds (sym (ap (λ (w : Writing). w.got) a)) (sym (ap (λ (w : Writing). w.got) b)) holds
+
+pub gives_shown : {output : Output} {status : Status} {before after : Option (List ℕ)} {faults new_faults : ℕ} {out new_out : Writing}
+    → out ≡ record { got = before; faults = faults } → new_out ≡ record { got = after; faults = new_faults } → Gives output status before after → Gives output status out.got new_out.got
+gives_shown {output} {status} a b said = at_sink (Gives output status) a b said
+
+-- nothing was read, and an output was given
+pub told_shown : {output : Output} {status : Status} {input : Reading} {before after : Option (List ℕ)} {faults new_faults : ℕ} {out new_out : Writing}
+    → out ≡ record { got = before; faults = faults } → new_out ≡ record { got = after; faults = new_faults } → GivesUnlessMemory output status before after
+    → Follows (Tells output) input input out new_out status
+told_shown {output} {status} a b said = (record { left = refl; taken = refl; faults = refl }, at_sink (GivesUnlessMemory output status) a b said)
+
+-- a script that was served, and a run
+pub served_shown : {answers : List (List ℕ) → List Item} {status : Status} {input new_input input_shown new_input_shown : Reading} {out new_out out_shown new_out_shown : Writing}
+    → input_shown ≡ input → new_input_shown ≡ new_input → out_shown ≡ out → new_out_shown ≡ new_out
+    → IsServed answers input new_input out new_out status → IsServed answers input_shown new_input_shown out_shown new_out_shown status
+served_shown {answers} {status} a b c d served = at_ends (λ x y u v. IsServed answers x y u v status) a b c d served
+
+pub run_shown : {order : ClauseList → ClauseList} {form : Option Form} {held : List ℕ → Holding} {status : Status}
+    {shelf new_shelf input new_input shelf_shown new_shelf_shown input_shown new_input_shown : Reading} {out new_out out_shown new_out_shown : Writing}
+    → shelf_shown ≡ shelf → new_shelf_shown ≡ new_shelf → input_shown ≡ input → new_input_shown ≡ new_input → out_shown ≡ out → new_out_shown ≡ new_out
+    → IsRun order form held shelf new_shelf input new_input out new_out status → IsRun order form held shelf_shown new_shelf_shown input_shown new_input_shown out_shown new_out_shown status
+run_shown {order} {form} {held} {status} {shelf} {new_shelf} {input_shown = i} {new_input_shown = j} {out_shown = o} {new_out_shown = p} a b c d e f run =
+    at_ends (λ x y u v. IsRun order form held x y i j u v status) a b (λ _. o) (λ _. p) (at_ends (λ x y u v. IsRun order form held shelf new_shelf x y u v status) c d e f run)

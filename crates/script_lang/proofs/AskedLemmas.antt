@@ -1,6 +1,6 @@
 -- What is asked has names that are names, and a count in its range.
 use Rattle.std.proofs.Common.{◌≡◌, ℕ, Bool, true, false, cond, ◌&&◌, List, [], ◌∷◌, length, Option, Some, None, refl, inl, inr}
-use Rattle.std.specs.Prelude.{nat_le, nat_lt, if◌then◌else◌, codes}
+use Rattle.std.specs.Prelude.{nat_le, nat_lt, if◌then◌else◌}
 use Rattle.std.specs.List.{list_all}
 use Rattle.std.proofs.lemmas.Bool.{and_parts, and_from, cases_Bool}
 use Rattle.std.specs.Map.{lookup}
@@ -9,9 +9,8 @@ use Rattle.text_rules.specs.Tokens.{words}
 use Rattle.text_rules.specs.Numbers.{number_in, value_behind, are_digits, has_leading_zero}
 use Rattle.script_lang.specs.declared.limits.TheConstants.{COUNT_LIMIT, LINE_LIMIT}
 use Rattle.script_lang.proofs.Asked.{is_well_named, is_well_asked}
-use Rattle.script_lang.specs.declared.line.Noted.TheVariants.{Wire, Part}
 use Rattle.script_lang.specs.declared.refusal.LineRefusal.TheVariants.{TooLong}
-use Rattle.script_lang.specs.Script.{Request, Start, Stop, Note, Min, Next, Several, After, Probe, Probes, Blame, Dnnf, Level, Levels, LeastNnf, Line, Blank, Refused, is_script_name, on_session, on_name, on_value, on_pair, if_value, on_count, if_count, on_names, at_equals, value_in, read_by, read_as, commands, begins_comment, line_of_words, line_of}
+use Rattle.script_lang.specs.Script.{Request, After, Line, Blank, Refused, is_script_name, on_session, on_name, on_value, on_pair, if_value, on_count, if_count, on_names, at_equals, value_in, read_by, read_as, commands, begins_comment, line_of_words, line_of}
 
 choice : (test : Bool) (one other : Line) → (test ≡ true → is_well_asked one ≡ true) → is_well_asked other ≡ true → is_well_asked (if test then one else other) ≡ true
 choice true one other first second = first refl
@@ -93,31 +92,7 @@ well-read_by word ws (command ∷ rest) all = by (same_name word command.0) (wel
     by false later = later
 
 each_command : (ws : List (List ℕ)) → AllRead ws commands
-each_command ws = (
-  well-on_session Start refl ws,
-  (
-    well-on_session Stop refl ws,
-    (
-      well-on_value (codes "1") (codes "0") (λ wire bit. Note Wire wire (Some bit)) (λ name value named. named) ws,
-      (
-        well-on_name (λ wire. Note Wire wire None) (λ name named. named) ws,
-        (
-          well-on_value (codes "ok") (codes "bad") (λ part ok. Note Part part (Some ok)) (λ name value named. named) ws,
-          (
-            well-on_name (λ part. Note Part part None) (λ name named. named) ws,
-            (
-              well-on_session Min refl ws,
-              (
-                well-on_session Next refl ws,
-                (well-on_count Several (λ n within. within) ws, (well-on_names ws, (well-on_name Probe (λ name named. named) ws, (well-on_session Probes refl ws, (well-on_session Blame refl ws, (well-on_session Dnnf refl ws, (well-on_session Level refl ws, (well-on_count Levels (λ n within. within) ws, (well-on_session LeastNnf refl ws, tt))))))))),
-              ),
-            ),
-          ),
-        ),
-      ),
-    ),
-  ),
-)
+each_command ws = search (well-on_session, well-on_name, well-on_value, well-on_count, well-on_names)
 
 well-line_of_words : (ws : List (List ℕ)) → is_well_asked (line_of_words ws) ≡ true
 well-line_of_words [] = refl

@@ -1,9 +1,10 @@
 -- Worked rows: what the definitions give at lines of which a reader can say it beforehand. Their check computes both sides.
-use Rattle.std.proofs.Common.{◌≡◌, ℕ, true, false, List, [], ◌∷◌, ◌++◌, length, map, codes, replicate, refl, arith, Some, None}
+use Rattle.std.proofs.Common.{◌≡◌, ◌+◌, ℕ, true, false, List, [], ◌∷◌, ◌++◌, length, codes, replicate, refl, arith, Some, None}
 use Rattle.script_lang.proofs.LineLemmas.{line_of-too_long}
-use Rattle.script_lang.specs.Script.{Blank, Refused, Ask, Start, Stop, Note, Min, Next, Several, After, Probe, Probes, Blame, Dnnf, Level, Levels, LeastNnf, line_of}
-use Rattle.script_lang.specs.Refusals.{refusal_number, refusal_text}
+use Rattle.script_lang.specs.Script.{Blank, Refused, Ask, Start, Stop, Note, Tell, Next, Several, After, Min, Probe, Probes, Blame, Dnnf, Level, Levels, LeastNnf, line_of}
+use Rattle.script_lang.specs.Refusals.{refusal_row}
 use Rattle.script_lang.specs.declared.line.Noted.TheVariants.{Wire, Part}
+use Rattle.script_lang.specs.declared.limits.TheConstants.{LINE_LIMIT}
 use Rattle.script_lang.specs.declared.refusal.LineRefusal.TheVariants.{UnknownCommand, BadWords, BadName, BadValue, TooLong}
 
 -- ---- each command
@@ -32,7 +33,7 @@ hold_faulty = refl
 unhold_a_part : line_of (codes "unhold S b") ≡ Ask (codes "S") (Note Part (codes "b") None)
 unhold_a_part = refl
 
-least_diagnosis : line_of (codes "min T") ≡ Ask (codes "T") Min
+least_diagnosis : line_of (codes "min T") ≡ Ask (codes "T") (Tell Min)
 least_diagnosis = refl
 
 next_diagnosis : line_of (codes "next T") ≡ Ask (codes "T") Next
@@ -50,13 +51,13 @@ after_no_part = refl
 after_two_parts : line_of (codes "after S b c") ≡ Ask (codes "S") (After (codes "b" ∷ codes "c" ∷ []))
 after_two_parts = refl
 
-probe_a_wire : line_of (codes "probe S a") ≡ Ask (codes "S") (Probe (codes "a"))
+probe_a_wire : line_of (codes "probe S a") ≡ Ask (codes "S") (Tell (Probe (codes "a")))
 probe_a_wire = refl
 
-probe_all : line_of (codes "probes S") ≡ Ask (codes "S") Probes
+probe_all : line_of (codes "probes S") ≡ Ask (codes "S") (Tell Probes)
 probe_all = refl
 
-blame_all : line_of (codes "blame S") ≡ Ask (codes "S") Blame
+blame_all : line_of (codes "blame S") ≡ Ask (codes "S") (Tell Blame)
 blame_all = refl
 
 write_a_formula : line_of (codes "dnnf S") ≡ Ask (codes "S") Dnnf
@@ -136,7 +137,7 @@ empty_name = refl
 equals_sign_in_a_name : line_of (codes "unsee S a=1") ≡ Refused BadName
 equals_sign_in_a_name = refl
 
-session_of_64_bytes : line_of (codes "min " ++ replicate 64 97) ≡ Ask (replicate 64 97) Min
+session_of_64_bytes : line_of (codes "min " ++ replicate 64 97) ≡ Ask (replicate 64 97) (Tell Min)
 session_of_64_bytes = refl
 
 session_of_65_bytes : line_of (codes "min " ++ replicate 65 97) ≡ Refused BadName
@@ -177,27 +178,22 @@ states_above_a_million = refl
 
 -- ---- lines that are too long
 
-line_of_a_byte_too_many : (line : List ℕ) → length line ≡ 1048577 → line_of line ≡ Refused TooLong
+line_of_a_byte_too_many : (line : List ℕ) → length line ≡ LINE_LIMIT + 1 → line_of line ≡ Refused TooLong
 line_of_a_byte_too_many line long = line_of-too_long line (omega arith)
 
--- ---- what a refusal says
+-- ---- the number of a refusal, and what it says
 
-unknown_command_says : refusal_text UnknownCommand ≡ codes "unknown command"
+unknown_command_says : refusal_row UnknownCommand ≡ (1, codes "unknown command")
 unknown_command_says = refl
 
-bad_words_say : refusal_text BadWords ≡ codes "bad words"
+bad_words_say : refusal_row BadWords ≡ (2, codes "bad words")
 bad_words_say = refl
 
-bad_name_says : refusal_text BadName ≡ codes "bad name"
+bad_name_says : refusal_row BadName ≡ (3, codes "bad name")
 bad_name_says = refl
 
-bad_value_says : refusal_text BadValue ≡ codes "bad value"
+bad_value_says : refusal_row BadValue ≡ (4, codes "bad value")
 bad_value_says = refl
 
-too_long_says : refusal_text TooLong ≡ codes "line too long"
+too_long_says : refusal_row TooLong ≡ (5, codes "line too long")
 too_long_says = refl
-
--- ---- and its number
-
-numbers_of_refusals : map refusal_number (UnknownCommand ∷ BadWords ∷ BadName ∷ BadValue ∷ TooLong ∷ []) ≡ 1 ∷ 2 ∷ 3 ∷ 4 ∷ 5 ∷ []
-numbers_of_refusals = refl

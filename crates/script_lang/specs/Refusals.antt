@@ -1,18 +1,11 @@
--- Why a line of a script asks nothing: the numbers of the refusals, and what they say.
+-- Why a line of a script asks nothing: the number of each refusal, and what it says.
 use Rattle.std.specs.Prelude.{ℕ, List, codes}
 use Rattle.script_lang.specs.declared.refusal.LineRefusal.{LineRefusal}
 use Rattle.script_lang.specs.declared.refusal.LineRefusal.TheVariants.{UnknownCommand, BadWords, BadName, BadValue, TooLong}
 
-abbrev pub refusal_number : LineRefusal → ℕ
-refusal_number UnknownCommand = 1
-refusal_number BadWords = 2
-refusal_number BadName = 3
-refusal_number BadValue = 4
-refusal_number TooLong = 5
-
-abbrev pub refusal_text : LineRefusal → List ℕ
-refusal_text UnknownCommand = codes "unknown command"
-refusal_text BadWords = codes "bad words"
-refusal_text BadName = codes "bad name"
-refusal_text BadValue = codes "bad value"
-refusal_text TooLong = codes "line too long"
+abbrev pub refusal_row : LineRefusal → ℕ × List ℕ
+refusal_row UnknownCommand = (1, codes "unknown command")
+refusal_row BadWords = (2, codes "bad words")
+refusal_row BadName = (3, codes "bad name")
+refusal_row BadValue = (4, codes "bad value")
+refusal_row TooLong = (5, codes "line too long")

@@ -13,18 +13,22 @@ use Rattle.script_lang.specs.declared.refusal.LineRefusal.{LineRefusal}
 use Rattle.script_lang.specs.declared.refusal.LineRefusal.TheVariants.{UnknownCommand, BadWords, BadName, BadValue, TooLong}
 use Rattle.script_lang.specs.declared.limits.TheConstants.{COUNT_LIMIT, LINE_LIMIT}
 
+-- what is told of a session's case, which stays as it is
+pub data Question : Type 0 where
+  Min : Question
+  Probe : (wire : Name) → Question
+  Probes : Question
+  Blame : Question
+
 -- what a line asks of a session; a wire is seen, and a part held, by a note of what is known of it
 pub data Request : Type 0 where
   Start : Request
   Stop : Request
   Note : (what : Noted) (name : Name) (known : Option Bool) → Request
-  Min : Request
+  Tell : (question : Question) → Request
   Next : Request
   Several : (count : ℕ) → Request
   After : (parts : List Name) → Request
-  Probe : (wire : Name) → Request
-  Probes : Request
-  Blame : Request
   Dnnf : Request
   Level : Request
   Levels : (count : ℕ) → Request
@@ -96,13 +100,13 @@ commands = (codes "open", on_session Start)
     ∷ (codes "unsee", on_name (λ wire. Note Wire wire None))
     ∷ (codes "hold", on_value (codes "ok") (codes "bad") (λ part ok. Note Part part (Some ok)))
     ∷ (codes "unhold", on_name (λ part. Note Part part None))
-    ∷ (codes "min", on_session Min)
+    ∷ (codes "min", on_session (Tell Min))
     ∷ (codes "next", on_session Next)
     ∷ (codes "list", on_count Several)
     ∷ (codes "after", on_names After)
-    ∷ (codes "probe", on_name Probe)
-    ∷ (codes "probes", on_session Probes)
-    ∷ (codes "blame", on_session Blame)
+    ∷ (codes "probe", on_name (λ wire. Tell (Probe wire)))
+    ∷ (codes "probes", on_session (Tell Probes))
+    ∷ (codes "blame", on_session (Tell Blame))
     ∷ (codes "dnnf", on_session Dnnf)
     ∷ (codes "level", on_session Level)
     ∷ (codes "levels", on_count Levels)

@@ -8,6 +8,6 @@ mod parsing;
 mod refusal;
 
 pub use limits::{COUNT_LIMIT, LINE_LIMIT};
-pub use line::{Line, Noted, Request};
+pub use line::{Line, Noted, Question, Request};
 pub use parsing::parse_line;
 pub use refusal::LineRefusal;

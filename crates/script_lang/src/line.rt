@@ -24,6 +24,19 @@ pub enum Line<'a> {
     },
 }
 
+/// What is told of a session's case, which stays as it is.
+#[derive(Clone, Copy, Debug)]
+pub enum Question<'a> {
+    /// `min S`: the least cost, with the first diagnosis.
+    Min,
+    /// `probe S WIRE`: the least cost where the wire is 0, and where it is 1.
+    Probe { wire: &'a [u8] },
+    /// `probes S`: the same of each wire that is not seen.
+    Probes,
+    /// `blame S`: of each part whether it is faulty in all diagnoses, in some, or in none.
+    Blame,
+}
+
 /// What is asked of a session.
 #[derive(Clone, Copy, Debug)]
 pub enum Request<'a> {
@@ -38,8 +51,8 @@ pub enum Request<'a> {
         name: &'a [u8],
         known: Option<bool>,
     },
-    /// `min S`.
-    Min,
+    /// `min S`, `probe S WIRE`, `probes S` or `blame S`.
+    Tell(Question<'a>),
     /// `next S`.
     Next,
     /// `list S COUNT`: a count from 1 to a million.
@@ -51,14 +64,6 @@ pub enum Request<'a> {
     After {
         names: &'a [u8],
     },
-    /// `probe S WIRE`.
-    Probe {
-        name: &'a [u8],
-    },
-    /// `probes S`.
-    Probes,
-    /// `blame S`.
-    Blame,
     /// `dnnf S`.
     Dnnf,
     /// `level S`.

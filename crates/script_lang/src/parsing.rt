@@ -1,15 +1,16 @@
-ghost use Rattle.std.specs.Prelude.{◌≡◌, ℕ, Bool, List, Some, None};
+ghost use Rattle.std.specs.Prelude.{◌≡◌, ℕ, Bool, List, Some, None, drop};
 ghost use Rattle.std.specs.List.{list_all};
+ghost use Rattle.std.specs.Map.{lookup};
 ghost use Rattle.text_rules.specs.Names.{Name, same_name};
 ghost use Rattle.text_rules.specs.Tokens.{words};
 ghost use Rattle.script_lang.specs.Meaning.{asked, meaning};
 ghost use Rattle.script_lang.specs.inner.Found.{asked_by};
 ghost use Rattle.script_lang.specs.Script as script;
-ghost use Rattle.script_lang.specs.Script.{Ask, Note, begins_comment, is_script_name, line_of, on_session, on_name, on_value, on_count, on_names, read_as};
+ghost use Rattle.script_lang.specs.Script.{Ask, Note, Tell, Probe, Several, After, Levels, begins_comment, commands, is_script_name, line_of, on_session, on_name, on_value, on_count, on_names, read_as, read_by};
 
 use crate::cutting::{at_equals, one_word, split_word, two_words};
 use crate::limits::{COUNT_LIMIT, LINE_LIMIT};
-use crate::line::{Line, Noted, Request};
+use crate::line::{Line, Noted, Question, Request};
 use crate::refusal::LineRefusal;
 use device_model::NAME_LIMIT;
 use text_rules::{Tokens, is_name, is_short_name, plain_number};
@@ -142,6 +143,50 @@ fn same_word(word: &[u8], other: &[u8]) -> bool
     word == other
 }
 
+// A session, and how many of its diagnoses are asked for.
+fn list_in(text: &[u8]) -> Result<Line<'_>, LineRefusal>
+    ensures { asked_by meaning result ≡ on_count Several (words text.now) }
+{
+    let (session, count) = count_in(text)?;
+    Ok(Line::Ask {
+        session,
+        request: Request::List { count },
+    })
+}
+
+// A session, and how many of its states by rising cost.
+fn levels_in(text: &[u8]) -> Result<Line<'_>, LineRefusal>
+    ensures { asked_by meaning result ≡ on_count Levels (words text.now) }
+{
+    let (session, count) = count_in(text)?;
+    Ok(Line::Ask {
+        session,
+        request: Request::Levels { count },
+    })
+}
+
+// A session, and the parts of the state that it goes on after.
+fn after_in(text: &[u8]) -> Result<Line<'_>, LineRefusal>
+    ensures { asked_by meaning result ≡ on_names After (words text.now) }
+{
+    let (session, names) = names_in(text)?;
+    Ok(Line::Ask {
+        session,
+        request: Request::After { names },
+    })
+}
+
+// A session, and the wire that is asked about.
+fn probe_in(text: &[u8]) -> Result<Line<'_>, LineRefusal>
+    ensures { asked_by meaning result ≡ on_name (λ wire. Tell (Probe wire)) (words text.now) }
+{
+    let (session, wire) = name_in(text)?;
+    Ok(Line::Ask {
+        session,
+        request: Request::Tell(Question::Probe { wire }),
+    })
+}
+
 // What a command and the text behind it say.
 fn read_command<'a>(command: &[u8], text: &'a [u8]) -> Result<Line<'a>, LineRefusal>
     ensures { asked_by meaning result ≡ read_as command.now (words text.now) }
@@ -158,38 +203,35 @@ fn read_command<'a>(command: &[u8], text: &'a [u8]) -> Result<Line<'a>, LineRefu
         note_in(Noted::Part, text, b"ok", b"bad")
     } else if same_word(command, b"unhold") {
         unnote_in(Noted::Part, text)
-    } else if same_word(command, b"min") {
-        session_in(text, Request::Min)
+    } else {
+        read_other(command, text)
+    }
+}
+
+// What they say where the command is none of these six.
+fn read_other<'a>(command: &[u8], text: &'a [u8]) -> Result<Line<'a>, LineRefusal>
+    ensures { asked_by meaning result ≡ read_by (lookup (same_name command.now) (drop 6 commands)) (words text.now) }
+{
+    if same_word(command, b"min") {
+        session_in(text, Request::Tell(Question::Min))
     } else if same_word(command, b"next") {
         session_in(text, Request::Next)
     } else if same_word(command, b"list") {
-        count_in(text).map(|(session, count)| Line::Ask {
-            session,
-            request: Request::List { count },
-        })
+        list_in(text)
     } else if same_word(command, b"after") {
-        names_in(text).map(|(session, names)| Line::Ask {
-            session,
-            request: Request::After { names },
-        })
+        after_in(text)
     } else if same_word(command, b"probe") {
-        name_in(text).map(|(session, name)| Line::Ask {
-            session,
-            request: Request::Probe { name },
-        })
+        probe_in(text)
     } else if same_word(command, b"probes") {
-        session_in(text, Request::Probes)
+        session_in(text, Request::Tell(Question::Probes))
     } else if same_word(command, b"blame") {
-        session_in(text, Request::Blame)
+        session_in(text, Request::Tell(Question::Blame))
     } else if same_word(command, b"dnnf") {
         session_in(text, Request::Dnnf)
     } else if same_word(command, b"level") {
         session_in(text, Request::Level)
     } else if same_word(command, b"levels") {
-        count_in(text).map(|(session, count)| Line::Ask {
-            session,
-            request: Request::Levels { count },
-        })
+        levels_in(text)
     } else if same_word(command, b"leastnnf") {
         session_in(text, Request::LeastNnf)
     } else {

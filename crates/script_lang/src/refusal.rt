@@ -1,5 +1,5 @@
 ghost use Rattle.std.specs.Prelude.{◌≡◌};
-ghost use Rattle.script_lang.specs.Refusals.{refusal_number, refusal_text};
+ghost use Rattle.script_lang.specs.Refusals.{refusal_row};
 
 /// Why a line asks nothing. Where several hold, the length counts first, and otherwise the first of these.
 #[derive(Clone, Copy, Debug, PartialEq, Eq)]
@@ -17,29 +17,31 @@ pub enum LineRefusal {
 }
 
 impl LineRefusal {
-    /// The number of the refusal, 1 to 5.
-    pub fn number(self) -> u32
-        ensures { result ≡ refusal_number self }
+    // The number of the refusal, and what it says.
+    fn row(self) -> (u32, &'static str)
+        ensures number { result.0 ≡ (refusal_row self).0 }
+        ensures text { result.1.now ≡ (refusal_row self).1 }
     {
         match self {
-            LineRefusal::UnknownCommand => 1,
-            LineRefusal::BadWords => 2,
-            LineRefusal::BadName => 3,
-            LineRefusal::BadValue => 4,
-            LineRefusal::TooLong => 5,
+            LineRefusal::UnknownCommand => (1, "unknown command"),
+            LineRefusal::BadWords => (2, "bad words"),
+            LineRefusal::BadName => (3, "bad name"),
+            LineRefusal::BadValue => (4, "bad value"),
+            LineRefusal::TooLong => (5, "line too long"),
         }
+    }
+
+    /// The number of the refusal, 1 to 5.
+    pub fn number(self) -> u32
+        ensures { result ≡ (refusal_row self).0 }
+    {
+        self.row().0
     }
 
     /// What the refusal says.
     pub fn text(self) -> &'static str
-        ensures { result.now ≡ refusal_text self }
+        ensures { result.now ≡ (refusal_row self).1 }
     {
-        match self {
-            LineRefusal::UnknownCommand => "unknown command",
-            LineRefusal::BadWords => "bad words",
-            LineRefusal::BadName => "bad name",
-            LineRefusal::BadValue => "bad value",
-            LineRefusal::TooLong => "line too long",
-        }
+        self.row().1
     }
 }

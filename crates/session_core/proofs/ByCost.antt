@@ -5,7 +5,7 @@ use Rattle.ranking.specs.Ranking.{cost}
 use Rattle.level_lister.specs.declared.levels.LevelStep.{LevelStep}
 use Rattle.level_lister.specs.declared.levels.LevelStep.TheVariants.{Found, End, Inconsistent}
 use Rattle.level_lister.specs.Listing.{level_step}
-use Rattle.session_rules.specs.Items.{Item}
+use Rattle.session_rules.specs.Items.{Item, line}
 use Rattle.session_rules.specs.Replies.{Found as Next, found, inconsistent, end_line}
 
 -- where one is found there is one
@@ -17,12 +17,12 @@ found_later costs (h ∷ hs) (d ∷ later) c e none = (let no : ⊥ = cc in no)
 -- ---- what is found, by what the lister answers
 
 module _ (costs : List ℕ) (s : Name) (shown : List Bool → Item) (point : Option (List Bool)) where
-  pub level_none : (hs later : List (List Bool)) → level_step costs hs later ≡ Inconsistent → found s shown point hs later ≡ record { item = inconsistent s; point = point; more = false }
+  pub level_none : (hs later : List (List Bool)) → level_step costs hs later ≡ Inconsistent → found s shown point hs later ≡ record { item = line (inconsistent s); point = point; more = false }
   level_none [] later e = refl
   level_none (h ∷ hs) [] e = absurd (let no : ⊥ = cc in no)
   level_none (h ∷ hs) (d ∷ later) e = absurd (let no : ⊥ = cc in no)
 
-  pub level_end : (hs later : List (List Bool)) → level_step costs hs later ≡ End → found s shown point hs later ≡ record { item = end_line s; point = point; more = false }
+  pub level_end : (hs later : List (List Bool)) → level_step costs hs later ≡ End → found s shown point hs later ≡ record { item = line (end_line s); point = point; more = false }
   level_end [] later e = absurd (let no : ⊥ = cc in no)
   level_end (h ∷ hs) [] e = refl
   level_end (h ∷ hs) (d ∷ later) e = absurd (let no : ⊥ = cc in no)

@@ -12,7 +12,6 @@ pub mod Obeying
 pub mod Holding
 pub mod Stepping
 pub mod Naming
-pub mod Asked
 pub mod Moving
 pub mod Exact
 pub mod OneText

@@ -6,7 +6,6 @@ use Rattle.std.proofs.lemmas.Bool.{le-leb, cases_lt}
 use Rattle.text_rules.specs.Names.{Name}
 use Rattle.ranking.specs.Ranking.{cost, least, least_with, is_at_most, diagnoses}
 use Rattle.ranking.specs.Systems.{System}
-use Rattle.session_rules.specs.Items.{line}
 use Rattle.session_core.specs.inner.Texts.{min_text}
 use Rattle.session_rules.specs.Replies.{faulty_names, min_line}
 
@@ -48,17 +47,17 @@ some_diagnosis costs n hs e none =
     some_low costs n n hs e (omega arith) (ap (λ (o : Option ℕ). filter (λ h. is_at_most (cost costs h) o) hs) (sym e) ∙ none)
 
 by_first : (system : System) (session : Name) (n : ℕ) (ds : List (List Bool)) (old : List Bool) → ds ≢ []
-    → min_line system session (Some n) ds ≡ line (session ∷ codes "min" ∷ decimal n ∷ faulty_names system.parts (slice_index_or ds 0 old))
+    → min_line system session (Some n) ds ≡ session ∷ codes "min" ∷ decimal n ∷ faulty_names system.parts (slice_index_or ds 0 old)
 by_first system session n [] old some = absurd (some refl)
 by_first system session n (d ∷ ds) old some = refl
 
 -- The line tells the least cost and the first diagnosis.
 pub min_line-is : (system : System) (session : Name) (hs : List (List Bool)) (state : List Bool) (fewest : Option ℕ) → fewest ≡ least system.costs hs
     → IfSome fewest (λ _. state ≡ slice_index_or (diagnoses system.costs hs) 0 [])
-    → line (min_text session system.parts fewest state) ≡ min_line system session (least system.costs hs) (diagnoses system.costs hs)
+    → min_text session system.parts fewest state ≡ min_line system session (least system.costs hs) (diagnoses system.costs hs)
 min_line-is system session hs state None e first =
     sym (ap (λ ds. min_line system session (least system.costs hs) ds) (no_diagnosis system.costs hs (sym e)))
 min_line-is system session hs state (Some n) e first =
-    ap (λ h. line (session ∷ codes "min" ∷ decimal n ∷ faulty_names system.parts h)) first
+    ap (λ h. session ∷ codes "min" ∷ decimal n ∷ faulty_names system.parts h) first
     ∙ sym (by_first system session n (diagnoses system.costs hs) [] (some_diagnosis system.costs n hs (sym e)))
     ∙ ap (λ o. min_line system session o (diagnoses system.costs hs)) e

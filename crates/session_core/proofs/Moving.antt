@@ -14,7 +14,7 @@ use Rattle.diagnosis_lister.specs.declared.listing.Step.TheVariants.{Found, End,
 use Rattle.script_lang.specs.Script.{Ask, Request, Several, Level, Levels as LevelsOf}
 use Rattle.session_rules.specs.GraphSystems.{Subject, system_of}
 use Rattle.session_rules.specs.declared.refusal.Refusal.TheVariants.{NoLevels}
-use Rattle.session_rules.specs.Items.{Item}
+use Rattle.session_rules.specs.Items.{Item, line}
 use Rattle.session_rules.specs.Replies.{Found as Reply, listing, diagnosis_line, inconsistent, end_line}
 use Rattle.session_rules.specs.Sessions.{Table, Entry, Step, Declined, with_number, goes_to, goes_through, entry_of, with_entry, when_open}
 use Rattle.session_rules.specs.Moves.{goes_on, listing_moves, next_for, level_for, level_moves}
@@ -68,10 +68,10 @@ module _ (subject : Subject) (old new : Table) (place : ℕ) (session : Name) (e
   abbrev later : List (List Bool)
   later = rest (all_diagnoses (system_of subject) entry.known) entry.point
 
-  pub next_inconsistent : found ≡ Inconsistent → the_found subject Diagnoses session entry ≡ record { item = inconsistent session; point = entry.point; more = false }
+  pub next_inconsistent : found ≡ Inconsistent → the_found subject Diagnoses session entry ≡ record { item = line (inconsistent session); point = entry.point; more = false }
   next_inconsistent e = found_inconsistent (system_of subject).costs ((system_of subject).consistent entry.known) session (diagnosis_line (system_of subject) session) entry.point later (sym m.answer ∙ e)
 
-  pub next_end : found ≡ End → the_found subject Diagnoses session entry ≡ record { item = end_line session; point = entry.point; more = false }
+  pub next_end : found ≡ End → the_found subject Diagnoses session entry ≡ record { item = line (end_line session); point = entry.point; more = false }
   next_end e = found_end (system_of subject).costs ((system_of subject).consistent entry.known) session (diagnosis_line (system_of subject) session) entry.point later (sym m.answer ∙ e)
 
   next_found : found ≡ Found → the_found subject Diagnoses session entry ≡ record { item = diagnosis_line (system_of subject) session (slice_index_or later 0 []); point = Some (slice_index_or later 0 []); more = true }

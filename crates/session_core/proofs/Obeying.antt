@@ -1,26 +1,28 @@
 -- Requests that are one move.
-use Rattle.std.proofs.Common.{◌≡◌, ◌∙◌, ◌∷◌, [], ℕ, Bool, List, Option, Some, None, Result, codes, decimal, refl, ap, sym, subst}
+use Rattle.std.proofs.Common.{◌≡◌, ◌∙◌, ◌∷◌, [], ℕ, Bool, List, Option, Some, None, Result, Ok, Err, refl, ap, sym, subst}
 use Rattle.std.specs.Prelude.{nat_le, length}
 use Rattle.text_rules.specs.Names.{Name}
 use Rattle.text_rules.specs.Tokens.{spaced}
 use Rattle.diag_edge.specs.Edge.{Puts}
 use Rattle.ranking.specs.Systems.{System}
 use Rattle.script_lang.specs.Meaning.{asked}
-use Rattle.script_lang.specs.Script.{Request, Line, Ask, line_of}
+use Rattle.script_lang.specs.Script.{Request, Question, Tell, Line, Ask, line_of}
 use Rattle.script_lang.specs.declared.line.Request.{Request as Read}
 use Rattle.script_lang.specs.declared.line.Request.TheVariants as read
 use Rattle.session_rules.specs.declared.refusal.Refusal.{Refusal}
 use Rattle.session_rules.specs.declared.refusal.Refusal.TheVariants.{NoSession}
-use Rattle.session_rules.specs.Refusals.{refusal_number, refusal_text}
+use Rattle.session_rules.specs.Refusals.{refusal_row}
 use Rattle.session_rules.specs.GraphSystems.{system_of}
 use Rattle.session_rules.specs.Items.{line}
-use Rattle.session_rules.specs.Sessions.{Table, Entry, Step, Outcome, Declined, outcome, when_open, outcome_in, entry_of, carried}
+use Rattle.session_rules.specs.Sessions.{Table, Entry, Step, Outcome, Declined, tells_lines, error_words, outcome, when_open, outcome_in, entry_of, carried}
+use Rattle.session_rules.specs.Replies.{told}
 use Rattle.session_rules.specs.Spelling.{Replies}
 use Rattle.session_rules.specs.Carrying.{CarriesOut}
 use Rattle.session_rules.proofs.Broken.{carries_step}
 use Rattle.session_rules.proofs.Spellings.{replies_one}
 use Rattle.session_core.specs.Services.{Shown, exact_moves, moves_of}
 use Rattle.session_core.specs.inner.Obeying.{Obeys}
+use Rattle.session_core.specs.inner.Telling.{items_told}
 use Rattle.session_core.proofs.Declining.{declined}
 
 -- the table of a service is another
@@ -56,10 +58,24 @@ obeys_outcome old session request one before after result to new is becomes repl
 -- a refusal
 pub obeys_refusal : {T E : Type 0} (old : Shown) (session : Name) (request : Request) (before after : Option (List ℕ)) (result : Result T E) (refusal : Refusal)
     → outcome_in (system_of old.subject) old.limit old.table session request ≡ Declined refusal
-    → Puts before after result (spaced (session ∷ codes "error" ∷ decimal (refusal_number refusal) ∷ refusal_text refusal ∷ [])) → Obeys old old session request before after result
+    → Puts before after result (spaced (session ∷ error_words (refusal_row refusal))) → Obeys old old session request before after result
 obeys_refusal old session request before after result refusal is put =
     obeys_move old old session request (carried old.table session (Declined refusal)) before after result (declined old session refusal request is) refl
-    (replies_one before after result (line (session ∷ codes "error" ∷ decimal (refusal_number refusal) ∷ refusal_text refusal ∷ [])) _ refl put)
+    (replies_one before after result (line (session ∷ error_words (refusal_row refusal))) _ refl put)
+
+-- what is told, line by line or as a refusal, and the table stays
+told_step : (table : Table) (session : Name) (lines : Result (List (List (List ℕ))) Refusal) → record { table = table; items = items_told session lines } ≡ carried table session (tells_lines lines)
+told_step table session (Ok lines) = refl
+told_step table session (Err refusal) = refl
+
+-- an open session was told what it asked
+pub obeys_told : {T E : Type 0} (old new : Shown) (session : Name) (entry : Entry) (question : Question) (before after : Option (List ℕ)) (result : Result T E) → entry_of session old.table ≡ Some entry → new ≡ old
+    → Replies before after result (items_told session (told (system_of old.subject) session entry.known question)) → Obeys old new session (Tell question) before after result
+obeys_told old new session entry question before after result found same reply =
+    let lines = told (system_of old.subject) session entry.known question in
+    obeys_move old new session (Tell question) (record { table = old.table; items = items_told session lines }) before after result
+    (ap (λ (o : Outcome). carried old.table session o ∷ []) (asked_open old session (Tell question) entry found) ∙ ap (λ (s : Step). s ∷ []) (sym (told_step old.table session lines)))
+    same reply
 
 unopened_by : (system : System) (session : Name) (full : Bool) (request : Read) → (request ≡ read.Start → ⊥) → outcome system session full None (asked request) ≡ Declined NoSession
 unopened_by system session full read.Start other = absurd (other refl)

@@ -1,20 +1,20 @@
 -- What a service writes is one text: where the moves of a script were made twice after the same bytes, the same bytes stand.
-use Rattle.std.proofs.Common.{◌≡◌, ℕ, zero, suc, ◌+◌, Bool, true, false, List, [], ◌∷◌, ◌++◌, map, length, Option, Some, None, refl, ap, ap₂, sym, ◌∙◌, subst}
-use Rattle.std.specs.Prelude.{nat_le, if◌then◌else◌, codes, is_some}
+use Rattle.std.proofs.Common.{◌≡◌, ℕ, zero, suc, ◌+◌, Bool, true, false, List, [], ◌∷◌, ◌++◌, map, length, Option, Some, None, Result, Ok, Err, refl, ap, ap₂, sym, ◌∙◌, subst}
+use Rattle.std.specs.Prelude.{nat_le, if◌then◌else◌, codes}
 use Rattle.std.specs.List.{list_all}
 use Rattle.std.specs.Io.KnownBytes.{Appends}
 use Rattle.text_rules.specs.Names.{Name, is_among}
 use Rattle.ranking.specs.Cases.{Case}
 use Rattle.ranking.specs.Ranking.{rest}
 use Rattle.ranking.specs.Levels.{levels, levels_rest}
-use Rattle.ranking.specs.Systems.{System, least_cost, all_diagnoses}
+use Rattle.ranking.specs.Systems.{System, all_diagnoses}
 use Rattle.device_model.specs.Devices.{place_of}
-use Rattle.script_lang.specs.Script.{Line, Blank, Refused, Ask, Request, Start, Stop, Note, Min, Next, Several, After, Probe, Probes, Blame, Dnnf, Level, Levels, LeastNnf, line_of}
+use Rattle.script_lang.specs.Script.{Line, Blank, Refused, Ask, Request, Start, Stop, Note, Tell, Next, Several, After, Dnnf, Level, Levels, LeastNnf, line_of}
 use Rattle.session_rules.specs.declared.refusal.Refusal.{Refusal}
-use Rattle.session_rules.specs.declared.refusal.Refusal.TheVariants.{Full, NoWire, NoPart, NoLevels, NoLeast}
+use Rattle.session_rules.specs.declared.refusal.Refusal.TheVariants.{Full, NoPart, NoLevels, NoLeast}
 use Rattle.session_rules.specs.Items.{Item, Plain, Projected, LeastText, Whole, line}
-use Rattle.session_rules.specs.Replies.{Found, min_line, found, next_of, level_of, level_line, listing, seen_at, probe_line, probe_lines, blame_lines, if_any, end_line, diagnosis_line}
-use Rattle.session_rules.specs.Sessions.{Table, Entry, Step, Outcome, Declined, Done, with_number, becomes, tells, goes_to, goes_through, names_of, no_such, with_noted, new_entry, state_of, outcome, entry_of, carried, step}
+use Rattle.session_rules.specs.Replies.{Found, found, next_of, level_of, level_line, listing, diagnosis_line, told}
+use Rattle.session_rules.specs.Sessions.{Table, Entry, Step, Outcome, Declined, Done, with_number, becomes, tells, tells_lines, goes_to, goes_through, names_of, no_such, with_noted, new_entry, state_of, outcome, entry_of, carried, step}
 use Rattle.session_rules.specs.Moves.{said, left_by, line_moves, script_moves}
 use Rattle.session_rules.specs.Spelling.{Spells}
 use Rattle.session_rules.specs.Carrying.{Makes}
@@ -65,17 +65,9 @@ listing-plain next h (suc n) point =
       | false ↦ tt
     ])
 
-if_any-plain : (s : Name) (states : List (List Bool)) (items : List Item) → ArePlain items → ArePlain (if_any s states items)
-if_any-plain s [] items h = tt
-if_any-plain s (state ∷ states) items h = h
-
-blame_lines-plain : (s : Name) (ds : List (List Bool)) (part : ℕ) (names : List Name) → ArePlain (blame_lines s ds part names)
-blame_lines-plain s ds part [] = tt
-blame_lines-plain s ds part (name ∷ names) = blame_lines-plain s ds (part + 1) names
-
-min-plain : (system : System) (s : Name) (fewest : Option ℕ) (ds : List (List Bool)) → ArePlain (min_line system s fewest ds ∷ [])
-min-plain system s fewest [] = tt
-min-plain system s fewest (d ∷ ds) = tt
+lines-plain : (lines : List (List (List ℕ))) → ArePlain (map line lines)
+lines-plain [] = tt
+lines-plain (words ∷ lines) = lines-plain lines
 
 next-plain : (system : System) (s : Name) (ds : List (List Bool)) (point : Option (List Bool)) → ArePlain ((next_of system s ds point).item ∷ [])
 next-plain system s ds point = found-plain s (diagnosis_line system s) (λ state. tt) point ds (rest ds point)
@@ -83,15 +75,6 @@ next-plain system s ds point = found-plain s (diagnosis_line system s) (λ state
 level-plain : (system : System) (s : Name) (top : ℕ) (states : List (List Bool)) (point : Option (List Bool)) → ArePlain ((level_of system s top states point).item ∷ [])
 level-plain system s top states point =
     found-plain s (level_line system s) (λ state. tt) point states (levels_rest system.costs (levels system.costs top states) point)
-
-probe_lines-plain : (system : System) (s : Name) (known : Case) (wire : ℕ) (names : List Name) → ArePlain (probe_lines system s known wire names)
-probe_lines-plain system s known wire [] = tt
-probe_lines-plain system s known wire (name ∷ names) =
-    let later = probe_lines system s known (wire + 1) names in
-    elim (is_some (seen_at known wire)) as (λ b. ArePlain (elim b as (λ _. List Item) [ true ↦ later | false ↦ probe_line system s known name wire ∷ later ])) [
-      | true ↦ probe_lines-plain system s known (wire + 1) names
-      | false ↦ probe_lines-plain system s known (wire + 1) names
-    ]
 
 abbrev IsPlain : Outcome → Type 0
 IsPlain (Declined refusal) = Unit {0}
@@ -104,6 +87,10 @@ placed refusal act (Some i) h = h i
 chosen : (b : Bool) (one other : Outcome) → IsPlain one → IsPlain other → IsPlain (if b then one else other)
 chosen true one other h k = h
 chosen false one other h k = k
+
+told_lines-plain : (lines : Result (List (List (List ℕ))) Refusal) → IsPlain (tells_lines lines)
+told_lines-plain (Ok lines) = lines-plain lines
+told_lines-plain (Err refusal) = tt
 
 carried-plain : (table : Table) (s : Name) (o : Outcome) → IsPlain o → ArePlain (carried table s o).items
 carried-plain table s (Declined refusal) h = tt
@@ -126,23 +113,12 @@ module _ (system : System) where
   outcome-plain s full (Some entry) Stop = tt
   outcome-plain s full (Some entry) (Note what name bit) =
       placed (no_such what) (λ i. becomes s (with_noted entry what i bit) (codes "ok")) (place_of name (names_of system what)) (λ i. tt)
-  outcome-plain s full (Some entry) Min = min-plain system s (least_cost system entry.known) (all_diagnoses system entry.known)
+  outcome-plain s full (Some entry) (Tell question) = told_lines-plain (told system s entry.known question)
   outcome-plain s full (Some entry) Next = next-plain system s (all_diagnoses system entry.known) entry.point
   outcome-plain s full (Some entry) (Several count) =
       let ds = all_diagnoses system entry.known in listing-plain (next_of system s ds) (next-plain system s ds) count entry.point
   outcome-plain s full (Some entry) (After names) =
       chosen (list_all (λ name. is_among system.parts name) names) (becomes s (record entry { point = Some (state_of names system.parts) }) (codes "ok")) (Declined NoPart) tt tt
-  outcome-plain s full (Some entry) (Probe name) =
-      let states = system.consistent entry.known in
-      placed NoWire (λ wire. tells (if_any s states (probe_line system s entry.known name wire ∷ []))) (place_of name system.wires)
-      (λ wire. if_any-plain s states (probe_line system s entry.known name wire ∷ []) tt)
-  outcome-plain s full (Some entry) Probes =
-      let lines = probe_lines system s entry.known 0 system.wires in
-      if_any-plain s (system.consistent entry.known) (lines ++ end_line s ∷ []) (plain_both lines (end_line s ∷ []) (probe_lines-plain system s entry.known 0 system.wires) tt)
-  outcome-plain s full (Some entry) Blame =
-      let ds = all_diagnoses system entry.known in
-      let lines = blame_lines s ds 0 system.parts in
-      if_any-plain s ds (lines ++ end_line s ∷ []) (plain_both lines (end_line s ∷ []) (blame_lines-plain s ds 0 system.parts) tt)
   outcome-plain s full (Some entry) Dnnf = λ none. absurd (let never : ⊥ = cc in never)
   outcome-plain s full (Some entry) Level =
       let level = λ (top : ℕ). level_of system s top (system.consistent entry.known) in

@@ -10,9 +10,7 @@ use Rattle.ranking.specs.Ranking.{cost, least, least_with, least_of, diagnoses}
 use Rattle.ranking.specs.Systems.{System}
 use Rattle.probe_report.specs.declared.verdicts.Blame.{Blame}
 use Rattle.probe_report.specs.Verdicts.{verdict as verdict_on}
-use Rattle.session_rules.specs.Items.{Item, line}
 use Rattle.session_rules.specs.Replies.{inconsistent, seen_at, probe_line, probe_lines, verdict, blame_lines, if_any}
-use Rattle.session_rules.proofs.Begun.{HaveSpellings}
 use Rattle.session_core.specs.inner.Texts.{blame_text}
 use Rattle.session_core.specs.inner.Telling.{unseen_line, verdict_lines}
 use Rattle.session_core.proofs.Minimum.{no_diagnosis, some_diagnosis}
@@ -22,11 +20,11 @@ use Rattle.session_core.proofs.Minimum.{no_diagnosis, some_diagnosis}
 -- a wire that is seen has no line, and another one its own
 pub unseen-none : (system : System) (s : Name) (known : Case) (name : Name) (wire : ℕ) → true ≡ is_some (seen_at known wire) → unseen_line system s known name wire ≡ []
 unseen-none system s known name wire e =
-    ap (λ b. elim b as (λ (_ : Bool). List Item) [ true ↦ [] | false ↦ probe_line system s known name wire ∷ [] ]) (sym e)
+    ap (λ b. elim b as (λ (_ : Bool). List (List (List ℕ))) [ true ↦ [] | false ↦ probe_line system s known name wire ∷ [] ]) (sym e)
 
 pub unseen-one : (system : System) (s : Name) (known : Case) (name : Name) (wire : ℕ) → false ≡ is_some (seen_at known wire) → unseen_line system s known name wire ≡ probe_line system s known name wire ∷ []
 unseen-one system s known name wire e =
-    ap (λ b. elim b as (λ (_ : Bool). List Item) [ true ↦ [] | false ↦ probe_line system s known name wire ∷ [] ]) (sym e)
+    ap (λ b. elim b as (λ (_ : Bool). List (List (List ℕ))) [ true ↦ [] | false ↦ probe_line system s known name wire ∷ [] ]) (sym e)
 
 -- ---- lines that are left
 
@@ -36,31 +34,18 @@ pub lines-next : (system : System) (s : Name) (known : Case) (names : List Name)
 lines-next system s known names i h =
     ap (probe_lines system s known i) (drop_more names i [] h) ∙ by (is_some (seen_at known i))
   where
-    rest : List Item
+    rest : List (List (List ℕ))
     rest = probe_lines system s known (i + 1) (drop (i + 1) names)
 
     by : (b : Bool) → (elim b [ true ↦ rest | false ↦ probe_line system s known (get_or names i []) i ∷ rest ])
-        ≡ (elim b as (λ (_ : Bool). List Item) [ true ↦ [] | false ↦ probe_line system s known (get_or names i []) i ∷ [] ]) ++ rest
+        ≡ (elim b as (λ (_ : Bool). List (List (List ℕ))) [ true ↦ [] | false ↦ probe_line system s known (get_or names i []) i ∷ [] ]) ++ rest
     by true = refl
     by false = refl
 
-pub lines-have : (system : System) (s : Name) (known : Case) (i : ℕ) (names : List Name) → HaveSpellings (probe_lines system s known i names)
-lines-have system s known i [] = tt
-lines-have system s known i (name ∷ names) = by (is_some (seen_at known i)) (lines-have system s known (i + 1) names)
-  where
-    by : (b : Bool) → HaveSpellings (probe_lines system s known (i + 1) names) → HaveSpellings (elim b [ true ↦ probe_lines system s known (i + 1) names | false ↦ probe_line system s known name i ∷ probe_lines system s known (i + 1) names ])
-    by true more = more
-    by false more = ((_, refl), more)
-
 -- and the verdicts from a part on
 pub verdicts-next : (s : Name) (names : List Name) (verdicts : List Blame) (i : ℕ) (v : Blame) → i < length names → i < length verdicts
-    → verdict_lines s (drop i names) (drop i verdicts) ≡ (line (s ∷ codes "blame" ∷ get_or names i [] ∷ blame_text (get_or verdicts i v) ∷ []) ∷ []) ++ verdict_lines s (drop (i + 1) names) (drop (i + 1) verdicts)
+    → verdict_lines s (drop i names) (drop i verdicts) ≡ ((s ∷ codes "blame" ∷ get_or names i [] ∷ blame_text (get_or verdicts i v) ∷ []) ∷ []) ++ verdict_lines s (drop (i + 1) names) (drop (i + 1) verdicts)
 verdicts-next s names verdicts i v h g = rw (drop_more names i [] h, drop_more verdicts i v g) refl
-
-pub verdicts-have : (s : Name) (names : List Name) (verdicts : List Blame) → HaveSpellings (verdict_lines s names verdicts)
-verdicts-have s [] verdicts = tt
-verdicts-have s (name ∷ names) [] = tt
-verdicts-have s (name ∷ names) (v ∷ verdicts) = ((_, refl), verdicts-have s names verdicts)
 
 -- ---- whether some state agrees
 
@@ -71,25 +56,25 @@ least-some costs h hs = by (least_of (map (cost costs) hs))
     by None = refl
     by (Some m) = refl
 
-pub if_any-none : (costs : List ℕ) (s : Name) (hs : List (List Bool)) (items : List Item) → false ≡ is_some (least costs hs) → if_any s hs items ≡ inconsistent s ∷ []
-if_any-none costs s [] items e = refl
-if_any-none costs s (h ∷ hs) items e = absurd (let no : false ≡ true = e ∙ least-some costs h hs in let never : ⊥ = cc in never)
+pub if_any-none : (costs : List ℕ) (s : Name) (hs : List (List Bool)) (lines : List (List (List ℕ))) → false ≡ is_some (least costs hs) → if_any s hs lines ≡ inconsistent s ∷ []
+if_any-none costs s [] lines e = refl
+if_any-none costs s (h ∷ hs) lines e = absurd (let no : false ≡ true = e ∙ least-some costs h hs in let never : ⊥ = cc in never)
 
-pub if_any-some : (costs : List ℕ) (s : Name) (hs : List (List Bool)) (items : List Item) → true ≡ is_some (least costs hs) → if_any s hs items ≡ items
-if_any-some costs s [] items e = absurd (let never : ⊥ = cc in never)
-if_any-some costs s (h ∷ hs) items e = refl
+pub if_any-some : (costs : List ℕ) (s : Name) (hs : List (List Bool)) (lines : List (List (List ℕ))) → true ≡ is_some (least costs hs) → if_any s hs lines ≡ lines
+if_any-some costs s [] lines e = absurd (let never : ⊥ = cc in never)
+if_any-some costs s (h ∷ hs) lines e = refl
 
-by_least-none : (costs : List ℕ) (s : Name) (hs : List (List Bool)) (items : List Item) (o : Option ℕ) → least costs hs ≡ o → false ≡ is_some o → if_any s (diagnoses costs hs) items ≡ inconsistent s ∷ []
-by_least-none costs s hs items None e f = ap (λ ds. if_any s ds items) (no_diagnosis costs hs e)
-by_least-none costs s hs items (Some n) e f = absurd (let never : ⊥ = cc in never)
+by_least-none : (costs : List ℕ) (s : Name) (hs : List (List Bool)) (lines : List (List (List ℕ))) (o : Option ℕ) → least costs hs ≡ o → false ≡ is_some o → if_any s (diagnoses costs hs) lines ≡ inconsistent s ∷ []
+by_least-none costs s hs lines None e f = ap (λ ds. if_any s ds lines) (no_diagnosis costs hs e)
+by_least-none costs s hs lines (Some n) e f = absurd (let never : ⊥ = cc in never)
 
-pub if_diagnosis-none : (costs : List ℕ) (s : Name) (hs : List (List Bool)) (items : List Item) → false ≡ is_some (least costs hs) → if_any s (diagnoses costs hs) items ≡ inconsistent s ∷ []
-if_diagnosis-none costs s hs items e = by_least-none costs s hs items (least costs hs) refl e
+pub if_diagnosis-none : (costs : List ℕ) (s : Name) (hs : List (List Bool)) (lines : List (List (List ℕ))) → false ≡ is_some (least costs hs) → if_any s (diagnoses costs hs) lines ≡ inconsistent s ∷ []
+if_diagnosis-none costs s hs lines e = by_least-none costs s hs lines (least costs hs) refl e
 
 -- a list that is not empty
-if_any-nonempty : (s : Name) (ds : List (List Bool)) (items : List Item) → ds ≢ [] → if_any s ds items ≡ items
-if_any-nonempty s [] items some = absurd (some refl)
-if_any-nonempty s (d ∷ ds) items some = refl
+if_any-nonempty : (s : Name) (ds : List (List Bool)) (lines : List (List (List ℕ))) → ds ≢ [] → if_any s ds lines ≡ lines
+if_any-nonempty s [] lines some = absurd (some refl)
+if_any-nonempty s (d ∷ ds) lines some = refl
 
 by_least-some : (costs : List ℕ) (hs : List (List Bool)) (o : Option ℕ) → least costs hs ≡ o → true ≡ is_some o → diagnoses costs hs ≢ []
 by_least-some costs hs None e f = absurd (let never : ⊥ = cc in never)
@@ -98,8 +83,8 @@ by_least-some costs hs (Some n) e f = λ none. some_diagnosis costs n hs e none
 pub has_diagnosis : (costs : List ℕ) (hs : List (List Bool)) → true ≡ is_some (least costs hs) → diagnoses costs hs ≢ []
 has_diagnosis costs hs e = by_least-some costs hs (least costs hs) refl e
 
-pub if_diagnosis-some : (costs : List ℕ) (s : Name) (hs : List (List Bool)) (items : List Item) → true ≡ is_some (least costs hs) → if_any s (diagnoses costs hs) items ≡ items
-if_diagnosis-some costs s hs items e = if_any-nonempty s (diagnoses costs hs) items (has_diagnosis costs hs e)
+pub if_diagnosis-some : (costs : List ℕ) (s : Name) (hs : List (List Bool)) (lines : List (List (List ℕ))) → true ≡ is_some (least costs hs) → if_any s (diagnoses costs hs) lines ≡ lines
+if_diagnosis-some costs s hs lines e = if_any-nonempty s (diagnoses costs hs) lines (has_diagnosis costs hs e)
 
 -- ---- blame
 
@@ -125,7 +110,7 @@ blame_lines-are s ds part (name ∷ names) (v ∷ verdicts) some long each =
     let first : Some v ≡ Some (verdict_on (map (λ (state : List Bool). not (bit_in state (part + 0))) ds)) = each 0 (omega arith) in
     let here : part + 0 ≡ part = omega arith in
     let same : v ≡ verdict_on (map (λ (state : List Bool). not (bit_in state part)) ds) = (let e : v ≡ verdict_on (map (λ (state : List Bool). not (bit_in state (part + 0))) ds) = cc in e ∙ ap (λ n. verdict_on (map (λ (state : List Bool). not (bit_in state n)) ds)) here) in
-    ap₂ (λ word lines. line (s ∷ codes "blame" ∷ name ∷ word ∷ []) ∷ lines)
+    ap₂ (λ word lines. (s ∷ codes "blame" ∷ name ∷ word ∷ []) ∷ lines)
     (ap blame_text same ∙ verdict_word ds part some)
     (blame_lines-are s ds (part + 1) names verdicts some (omega (arith, long)) (λ i h. later i h))
   where

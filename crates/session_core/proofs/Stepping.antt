@@ -6,7 +6,7 @@ use Rattle.ranking.specs.Ranking.{least, diagnoses}
 use Rattle.diagnosis_lister.specs.declared.listing.Step.{Step}
 use Rattle.diagnosis_lister.specs.declared.listing.Step.TheVariants.{Found, End, Inconsistent}
 use Rattle.diagnosis_lister.specs.Listing.{step_of}
-use Rattle.session_rules.specs.Items.{Item}
+use Rattle.session_rules.specs.Items.{Item, line}
 use Rattle.session_rules.specs.Replies.{Found as Next, found, inconsistent, end_line}
 use Rattle.session_core.proofs.Minimum.{some_diagnosis}
 use Rattle.session_core.proofs.Questions.{least-some}
@@ -64,7 +64,7 @@ module _ (costs : List ℕ) (hs : List (List Bool)) (s : Name) (shown : List Boo
   by_none (g ∷ gs) [] e = absurd (let no : ⊥ = cc in no)
   by_none (g ∷ gs) (d ∷ later) e = absurd (let no : ⊥ = cc in no)
 
-  pub found_inconsistent : (later : List (List Bool)) → step_of hs later ≡ Inconsistent → what_is_found later ≡ record { item = inconsistent s; point = point; more = false }
+  pub found_inconsistent : (later : List (List Bool)) → step_of hs later ≡ Inconsistent → what_is_found later ≡ record { item = line (inconsistent s); point = point; more = false }
   found_inconsistent later e = ap (λ (gs : List (List Bool)). found s shown point (diagnoses costs gs) later) (by_none hs later e)
 
   by_end : (gs later : List (List Bool)) → step_of gs later ≡ End → (gs ≢ []) × (later ≡ [])
@@ -72,11 +72,11 @@ module _ (costs : List ℕ) (hs : List (List Bool)) (s : Name) (shown : List Boo
   by_end (g ∷ gs) [] e = ((λ none. let no : ⊥ = cc in no), refl)
   by_end (g ∷ gs) (d ∷ later) e = absurd (let no : ⊥ = cc in no)
 
-  end_of_list : (ds : List (List Bool)) → ds ≢ [] → found s shown point ds [] ≡ record { item = end_line s; point = point; more = false }
+  end_of_list : (ds : List (List Bool)) → ds ≢ [] → found s shown point ds [] ≡ record { item = line (end_line s); point = point; more = false }
   end_of_list [] some = absurd (some refl)
   end_of_list (d ∷ ds) some = refl
 
-  pub found_end : (later : List (List Bool)) → step_of hs later ≡ End → what_is_found later ≡ record { item = end_line s; point = point; more = false }
+  pub found_end : (later : List (List Bool)) → step_of hs later ≡ End → what_is_found later ≡ record { item = line (end_line s); point = point; more = false }
   found_end later e =
       let ends = by_end hs later e in
       ap (found s shown point the_list) ends.1 ∙ end_of_list the_list (nonempty_list costs hs ends.0)

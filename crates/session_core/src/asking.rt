@@ -1,23 +1,23 @@
 //! Requests that leave every session as it is.
 ghost use Rattle.std.specs.Prelude.{◌≡◌, ◌∷◌, [], codes, true};
 ghost use Rattle.diag_edge.specs.Edge.{HasCause};
-ghost use Rattle.script_lang.specs.Script.{Request, Probe, Dnnf, LeastNnf};
+ghost use Rattle.script_lang.specs.Meaning.{question_of};
+ghost use Rattle.script_lang.specs.Script.{Tell, Dnnf, LeastNnf};
 ghost use Rattle.session_rules.specs.Items.{Plain, line};
 ghost use Rattle.session_rules.specs.Spelling.{Replies};
 ghost use Rattle.session_core.specs.Services.{case_text, least_case_text};
 ghost use Rattle.session_core.specs.inner.Bases.{AreKnown, case_in};
 ghost use Rattle.session_core.specs.inner.Desks.{asked_case};
-ghost use Rattle.session_core.specs.inner.Obeying.{Obeys, IsOpen, Asks};
-ghost use Rattle.session_core.specs.inner.Telling.{HasPlace};
+ghost use Rattle.session_core.specs.inner.Obeying.{Obeys, IsOpen};
 
 use crate::basis::Basis;
 use crate::desk::Desk;
 use crate::replies::put_refusal;
 use crate::sessions::{OpenSession, Sessions};
-use crate::telling::{Question, tell};
+use crate::telling::tell;
 use diag_edge::{Sink, WriteFailed, put_line};
 use projector::write_projected;
-use script_lang::Noted;
+use script_lang::Question;
 use session_rules::Refusal;
 use std::marker::Brand;
 use std::sync::ledger::Blank;
@@ -27,35 +27,16 @@ impl Sessions {
     pub(crate) fn ask_case<O: Sink>(
         &mut self,
         session: OpenSession<'_>,
-        question: Question,
+        question: Question<'_>,
         out: &mut O,
     ) -> Result<(), WriteFailed>
-        requires session { IsOpen self.old.table session }
-        requires question { HasPlace self.old.subject question }
-        ensures obeys { (request : Request) → Asks self.old.subject.wires question request
-            → Obeys self.old self.new session.entry.name.now request (O.got out.old) (O.got out.new) result }
+        requires { IsOpen self.old.table session }
+        ensures obeys { Obeys self.old self.new session.entry.name.now (Tell (question_of question.entry))
+            (O.got out.old) (O.got out.new) result }
         ensures cause { HasCause (O.faults out.old) (O.faults out.new) result }
     {
         self.desk.take_up(self.open.words(session.place));
         tell::<O, Brand>(&mut self.desk, Blank::new(1), session.name, question, out)
-    }
-
-    // Tells the least costs where a wire is 0 and where it is 1.
-    pub(crate) fn ask_wire<O: Sink>(
-        &mut self,
-        session: OpenSession<'_>,
-        name: &[u8],
-        out: &mut O,
-    ) -> Result<(), WriteFailed>
-        requires { IsOpen self.old.table session }
-        ensures obeys { Obeys self.old self.new session.entry.name.now (Probe name.now)
-            (O.got out.old) (O.got out.new) result }
-        ensures cause { HasCause (O.faults out.old) (O.faults out.new) result }
-    {
-        match self.desk.basis().find(Noted::Wire, name) {
-            None => put_refusal(out, session.name, Refusal::NoWire),
-            Some(wire) => self.ask_case(session, Question::Probe { wire }, out),
-        }
     }
 
     // Tells the graph of the states that agree with a session's case.

@@ -5,7 +5,8 @@ ghost use Rattle.text_rules.specs.Tokens.{spaced};
 ghost use Rattle.diag_edge.specs.Adding.{Adds};
 ghost use Rattle.diag_edge.specs.Edge.{HasCause, Puts};
 ghost use Rattle.conditioner.specs.Words.{bits_of};
-ghost use Rattle.session_rules.specs.Refusals.{refusal_number, refusal_text};
+ghost use Rattle.session_rules.specs.Refusals.{refusal_row};
+ghost use Rattle.session_rules.specs.Sessions.{error_words};
 ghost use Rattle.script_lang.specs.Refusals as line_refusals;
 ghost use Rattle.session_rules.specs.Replies.{faulty_names, count_text};
 ghost use Rattle.session_core.specs.inner.Texts.{blame_text, spaced_before, min_text};
@@ -24,8 +25,7 @@ pub(crate) fn put_line_refusal<O: Sink>(
     refusal: LineRefusal,
 ) -> Result<(), WriteFailed>
     ensures text { Puts (O.got out.old) (O.got out.new) result
-        (spaced (codes "error" ∷ decimal (line_refusals.refusal_number refusal)
-        ∷ line_refusals.refusal_text refusal ∷ [])) }
+        (spaced (error_words (line_refusals.refusal_row refusal))) }
     ensures cause { HasCause (O.faults out.old) (O.faults out.new) result }
 {
     put_line(
@@ -45,7 +45,7 @@ pub(crate) fn put_refusal<O: Sink>(
     refusal: Refusal,
 ) -> Result<(), WriteFailed>
     ensures text { Puts (O.got out.old) (O.got out.new) result
-        (spaced (session.now ∷ codes "error" ∷ decimal (refusal_number refusal) ∷ refusal_text refusal ∷ [])) }
+        (spaced (session.now ∷ error_words (refusal_row refusal))) }
     ensures cause { HasCause (O.faults out.old) (O.faults out.new) result }
 {
     put_line(
@@ -61,7 +61,7 @@ pub(crate) fn put_refusal<O: Sink>(
 
 // What a refusal says.
 fn text_of<'a>(refusal: Refusal) -> &'a [u8]
-    ensures { result.now ≡ refusal_text refusal }
+    ensures { result.now ≡ (refusal_row refusal).1 }
 {
     refusal.text().as_bytes()
 }

@@ -13,7 +13,6 @@ use crate::desk::Desk;
 use crate::limits::SESSION_LIMIT;
 use crate::listing::Listed;
 use crate::replies::{put_line_refusal, put_refusal};
-use crate::telling::Question;
 use diag_edge::{Sink, WriteFailed, put_line};
 use script_lang::{Line, Noted, Request, parse_line};
 use session_rules::Refusal;
@@ -148,13 +147,10 @@ impl Sessions {
             Request::Start => put_refusal(out, session.name, Refusal::OpenAlready),
             Request::Stop => self.stop(session, out),
             Request::Note { what, name, known } => self.note(session, what, name, known, out),
-            Request::Min => self.ask_case(session, Question::Minimum, out),
+            Request::Tell(question) => self.ask_case(session, question, out),
             Request::Next => self.next(session, out),
             Request::List { count } => self.list_on(Listed::Diagnoses, session, count, out),
             Request::After { names } => self.after(session, names, out),
-            Request::Probe { name } => self.ask_wire(session, name, out),
-            Request::Probes => self.ask_case(session, Question::Probes, out),
-            Request::Blame => self.ask_case(session, Question::Blame, out),
             Request::Dnnf => self.ask_graph(session, out),
             Request::Level => self.level(session, out),
             Request::Levels { count } => self.list_levels(session, count, out),

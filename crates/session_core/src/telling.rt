@@ -1,52 +1,44 @@
 //! What is told of a case that stays as it is.
-ghost use Rattle.std.specs.Prelude.{◌≡◌, ◌<◌, ◌++◌, ◌∷◌, [], length, slice_index_or};
+ghost use Rattle.std.specs.Prelude.{◌≡◌, ◌<◌, ◌++◌, ◌∷◌, [], map};
 ghost use Rattle.diag_edge.specs.Edge.{HasCause};
+ghost use Rattle.device_model.specs.Devices.{place_of};
+ghost use Rattle.script_lang.specs.Meaning.{question_of};
 ghost use Rattle.session_rules.specs.GraphSystems.{system_of};
-ghost use Rattle.session_rules.specs.Replies.{end_line, min_line, probe_line, blame_lines, if_any};
+ghost use Rattle.session_rules.specs.Items.{line};
+ghost use Rattle.session_rules.specs.Replies.{end_line, min_line, blame_lines, if_any, probe_told, told};
 ghost use Rattle.session_rules.specs.Spelling.{Replies};
-ghost use Rattle.session_core.specs.inner.Desks.{asked_case, agreeing, least_asked, diagnoses_asked};
-ghost use Rattle.session_core.specs.inner.Telling.{told_of, HasPlace, verdict_lines};
+ghost use Rattle.session_core.specs.inner.Desks.{asked_case, least_asked, diagnoses_asked};
+ghost use Rattle.session_core.specs.inner.Telling.{items_told, verdict_lines};
 
 use crate::desk::Desk;
 use crate::probing::tell_probes;
-use crate::replies::{put_blame, put_min, put_probe};
+use crate::replies::{put_blame, put_min, put_probe, put_refusal};
 use diag_edge::{Sink, WriteFailed, put_line};
 use minimiser::Steps;
+use script_lang::{Noted, Question};
+use session_rules::Refusal;
 use std::sync::ledger::{Blank, Ledger};
-
-/// What is asked of a session's case.
-#[derive(Clone, Copy, Debug)]
-pub(crate) enum Question {
-    /// The least cost, with the first diagnosis.
-    Minimum,
-    /// The least cost where the wire at a place is 0, and where it is 1.
-    Probe { wire: u32 },
-    /// The same of each wire that is not seen.
-    Probes,
-    /// Of each part whether it is faulty in all diagnoses, in some, or in none.
-    Blame,
-}
 
 /// Tells what is asked of the case on a desk, by passes that are counted from 0.
 pub(crate) fn tell<O: Sink, L: Ledger>(
     desk: &mut Desk,
     blank: Blank,
     session: &[u8],
-    question: Question,
+    question: Question<'_>,
     out: &mut O,
 ) -> Result<(), WriteFailed>
     requires name { blank.name ≡ L.name }
     requires shares { blank.parts ≡ L.parts }
     requires some { 0 < blank.parts }
-    requires question { HasPlace desk.old.subject question }
     ensures reply { Replies (O.got out.old) (O.got out.new) result
-        (told_of (system_of desk.old.subject) session.now (asked_case desk.old) question) }
+        (items_told session.now
+        (told (system_of desk.old.subject) session.now (asked_case desk.old) (question_of question.entry))) }
     ensures subject { desk.new.subject ≡ desk.old.subject }
     ensures cause { HasCause (O.faults out.old) (O.faults out.new) result }
 {
     let mut steps = Steps::<L>::new(blank);
     match question {
-        Question::Minimum => tell_minimum(desk, session, out, &mut steps),
+        Question::Min => tell_minimum(desk, session, out, &mut steps),
         Question::Probe { wire } => tell_probe(desk, session, wire, out, &mut steps),
         Question::Probes => tell_probes(desk, session, out, &mut steps),
         Question::Blame => tell_blame(desk, session, out, &mut steps),
@@ -61,7 +53,7 @@ fn tell_minimum<O: Sink, L: Ledger>(
     steps: &mut Steps<L>,
 ) -> Result<(), WriteFailed>
     ensures reply { Replies (O.got out.old) (O.got out.new) result
-        (min_line (system_of desk.old.subject) session.now (least_asked desk.old) (diagnoses_asked desk.old) ∷ []) }
+        (line (min_line (system_of desk.old.subject) session.now (least_asked desk.old) (diagnoses_asked desk.old)) ∷ []) }
     ensures subject { desk.new.subject ≡ desk.old.subject }
     ensures cause { HasCause (O.faults out.old) (O.faults out.new) result }
 {
@@ -69,26 +61,28 @@ fn tell_minimum<O: Sink, L: Ledger>(
     put_min(out, session, desk.basis().parts(), fewest, desk.state())
 }
 
-// The least costs of one wire, if some state agrees.
+// The least costs of the wire of a name, if there is one and some state agrees.
 fn tell_probe<O: Sink, L: Ledger>(
     desk: &mut Desk,
     session: &[u8],
-    wire: u32,
+    name: &[u8],
     out: &mut O,
     steps: &mut Steps<L>,
 ) -> Result<(), WriteFailed>
-    requires { wire < length desk.old.subject.wires }
     ensures reply { let system = system_of desk.old.subject in
-        Replies (O.got out.old) (O.got out.new) result (if_any session.now (agreeing desk.old)
-        (probe_line system session.now (asked_case desk.old) (slice_index_or system.wires wire []) wire ∷ [])) }
+        Replies (O.got out.old) (O.got out.new) result (items_told session.now
+        (probe_told system session.now (asked_case desk.old) name.now (place_of name.now system.wires))) }
     ensures subject { desk.new.subject ≡ desk.old.subject }
     ensures cause { HasCause (O.faults out.old) (O.faults out.new) result }
 {
+    let Some(wire) = desk.basis().find(Noted::Wire, name) else {
+        return put_refusal(out, session, Refusal::NoWire);
+    };
     if !desk.is_consistent(steps) {
         return put_line(out, &[session, b"inconsistent"]);
     }
     let (zero, one) = desk.probe(wire, steps);
-    put_probe(out, session, desk.basis().wire_name(wire), zero, one)
+    put_probe(out, session, name, zero, one)
 }
 
 // Of each part whether it is faulty in all diagnoses, in some or in none, if there is one.
@@ -100,7 +94,7 @@ fn tell_blame<O: Sink, L: Ledger>(
 ) -> Result<(), WriteFailed>
     ensures reply { let ds = diagnoses_asked desk.old in
         Replies (O.got out.old) (O.got out.new) result
-        (if_any session.now ds (blame_lines session.now ds 0 desk.old.subject.parts ++ end_line session.now ∷ [])) }
+        (map line (if_any session.now ds (blame_lines session.now ds 0 desk.old.subject.parts ++ end_line session.now ∷ []))) }
     ensures subject { desk.new.subject ≡ desk.old.subject }
     ensures cause { HasCause (O.faults out.old) (O.faults out.new) result }
 {
@@ -115,7 +109,7 @@ fn tell_blame<O: Sink, L: Ledger>(
 // A line for each part, with its verdict.
 fn put_blames<O: Sink>(desk: &Desk, session: &[u8], out: &mut O) -> Result<(), WriteFailed>
     ensures reply { Replies (O.got out.old) (O.got out.new) result
-        (verdict_lines session.now desk.now.subject.parts desk.now.verdicts) }
+        (map line (verdict_lines session.now desk.now.subject.parts desk.now.verdicts)) }
     ensures cause { HasCause (O.faults out.old) (O.faults out.new) result }
 {
     let parts = desk.basis().parts();

@@ -1,19 +1,19 @@
 -- A session among others is answered as it is alone.
-use Rattle.std.proofs.Common.{◌≡◌, ℕ, Bool, true, false, List, [], ◌∷◌, ◌++◌, length, drop, get_or, refl, ap, ap₂, sym, ◌∙◌, subst, Some, None, Option, arith, length-append}
+use Rattle.std.proofs.Common.{◌≡◌, ℕ, Bool, true, false, List, [], ◌∷◌, ◌++◌, length, drop, get_or, refl, ap, ap₂, sym, ◌∙◌, subst, Some, None, Option, Result, Ok, Err, arith, length-append}
 use Rattle.std.specs.Prelude.{codes, nat_le, if◌then◌else◌}
 use Rattle.std.specs.Fmt.{decimal}
 use Rattle.std.specs.List.{list_all, flat_map}
 use Rattle.text_rules.specs.Names.{Name, is_among}
 use Rattle.text_rules.proofs.NameLemmas.{equal_if_same}
 use Rattle.device_model.specs.Devices.{place_of}
-use Rattle.script_lang.specs.Script.{Line, Blank, Refused, Ask, Request, Start, Stop, Note, Min, Next, Several, After, Probe, Probes, Blame, Dnnf, Level, Levels, LeastNnf, line_of}
+use Rattle.script_lang.specs.Script.{Line, Blank, Refused, Ask, Request, Start, Stop, Note, Tell, Next, Several, After, Dnnf, Level, Levels, LeastNnf, line_of}
 use Rattle.ranking.specs.Systems.{System, all_diagnoses}
 use Rattle.session_rules.specs.declared.refusal.Refusal.{Refusal}
-use Rattle.session_rules.specs.declared.refusal.Refusal.TheVariants.{OpenAlready, Full, NoWire, NoPart, NoLevels, NoLeast}
-use Rattle.session_rules.specs.Refusals.{refusal_number, refusal_text}
+use Rattle.session_rules.specs.declared.refusal.Refusal.TheVariants.{OpenAlready, Full, NoPart, NoLevels, NoLeast}
+use Rattle.session_rules.specs.Refusals.{refusal_row}
 use Rattle.session_rules.specs.Items.{Item, Plain, Projected, LeastText, Whole, line}
-use Rattle.session_rules.specs.Replies.{next_of, level_of, listing, point_after, probe_line, if_any}
-use Rattle.session_rules.specs.Sessions.{Table, Entry, Outcome, Declined, carried, step, entry_of, outcome, when_open, with_number, becomes, tells, goes_to, goes_through, names_of, no_such, with_noted, state_of, new_entry, replies}
+use Rattle.session_rules.specs.Replies.{next_of, level_of, listing, point_after, told}
+use Rattle.session_rules.specs.Sessions.{Table, Entry, Outcome, Declined, carried, step, entry_of, outcome, when_open, with_number, becomes, tells, tells_lines, goes_to, goes_through, names_of, no_such, with_noted, state_of, new_entry, replies}
 use Rattle.session_rules.specs.Moves.{line_step}
 use Rattle.session_rules.specs.Alone.{Answer, lines_of, dialogue, names_session, closes_session, own_answers, Opens, AreAnsweredAlone}
 use Rattle.session_rules.proofs.Locality.{after_outcome, same_as_itself, own_step, own_items, others-stay}
@@ -39,12 +39,16 @@ either-open : (entry : Entry) (test : Bool) (one other : Outcome) → StaysOpen 
 either-open entry true one other first second = first
 either-open entry false one other first second = second
 
+told-open : (entry : Entry) (lines : Result (List (List (List ℕ))) Refusal) → StaysOpen (tells_lines lines) entry
+told-open entry (Ok lines) = (entry, refl)
+told-open entry (Err refusal) = (entry, refl)
+
 when_open-open : (system : System) (s : Name) (entry : Entry) (request : Request) → closes_session s (Ask s request) ≡ false → StaysOpen (when_open system s entry request) entry
 when_open-open system s entry Start goes = (entry, refl)
 when_open-open system s entry Stop goes = absurd (let closes = same_as_itself s in let never : ⊥ = cc in never)
 when_open-open system s entry (Note what name bit) goes =
     with_number-open entry (no_such what) (λ i. becomes s (with_noted entry what i bit) (codes "ok")) (place_of name (names_of system what)) (λ i. (with_noted entry what i bit, refl))
-when_open-open system s entry Min goes = (entry, refl)
+when_open-open system s entry (Tell question) goes = told-open entry (told system s entry.known question)
 when_open-open system s entry Next goes = (record entry { point = (next_of system s (all_diagnoses system entry.known) entry.point).point }, refl)
 when_open-open system s entry (Several count) goes =
     let found = listing (next_of system s (all_diagnoses system entry.known)) count entry.point in
@@ -52,10 +56,6 @@ when_open-open system s entry (Several count) goes =
 when_open-open system s entry (After names) goes =
     either-open entry (list_all (λ name. is_among system.parts name) names) (becomes s (record entry { point = Some (state_of names system.parts) }) (codes "ok")) (Declined NoPart)
     (record entry { point = Some (state_of names system.parts) }, refl) (entry, refl)
-when_open-open system s entry (Probe name) goes =
-    with_number-open entry NoWire (λ wire. tells (if_any s (system.consistent entry.known) (probe_line system s entry.known name wire ∷ []))) (place_of name system.wires) (λ i. (entry, refl))
-when_open-open system s entry Probes goes = (entry, refl)
-when_open-open system s entry Blame goes = (entry, refl)
 when_open-open system s entry Dnnf goes = (entry, refl)
 when_open-open system s entry Level goes =
     let level = λ (top : ℕ). level_of system s top (system.consistent entry.known) entry.point in
@@ -86,7 +86,7 @@ refused_apart s tail e =
     omega (arith, long, short, e)
 
 declined_apart : (s : Name) (refusal : Refusal) (t : Table) → (carried t s (Declined refusal)).items ≡ line (s ∷ codes "open" ∷ []) ∷ [] → ⊥
-declined_apart s refusal t e = refused_apart s (decimal (refusal_number refusal) ++ (32 ∷ (refusal_text refusal ++ 10 ∷ []))) (ap (λ items. length (first_bytes items)) e)
+declined_apart s refusal t e = refused_apart s (decimal (refusal_row refusal).0 ++ (32 ∷ ((refusal_row refusal).1 ++ 10 ∷ []))) (ap (λ items. length (first_bytes items)) e)
 
 -- ---- the answers of one session
 
@@ -105,8 +105,8 @@ module _ (system : System) (limit : ℕ) (s : Name) where
   outcome-open m request t entry is = ap (λ e. outcome system s (nat_le m (length t)) e request) is
 
   -- an open session is told the same from both tables
-  told : (request : Request) (t u : Table) (both : Both t u) → (step system limit t (Ask s request)).items ≡ (step system 1 u (Ask s request)).items
-  told request t u (entry, a, b) =
+  told_same : (request : Request) (t u : Table) (both : Both t u) → (step system limit t (Ask s request)).items ≡ (step system 1 u (Ask s request)).items
+  told_same request t u (entry, a, b) =
       ap (λ o. (carried t s o).items) (outcome-open limit request t entry a)
       ∙ (own_items s (when_open system s entry request) t u
       ∙ ap (λ o. (carried u s o).items) (sym (outcome-open 1 request u entry b)))
@@ -237,7 +237,7 @@ as_told system m t (bytes ∷ lines) = ap (λ later. record { bytes = bytes; ite
 
 pub answers-tell : (system : System) (limit : ℕ) (s : Name) → IsTelling system limit s (answers_of system)
 answers-tell system limit s = record {
-  same = λ bytes request t u both asked. ap (λ l. (step system limit t l).items) asked ∙ (told system limit s request t u both ∙ sym (ap (λ l. (step system 1 u l).items) asked));
+  same = λ bytes request t u both asked. ap (λ l. (step system limit t l).items) asked ∙ (told_same system limit s request t u both ∙ sym (ap (λ l. (step system 1 u l).items) asked));
   opening = λ m t bytes asked. ap (λ l. (step system m t l).items) asked;
 }
 

@@ -1,7 +1,7 @@
 -- Beginnings of texts.
-use Rattle.std.proofs.Common.{ℕ, List, [], ◌∷◌, ◌++◌, Option, refl, sym, subst, append_assoc}
+use Rattle.std.proofs.Common.{ℕ, List, [], ◌∷◌, ◌++◌, map, Option, refl, sym, subst, append_assoc}
 use Rattle.diag_edge.proofs.Growing.{grows_more}
-use Rattle.session_rules.specs.Items.{Item}
+use Rattle.session_rules.specs.Items.{Item, line}
 use Rattle.session_rules.specs.Spelling.{Spelled, Spells, Begins, Writes, WritesPart}
 use Rattle.session_rules.proofs.Spellings.{spells_more}
 
@@ -22,6 +22,11 @@ have_after (x ∷ xs) ys h = have_after xs ys h.1
 pub have_both : (xs ys : List Item) → HaveSpellings xs → HaveSpellings ys → HaveSpellings (xs ++ ys)
 have_both [] ys h k = k
 have_both (x ∷ xs) ys h k = (h.0, have_both xs ys h.1 k)
+
+-- each line is spelled by its text
+pub lines-have : (lines : List (List (List ℕ))) → HaveSpellings (map line lines)
+lines-have [] = tt
+lines-have (words ∷ lines) = ((_, refl), lines-have lines)
 
 -- what begins some items begins more of them
 pub begins_more : (xs ys : List Item) (text : List ℕ) → Begins xs text → HaveSpellings ys → Begins (xs ++ ys) text

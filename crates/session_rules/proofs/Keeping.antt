@@ -1,5 +1,5 @@
 -- What is answered keeps a place for each wire and each part in every case.
-use Rattle.std.proofs.Common.{◌≡◌, ℕ, Bool, true, false, [], ◌∷◌, length, refl, ap, sym, ◌∙◌, Option, Some, None, subst, Equal}
+use Rattle.std.proofs.Common.{◌≡◌, ℕ, Bool, true, false, List, [], ◌∷◌, length, Result, Ok, Err, refl, ap, sym, ◌∙◌, Option, Some, None, subst, Equal}
 use Rattle.std.specs.Prelude.{cond, not, nat_le, codes, if◌then◌else◌}
 use Rattle.std.specs.List.{list_all}
 use Rattle.std.specs.Ordering.{nat_cmp, is_eq}
@@ -11,16 +11,16 @@ use Rattle.std.proofs.lemmas.List.{length-set, length-replicate}
 use Rattle.text_rules.specs.Names.{Name, same_name, is_among}
 use Rattle.text_rules.proofs.NameLemmas.{equal_if_same}
 use Rattle.device_model.specs.Devices.{place_of}
-use Rattle.script_lang.specs.Script.{Line, Blank, Refused, Ask, Request, Start, Stop, Note, Min, Next, Several, After, Probe, Probes, Blame, Dnnf, Level, Levels, LeastNnf}
+use Rattle.script_lang.specs.Script.{Line, Blank, Refused, Ask, Request, Start, Stop, Note, Tell, Next, Several, After, Dnnf, Level, Levels, LeastNnf}
 use Rattle.script_lang.specs.declared.line.Noted.{Noted}
 use Rattle.script_lang.specs.declared.line.Noted.TheVariants.{Wire, Part}
 use Rattle.ranking.specs.Cases.{Case}
 use Rattle.ranking.specs.Systems.{System, all_diagnoses}
 use Rattle.session_rules.specs.declared.refusal.Refusal.{Refusal}
-use Rattle.session_rules.specs.declared.refusal.Refusal.TheVariants.{Full, NoWire, NoPart, NoLevels, NoLeast}
+use Rattle.session_rules.specs.declared.refusal.Refusal.TheVariants.{Full, NoPart, NoLevels, NoLeast}
 use Rattle.session_rules.specs.Items.{LeastText, line}
-use Rattle.session_rules.specs.Replies.{level_of, listing, probe_line, if_any}
-use Rattle.session_rules.specs.Sessions.{Entry, Table, Outcome, Declined, Done, Change, Stays, Becomes, Ends, entry_of, without, changed, carried, when_open, outcome, outcome_in, with_number, becomes, tells, goes_to, goes_through, step, names_of, no_such, noted, with_noted, state_of, new_entry}
+use Rattle.session_rules.specs.Replies.{level_of, listing, told}
+use Rattle.session_rules.specs.Sessions.{Entry, Table, Outcome, Declined, Done, Change, Stays, Becomes, Ends, entry_of, without, changed, carried, when_open, outcome, outcome_in, with_number, becomes, tells, tells_lines, goes_to, goes_through, step, names_of, no_such, noted, with_noted, state_of, new_entry}
 use Rattle.session_rules.specs.CaseSizes.{IsCaseOf, HasCasesOf}
 
 -- the empty table has no case
@@ -53,6 +53,10 @@ module _ (system : System) where
   chosen true one other h k = h
   chosen false one other h k = k
 
+  told-keeps : (lines : Result (List (List (List ℕ))) Refusal) → Keeps system (tells_lines lines)
+  told-keeps (Ok lines) = tt
+  told-keeps (Err refusal) = tt
+
   noted-keeps : (what : Noted) (known : Case) (i : ℕ) (bit : Option Bool) → IsCaseOf system known → IsCaseOf system (noted what known i bit)
   noted-keeps Wire known i bit h = (length-set known.seen i bit ∙ h.0, h.1)
   noted-keeps Part known i bit h = (h.0, length-set known.held i bit ∙ h.1)
@@ -62,15 +66,11 @@ module _ (system : System) where
   when_open-keeps s entry h Stop = tt
   when_open-keeps s entry h (Note what name bit) =
       placed (no_such what) (λ i. becomes s (with_noted entry what i bit) (codes "ok")) (place_of name (names_of system what)) (λ i. noted-keeps what entry.known i bit h)
-  when_open-keeps s entry h Min = tt
+  when_open-keeps s entry h (Tell question) = told-keeps (told system s entry.known question)
   when_open-keeps s entry h Next = h
   when_open-keeps s entry h (Several count) = h
   when_open-keeps s entry h (After names) =
       chosen (list_all (λ name. is_among system.parts name) names) (becomes s (record entry { point = Some (state_of names system.parts) }) (codes "ok")) (Declined NoPart) h tt
-  when_open-keeps s entry h (Probe name) =
-      placed NoWire (λ wire. tells (if_any s (system.consistent entry.known) (probe_line system s entry.known name wire ∷ []))) (place_of name system.wires) (λ i. tt)
-  when_open-keeps s entry h Probes = tt
-  when_open-keeps s entry h Blame = tt
   when_open-keeps s entry h Dnnf = tt
   when_open-keeps s entry h Level =
       placed NoLevels (λ top. goes_to entry (level_of system s top (system.consistent entry.known) entry.point)) system.extras.levels (λ top. h)

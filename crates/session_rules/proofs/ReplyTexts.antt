@@ -1,12 +1,12 @@
 -- Every reply over a graph has a text, so what was written where a script broke off begins its replies.
-use Rattle.std.proofs.Common.{◌≡◌, ℕ, zero, suc, ◌+◌, ◌^◌, ◌<◌, ◌≤◌, Bool, true, false, List, [], ◌∷◌, ◌++◌, map, length, Option, Some, None, refl, sym, subst, arith}
-use Rattle.std.specs.Prelude.{nat_le, if◌then◌else◌, codes, is_some}
+use Rattle.std.proofs.Common.{◌≡◌, ℕ, zero, suc, ◌+◌, ◌^◌, ◌<◌, ◌≤◌, Bool, true, false, List, [], ◌∷◌, ◌++◌, map, length, Option, Some, None, Result, Ok, Err, refl, sym, subst, arith}
+use Rattle.std.specs.Prelude.{nat_le, if◌then◌else◌, codes}
 use Rattle.std.specs.List.{list_all}
 use Rattle.text_rules.specs.Names.{Name, is_among}
 use Rattle.ranking.specs.Cases.{Case}
 use Rattle.ranking.specs.Ranking.{rest, diagnoses}
 use Rattle.ranking.specs.Levels.{levels, levels_rest}
-use Rattle.ranking.specs.Systems.{System, least_cost, all_diagnoses}
+use Rattle.ranking.specs.Systems.{System, all_diagnoses}
 use Rattle.device_model.specs.Devices.{place_of}
 use Rattle.graph_rules.specs.Graphs.{IsGraph}
 use Rattle.graph_rules.specs.GraphTexts.{parsed}
@@ -14,20 +14,20 @@ use Rattle.conditioner.specs.Models.{models}
 use Rattle.graph_rules.specs.StateGraphs.{IsSmoothGraphOfStates}
 use Rattle.projector.specs.Projecting.{projection, projected_text}
 use Rattle.projector.proofs.Projected.{projected_text-is_neat, projected_text-means}
-use Rattle.script_lang.specs.Script.{Line, Blank, Refused, Ask, Request, Start, Stop, Note, Min, Next, Several, After, Probe, Probes, Blame, Dnnf, Level, Levels, LeastNnf, line_of}
+use Rattle.script_lang.specs.Script.{Line, Blank, Refused, Ask, Request, Start, Stop, Note, Tell, Next, Several, After, Dnnf, Level, Levels, LeastNnf, line_of}
 use Rattle.session_rules.specs.declared.refusal.Refusal.{Refusal}
-use Rattle.session_rules.specs.declared.refusal.Refusal.TheVariants.{Full, NoWire, NoPart, NoLevels, NoLeast}
+use Rattle.session_rules.specs.declared.refusal.Refusal.TheVariants.{Full, NoPart, NoLevels, NoLeast}
 use Rattle.smooth_nnf.specs.Layouts.{least_graph, least_text}
 use Rattle.smooth_nnf.proofs.WholeText.{least_text-is_neat, least_text-means}
 use Rattle.session_rules.specs.Items.{Item, Projected, LeastText, line}
-use Rattle.session_rules.specs.Replies.{Found, min_line, found, next_of, level_line, level_of, listing, seen_at, probe_line, probe_lines, blame_lines, if_any, end_line, diagnosis_line}
-use Rattle.session_rules.specs.Sessions.{Table, Entry, Outcome, Declined, Done, with_number, becomes, tells, goes_to, goes_through, names_of, no_such, with_noted, new_entry, state_of, when_open, outcome, outcome_in, entry_of, carried, step, replies}
+use Rattle.session_rules.specs.Replies.{Found, found, next_of, level_line, level_of, listing, diagnosis_line, told}
+use Rattle.session_rules.specs.Sessions.{Table, Entry, Outcome, Declined, Done, with_number, becomes, tells, tells_lines, goes_to, goes_through, names_of, no_such, with_noted, new_entry, state_of, when_open, outcome, outcome_in, entry_of, carried, step, replies}
 use Rattle.session_rules.specs.Moves.{left_by, line_moves, script_moves}
 use Rattle.session_rules.specs.Spelling.{Spelled, WritesPart}
 use Rattle.session_rules.specs.Carrying.{BreaksOff}
 use Rattle.session_rules.specs.GraphSystems.{Subject, HasLeastTexts, system_of, case_words}
 use Rattle.session_rules.specs.CaseSizes.{IsCaseOf, HasCasesOf}
-use Rattle.session_rules.proofs.Begun.{HaveSpellings, have_both}
+use Rattle.session_rules.proofs.Begun.{HaveSpellings, have_both, lines-have}
 use Rattle.session_rules.proofs.Broken.{breaks_before, script_moves-append, broken_replies}
 use Rattle.session_rules.proofs.CaseWords.{length-case_words}
 use Rattle.session_rules.proofs.Keeping.{step-keeps}
@@ -56,14 +56,6 @@ listing-have next h (suc n) point =
       ],
     )
 
-if_any-have : (s : Name) (states : List (List Bool)) (items : List Item) → HaveSpellings items → HaveSpellings (if_any s states items)
-if_any-have s [] items h = ((_, refl), tt)
-if_any-have s (state ∷ states) items h = h
-
-blame_lines-have : (s : Name) (ds : List (List Bool)) (part : ℕ) (names : List Name) → HaveSpellings (blame_lines s ds part names)
-blame_lines-have s ds part [] = tt
-blame_lines-have s ds part (name ∷ names) = ((_, refl), blame_lines-have s ds (part + 1) names)
-
 abbrev OutcomeHas : Outcome → Type 0
 OutcomeHas (Declined refusal) = Unit {0}
 OutcomeHas (Done change items) = HaveSpellings items
@@ -76,6 +68,11 @@ chosen : (b : Bool) (one other : Outcome) → OutcomeHas one → OutcomeHas othe
 chosen true one other h k = h
 chosen false one other h k = k
 
+-- lines that are told
+told-have : (lines : Result (List (List (List ℕ))) Refusal) → OutcomeHas (tells_lines lines)
+told-have (Ok lines) = lines-have lines
+told-have (Err refusal) = tt
+
 -- an item that is told behind a line, where it is told
 told-has : (s : Name) (word : List ℕ) (item : Item) (told : Bool) → (told ≡ true → HasText item) → OutcomeHas (if told then tells (line (s ∷ word ∷ []) ∷ item ∷ []) else Declined NoLeast)
 told-has s word item true h = ((_, refl), (h refl, tt))
@@ -86,27 +83,12 @@ carried-has s (Declined refusal) table h = ((_, refl), tt)
 carried-has s (Done change items) table h = h
 
 module _ (system : System) where
-  min-has : (s : Name) (fewest : Option ℕ) (ds : List (List Bool)) → HasText (min_line system s fewest ds)
-  min-has s fewest [] = (_, refl)
-  min-has s fewest (d ∷ ds) = (_, refl)
-
   next-has : (s : Name) (ds : List (List Bool)) (point : Option (List Bool)) → HasText (next_of system s ds point).item
   next-has s ds point = found-has s (diagnosis_line system s) (λ state. (_, refl)) point ds (rest ds point)
 
   level-has : (s : Name) (top : ℕ) (states : List (List Bool)) (point : Option (List Bool)) → HasText (level_of system s top states point).item
   level-has s top states point =
       found-has s (level_line system s) (λ state. (_, refl)) point states (levels_rest system.costs (levels system.costs top states) point)
-
-  probe_lines-have : (s : Name) (known : Case) (wire : ℕ) (names : List Name) → HaveSpellings (probe_lines system s known wire names)
-  probe_lines-have s known wire [] = tt
-  probe_lines-have s known wire (name ∷ names) =
-      elim (is_some (seen_at known wire)) as (λ b. HaveSpellings (elim b as (λ _. List Item) [
-        | true ↦ probe_lines system s known (wire + 1) names
-        | false ↦ probe_line system s known name wire ∷ probe_lines system s known (wire + 1) names
-      ])) [
-        | true ↦ probe_lines-have s known (wire + 1) names
-        | false ↦ ((_, refl), probe_lines-have s known (wire + 1) names)
-      ]
 
   -- Where the states of each case have a text, and its diagnoses where their graph is told
   module _ (projected : (known : Case) → IsCaseOf system known → HasText (Projected (length system.parts) (system.consistent known)))
@@ -116,24 +98,12 @@ module _ (system : System) where
     when_open-has s entry h Stop = ((_, refl), tt)
     when_open-has s entry h (Note what name bit) =
         placed (no_such what) (λ i. becomes s (with_noted entry what i bit) (codes "ok")) (place_of name (names_of system what)) (λ i. ((_, refl), tt))
-    when_open-has s entry h Min = (min-has s (least_cost system entry.known) (all_diagnoses system entry.known), tt)
+    when_open-has s entry h (Tell question) = told-have (told system s entry.known question)
     when_open-has s entry h Next = (next-has s (all_diagnoses system entry.known) entry.point, tt)
     when_open-has s entry h (Several count) =
         let ds = all_diagnoses system entry.known in listing-have (next_of system s ds) (next-has s ds) count entry.point
     when_open-has s entry h (After names) =
         chosen (list_all (λ name. is_among system.parts name) names) (becomes s (record entry { point = Some (state_of names system.parts) }) (codes "ok")) (Declined NoPart) ((_, refl), tt) tt
-    when_open-has s entry h (Probe name) =
-        let states = system.consistent entry.known in
-        placed NoWire (λ wire. tells (if_any s states (probe_line system s entry.known name wire ∷ []))) (place_of name system.wires)
-        (λ wire. if_any-have s states (probe_line system s entry.known name wire ∷ []) ((_, refl), tt))
-    when_open-has s entry h Probes =
-        let lines = probe_lines system s entry.known 0 system.wires in
-        if_any-have s (system.consistent entry.known) (lines ++ end_line s ∷ [])
-        (have_both lines (end_line s ∷ []) (probe_lines-have s entry.known 0 system.wires) ((_, refl), tt))
-    when_open-has s entry h Blame =
-        let ds = all_diagnoses system entry.known in
-        let lines = blame_lines s ds 0 system.parts in
-        if_any-have s ds (lines ++ end_line s ∷ []) (have_both lines (end_line s ∷ []) (blame_lines-have s ds 0 system.parts) ((_, refl), tt))
     when_open-has s entry h Dnnf = ((_, refl), (projected entry.known h, tt))
     when_open-has s entry h Level =
         let level = λ (top : ℕ). level_of system s top (system.consistent entry.known) in
@@ -156,12 +126,12 @@ module _ (system : System) where
     step-has limit table (Ask s request) h =
         carried-has s (outcome_in system limit table s request) table (outcome-has s (nat_le limit (length table)) (entry_of s table) (h s) request)
 
-    lines-have : (limit : ℕ) (table : Table) (lines : List (List ℕ)) → HasCasesOf system table → HaveSpellings (replies system limit table lines)
-    lines-have limit table [] h = tt
-    lines-have limit table (l ∷ lines) h =
+    script-has : (limit : ℕ) (table : Table) (lines : List (List ℕ)) → HasCasesOf system table → HaveSpellings (replies system limit table lines)
+    script-has limit table [] h = tt
+    script-has limit table (l ∷ lines) h =
         let after = step system limit table (line_of l) in
         have_both after.items (replies system limit after.table lines) (step-has limit table (line_of l) h)
-        (lines-have limit after.table lines (step-keeps system limit table (line_of l) h))
+        (script-has limit after.table lines (step-keeps system limit table (line_of l) h))
 
 -- ---- over a graph
 
@@ -201,7 +171,7 @@ module _ (subject : Subject) (is : IsGraph subject.graph) (room : length subject
 
   -- each reply to a script has some text
   pub replies-have : (limit : ℕ) (table : Table) (lines : List (List ℕ)) → HasCasesOf (system_of subject) table → HaveSpellings (replies (system_of subject) limit table lines)
-  replies-have = lines-have system projected-has least-has
+  replies-have = script-has system projected-has least-has
 
   -- what was written where it broke off begins its replies
   pub broken_begins_replies : (limit : ℕ) (old new : Table) (lines : List (List ℕ)) (a b : Option (List ℕ)) → HasCasesOf (system_of subject) old

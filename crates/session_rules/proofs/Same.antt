@@ -1,5 +1,5 @@
 -- Two systems of the same names and costs, whose consistent states are the same for each case of theirs, answer alike.
-use Rattle.std.proofs.Common.{◌≡◌, ℕ, suc, ◌+◌, Bool, true, false, List, [], ◌∷◌, ◌++◌, map, length, refl, sym, subst, ap, ap₂, ◌∙◌, Option, Some, None, set}
+use Rattle.std.proofs.Common.{◌≡◌, ℕ, suc, ◌+◌, Bool, true, false, List, [], ◌∷◌, ◌++◌, map, length, refl, sym, subst, ap, ap₂, ◌∙◌, Option, Some, None, Ok, set}
 use Rattle.std.specs.Prelude.{nat_le, codes, is_some, if◌then◌else◌}
 use Rattle.std.proofs.lemmas.List.{length-set}
 use Rattle.text_rules.specs.Names.{Name}
@@ -7,13 +7,12 @@ use Rattle.ranking.specs.Cases.{Case}
 use Rattle.ranking.specs.Ranking.{least, diagnoses}
 use Rattle.ranking.specs.Systems.{System}
 use Rattle.device_model.specs.Devices.{place_of}
-use Rattle.script_lang.specs.Script.{Line, Blank, Refused, Ask, Request, Start, Stop, Note, Min, Next, Several, After, Probe, Probes, Blame, Dnnf, Level, Levels, LeastNnf, line_of}
+use Rattle.script_lang.specs.Script.{Line, Blank, Refused, Ask, Request, Start, Stop, Note, Tell, Next, Several, After, Question, Min, Probe, Probes, Blame, Dnnf, Level, Levels, LeastNnf, line_of}
 use Rattle.script_lang.specs.declared.line.Noted.TheVariants.{Wire, Part}
-use Rattle.session_rules.specs.declared.refusal.Refusal.{Refusal}
-use Rattle.session_rules.specs.declared.refusal.Refusal.TheVariants.{NoWire, NoLevels, NoLeast}
-use Rattle.session_rules.specs.Items.{Item, Projected, LeastText, line}
-use Rattle.session_rules.specs.Replies.{Found, min_line, next_of, level_of, listing, least_at, seen_at, probe_line, probe_lines, count_text, if_any, end_line, blame_lines}
-use Rattle.session_rules.specs.Sessions.{Entry, Table, Step, Outcome, Declined, entry_of, carried, when_open, outcome, outcome_in, with_number, tells, goes_to, goes_through, step, run, replies}
+use Rattle.session_rules.specs.declared.refusal.Refusal.TheVariants.{NoLevels, NoLeast}
+use Rattle.session_rules.specs.Items.{Projected, LeastText, line}
+use Rattle.session_rules.specs.Replies.{Found, min_line, next_of, level_of, listing, least_at, seen_at, probe_line, probe_lines, probe_told, count_text, if_any, end_line, blame_lines, told}
+use Rattle.session_rules.specs.Sessions.{Entry, Table, Step, Declined, entry_of, carried, when_open, outcome, outcome_in, with_number, tells, tells_lines, goes_to, goes_through, step, run, replies}
 use Rattle.session_rules.specs.Moves.{left_by, goes_on, listing_moves, next_for, level_for, level_moves, moves, line_moves, script_moves}
 use Rattle.session_rules.specs.CaseSizes.{IsCaseOf, HasCasesOf}
 use Rattle.session_rules.proofs.Keeping.{step-keeps}
@@ -33,11 +32,6 @@ module _ (one other : Table → List ℕ → List Step) (Holds : Table → Type 
       ap (λ ms. one t l ++ ms) (moves_of_lines-same (left_by t (one t l)) ls (kept t l h))
       ∙ ap (λ first. first ++ script_moves other (left_by t first) ls) (agree t l h)
 
--- one acts as the other where it finds a place
-same_place : (refusal : Refusal) (one other : ℕ → Outcome) (place : Option ℕ) → ((i : ℕ) → one i ≡ other i) → with_number refusal one place ≡ with_number refusal other place
-same_place refusal one other None e = refl
-same_place refusal one other (Some i) e = e i
-
 module _ (system : System) (consistent : Case → List (List Bool)) (same : (known : Case) → IsCaseOf system known → system.consistent known ≡ consistent known) where
   -- the system with the other states
   abbrev other : System
@@ -53,38 +47,39 @@ module _ (system : System) (consistent : Case → List (List Bool)) (same : (kno
 
   probe_line-same : (s : Name) (known : Case) (name : Name) (wire : ℕ) → IsCaseOf system known → probe_line system s known name wire ≡ probe_line other s known name wire
   probe_line-same s known name wire h =
-      ap₂ (λ x y. line (s ∷ codes "probe" ∷ name ∷ count_text x ∷ count_text y ∷ []))
+      ap₂ (λ x y. s ∷ codes "probe" ∷ name ∷ count_text x ∷ count_text y ∷ [])
       (least_at-same known wire false (seen_at known wire) h)
       (least_at-same known wire true (seen_at known wire) h)
 
   probe_lines-same : (s : Name) (known : Case) (wire : ℕ) (names : List Name) → IsCaseOf system known → probe_lines system s known wire names ≡ probe_lines other s known wire names
   probe_lines-same s known wire [] h = refl
   probe_lines-same s known wire (name ∷ names) h =
-      ap₂ (λ l ls. elim (is_some (seen_at known wire)) as (λ _. List Item) [ true ↦ ls | false ↦ l ∷ ls ])
+      ap₂ (λ l ls. elim (is_some (seen_at known wire)) as (λ _. List (List (List ℕ))) [ true ↦ ls | false ↦ l ∷ ls ])
       (probe_line-same s known name wire h) (probe_lines-same s known (wire + 1) names h)
+
+  probe_told-same : (s : Name) (known : Case) (name : Name) (place : Option ℕ) → IsCaseOf system known → probe_told system s known name place ≡ probe_told other s known name place
+  probe_told-same s known name None h = refl
+  probe_told-same s known name (Some wire) h = ap₂ (λ hs l. Ok (if_any s hs (l ∷ []))) (same known h) (probe_line-same s known name wire h)
+
+  -- what a question is told
+  told-same : (s : Name) (known : Case) (question : Question) → IsCaseOf system known → told system s known question ≡ told other s known question
+  told-same s known Min h = ap (λ hs. Ok (min_line system s (least system.costs hs) (diagnoses system.costs hs) ∷ [])) (same known h)
+  told-same s known (Probe name) h = probe_told-same s known name (place_of name system.wires) h
+  told-same s known Probes h = ap₂ (λ hs ls. Ok (if_any s hs (ls ++ end_line s ∷ []))) (same known h) (probe_lines-same s known 0 system.wires h)
+  told-same s known Blame h =
+      ap (λ hs. Ok (if_any s (diagnoses system.costs hs) (blame_lines s (diagnoses system.costs hs) 0 system.parts ++ end_line s ∷ []))) (same known h)
 
   when_open-same : (s : Name) (entry : Entry) (request : Request) → IsCaseOf system entry.known → when_open system s entry request ≡ when_open other s entry request
   when_open-same s entry Start h = refl
   when_open-same s entry Stop h = refl
   when_open-same s entry (Note Wire name bit) h = refl
   when_open-same s entry (Note Part name bit) h = refl
-  when_open-same s entry Min h =
-      ap (λ hs. tells (min_line system s (least system.costs hs) (diagnoses system.costs hs) ∷ [])) (same entry.known h)
+  when_open-same s entry (Tell question) h = ap tells_lines (told-same s entry.known question h)
   when_open-same s entry Next h =
       ap (λ hs. goes_to entry (next_of system s (diagnoses system.costs hs) entry.point)) (same entry.known h)
   when_open-same s entry (Several count) h =
       ap (λ hs. goes_through entry (listing (next_of system s (diagnoses system.costs hs)) count entry.point)) (same entry.known h)
   when_open-same s entry (After names) h = refl
-  when_open-same s entry (Probe name) h =
-      same_place NoWire
-      (λ wire. tells (if_any s (system.consistent entry.known) (probe_line system s entry.known name wire ∷ [])))
-      (λ wire. tells (if_any s (consistent entry.known) (probe_line other s entry.known name wire ∷ [])))
-      (place_of name system.wires)
-      (λ wire. ap₂ (λ hs l. tells (if_any s hs (l ∷ []))) (same entry.known h) (probe_line-same s entry.known name wire h))
-  when_open-same s entry Probes h =
-      ap₂ (λ hs ls. tells (if_any s hs (ls ++ end_line s ∷ []))) (same entry.known h) (probe_lines-same s entry.known 0 system.wires h)
-  when_open-same s entry Blame h =
-      ap (λ hs. tells (if_any s (diagnoses system.costs hs) (blame_lines s (diagnoses system.costs hs) 0 system.parts ++ end_line s ∷ []))) (same entry.known h)
   when_open-same s entry Dnnf h =
       ap (λ hs. tells (line (s ∷ codes "dnnf" ∷ []) ∷ Projected (length system.parts) hs ∷ [])) (same entry.known h)
   when_open-same s entry Level h =

@@ -1,5 +1,5 @@
--- The lines of replies: a minimum, the diagnoses one after the other, and what is told of wires and parts.
-use Rattle.std.specs.Prelude.{ℕ, zero, suc, ◌+◌, Bool, true, false, not, List, [], ◌∷◌, map, Option, Some, None, set, slice_index_or, codes, is_some, if◌then◌else◌}
+-- The lines of replies: the diagnoses one after the other, and what is told of a case.
+use Rattle.std.specs.Prelude.{ℕ, zero, suc, ◌+◌, Bool, true, false, not, List, [], ◌∷◌, ◌++◌, map, Option, Some, None, Result, Ok, Err, set, slice_index_or, codes, is_some, if◌then◌else◌}
 use Rattle.std.specs.Fmt.{decimal}
 use Rattle.std.specs.List.{list_any, list_all}
 use Rattle.text_rules.specs.Names.{Name}
@@ -7,7 +7,11 @@ use Rattle.ranking.specs.Bits.{bit_in}
 use Rattle.ranking.specs.Cases.{Case}
 use Rattle.ranking.specs.Ranking.{cost, rest}
 use Rattle.ranking.specs.Levels.{levels, levels_rest}
-use Rattle.ranking.specs.Systems.{System, least_cost}
+use Rattle.ranking.specs.Systems.{System, least_cost, all_diagnoses}
+use Rattle.device_model.specs.Devices.{place_of}
+use Rattle.script_lang.specs.Script.{Question, Min, Probe, Probes, Blame}
+use Rattle.session_rules.specs.declared.refusal.Refusal.{Refusal}
+use Rattle.session_rules.specs.declared.refusal.Refusal.TheVariants.{NoWire}
 use Rattle.session_rules.specs.Items.{Item, line}
 
 -- the names of the faulty parts
@@ -17,21 +21,16 @@ faulty_names (name ∷ names) [] = []
 faulty_names (name ∷ names) (true ∷ state) = faulty_names names state
 faulty_names (name ∷ names) (false ∷ state) = name ∷ faulty_names names state
 
-abbrev pub inconsistent : Name → Item
-inconsistent session = line (session ∷ codes "inconsistent" ∷ [])
+-- a line is its words
+abbrev pub inconsistent : Name → List (List ℕ)
+inconsistent session = session ∷ codes "inconsistent" ∷ []
 
-abbrev pub end_line : Name → Item
-end_line session = line (session ∷ codes "end" ∷ [])
+abbrev pub end_line : Name → List (List ℕ)
+end_line session = session ∷ codes "end" ∷ []
 
 abbrev pub count_text : Option ℕ → List ℕ
 count_text None = codes "-"
 count_text (Some n) = decimal n
-
--- the least cost, and one of the diagnoses
-abbrev pub min_line : System → Name → Option ℕ → List (List Bool) → Item
-min_line system session fewest [] = inconsistent session
-min_line system session fewest (state ∷ states) =
-    line (session ∷ codes "min" ∷ count_text fewest ∷ faulty_names system.parts state)
 
 -- the state that comes next, the point after it, and whether there was one
 pub record Found : Type 0 where
@@ -41,8 +40,8 @@ pub record Found : Type 0 where
 
 -- the first of the states that come later, of all that there are
 abbrev pub found : Name → (List Bool → Item) → Option (List Bool) → List (List Bool) → List (List Bool) → Found
-found session shown point [] later = record { item = inconsistent session; point = point; more = false }
-found session shown point (d ∷ ds) [] = record { item = end_line session; point = point; more = false }
+found session shown point [] later = record { item = line (inconsistent session); point = point; more = false }
+found session shown point (d ∷ ds) [] = record { item = line (end_line session); point = point; more = false }
 found session shown point (d ∷ ds) (state ∷ later) = record { item = shown state; point = Some state; more = true }
 
 abbrev pub diagnosis_line : System → Name → List Bool → Item
@@ -71,6 +70,11 @@ abbrev pub point_after : Option (List Bool) → List Found → Option (List Bool
 point_after point [] = point
 point_after point (f ∷ found) = point_after f.point found
 
+-- the least cost, and one of the diagnoses
+abbrev pub min_line : System → Name → Option ℕ → List (List Bool) → List (List ℕ)
+min_line system session fewest [] = inconsistent session
+min_line system session fewest (state ∷ states) = session ∷ codes "min" ∷ count_text fewest ∷ faulty_names system.parts state
+
 -- the least cost where a wire is seen so too, if that is not against what was seen
 abbrev pub least_at : System → Case → ℕ → Bool → Option Bool → Option ℕ
 least_at system known wire bit None = least_cost system (record known { seen = set known.seen wire (Some bit) })
@@ -82,13 +86,13 @@ least_at system known wire false (Some true) = None
 abbrev pub seen_at : Case → ℕ → Option Bool
 seen_at known wire = slice_index_or known.seen wire None
 
-abbrev pub probe_line : System → Name → Case → Name → ℕ → Item
+abbrev pub probe_line : System → Name → Case → Name → ℕ → List (List ℕ)
 probe_line system session known name wire =
-    line (session ∷ codes "probe" ∷ name ∷ count_text (least_at system known wire false (seen_at known wire))
-    ∷ count_text (least_at system known wire true (seen_at known wire)) ∷ [])
+    session ∷ codes "probe" ∷ name ∷ count_text (least_at system known wire false (seen_at known wire))
+    ∷ count_text (least_at system known wire true (seen_at known wire)) ∷ []
 
 -- a line for each wire that is not seen, from this place on
-abbrev pub probe_lines : System → Name → Case → ℕ → List Name → List Item
+abbrev pub probe_lines : System → Name → Case → ℕ → List Name → List (List (List ℕ))
 probe_lines system session known wire [] = []
 probe_lines system session known wire (name ∷ names) =
     elim (is_some (seen_at known wire)) [
@@ -102,13 +106,29 @@ verdict faulty =
     if list_all (λ b. b) faulty then codes "always" else if list_any (λ b. b) faulty then codes "sometimes" else codes "never"
 
 -- a line for each part, from this place on
-abbrev pub blame_lines : Name → List (List Bool) → ℕ → List Name → List Item
+abbrev pub blame_lines : Name → List (List Bool) → ℕ → List Name → List (List (List ℕ))
 blame_lines session ds part [] = []
 blame_lines session ds part (name ∷ names) =
-    line (session ∷ codes "blame" ∷ name ∷ verdict (map (λ state. not (bit_in state part)) ds) ∷ [])
+    (session ∷ codes "blame" ∷ name ∷ verdict (map (λ state. not (bit_in state part)) ds) ∷ [])
     ∷ blame_lines session ds (part + 1) names
 
--- these items, or the one that says so where no state agrees
-abbrev pub if_any : Name → List (List Bool) → List Item → List Item
-if_any session [] items = inconsistent session ∷ []
-if_any session (state ∷ states) items = items
+-- these lines, or the one that says so where no state agrees
+abbrev pub if_any : Name → List (List Bool) → List (List (List ℕ)) → List (List (List ℕ))
+if_any session [] lines = inconsistent session ∷ []
+if_any session (state ∷ states) lines = lines
+
+-- the line of a wire by its place, or that there is none
+abbrev pub probe_told : System → Name → Case → Name → Option ℕ → Result (List (List (List ℕ))) Refusal
+probe_told system session known name None = Err NoWire
+probe_told system session known name (Some wire) =
+    Ok (if_any session (system.consistent known) (probe_line system session known name wire ∷ []))
+
+-- what a question is told, line by line, or why it is not
+abbrev pub told : System → Name → Case → Question → Result (List (List (List ℕ))) Refusal
+told system session known Min = Ok (min_line system session (least_cost system known) (all_diagnoses system known) ∷ [])
+told system session known (Probe name) = probe_told system session known name (place_of name system.wires)
+told system session known Probes =
+    Ok (if_any session (system.consistent known) (probe_lines system session known 0 system.wires ++ end_line session ∷ []))
+told system session known Blame =
+    let ds = all_diagnoses system known in
+    Ok (if_any session ds (blame_lines session ds 0 system.parts ++ end_line session ∷ []))

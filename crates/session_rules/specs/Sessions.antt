@@ -1,5 +1,5 @@
 -- Sessions over a system, and the replies to the lines of a script.
-use Rattle.std.specs.Prelude.{ℕ, Bool, not, List, [], ◌∷◌, ◌++◌, map, length, Option, Some, None, set, codes, nat_le, if◌then◌else◌}
+use Rattle.std.specs.Prelude.{ℕ, Bool, not, List, [], ◌∷◌, ◌++◌, map, length, Option, Some, None, Result, Ok, Err, set, codes, nat_le, if◌then◌else◌}
 use Rattle.std.specs.Fmt.{decimal}
 use Rattle.std.specs.Ordering.{nat_cmp}
 use Rattle.std.specs.Cmp.Lexicographic.{slice_cmp}
@@ -8,16 +8,16 @@ use Rattle.std.specs.FinMap.{find, put}
 use Rattle.text_rules.specs.Names.{Name, same_name, is_among}
 use Rattle.ranking.specs.Cases.{Case, empty_case}
 use Rattle.device_model.specs.Devices.{place_of}
-use Rattle.script_lang.specs.Script.{Line, Blank, Refused, Ask, Request, Start, Stop, Note, Min, Next, Several, After, Probe, Probes, Blame, Dnnf, Level, Levels, LeastNnf, line_of}
-use Rattle.ranking.specs.Systems.{System, least_cost, all_diagnoses}
+use Rattle.script_lang.specs.Script.{Line, Blank, Refused, Ask, Request, Start, Stop, Note, Tell, Next, Several, After, Dnnf, Level, Levels, LeastNnf, line_of}
+use Rattle.ranking.specs.Systems.{System, all_diagnoses}
 use Rattle.script_lang.specs.declared.line.Noted.{Noted}
 use Rattle.script_lang.specs.declared.line.Noted.TheVariants.{Wire, Part}
 use Rattle.script_lang.specs.Refusals as line_refusals
 use Rattle.session_rules.specs.declared.refusal.Refusal.{Refusal}
 use Rattle.session_rules.specs.declared.refusal.Refusal.TheVariants.{NoSession, OpenAlready, Full, NoWire, NoPart, NoLevels, NoLeast}
-use Rattle.session_rules.specs.Refusals.{refusal_number, refusal_text}
+use Rattle.session_rules.specs.Refusals.{refusal_row}
 use Rattle.session_rules.specs.Items.{Item, Projected, LeastText, line}
-use Rattle.session_rules.specs.Replies.{Found, end_line, min_line, next_of, level_of, listing, point_after, probe_line, probe_lines, blame_lines, if_any}
+use Rattle.session_rules.specs.Replies.{Found, next_of, level_of, listing, point_after, told}
 
 -- what a session knows, and the state after which it goes on
 pub record Entry : Type 0 where
@@ -55,6 +55,11 @@ pub data Outcome : Type 0 where
 abbrev pub tells : List Item → Outcome
 tells items = Done Stays items
 
+-- what is told, line by line, or the refusal
+abbrev pub tells_lines : Result (List (List (List ℕ))) Refusal → Outcome
+tells_lines (Ok lines) = tells (map line lines)
+tells_lines (Err refusal) = Declined refusal
+
 -- the session becomes this, and one word is said
 abbrev pub becomes : Name → Entry → List ℕ → Outcome
 becomes session entry word = Done (Becomes entry) (line (session ∷ word ∷ []) ∷ [])
@@ -72,9 +77,6 @@ names_of system Part = system.parts
 abbrev pub no_such : Noted → Refusal
 no_such Wire = NoWire
 no_such Part = NoPart
-
-abbrev pub at_name : System → Noted → Name → (ℕ → Outcome) → Outcome
-at_name system what name act = with_number (no_such what) act (place_of name (names_of system what))
 
 -- what is done up to the cost up to which states are listed
 abbrev pub up_to_level : System → (ℕ → Outcome) → Outcome
@@ -109,9 +111,9 @@ abbrev pub when_open : System → Name → Entry → Request → Outcome
 when_open system s entry Start = Declined OpenAlready
 when_open system s entry Stop = Done Ends (line (s ∷ codes "closed" ∷ []) ∷ [])
 when_open system s entry (Note what name bit) =
-    at_name system what name (λ place. becomes s (with_noted entry what place bit) (codes "ok"))
-when_open system s entry Min =
-    tells (min_line system s (least_cost system entry.known) (all_diagnoses system entry.known) ∷ [])
+    with_number (no_such what) (λ place. becomes s (with_noted entry what place bit) (codes "ok"))
+    (place_of name (names_of system what))
+when_open system s entry (Tell question) = tells_lines (told system s entry.known question)
 when_open system s entry Next =
     goes_to entry (next_of system s (all_diagnoses system entry.known) entry.point)
 when_open system s entry (Several count) =
@@ -120,12 +122,6 @@ when_open system s entry (After names) =
     if list_all (λ name. is_among system.parts name) names
     then becomes s (record entry { point = Some (state_of names system.parts) }) (codes "ok")
     else Declined NoPart
-when_open system s entry (Probe name) = at_name system Wire name (λ wire.
-    tells (if_any s (system.consistent entry.known) (probe_line system s entry.known name wire ∷ [])))
-when_open system s entry Probes =
-    tells (if_any s (system.consistent entry.known) (probe_lines system s entry.known 0 system.wires ++ end_line s ∷ []))
-when_open system s entry Blame =
-    let ds = all_diagnoses system entry.known in tells (if_any s ds (blame_lines s ds 0 system.parts ++ end_line s ∷ []))
 when_open system s entry Dnnf =
     tells (line (s ∷ codes "dnnf" ∷ []) ∷ Projected (length system.parts) (system.consistent entry.known) ∷ [])
 when_open system s entry Level = up_to_level system (λ top.
@@ -153,11 +149,12 @@ pub record Step : Type 0 where
   pub table : Table
   pub items : List Item
 
+-- the words of a refusal, by its number and what it says
+abbrev pub error_words : ℕ × List ℕ → List (List ℕ)
+error_words row = codes "error" ∷ decimal row.0 ∷ row.1 ∷ []
+
 abbrev pub carried : Table → Name → Outcome → Step
-carried table session (Declined refusal) = record {
-  table = table;
-  items = line (session ∷ codes "error" ∷ decimal (refusal_number refusal) ∷ refusal_text refusal ∷ []) ∷ [];
-}
+carried table session (Declined refusal) = record { table = table; items = line (session ∷ error_words (refusal_row refusal)) ∷ [] }
 carried table session (Done change items) = record { table = changed session change table; items = items }
 
 -- what a request comes to, where at most so many sessions may be open
@@ -167,10 +164,8 @@ outcome_in system limit table session request =
 
 abbrev pub step : System → ℕ → Table → Line → Step
 step system limit table Blank = record { table = table; items = [] }
-step system limit table (Refused refusal) = record {
-  table = table;
-  items = line (codes "error" ∷ decimal (line_refusals.refusal_number refusal) ∷ line_refusals.refusal_text refusal ∷ []) ∷ [];
-}
+step system limit table (Refused refusal) =
+    record { table = table; items = line (error_words (line_refusals.refusal_row refusal)) ∷ [] }
 step system limit table (Ask session request) = carried table session (outcome_in system limit table session request)
 
 -- what lines are answered one after the other

@@ -1,5 +1,5 @@
 ghost use Rattle.std.specs.Prelude.{◌≡◌};
-ghost use Rattle.session_rules.specs.Refusals.{refusal_number, refusal_text};
+ghost use Rattle.session_rules.specs.Refusals.{refusal_row};
 
 /// Why what a line asks is not done. Nothing changes then.
 #[derive(Clone, Copy, Debug, PartialEq, Eq)]
@@ -21,33 +21,33 @@ pub enum Refusal {
 }
 
 impl Refusal {
-    /// The number of the refusal, 6 to 12: those of lines come before.
-    pub fn number(self) -> u32
-        ensures { result ≡ refusal_number self }
+    // The number of the refusal, and what it says.
+    fn row(self) -> (u32, &'static str)
+        ensures number { result.0 ≡ (refusal_row self).0 }
+        ensures text { result.1.now ≡ (refusal_row self).1 }
     {
         match self {
-            Refusal::NoSession => 6,
-            Refusal::OpenAlready => 7,
-            Refusal::Full => 8,
-            Refusal::NoWire => 9,
-            Refusal::NoPart => 10,
-            Refusal::NoLevels => 11,
-            Refusal::NoLeast => 12,
+            Refusal::NoSession => (6, "no session"),
+            Refusal::OpenAlready => (7, "open already"),
+            Refusal::Full => (8, "full"),
+            Refusal::NoWire => (9, "no wire"),
+            Refusal::NoPart => (10, "no part"),
+            Refusal::NoLevels => (11, "no levels"),
+            Refusal::NoLeast => (12, "no least"),
         }
+    }
+
+    /// The number of the refusal, 6 to 12: those of lines come before.
+    pub fn number(self) -> u32
+        ensures { result ≡ (refusal_row self).0 }
+    {
+        self.row().0
     }
 
     /// What the refusal says.
     pub fn text(self) -> &'static str
-        ensures { result.now ≡ refusal_text self }
+        ensures { result.now ≡ (refusal_row self).1 }
     {
-        match self {
-            Refusal::NoSession => "no session",
-            Refusal::OpenAlready => "open already",
-            Refusal::Full => "full",
-            Refusal::NoWire => "no wire",
-            Refusal::NoPart => "no part",
-            Refusal::NoLevels => "no levels",
-            Refusal::NoLeast => "no least",
-        }
+        self.row().1
     }
 }

@@ -52,56 +52,59 @@ fn has(
     }
 }
 
+// What is done one after the other: the session, the act, and what the session then has, unless it is closed.
+const ACTS: [(&[u8; 1], Act, Option<&[u32; 5]>, Option<u32>); 12] = [
+    (b"b", Act::Start, Some(&[0, 0, 0, 0, 0]), None),
+    (b"a", Act::Start, Some(&[0, 0, 0, 0, 0]), None),
+    (
+        b"b",
+        Act::Note(Noted::Wire, 1, Some(false)),
+        Some(&[0, 0, 0, 2, 0]),
+        None,
+    ),
+    (
+        b"a",
+        Act::Note(Noted::Part, 0, Some(true)),
+        Some(&[1, 0, 0, 0, 0]),
+        None,
+    ),
+    (b"a", Act::Point(0), Some(&[1, 0, 0, 0, 0]), Some(0)),
+    (b"b", Act::Point(1), Some(&[0, 0, 0, 2, 0]), Some(1)),
+    (
+        b"b",
+        Act::Note(Noted::Wire, 0, Some(true)),
+        Some(&[0, 0, 1, 2, 0]),
+        None,
+    ),
+    (
+        b"b",
+        Act::Note(Noted::Wire, 1, None),
+        Some(&[0, 0, 1, 0, 0]),
+        None,
+    ),
+    (
+        b"a",
+        Act::Note(Noted::Part, 1, Some(true)),
+        Some(&[1, 1, 0, 0, 0]),
+        None,
+    ),
+    (
+        b"a",
+        Act::Note(Noted::Part, 0, None),
+        Some(&[0, 1, 0, 0, 0]),
+        None,
+    ),
+    (b"a", Act::Stop, None, None),
+    (b"a", Act::Start, Some(&[0, 0, 0, 0, 0]), None),
+];
+
 // Of five variables the first two are the parts and the next two the wires. What is done to one session changes it alone.
 #[test]
 fn keeps_sessions_apart(rt: HostRuntime) -> Result<(), Fail> {
     let mut sessions = OpenSessions::new(rt.alloc(), 2, 2, 5, 2)?;
     let mut first = (None, None);
     let mut second = (None, None);
-    for (name, act, words, faulty) in [
-        (b"b", Act::Start, Some(&[0, 0, 0, 0, 0]), None),
-        (b"a", Act::Start, Some(&[0, 0, 0, 0, 0]), None),
-        (
-            b"b",
-            Act::Note(Noted::Wire, 1, Some(false)),
-            Some(&[0, 0, 0, 2, 0]),
-            None,
-        ),
-        (
-            b"a",
-            Act::Note(Noted::Part, 0, Some(true)),
-            Some(&[1, 0, 0, 0, 0]),
-            None,
-        ),
-        (b"a", Act::Point(0), Some(&[1, 0, 0, 0, 0]), Some(0)),
-        (b"b", Act::Point(1), Some(&[0, 0, 0, 2, 0]), Some(1)),
-        (
-            b"b",
-            Act::Note(Noted::Wire, 0, Some(true)),
-            Some(&[0, 0, 1, 2, 0]),
-            None,
-        ),
-        (
-            b"b",
-            Act::Note(Noted::Wire, 1, None),
-            Some(&[0, 0, 1, 0, 0]),
-            None,
-        ),
-        (
-            b"a",
-            Act::Note(Noted::Part, 1, Some(true)),
-            Some(&[1, 1, 0, 0, 0]),
-            None,
-        ),
-        (
-            b"a",
-            Act::Note(Noted::Part, 0, None),
-            Some(&[0, 1, 0, 0, 0]),
-            None,
-        ),
-        (b"a", Act::Stop, None, None),
-        (b"a", Act::Start, Some(&[0, 0, 0, 0, 0]), None),
-    ] {
+    for (name, act, words, faulty) in ACTS {
         if name == b"a" {
             first = (words, faulty);
         } else {

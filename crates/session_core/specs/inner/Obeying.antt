@@ -7,8 +7,7 @@ use Rattle.diagnosis_lister.specs.declared.listing.Step.{Step as Answer}
 use Rattle.diagnosis_lister.specs.Listing.{step_of}
 use Rattle.level_lister.specs.declared.levels.LevelStep.{LevelStep}
 use Rattle.level_lister.specs.Listing.{level_step}
-use Rattle.device_model.specs.Devices.{place_of}
-use Rattle.script_lang.specs.Script.{Request, Ask, Min, Probe as ProbeOf, Probes as ProbesOf, Blame as BlameAll}
+use Rattle.script_lang.specs.Script.{Request, Ask}
 use Rattle.session_rules.specs.GraphSystems.{Subject, system_of}
 use Rattle.session_rules.specs.Replies.{Found, listing}
 use Rattle.session_rules.specs.Moves.{goes_on, next_for, level_for}
@@ -21,8 +20,6 @@ use Rattle.session_core.specs.inner.Desks.{top_of, later_by_cost}
 use Rattle.session_core.specs.declared.listing.Listed.{Listed}
 use Rattle.session_core.specs.declared.listing.Listed.TheVariants.{Diagnoses, Levels}
 use Rattle.session_core.specs.declared.sessions.OpenSession.{OpenSession}
-use Rattle.session_core.specs.declared.telling.Question.{Question}
-use Rattle.session_core.specs.declared.telling.Question.TheVariants.{Minimum, Probe, Probes, Blame}
 
 -- The moves of a request were made or broke off, and nothing but the table changed.
 pub record Obeys {T E : Type 0} (old new : Shown) (session : Name) (request : Request) (before after : Option (List ℕ)) (result : Result T E) : Type 0 where
@@ -34,13 +31,6 @@ pub record IsOpen (table : Table) (session : OpenSession) : Type 0 where
   pub within : session.place < length table
   pub entry : Entry
   pub stands : StandsAt table session.place session.name.now entry
-
--- A request asks a question, over these wires.
-abbrev pub Asks : List Name → Question → Request → Type 0
-Asks wires Minimum request = request ≡ Min
-Asks wires (Probe wire) request = (name : Name) × (request ≡ ProbeOf name) × (Some wire ≡ place_of name wires)
-Asks wires Probes request = request ≡ ProbesOf
-Asks wires Blame request = request ≡ BlameAll
 
 -- what comes after a point, of the diagnoses or of the states by rising cost
 abbrev pub found_by : Subject → Listed → Name → Entry → Option (List Bool) → Found

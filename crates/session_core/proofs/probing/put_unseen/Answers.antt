@@ -1,7 +1,7 @@
-use Rattle.std.proofs.Common.{◌∙◌, ◌∷◌, [], List, get_or, codes, true, false, ap, sym, subst}
+use Rattle.std.proofs.Common.{◌∙◌, ◌∷◌, [], ℕ, List, map, get_or, codes, true, false, ap, sym, subst}
 use Rattle.text_rules.specs.Tokens.{spaced}
 use Rattle.session_rules.specs.GraphSystems.{Subject, system_of}
-use Rattle.session_rules.specs.Items.{Item}
+use Rattle.session_rules.specs.Items.{line}
 use Rattle.session_rules.specs.Replies.{count_text, probe_line}
 use Rattle.session_rules.specs.Spelling.{Writes, Replies}
 use Rattle.session_rules.proofs.Spellings.{replies_one, writes_none}
@@ -14,7 +14,7 @@ returns-then-is_seen-clause-reply g c =
     let desk = c.args.desk.now in
     let system = system_of desk.subject in
     let wire = c.args.wire in
-    subst (λ (items : List Item). Writes (g.O.Sink.got c.args.out.now) (g.O.Sink.got c.args.out.now) items)
+    subst (λ (ls : List (List (List ℕ))). Writes (g.O.Sink.got c.args.out.now) (g.O.Sink.got c.args.out.now) (map line ls))
     (sym (unseen-none system c.args.session.now (asked_case desk) (get_or system.wires wire []) wire c.if-is_seen.ensures))
     (writes_none _)
 
@@ -27,8 +27,8 @@ returns-clause-reply g c =
     let name = c.wire_name.ensures ∙ ap (λ (u : Subject). get_or u.wires wire []) c.basis.ensures in
     let zero = c.probed-zero.ensures.zero ∙ c.requires.numbers wire false c.requires.wire in
     let one = c.probed-zero.ensures.one ∙ c.requires.numbers wire true c.requires.wire in
-    subst (λ (items : List Item). Replies (g.O.Sink.got c.args.out.now) (g.O.Sink.got c.put_probe.new.out) c.put_probe.result items)
+    subst (λ (ls : List (List (List ℕ))). Replies (g.O.Sink.got c.args.out.now) (g.O.Sink.got c.put_probe.new.out) c.put_probe.result (map line ls))
     (sym (unseen-one system s (asked_case desk) (get_or system.wires wire []) wire c.if-is_seen.ensures))
-    (replies_one _ _ _ (probe_line system s (asked_case desk) (get_or system.wires wire []) wire) _
+    (replies_one _ _ _ (line (probe_line system s (asked_case desk) (get_or system.wires wire []) wire)) _
     (λ i. spaced (s ∷ codes "probe" ∷ name i ∷ count_text (zero i) ∷ count_text (one i) ∷ []))
     c.put_probe.ensures.text)

@@ -5,13 +5,13 @@ use Rattle.ranking.specs.Bits.{bit_in}
 use Rattle.probe_report.specs.declared.verdicts.Blame.{Blame}
 use Rattle.probe_report.specs.Verdicts.{verdict as verdict_on}
 use Rattle.session_rules.specs.GraphSystems.{system_of}
-use Rattle.session_rules.specs.Items.{Item}
+use Rattle.session_rules.specs.Items.{line}
 use Rattle.session_rules.specs.Replies.{blame_lines, end_line, inconsistent}
 use Rattle.session_rules.specs.Spelling.{Writes, WritesPart, Replies}
 use Rattle.session_rules.proofs.Spellings.{replies_one}
 use Rattle.session_core.specs.inner.Desks.{OnDesk, agreeing, diagnoses_asked, least_asked, blame_asked}
 use Rattle.session_core.specs.inner.Telling.{verdict_lines}
-use Rattle.session_core.proofs.Told.{replies_then, replies_broken}
+use Rattle.session_core.proofs.Told.{lines_then, lines_broken}
 use Rattle.session_core.proofs.Questions.{if_diagnosis-none, if_diagnosis-some, has_diagnosis, blame_lines-are}
 use Rattle.session_core.proofs.telling.tell_blame.Goals as goal
 
@@ -21,9 +21,9 @@ returns-then-not-is_consistent-clause-reply g c =
     let system = system_of old.subject in
     let s = c.args.session.now in
     let ds = diagnoses_asked old in
-    subst (λ (items : List Item). Replies (g.O.Sink.got c.args.out.now) (g.O.Sink.got c.put_line.new.out) c.put_line.result items)
+    subst (λ (lines : List (List (List ℕ))). Replies (g.O.Sink.got c.args.out.now) (g.O.Sink.got c.put_line.new.out) c.put_line.result (map line lines))
     (sym (if_diagnosis-none system.costs s (agreeing old) (blame_lines s ds 0 system.parts ++ end_line s ∷ []) c.if-not-is_consistent.ensures.some))
-    (replies_one _ _ _ (inconsistent s) _ refl c.put_line.ensures.bytes)
+    (replies_one _ _ _ (line (inconsistent s)) _ refl c.put_line.ensures.bytes)
 
 -- the lines by the verdicts are those by the diagnoses
 told_lines : (desk : OnDesk) (s : Name) (verdicts : List Blame) → length verdicts ≡ length desk.subject.parts → true ≡ is_some (least_asked desk)
@@ -56,10 +56,10 @@ returns-in_err-put_blames-clause-reply g c =
     let ds = diagnoses_asked old in
     let some = c.if-not-is_consistent.ensures.some in
     let lines = told_by old c.is_consistent.new.self c.blame.new.self s c.is_consistent.ensures.same c.blame.ensures.stays c.blame.ensures.long some c.blame.ensures.blame in
-    subst (λ (items : List Item). Replies (g.O.Sink.got c.args.out.now) (g.O.Sink.got c.put_blames.new.out) c.from_residual.result items)
+    subst (λ (lines : List (List (List ℕ))). Replies (g.O.Sink.got c.args.out.now) (g.O.Sink.got c.put_blames.new.out) c.from_residual.result (map line lines))
     (sym (if_diagnosis-some system.costs s (agreeing old) (blame_lines s ds 0 system.parts ++ end_line s ∷ []) some))
-    (replies_broken _ _ _ (blame_lines s ds 0 system.parts) (end_line s ∷ []) c.from_residual.ensures.0
-    (subst (λ (items : List Item). WritesPart (g.O.Sink.got c.args.out.now) (g.O.Sink.got c.put_blames.new.out) items) lines c.in_err-put_blames.ensures.reply) ((_, refl), tt))
+    (lines_broken _ _ _ (blame_lines s ds 0 system.parts) (end_line s) c.from_residual.ensures.0
+    (subst (λ (ls : List (List (List ℕ))). WritesPart (g.O.Sink.got c.args.out.now) (g.O.Sink.got c.put_blames.new.out) (map line ls)) lines c.in_err-put_blames.ensures.reply))
 
 pub returns-clause-reply : goal.returns-clause-reply
 returns-clause-reply g c =
@@ -69,8 +69,8 @@ returns-clause-reply g c =
     let ds = diagnoses_asked old in
     let some = c.if-not-is_consistent.ensures.some in
     let lines = told_by old c.is_consistent.new.self c.blame.new.self s c.is_consistent.ensures.same c.blame.ensures.stays c.blame.ensures.long some c.blame.ensures.blame in
-    subst (λ (items : List Item). Replies (g.O.Sink.got c.args.out.now) (g.O.Sink.got c.put_line-2.new.out) c.put_line-2.result items)
+    subst (λ (lines : List (List (List ℕ))). Replies (g.O.Sink.got c.args.out.now) (g.O.Sink.got c.put_line-2.new.out) c.put_line-2.result (map line lines))
     (sym (if_diagnosis-some system.costs s (agreeing old) (blame_lines s ds 0 system.parts ++ end_line s ∷ []) some))
-    (replies_then _ _ _ _ (blame_lines s ds 0 system.parts) (end_line s ∷ [])
-    (subst (λ (items : List Item). Writes (g.O.Sink.got c.args.out.now) (g.O.Sink.got c.put_blames.new.out) items) lines c.in_ok-put_blames.ensures.reply)
-    (replies_one _ _ _ (end_line s) _ refl c.put_line-2.ensures.bytes))
+    (lines_then _ _ _ _ (blame_lines s ds 0 system.parts) (end_line s)
+    (subst (λ (ls : List (List (List ℕ))). Writes (g.O.Sink.got c.args.out.now) (g.O.Sink.got c.put_blames.new.out) (map line ls)) lines c.in_ok-put_blames.ensures.reply)
+    (replies_one _ _ _ (line (end_line s)) _ refl c.put_line-2.ensures.bytes))

@@ -3,7 +3,7 @@ use Rattle.text_rules.specs.Names.{Name}
 use Rattle.text_rules.specs.Tokens.{spaced}
 use Rattle.conditioner.specs.Words.{bits_of}
 use Rattle.session_rules.specs.GraphSystems.{Subject, system_of}
-use Rattle.session_rules.specs.Items.{Item, line}
+use Rattle.session_rules.specs.Items.{line}
 use Rattle.session_rules.specs.Spelling.{Replies}
 use Rattle.session_rules.proofs.Spellings.{replies_one}
 use Rattle.session_core.specs.inner.Desks.{OnDesk, agreeing}
@@ -19,7 +19,7 @@ returns-clause-reply g c =
     let state = bits_of c.first-fewest.new.self.state in
     let fewest = c.first-fewest.result in
     let names = c.parts.ensures.names ∙ ap (λ (u : Subject). u.parts) c.basis.ensures ∙ ap (λ (d : OnDesk). d.subject.parts) c.first-fewest.ensures.stays in
-    subst (λ (item : Item). Replies (g.O.Sink.got c.args.out.now) (g.O.Sink.got c.put_min.new.out) c.put_min.result (item ∷ []))
+    subst (λ (words : List (List ℕ)). Replies (g.O.Sink.got c.args.out.now) (g.O.Sink.got c.put_min.new.out) c.put_min.result (line words ∷ []))
     (min_line-is system s (agreeing old) state fewest c.first-fewest.ensures.least c.first-fewest.ensures.first)
     (replies_one _ _ _ (line (min_text s system.parts fewest state)) _
     (ap₂ (λ (parts : List Name) (st : List ℕ). spaced (min_text s parts fewest (bits_of st))) names c.state.ensures.state) c.put_min.ensures.text)

@@ -26,12 +26,3 @@ returns-in-List-clause-obeys g c =
     subst (λ (r : Request). Obeys old c.list_on.new.self s (asked r) (g.O.Sink.got c.args.out.now) (g.O.Sink.got c.list_on.new.out) c.list_on.result) (sym c.in-List.is)
     (obeys_several old c.list_on.new.self c.args.session.place s there.entry c.in-List.count _ _ _ there.stands
     (c.list_on.ensures.listed there.entry there.stands) c.list_on.ensures.stays)
-
-pub returns-in-Min-clause-obeys : goal.returns-in-Min-clause-obeys
-returns-in-Min-clause-obeys g c = c.ask_case.ensures.obeys (asked c.args.request) (ap asked c.in-Min.is)
-
-pub returns-in-Probes-clause-obeys : goal.returns-in-Probes-clause-obeys
-returns-in-Probes-clause-obeys g c = c.ask_case-in-Probes.ensures.obeys (asked c.args.request) (ap asked c.in-Probes.is)
-
-pub returns-in-Blame-clause-obeys : goal.returns-in-Blame-clause-obeys
-returns-in-Blame-clause-obeys g c = c.ask_case-in-Blame.ensures.obeys (asked c.args.request) (ap asked c.in-Blame.is)

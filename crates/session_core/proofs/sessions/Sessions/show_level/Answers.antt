@@ -20,7 +20,7 @@ returns-in_err-put_line-in-Inconsistent-clause-moves g c = λ entry stands.
     let is = sym (level_none old.subject.costs s (level_line (system_of old.subject) s) entry.point ((system_of old.subject).consistent entry.known) (later_by_cost old.subject entry.known entry.point) (sym m.answer ∙ c.in-Inconsistent.is)) in
     moves_on old c.find_level.new.self Levels c.args.session.place s entry _ _ _ c.from_residual.result m c.find_level.ensures.stays
     (replies_part _ _ _ ((the_found old.subject Levels s entry).item ∷ []) c.from_residual.ensures.0
-    (subst (λ (f : Found). WritesPart (g.O.Sink.got c.args.out.now) (g.O.Sink.got c.put_line.new.out) (f.item ∷ [])) is (part_one _ _ (inconsistent s) _ refl c.in_err-put_line-in-Inconsistent.ensures.bytes)))
+    (subst (λ (f : Found). WritesPart (g.O.Sink.got c.args.out.now) (g.O.Sink.got c.put_line.new.out) (f.item ∷ [])) is (part_one _ _ (line (inconsistent s)) _ refl c.in_err-put_line-in-Inconsistent.ensures.bytes)))
     (if_failed _ _ c.from_residual.ensures.0)
 
 pub returns-in_ok-put_line-in-Inconsistent-clause-moves : goal.returns-in_ok-put_line-in-Inconsistent-clause-moves
@@ -30,7 +30,7 @@ returns-in_ok-put_line-in-Inconsistent-clause-moves g c = λ entry stands.
     let m = c.find_level.ensures.moves s entry stands in
     let is = sym (level_none old.subject.costs s (level_line (system_of old.subject) s) entry.point ((system_of old.subject).consistent entry.known) (later_by_cost old.subject entry.known entry.point) (sym m.answer ∙ c.in-Inconsistent.is)) in
     moves_on old c.find_level.new.self Levels c.args.session.place s entry _ _ _ (Ok false) m c.find_level.ensures.stays
-    (subst (λ (f : Found). Writes (g.O.Sink.got c.args.out.now) (g.O.Sink.got c.put_line.new.out) (f.item ∷ [])) is (writes_one _ _ (inconsistent s) _ refl c.in_ok-put_line-in-Inconsistent.ensures.bytes))
+    (subst (λ (f : Found). Writes (g.O.Sink.got c.args.out.now) (g.O.Sink.got c.put_line.new.out) (f.item ∷ [])) is (writes_one _ _ (line (inconsistent s)) _ refl c.in_ok-put_line-in-Inconsistent.ensures.bytes))
     (ap (λ (f : Found). f.more) is)
 
 pub returns-in_err-put_line-in-End-clause-moves : goal.returns-in_err-put_line-in-End-clause-moves
@@ -41,7 +41,7 @@ returns-in_err-put_line-in-End-clause-moves g c = λ entry stands.
     let is = sym (level_end old.subject.costs s (level_line (system_of old.subject) s) entry.point ((system_of old.subject).consistent entry.known) (later_by_cost old.subject entry.known entry.point) (sym m.answer ∙ c.in-End.is)) in
     moves_on old c.find_level.new.self Levels c.args.session.place s entry _ _ _ c.from_residual-in_err-put_line-in-End.result m c.find_level.ensures.stays
     (replies_part _ _ _ ((the_found old.subject Levels s entry).item ∷ []) c.from_residual-in_err-put_line-in-End.ensures.0
-    (subst (λ (f : Found). WritesPart (g.O.Sink.got c.args.out.now) (g.O.Sink.got c.put_line-in-End.new.out) (f.item ∷ [])) is (part_one _ _ (end_line s) _ refl c.in_err-put_line-in-End.ensures.bytes)))
+    (subst (λ (f : Found). WritesPart (g.O.Sink.got c.args.out.now) (g.O.Sink.got c.put_line-in-End.new.out) (f.item ∷ [])) is (part_one _ _ (line (end_line s)) _ refl c.in_err-put_line-in-End.ensures.bytes)))
     (if_failed _ _ c.from_residual-in_err-put_line-in-End.ensures.0)
 
 pub returns-in_ok-put_line-in-End-clause-moves : goal.returns-in_ok-put_line-in-End-clause-moves
@@ -51,7 +51,7 @@ returns-in_ok-put_line-in-End-clause-moves g c = λ entry stands.
     let m = c.find_level.ensures.moves s entry stands in
     let is = sym (level_end old.subject.costs s (level_line (system_of old.subject) s) entry.point ((system_of old.subject).consistent entry.known) (later_by_cost old.subject entry.known entry.point) (sym m.answer ∙ c.in-End.is)) in
     moves_on old c.find_level.new.self Levels c.args.session.place s entry _ _ _ (Ok false) m c.find_level.ensures.stays
-    (subst (λ (f : Found). Writes (g.O.Sink.got c.args.out.now) (g.O.Sink.got c.put_line-in-End.new.out) (f.item ∷ [])) is (writes_one _ _ (end_line s) _ refl c.in_ok-put_line-in-End.ensures.bytes))
+    (subst (λ (f : Found). Writes (g.O.Sink.got c.args.out.now) (g.O.Sink.got c.put_line-in-End.new.out) (f.item ∷ [])) is (writes_one _ _ (line (end_line s)) _ refl c.in_ok-put_line-in-End.ensures.bytes))
     (ap (λ (f : Found). f.more) is)
 
 pub returns-in_err-put_point_at-in-Found-clause-moves : goal.returns-in_err-put_point_at-in-Found-clause-moves

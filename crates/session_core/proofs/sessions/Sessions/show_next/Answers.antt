@@ -1,6 +1,6 @@
 use Rattle.std.proofs.Common.{◌≡◌, ◌∙◌, ◌∷◌, [], Ok, true, false, ap, subst, sym, refl}
 use Rattle.session_rules.specs.GraphSystems.{Subject, system_of}
-use Rattle.session_rules.specs.Items.{Item}
+use Rattle.session_rules.specs.Items.{Item, line}
 use Rattle.session_rules.specs.Replies.{Found, inconsistent, end_line, diagnosis_line}
 use Rattle.session_rules.specs.Spelling.{Writes, WritesPart}
 use Rattle.session_core.specs.Services.{Shown}
@@ -18,7 +18,7 @@ returns-in_err-put_line-in-Inconsistent-clause-moves g c = λ entry stands.
     let is = sym (next_inconsistent old.subject old.table c.find_next.new.self.table c.args.session.place s entry c.find_next.result m c.in-Inconsistent.is) in
     moves_on old c.find_next.new.self Diagnoses c.args.session.place s entry _ _ _ c.from_residual.result m c.find_next.ensures.stays
     (replies_part _ _ _ ((the_found old.subject Diagnoses s entry).item ∷ []) c.from_residual.ensures.0
-    (subst (λ (f : Found). WritesPart (g.O.Sink.got c.args.out.now) (g.O.Sink.got c.put_line.new.out) (f.item ∷ [])) is (part_one _ _ (inconsistent s) _ refl c.in_err-put_line-in-Inconsistent.ensures.bytes)))
+    (subst (λ (f : Found). WritesPart (g.O.Sink.got c.args.out.now) (g.O.Sink.got c.put_line.new.out) (f.item ∷ [])) is (part_one _ _ (line (inconsistent s)) _ refl c.in_err-put_line-in-Inconsistent.ensures.bytes)))
     (if_failed _ _ c.from_residual.ensures.0)
 
 pub returns-in_ok-put_line-in-Inconsistent-clause-moves : goal.returns-in_ok-put_line-in-Inconsistent-clause-moves
@@ -28,7 +28,7 @@ returns-in_ok-put_line-in-Inconsistent-clause-moves g c = λ entry stands.
     let m = c.find_next.ensures.moves s entry stands in
     let is = sym (next_inconsistent old.subject old.table c.find_next.new.self.table c.args.session.place s entry c.find_next.result m c.in-Inconsistent.is) in
     moves_on old c.find_next.new.self Diagnoses c.args.session.place s entry _ _ _ (Ok false) m c.find_next.ensures.stays
-    (subst (λ (f : Found). Writes (g.O.Sink.got c.args.out.now) (g.O.Sink.got c.put_line.new.out) (f.item ∷ [])) is (writes_one _ _ (inconsistent s) _ refl c.in_ok-put_line-in-Inconsistent.ensures.bytes))
+    (subst (λ (f : Found). Writes (g.O.Sink.got c.args.out.now) (g.O.Sink.got c.put_line.new.out) (f.item ∷ [])) is (writes_one _ _ (line (inconsistent s)) _ refl c.in_ok-put_line-in-Inconsistent.ensures.bytes))
     (ap (λ (f : Found). f.more) is)
 
 pub returns-in_err-put_line-in-End-clause-moves : goal.returns-in_err-put_line-in-End-clause-moves
@@ -39,7 +39,7 @@ returns-in_err-put_line-in-End-clause-moves g c = λ entry stands.
     let is = sym (next_end old.subject old.table c.find_next.new.self.table c.args.session.place s entry c.find_next.result m c.in-End.is) in
     moves_on old c.find_next.new.self Diagnoses c.args.session.place s entry _ _ _ c.from_residual-in_err-put_line-in-End.result m c.find_next.ensures.stays
     (replies_part _ _ _ ((the_found old.subject Diagnoses s entry).item ∷ []) c.from_residual-in_err-put_line-in-End.ensures.0
-    (subst (λ (f : Found). WritesPart (g.O.Sink.got c.args.out.now) (g.O.Sink.got c.put_line-in-End.new.out) (f.item ∷ [])) is (part_one _ _ (end_line s) _ refl c.in_err-put_line-in-End.ensures.bytes)))
+    (subst (λ (f : Found). WritesPart (g.O.Sink.got c.args.out.now) (g.O.Sink.got c.put_line-in-End.new.out) (f.item ∷ [])) is (part_one _ _ (line (end_line s)) _ refl c.in_err-put_line-in-End.ensures.bytes)))
     (if_failed _ _ c.from_residual-in_err-put_line-in-End.ensures.0)
 
 pub returns-in_ok-put_line-in-End-clause-moves : goal.returns-in_ok-put_line-in-End-clause-moves
@@ -49,7 +49,7 @@ returns-in_ok-put_line-in-End-clause-moves g c = λ entry stands.
     let m = c.find_next.ensures.moves s entry stands in
     let is = sym (next_end old.subject old.table c.find_next.new.self.table c.args.session.place s entry c.find_next.result m c.in-End.is) in
     moves_on old c.find_next.new.self Diagnoses c.args.session.place s entry _ _ _ (Ok false) m c.find_next.ensures.stays
-    (subst (λ (f : Found). Writes (g.O.Sink.got c.args.out.now) (g.O.Sink.got c.put_line-in-End.new.out) (f.item ∷ [])) is (writes_one _ _ (end_line s) _ refl c.in_ok-put_line-in-End.ensures.bytes))
+    (subst (λ (f : Found). Writes (g.O.Sink.got c.args.out.now) (g.O.Sink.got c.put_line-in-End.new.out) (f.item ∷ [])) is (writes_one _ _ (line (end_line s)) _ refl c.in_ok-put_line-in-End.ensures.bytes))
     (ap (λ (f : Found). f.more) is)
 
 pub returns-in_err-put_point-in-Found-clause-moves : goal.returns-in_err-put_point-in-Found-clause-moves

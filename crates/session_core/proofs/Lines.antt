@@ -5,10 +5,8 @@ use Rattle.std.proofs.lemmas.Bool.{cases_lt}
 use Rattle.std.proofs.lemmas.List.{take-take}
 use Rattle.text_rules.specs.TextLines.{cut, with_byte, whole_lines}
 use Rattle.script_lang.specs.Script.{line_of}
-use Rattle.script_lang.specs.declared.limits.TheConstants.{LINE_LIMIT}
 use Rattle.script_lang.proofs.LineLemmas.{line_of-too_long}
 use Rattle.session_core.specs.Services.{Shown, exact_moves, moves_of}
-use Rattle.session_core.specs.declared.line_buffer.TheConstants.{ROOM}
 use Rattle.session_core.specs.inner.Gathering.{ended_from, rest_from, IsCut}
 
 onto : List ℕ → List (List ℕ) → List (List ℕ)
@@ -68,10 +66,10 @@ is_short : (n : ℕ) (line : List ℕ) → length line ≤ n → take (n + 1) li
 is_short n line short = grind (arith, common_steps)
 
 -- how much of a line is kept past the limit does not matter
-pub line_of-take : (line : List ℕ) → line_of (take ROOM line) ≡ line_of line
-line_of-take line = elim (cases_lt LINE_LIMIT (length line)) [
-  | inl long ↦ line_of-too_long (take ROOM line) (is_long LINE_LIMIT line long) ∙ sym (line_of-too_long line long)
-  | inr short ↦ ap line_of (is_short LINE_LIMIT line short)
+pub line_of-take : (line : List ℕ) → line_of (take 1048577 line) ≡ line_of line
+line_of-take line = elim (cases_lt 1048576 (length line)) [
+  | inl long ↦ line_of-too_long (take 1048577 line) (is_long 1048576 line long) ∙ sym (line_of-too_long line long)
+  | inr short ↦ ap line_of (is_short 1048576 line short)
 ]
 
 -- and so the moves of a service are the same
@@ -87,15 +85,8 @@ cut_push m line ys = elim (cases_lt m (length line)) [
   | inr short ↦ rw (take_all m line short)
 ]
 
-push_room : (m : ℕ) (line : List ℕ) (b : ℕ) → length line < m → take m (line ++ b ∷ []) ≡ line ++ b ∷ []
+pub push_room : (m : ℕ) (line : List ℕ) (b : ℕ) → length line < m → take m (line ++ b ∷ []) ≡ line ++ b ∷ []
 push_room m line b less = grind (arith, common_steps)
 
-push_full : (m : ℕ) (line : List ℕ) (b : ℕ) → length line ≡ m → take m (line ++ b ∷ []) ≡ line
+pub push_full : (m : ℕ) (line : List ℕ) (b : ℕ) → length line ≡ m → take m (line ++ b ∷ []) ≡ line
 push_full m line b same = grind (arith, common_steps)
-
--- the same of a line that is shown
-pub shown_room : (m : ℕ) (line shown : List ℕ) (b : ℕ) → line ≡ shown → length line < m → line ++ b ∷ [] ≡ take m (shown ++ b ∷ [])
-shown_room m line shown b is less = sym (push_room m line b less) ∙ ap (λ l. take m (l ++ b ∷ [])) is
-
-pub shown_full : (m : ℕ) (line shown : List ℕ) (b : ℕ) → line ≡ shown → length line ≡ m → line ≡ take m (shown ++ b ∷ [])
-shown_full m line shown b is same = sym (push_full m line b same) ∙ ap (λ l. take m (l ++ b ∷ [])) is

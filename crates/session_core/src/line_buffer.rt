@@ -15,13 +15,12 @@ pub struct LineBuffer {
 
 impl Model for LineBuffer {
     ghost use Rattle.std.specs.Prelude.{ℕ, List, ◌≤◌, vec_len, vec_capacity};
-    ghost use Rattle.session_core.specs.declared.line_buffer.TheConstants.{ROOM};
 
     ghost Value = { List ℕ };
 
     ghost view = { λ g. g.bytes.items };
 
-    ghost invariant = { λ g. (vec_len g.bytes ≤ ROOM) × (ROOM ≤ vec_capacity g.bytes) };
+    ghost invariant = { λ g. (vec_len g.bytes ≤ 1048577) × (1048577 ≤ vec_capacity g.bytes) };
 }
 
 impl LineBuffer {
@@ -35,7 +34,7 @@ impl LineBuffer {
 
     /// Adds a byte, or drops it where the line is past the longest.
     pub fn push(&mut self, byte: u8)
-        ensures { self.new ≡ take ROOM (self.old ++ byte ∷ []) }
+        ensures { self.new ≡ take 1048577 (self.old ++ byte ∷ []) }
     {
         if self.bytes.len() < ROOM {
             self.bytes.push(byte).unwrap();

@@ -3,7 +3,6 @@ use Rattle.std.specs.Prelude.{◌≡◌, ℕ, List, [], ◌∷◌, ◌++◌, tak
 use Rattle.session_rules.specs.Sessions.{Table, Step}
 use Rattle.session_rules.specs.Moves.{script_moves}
 use Rattle.session_rules.specs.Carrying.{Makes}
-use Rattle.session_core.specs.declared.line_buffer.TheConstants.{ROOM}
 
 -- the lines that line feeds end, where a line has begun already
 abbrev pub ended_from : List ℕ → List ℕ → List (List ℕ)
@@ -17,10 +16,10 @@ rest_from line (byte ∷ bytes) = if byte == 10 then rest_from [] bytes else res
 
 -- of a line no more counts than one byte past the longest
 pub record IsCut (one : Table → List ℕ → List Step) : Type 0 where
-  pub same : (table : Table) (line : List ℕ) → one table (take ROOM line) ≡ one table line
+  pub same : (table : Table) (line : List ℕ) → one table (take 1048577 line) ≡ one table line
 
 -- Bytes were taken after the beginning of a line: the moves of the lines that they end were made, and the beginning of a
 -- line stands again.
 pub record Fed (one : Table → List ℕ → List Step) (old new : Table) (line rest bytes : List ℕ) (before after : Option (List ℕ)) : Type 0 where
   pub made : Makes old new (script_moves one old (ended_from line bytes)) before after
-  pub begun : take ROOM rest ≡ take ROOM (rest_from line bytes)
+  pub begun : take 1048577 rest ≡ take 1048577 (rest_from line bytes)

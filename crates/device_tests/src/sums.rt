@@ -1,5 +1,5 @@
 use crate::{adder, gates};
-use branch_states::{Branches, MeasureError, measure};
+use branch_states::{Branches, Descent, MeasureError, measure};
 use clause_encoder::{Cnf, encode};
 use device_model::Kind;
 use std::alloc::Global;
@@ -64,6 +64,30 @@ fn steps_to_what_is_left(rt: HostRuntime) -> Result<(), Fail> {
         assert!(&rt; branches.level() < branches.len());
         branches.down();
     }
+    Ok(())
+}
+
+#[test]
+fn descends_with_forks(rt: HostRuntime) -> Result<(), Fail> {
+    let alloc = rt.alloc();
+    let cnf = clauses_of(alloc, Kind::Not, 1, true)?;
+    let mut descent = Descent::begin(alloc, &cnf, 7)?;
+    // At each level of an inverter where its lists lead by 0 and by 1, and the sum with the next level.
+    let levels: [(&[(Option<u32>, Option<u32>)], u32); 3] = [
+        (&[(Some(0), Some(1))], 3),
+        (&[(Some(0), Some(0)), (Some(1), Some(2))], 6),
+        (&[(Some(0), Some(0)), (None, Some(0)), (Some(0), None)], 7),
+    ];
+    for (ways, sum) in levels {
+        assert!(&rt; descent.left() > 0 && descent.count() == ways.len());
+        let forks = descent.go_down(alloc)?;
+        for (fork, (zero, one)) in forks.iter().zip(ways) {
+            assert_eq!(&rt; fork.zero, *zero);
+            assert_eq!(&rt; fork.one, *one);
+        }
+        assert_eq!(&rt; descent.sum(), sum);
+    }
+    assert!(&rt; descent.left() == 0 && descent.count() == 1);
     Ok(())
 }
 

@@ -1,5 +1,5 @@
 -- What a caller cites of lists in the order of names, and of the devices that they make.
-use Rattle.std.proofs.Common.{◌≡◌, ℕ, ◌<◌, Bool, true, false, List, [], ◌∷◌, ◌++◌, length, get_or, Ok, refl, sym, subst, ◌∙◌, arith}
+use Rattle.std.proofs.Common.{◌≡◌, ℕ, ◌<◌, true, List, [], length, get_or, Ok, refl, sym, subst, ◌∙◌}
 use Rattle.std.proofs.lemmas.List.Sums.{passes_at_first}
 use Rattle.text_rules.specs.Expected.{IsExpectedFault}
 use Rattle.text_rules.specs.Names.{Name, same_name, is_among, names_rise}

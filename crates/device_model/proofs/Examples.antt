@@ -5,17 +5,22 @@ use Rattle.text_rules.specs.Names.{names_rise}
 use Rattle.ranking.specs.Cases.{Case}
 use Rattle.device_model.specs.declared.component.Component.{Component}
 use Rattle.device_model.specs.declared.component.Kind.{Kind}
-use Rattle.device_model.specs.declared.component.Kind.TheVariants.{And, Or, Nand, Nor, Xor, Xnor, Not, Buff, Table}
+use Rattle.device_model.specs.declared.component.Kind.TheVariants.{Gate as OfGate, Table}
+use Rattle.device_model.specs.declared.gates.Gate.{Gate}
+use Rattle.device_model.specs.declared.gates.Gate.TheVariants.{And, Or, Nand, Nor, Xor, Xnor, Not, Buff}
 use Rattle.device_model.specs.declared.building.BuildError.TheVariants.{TooMany, TwoParts, TwoWires, Arity, NoWire}
 use Rattle.device_model.specs.TruthTable.{TruthTable, is_cost}
-use Rattle.device_model.specs.Devices.{Device, gate_value, kind_cost, part_costs, allows, takes}
-use Rattle.device_model.specs.GateWords.{word_of, gate_kinds, gate_named}
+use Rattle.device_model.specs.Devices.{Device, kind_cost, part_costs, allows}
+use Rattle.device_model.specs.Gates.{gate_row, gates, takes, gate_value, gate_named}
 use Rattle.ranking.specs.Systems.{least_cost, all_diagnoses}
 use Rattle.device_model.specs.Diagnosis.{device_system}
 use Rattle.device_model.specs.Building.{built}
 
-abbrev gate : List ℕ → Kind → List ℕ → Component
-gate name kind ports = record { name = name; kind = kind; ports = ports }
+abbrev part : List ℕ → Kind → List ℕ → Component
+part name kind ports = record { name = name; kind = kind; ports = ports }
+
+abbrev gate : List ℕ → Gate → List ℕ → Component
+gate name what ports = part name (OfGate what) ports
 
 -- ---- two buffers: b = BUFF(a), c = BUFF(b)
 
@@ -74,16 +79,32 @@ c17_both_outputs = refl
 
 -- ---- gates and tables
 
+-- the outputs of a gate of two inputs for 00, 10, 01 and 11
+abbrev of_two : Gate → List Bool
+of_two gate = map (gate_value gate) ((false ∷ false ∷ []) ∷ (true ∷ false ∷ []) ∷ (false ∷ true ∷ []) ∷ (true ∷ true ∷ []) ∷ [])
+
+of_ands : map of_two (And ∷ Nand ∷ []) ≡ (false ∷ false ∷ false ∷ true ∷ []) ∷ (true ∷ true ∷ true ∷ false ∷ []) ∷ []
+of_ands = refl
+
+of_ors : map of_two (Or ∷ Nor ∷ []) ≡ (false ∷ true ∷ true ∷ true ∷ []) ∷ (true ∷ false ∷ false ∷ false ∷ []) ∷ []
+of_ors = refl
+
+of_xors : map of_two (Xor ∷ Xnor ∷ []) ≡ (false ∷ true ∷ true ∷ false ∷ []) ∷ (true ∷ false ∷ false ∷ true ∷ []) ∷ []
+of_xors = refl
+
+of_one_input : map (λ gate. map (gate_value gate) ((false ∷ []) ∷ (true ∷ []) ∷ [])) (Buff ∷ Not ∷ []) ≡ (false ∷ true ∷ []) ∷ (true ∷ false ∷ []) ∷ []
+of_one_input = refl
+
 xor_of_three_ones : gate_value Xor (true ∷ true ∷ true ∷ []) ≡ true
 xor_of_three_ones = refl
 
 xnor_of_three_ones : gate_value Xnor (true ∷ true ∷ true ∷ []) ≡ false
 xnor_of_three_ones = refl
 
-a_gate_takes_64 : map (λ kind. takes kind 64) (And ∷ Or ∷ Nand ∷ Nor ∷ Xor ∷ Xnor ∷ []) ≡ replicate 6 true
+a_gate_takes_64 : map (λ gate. takes gate 64) (And ∷ Or ∷ Nand ∷ Nor ∷ Xor ∷ Xnor ∷ []) ≡ replicate 6 true
 a_gate_takes_64 = refl
 
-a_gate_takes_no_65 : map (λ kind. takes kind 65) (And ∷ Or ∷ Nand ∷ Nor ∷ Xor ∷ Xnor ∷ []) ≡ replicate 6 false
+a_gate_takes_no_65 : map (λ gate. takes gate 65) (And ∷ Or ∷ Nand ∷ Nor ∷ Xor ∷ Xnor ∷ []) ≡ replicate 6 false
 a_gate_takes_no_65 = refl
 
 an_inverter_takes_one : map (takes Not) (0 ∷ 1 ∷ 2 ∷ []) ≡ false ∷ true ∷ false ∷ []
@@ -92,7 +113,7 @@ an_inverter_takes_one = refl
 a_buffer_takes_one : map (takes Buff) (0 ∷ 1 ∷ 2 ∷ []) ≡ false ∷ true ∷ false ∷ []
 a_buffer_takes_one = refl
 
-each_word_names_its_gate : map (λ kind. gate_named (word_of kind)) gate_kinds ≡ map (λ (kind : Kind). Some kind) gate_kinds
+each_word_names_its_gate : map (λ gate. gate_named ((gate_row gate).word)) gates ≡ map (λ (gate : Gate). Some gate) gates
 each_word_names_its_gate = refl
 
 small_letters_name_no_gate : gate_named (codes "and") ≡ None
@@ -114,7 +135,7 @@ bad_rows : table_rows false ≡ true ∷ true ∷ false ∷ false ∷ []
 bad_rows = refl
 
 -- a part of the type costs what it says, and a gate 1
-costs : map (kind_cost tables) (Table 0 ∷ Xor ∷ []) ≡ 7 ∷ 1 ∷ []
+costs : map (kind_cost tables) (Table 0 ∷ OfGate Xor ∷ []) ≡ 7 ∷ 1 ∷ []
 costs = refl
 
 gates_cost_1 : part_costs buffers ≡ 1 ∷ 1 ∷ []
@@ -130,7 +151,7 @@ no_table = refl
 
 abbrev priced : Device
 priced = record {
-  parts = gate (codes "c") Buff (1 ∷ 2 ∷ []) ∷ gate (codes "t") (Table 0) (0 ∷ 1 ∷ []) ∷ [];
+  parts = gate (codes "c") Buff (1 ∷ 2 ∷ []) ∷ part (codes "t") (Table 0) (0 ∷ 1 ∷ []) ∷ [];
   wires = codes "a" ∷ codes "b" ∷ codes "c" ∷ [];
   tables = tables;
 }
@@ -175,7 +196,7 @@ two_wires = refl
 arity : built (gate (codes "c") Buff (7 ∷ 8 ∷ []) ∷ gate (codes "b") Nand (0 ∷ []) ∷ []) (codes "a" ∷ []) [] ≡ Err (Arity 1)
 arity = refl
 
-arity_of_no_table : built (gate (codes "b") (Table 1) (0 ∷ 0 ∷ []) ∷ []) (codes "a" ∷ []) tables ≡ Err (Arity 0)
+arity_of_no_table : built (part (codes "b") (Table 1) (0 ∷ 0 ∷ []) ∷ []) (codes "a" ∷ []) tables ≡ Err (Arity 0)
 arity_of_no_table = refl
 
 no_wire : built (gate (codes "c") Buff (0 ∷ 0 ∷ []) ∷ gate (codes "b") Buff (0 ∷ 1 ∷ []) ∷ []) (codes "a" ∷ []) [] ≡ Err (NoWire 1)

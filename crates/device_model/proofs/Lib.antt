@@ -7,7 +7,7 @@ pub mod DigitOrder
 pub mod CallerLemmas
 mod Steps
 pub mod Tables
-pub mod GateWords
+pub mod NamedGates
 pub mod Making
 pub mod Costs
 mod Placing

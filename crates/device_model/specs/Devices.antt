@@ -1,13 +1,15 @@
 -- Devices, and which bits of the wires fit which health state.
-use Rattle.std.specs.Prelude.{◌≡◌, ℕ, ◌-◌, ◌≤◌, Bool, true, false, not, ◌&&◌, List, [], ◌∷◌, map, length, take, ◌==◌, Option, Some, None, slice_get, nat_le, nat_lt, position}
+use Rattle.std.specs.Prelude.{◌≡◌, ℕ, ◌-◌, ◌≤◌, Bool, true, false, ◌&&◌, List, [], ◌∷◌, map, length, take, ◌==◌, Option, Some, None, slice_get, nat_lt, position}
 use Rattle.std.specs.Int.{bit_at}
-use Rattle.std.specs.List.{list_all, list_any}
+use Rattle.std.specs.List.{list_all}
 use Rattle.text_rules.specs.Names.{Name, same_name, names_rise}
-use Rattle.ranking.specs.Bits.{bit_in, same_bit, has_odd_ones, row_number}
+use Rattle.ranking.specs.Bits.{bit_in, same_bit, row_number}
 use Rattle.device_model.specs.declared.component.Kind.{Kind}
-use Rattle.device_model.specs.declared.component.Kind.TheVariants.{And, Or, Nand, Nor, Xor, Xnor, Not, Buff, Table}
+use Rattle.device_model.specs.declared.component.Kind.TheVariants.{Gate as OfGate, Table}
+use Rattle.device_model.specs.declared.gates.Gate.{Gate}
 use Rattle.device_model.specs.declared.component.Component.{Component}
-use Rattle.device_model.specs.declared.limits.TheConstants.{INPUT_LIMIT, PART_LIMIT, WIRE_LIMIT}
+use Rattle.device_model.specs.declared.limits.TheConstants.{PART_LIMIT, WIRE_LIMIT}
+use Rattle.device_model.specs.Gates.{takes, gate_value}
 use Rattle.device_model.specs.TruthTable.{TruthTable}
 
 -- Parts and wires are each in the order of their names. A port of a part is the place of a wire.
@@ -23,38 +25,11 @@ part_names parts = map (λ (part : Component). part.name) parts
 abbrev pub place_of : Name → List Name → Option ℕ
 place_of name names = position (same_name name) names
 
--- the most inputs of a gate; a table has ports and no inputs
-abbrev pub most_inputs : Kind → ℕ
-most_inputs Not = 1
-most_inputs Buff = 1
-most_inputs (Table t) = 0
-most_inputs gate = INPUT_LIMIT
-
--- whether a gate takes so many inputs
-abbrev pub takes : Kind → ℕ → Bool
-takes kind inputs = nat_le 1 inputs && nat_le inputs (most_inputs kind)
-
-abbrev pub first_bit : List Bool → Bool
-first_bit [] = false
-first_bit (b ∷ bs) = b
-
--- the output that a gate's inputs give
-abbrev pub gate_value : Kind → List Bool → Bool
-gate_value And inputs = list_all (λ b. b) inputs
-gate_value Nand inputs = not (list_all (λ b. b) inputs)
-gate_value Or inputs = list_any (λ b. b) inputs
-gate_value Nor inputs = not (list_any (λ b. b) inputs)
-gate_value Xor inputs = has_odd_ones inputs
-gate_value Xnor inputs = not (has_odd_ones inputs)
-gate_value Buff inputs = first_bit inputs
-gate_value Not inputs = not (first_bit inputs)
-gate_value (Table t) inputs = false
-
 -- A faulty gate allows every row, and one that is ok those whose last bit is the value of the others.
-abbrev pub gate_allows : Kind → Bool → List Bool → Bool
-gate_allows kind false row = true
-gate_allows kind true row =
-    let inputs = length row - 1 in same_bit (bit_in row inputs) (gate_value kind (take inputs row))
+abbrev pub gate_allows : Gate → Bool → List Bool → Bool
+gate_allows gate false row = true
+gate_allows gate true row =
+    let inputs = length row - 1 in same_bit (bit_in row inputs) (gate_value gate (take inputs row))
 
 abbrev pub is_set : ℕ → ℕ → Bool
 is_set rows row = bit_at rows row == 1
@@ -71,7 +46,7 @@ any_table_allows (Some rows) ok row = table_allows rows ok row
 -- whether a part of this kind, ok or faulty, allows the bits of its ports
 abbrev pub allows : List TruthTable → Kind → Bool → List Bool → Bool
 allows tables (Table t) ok row = any_table_allows (slice_get tables t) ok row
-allows tables gate ok row = gate_allows gate ok row
+allows tables (OfGate gate) ok row = gate_allows gate ok row
 
 abbrev pub part_allows : List TruthTable → Component → Bool → List Bool → Bool
 part_allows tables part ok wires = allows tables part.kind ok (map (bit_in wires) part.ports)
@@ -92,7 +67,7 @@ table_cost (Some rows) = rows.cost
 -- What a failure of a part of this kind costs: 1 of a gate, and what its table says of a part of a type.
 abbrev pub kind_cost : List TruthTable → Kind → ℕ
 kind_cost tables (Table t) = table_cost (slice_get tables t)
-kind_cost tables gate = 1
+kind_cost tables (OfGate gate) = 1
 
 abbrev pub part_costs : Device → List ℕ
 part_costs device = map (λ (part : Component). kind_cost device.tables part.kind) device.parts
@@ -104,7 +79,7 @@ rows_take (Some rows) ports = rows.ports == ports
 -- whether a kind takes so many ports, of which a gate's last is its output
 abbrev pub takes_ports : List TruthTable → Kind → ℕ → Bool
 takes_ports tables (Table t) ports = rows_take (slice_get tables t) ports
-takes_ports tables gate ports = takes gate (ports - 1)
+takes_ports tables (OfGate gate) ports = takes gate (ports - 1)
 
 abbrev pub has_arity : List TruthTable → Component → Bool
 has_arity tables part = takes_ports tables part.kind (length part.ports)

@@ -1,7 +1,7 @@
 pub mod TruthTable
 pub mod Order
+pub mod Gates
 pub mod Devices
-pub mod GateWords
 pub mod Diagnosis
 pub mod Building
 pub mod inner

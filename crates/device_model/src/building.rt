@@ -49,7 +49,7 @@ fn takes_ports(kind: Kind, tables: &[Table], ports: usize) -> bool
             Some(table) => usize::from(table.ports()) == ports,
             None => false,
         },
-        gate => gate.takes(ports.saturating_sub(1)),
+        Kind::Gate(gate) => gate.takes(ports.saturating_sub(1)),
     }
 }
 

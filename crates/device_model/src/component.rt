@@ -1,8 +1,9 @@
 ghost use Rattle.std.specs.Prelude.{◌≡◌, ◌<◌, ◌^◌, length, map, slice_index, All, IfOk, Some, None, true, if◌then◌else◌};
 ghost use Rattle.device_model.specs.TruthTable.{set_of_all, is_table};
-ghost use Rattle.device_model.specs.Devices.{is_set, most_inputs, takes};
+ghost use Rattle.device_model.specs.Devices.{is_set};
 
-use crate::limits::{COST_LIMIT, INPUT_LIMIT};
+use crate::gates::Gate;
+use crate::limits::COST_LIMIT;
 use crate::names::Name;
 use std::alloc::{AllocError, Global};
 use std::marker::Model;
@@ -55,39 +56,11 @@ impl Wires {
     }
 }
 
-/// What a part is: a gate, or a table by its place in the device's list of tables.
+/// What a part is: a gate, or a part of a type, by the place of its table in the device's list of tables.
 #[derive(Clone, Copy, Debug, PartialEq, Eq)]
 pub enum Kind {
-    And,
-    Or,
-    Nand,
-    Nor,
-    Xor,
-    Xnor,
-    Not,
-    Buff,
+    Gate(Gate),
     Table(u32),
-}
-
-impl Kind {
-    /// Whether a gate takes so many inputs: 1 to 64, but just 1 of an inverter or a buffer.
-    ///
-    /// A table has ports and no inputs.
-    pub fn takes(self, inputs: usize) -> bool
-        ensures { result ≡ takes self inputs }
-    {
-        1 <= inputs && inputs <= self.most_inputs()
-    }
-
-    fn most_inputs(self) -> usize
-        ensures { result ≡ most_inputs self }
-    {
-        match self {
-            Kind::Not | Kind::Buff => 1,
-            Kind::And | Kind::Or | Kind::Nand | Kind::Nor | Kind::Xor | Kind::Xnor => INPUT_LIMIT,
-            Kind::Table(_) => 0,
-        }
-    }
 }
 
 /// A part: its name, its kind and the wires at its ports. The ports of a gate are its inputs and then its output.

@@ -8,29 +8,27 @@ use Rattle.std.proofs.lemmas.List.Folds.{list_all-append}
 use Rattle.ranking.specs.Bits.{same_bit, bit_in, has_odd_ones}
 use Rattle.ranking.specs.Assignments.{Assignment}
 use Rattle.device_model.specs.declared.component.Kind.{Kind}
-use Rattle.device_model.specs.declared.component.Kind.TheVariants.{And, Or, Nand, Nor, Xor, Xnor, Not, Buff, Table}
+use Rattle.device_model.specs.declared.component.Kind.TheVariants.{Gate as OfGate, Table}
+use Rattle.device_model.specs.declared.gates.Gate.{Gate}
+use Rattle.device_model.specs.declared.gates.Reduction.{Reduction}
+use Rattle.device_model.specs.declared.gates.Reduction.TheVariants.{AllOnes, AnyOne, OddOnes}
 use Rattle.device_model.specs.TruthTable.{TruthTable}
-use Rattle.device_model.specs.Devices.{gate_value, gate_allows, any_table_allows, allows, takes, takes_ports, rows_take}
+use Rattle.device_model.specs.Devices.{gate_allows, any_table_allows, allows, takes_ports, rows_take}
+use Rattle.device_model.specs.Gates.{gate_row, takes, reduced, gate_value}
 use Rattle.clause_encoder.specs.Clauses.{is_true_clause, all_hold}
 use Rattle.clause_encoder.specs.Encoding.{gate_clauses, and_step, xor_step, step_clauses, chain_clauses, wide_clauses, is_wide, any_gate_clauses, inner_count, table_clauses, raw_clauses}
 use Rattle.clause_encoder.proofs.Literals.{lit-literal}
 use Rattle.clause_encoder.proofs.RowBits.{AllPositive, count-cons}
-use Rattle.clause_encoder.proofs.Meaning.{gate-holds, table-holds, takes-some, not_wide, gate_allows-says, AllPositive-take, AllPositive-at}
+use Rattle.clause_encoder.proofs.Meaning.{gate-holds, table-holds, takes-some, gate_allows-says, AllPositive-take, AllPositive-at}
 use Rattle.clause_encoder.proofs.Settled.{has_bits, Settles, and_assoc}
 
 -- ---- one step
 
 -- what an inner variable is
-abbrev pub step_value : Kind → Bool → Bool → Bool
-step_value And b c = b && c
-step_value Nand b c = b && c
-step_value Or b c = b || c
-step_value Nor b c = b || c
-step_value Xor b c = not (same_bit b c)
-step_value Xnor b c = not (same_bit b c)
-step_value Not b c = false
-step_value Buff b c = false
-step_value (Table t) b c = false
+abbrev pub step_value : Reduction → Bool → Bool → Bool
+step_value AllOnes b c = b && c
+step_value AnyOne b c = b || c
+step_value OddOnes b c = not (same_bit b c)
 
 module _ (a : Assignment) (z before x : ℕ) (hz : 1 ≤ z) (hb : 1 ≤ before) (hx : 1 ≤ x) where
   and_step-holds : all_hold a (and_step true z before x) ≡ same_bit (a before && a x) (a z)
@@ -78,7 +76,13 @@ module _ (a : Assignment) (z before x : ℕ) (hz : 1 ≤ z) (hb : 1 ≤ before) 
         by_bits false false true = refl
         by_bits false false false = refl
 
--- the value of two inputs stands for both
+  step-holds : (reduction : Reduction) → all_hold a (step_clauses reduction z before x) ≡ same_bit (step_value reduction (a before) (a x)) (a z)
+  step-holds AllOnes = and_step-holds
+  step-holds AnyOne = or_step-holds
+  step-holds OddOnes = xor_step-holds
+
+-- ---- the value of two inputs stands for both
+
 odd-two : (b c : Bool) (rest : List Bool) → has_odd_ones (not (same_bit b c) ∷ rest) ≡ has_odd_ones (b ∷ c ∷ rest)
 odd-two b c rest = ap (λ n. n % 2 == 1) (count-cons (not (same_bit b c)) rest)
     ∙ ap (λ n. n == 1) (by_bits b c (count_by (λ b. b) rest))
@@ -93,38 +97,26 @@ or_assoc : (b c d : Bool) → ((b || c) || d) ≡ (b || (c || d))
 or_assoc true c d = refl
 or_assoc false c d = refl
 
--- What a kind needs of its steps.
-pub record IsStep (a : Assignment) (kind : Kind) : Type 0 where
-  pub two : takes kind 2 ≡ true
-  pub holds : (z before x : ℕ) → 1 ≤ z → 1 ≤ before → 1 ≤ x → all_hold a (step_clauses kind z before x) ≡ same_bit (step_value kind (a before) (a x)) (a z)
-  pub stands : (b c : Bool) (rest : List Bool) → gate_value kind (step_value kind b c ∷ rest) ≡ gate_value kind (b ∷ c ∷ rest)
-
-IsStep-of : (a : Assignment) (kind : Kind) (inputs : ℕ) → 5 ≤ inputs → takes kind inputs ≡ true → IsStep a kind
-IsStep-of a And inputs wide e = record { two = refl; holds = and_step-holds a; stands = λ b c rest. sym (and_assoc b c (list_all (λ b. b) rest)) }
-IsStep-of a Nand inputs wide e = record { two = refl; holds = and_step-holds a; stands = λ b c rest. ap not (sym (and_assoc b c (list_all (λ b. b) rest))) }
-IsStep-of a Or inputs wide e = record { two = refl; holds = or_step-holds a; stands = λ b c rest. or_assoc b c (list_any (λ b. b) rest) }
-IsStep-of a Nor inputs wide e = record { two = refl; holds = or_step-holds a; stands = λ b c rest. ap not (or_assoc b c (list_any (λ b. b) rest)) }
-IsStep-of a Xor inputs wide e = record { two = refl; holds = xor_step-holds a; stands = odd-two }
-IsStep-of a Xnor inputs wide e = record { two = refl; holds = xor_step-holds a; stands = λ b c rest. ap not (odd-two b c rest) }
-IsStep-of a Not inputs wide e = absurd (not_wide Not inputs (omega arith) wide e)
-IsStep-of a Buff inputs wide e = absurd (not_wide Buff inputs (omega arith) wide e)
-IsStep-of a (Table t) inputs wide e = absurd (not_wide (Table t) inputs (omega arith) wide e)
+step-stands : (reduction : Reduction) (b c : Bool) (rest : List Bool) → reduced reduction (step_value reduction b c ∷ rest) ≡ reduced reduction (b ∷ c ∷ rest)
+step-stands AllOnes b c rest = sym (and_assoc b c (list_all (λ b. b) rest))
+step-stands AnyOne b c rest = or_assoc b c (list_any (λ b. b) rest)
+step-stands OddOnes b c rest = odd-two b c rest
 
 -- ---- the chain
 
 -- the bits of the inner variables, from the bit before them and those of the inputs
-abbrev pub chain_bits : Kind → Bool → List Bool → List Bool
-chain_bits kind b [] = []
-chain_bits kind b (c ∷ bits) = step_value kind b c ∷ chain_bits kind (step_value kind b c) bits
+abbrev pub chain_bits : Reduction → Bool → List Bool → List Bool
+chain_bits reduction b [] = []
+chain_bits reduction b (c ∷ bits) = step_value reduction b c ∷ chain_bits reduction (step_value reduction b c) bits
 
 -- the last of them
-abbrev pub chain_end : Kind → Bool → List Bool → Bool
-chain_end kind b [] = b
-chain_end kind b (c ∷ bits) = chain_end kind (step_value kind b c) bits
+abbrev pub chain_end : Reduction → Bool → List Bool → Bool
+chain_end reduction b [] = b
+chain_end reduction b (c ∷ bits) = chain_end reduction (step_value reduction b c) bits
 
-pub length-chain_bits : (kind : Kind) (b : Bool) (bits : List Bool) → length (chain_bits kind b bits) ≡ length bits
-length-chain_bits kind b [] = refl
-length-chain_bits kind b (c ∷ bits) = ap suc (length-chain_bits kind (step_value kind b c) bits)
+pub length-chain_bits : (reduction : Reduction) (b : Bool) (bits : List Bool) → length (chain_bits reduction b bits) ≡ length bits
+length-chain_bits reduction b [] = refl
+length-chain_bits reduction b (c ∷ bits) = ap suc (length-chain_bits reduction (step_value reduction b c) bits)
 
 -- a bit that is settled may be put for the variable
 settled : (b c : Bool) (f : Bool → Bool) → (same_bit b c && f c) ≡ (same_bit b c && f b)
@@ -137,25 +129,25 @@ settled false false f = refl
 abbrev output_is : Assignment → ℕ → ℕ → Bool → Bool
 output_is a h y value = not (a h) || same_bit (a y) value
 
-module _ (a : Assignment) (kind : Kind) (h last y : ℕ) (hh : 1 ≤ h) (hl : 1 ≤ last) (hy : 1 ≤ y) (step : IsStep a kind) where
+module _ (a : Assignment) (gate : Gate) (h last y : ℕ) (hh : 1 ≤ h) (hl : 1 ≤ last) (hy : 1 ≤ y) where
   chain-settles : (xs : List ℕ) (z before : ℕ) → 1 ≤ z → 1 ≤ before → AllPositive xs
-      → Settles a z (chain_clauses kind h last y z before xs) (chain_bits kind (a before) (map a xs))
-      (output_is a h y (gate_value kind (chain_end kind (a before) (map a xs) ∷ a last ∷ [])))
-  chain-settles [] z before hz hb hs = gate-holds a h (before ∷ last ∷ []) y hh hy (hb, (hl, tt)) kind step.two
+      → Settles a z (chain_clauses gate h last y z before xs) (chain_bits (gate_row gate).reduction (a before) (map a xs))
+      (output_is a h y (gate_value gate (chain_end (gate_row gate).reduction (a before) (map a xs) ∷ a last ∷ [])))
+  chain-settles [] z before hz hb hs = gate-holds a h (before ∷ last ∷ []) y hh hy (hb, (hl, tt)) gate
   chain-settles (x ∷ xs) z before hz hb hs =
-      list_all-append (is_true_clause a) (step_clauses kind z before x) (chain_clauses kind h last y (z + 1) z xs)
-      ∙ (λ i. step.holds z before x hz hb hs.0 i && chain-settles xs (z + 1) z (omega arith) hz hs.1 i)
-      ∙ settled (step_value kind (a before) (a x)) (a z)
-      (λ b. has_bits a (z + 1) (chain_bits kind b (map a xs)) && output_is a h y (gate_value kind (chain_end kind b (map a xs) ∷ a last ∷ [])))
-      ∙ and_assoc (same_bit (step_value kind (a before) (a x)) (a z))
-      (has_bits a (z + 1) (chain_bits kind (step_value kind (a before) (a x)) (map a xs)))
-      (output_is a h y (gate_value kind (chain_end kind (step_value kind (a before) (a x)) (map a xs) ∷ a last ∷ [])))
+      list_all-append (is_true_clause a) (step_clauses (gate_row gate).reduction z before x) (chain_clauses gate h last y (z + 1) z xs)
+      ∙ (λ i. step-holds a z before x hz hb hs.0 (gate_row gate).reduction i && chain-settles xs (z + 1) z (omega arith) hz hs.1 i)
+      ∙ settled (step_value (gate_row gate).reduction (a before) (a x)) (a z)
+      (λ b. has_bits a (z + 1) (chain_bits (gate_row gate).reduction b (map a xs)) && output_is a h y (gate_value gate (chain_end (gate_row gate).reduction b (map a xs) ∷ a last ∷ [])))
+      ∙ and_assoc (same_bit (step_value (gate_row gate).reduction (a before) (a x)) (a z))
+      (has_bits a (z + 1) (chain_bits (gate_row gate).reduction (step_value (gate_row gate).reduction (a before) (a x)) (map a xs)))
+      (output_is a h y (gate_value gate (chain_end (gate_row gate).reduction (step_value (gate_row gate).reduction (a before) (a x)) (map a xs) ∷ a last ∷ [])))
 
 -- the end of the chain and the last input give what all inputs give
-chain_end-value : (a : Assignment) (kind : Kind) → IsStep a kind → (bits : List Bool) (b c : Bool)
-    → gate_value kind (chain_end kind b bits ∷ c ∷ []) ≡ gate_value kind (b ∷ (bits ++ c ∷ []))
-chain_end-value a kind step [] b c = refl
-chain_end-value a kind step (d ∷ bits) b c = chain_end-value a kind step bits (step_value kind b d) c ∙ step.stands b d (bits ++ c ∷ [])
+chain_end-reduced : (reduction : Reduction) (bits : List Bool) (b c : Bool)
+    → reduced reduction (chain_end reduction b bits ∷ c ∷ []) ≡ reduced reduction (b ∷ (bits ++ c ∷ []))
+chain_end-reduced reduction [] b c = refl
+chain_end-reduced reduction (d ∷ bits) b c = chain_end-reduced reduction bits (step_value reduction b d) c ∙ step-stands reduction b d (bits ++ c ∷ [])
 
 -- a list by its first item, those between, and its last
 ends : (xs : List ℕ) → 2 ≤ length xs → get_or xs 0 0 ∷ (take (length xs - 1 - 1) (drop 1 xs) ++ get_or xs (length xs - 1) 0 ∷ []) ≡ xs
@@ -169,21 +161,20 @@ ends (x ∷ xs) long = (λ i. x ∷ (take (between i) xs ++ get_or (x ∷ xs) (b
       behind = omega arith
 
 -- the bits of the inner variables of a gate of more than four inputs
-abbrev pub wide_bits : Kind → List Bool → List Bool
-wide_bits kind bits = chain_bits kind (bit_in bits 0) (take (length bits - 1 - 1) (drop 1 bits))
+abbrev pub wide_bits : Reduction → List Bool → List Bool
+wide_bits reduction bits = chain_bits reduction (bit_in bits 0) (take (length bits - 1 - 1) (drop 1 bits))
 
 AllPositive-drop : (n : ℕ) (vs : List ℕ) → AllPositive vs → AllPositive (drop n vs)
 AllPositive-drop zero vs h = h
 AllPositive-drop (suc n) [] h = tt
 AllPositive-drop (suc n) (v ∷ vs) h = AllPositive-drop n vs h.1
 
-module _ (a : Assignment) (kind : Kind) (h z : ℕ) (xs : List ℕ) (y : ℕ) (hh : 1 ≤ h) (hz : 1 ≤ z) (hy : 1 ≤ y) (hs : AllPositive xs) where
-  wide-settles : 5 ≤ length xs → takes kind (length xs) ≡ true
-      → Settles a z (wide_clauses kind h z xs y) (wide_bits kind (map a xs)) (output_is a h y (gate_value kind (map a xs)))
-  wide-settles wide e =
-      chain-settles a kind h last y hh (AllPositive-at xs (length xs - 1) hs (omega arith)) hy step middle z first hz (AllPositive-at xs 0 hs (omega arith))
+module _ (a : Assignment) (gate : Gate) (h z : ℕ) (xs : List ℕ) (y : ℕ) (hh : 1 ≤ h) (hz : 1 ≤ z) (hy : 1 ≤ y) (hs : AllPositive xs) where
+  wide-settles : 5 ≤ length xs → Settles a z (wide_clauses gate h z xs y) (wide_bits (gate_row gate).reduction (map a xs)) (output_is a h y (gate_value gate (map a xs)))
+  wide-settles wide =
+      chain-settles a gate h last y hh (AllPositive-at xs (length xs - 1) hs (omega arith)) hy middle z first hz (AllPositive-at xs 0 hs (omega arith))
       (AllPositive-take (length xs - 1 - 1) (drop 1 xs) (AllPositive-drop 1 xs hs))
-      ∙ (λ i. has_bits a z (chain_bits kind (first_is i) (middle_is i)) && output_is a h y (value i)) where
+      ∙ (λ i. has_bits a z (chain_bits (gate_row gate).reduction (first_is i) (middle_is i)) && output_is a h y (value i)) where
         first : ℕ
         first = get_or xs 0 0
 
@@ -193,9 +184,6 @@ module _ (a : Assignment) (kind : Kind) (h z : ℕ) (xs : List ℕ) (y : ℕ) (h
         middle : List ℕ
         middle = take (length xs - 1 - 1) (drop 1 xs)
 
-        step : IsStep a kind
-        step = IsStep-of a kind (length xs) wide e
-
         first_is : a first ≡ bit_in (map a xs) 0
         first_is = sym (get_or-map a xs 0 0 false (omega arith))
 
@@ -203,37 +191,37 @@ module _ (a : Assignment) (kind : Kind) (h z : ℕ) (xs : List ℕ) (y : ℕ) (h
         middle_is = sym (take-map a (length xs - 1 - 1) (drop 1 xs))
             ∙ (λ i. take (sym (length-map xs a) i - 1 - 1) (sym (drop-map a 1 xs) i))
 
-        value : gate_value kind (chain_end kind (a first) (map a middle) ∷ a last ∷ []) ≡ gate_value kind (map a xs)
-        value = chain_end-value a kind step (map a middle) (a first) (a last)
-            ∙ ap (λ bits. gate_value kind (a first ∷ bits)) (sym (map-append a middle (last ∷ [])))
-            ∙ ap (λ vs. gate_value kind (map a vs)) (ends xs (omega arith))
+        value : gate_value gate (chain_end (gate_row gate).reduction (a first) (map a middle) ∷ a last ∷ []) ≡ gate_value gate (map a xs)
+        value = ap (same_bit (gate_row gate).positive) (chain_end-reduced (gate_row gate).reduction (map a middle) (a first) (a last))
+            ∙ ap (λ bits. gate_value gate (a first ∷ bits)) (sym (map-append a middle (last ∷ [])))
+            ∙ ap (λ vs. gate_value gate (map a vs)) (ends xs (omega arith))
 
 -- ---- a gate of any width
 
 -- the bits of the inner variables of a gate
-abbrev pub gate_bits : Kind → List Bool → List Bool
-gate_bits kind bits = if is_wide (length bits) then wide_bits kind bits else []
+abbrev pub gate_bits : Reduction → List Bool → List Bool
+gate_bits reduction bits = if is_wide (length bits) then wide_bits reduction bits else []
 
-pub any_gate-settles : (a : Assignment) (kind : Kind) (h z : ℕ) (xs : List ℕ) (y : ℕ) → 1 ≤ h → 1 ≤ z → 1 ≤ y → AllPositive xs → takes kind (length xs) ≡ true
-    → Settles a z (any_gate_clauses kind h z xs y) (gate_bits kind (map a xs)) (output_is a h y (gate_value kind (map a xs)))
-any_gate-settles a kind h z xs y hh hz hy hs e =
+pub any_gate-settles : (a : Assignment) (gate : Gate) (h z : ℕ) (xs : List ℕ) (y : ℕ) → 1 ≤ h → 1 ≤ z → 1 ≤ y → AllPositive xs
+    → Settles a z (any_gate_clauses gate h z xs y) (gate_bits (gate_row gate).reduction (map a xs)) (output_is a h y (gate_value gate (map a xs)))
+any_gate-settles a gate h z xs y hh hz hy hs =
     by_width (is_wide (length xs)) refl
-    ∙ ap (λ n. has_bits a z (if is_wide n then wide_bits kind (map a xs) else []) && output_is a h y (gate_value kind (map a xs))) (sym (length-map xs a)) where
+    ∙ ap (λ n. has_bits a z (if is_wide n then wide_bits (gate_row gate).reduction (map a xs) else []) && output_is a h y (gate_value gate (map a xs))) (sym (length-map xs a)) where
       by_width : (w : Bool) → is_wide (length xs) ≡ w
-          → all_hold a (if w then wide_clauses kind h z xs y else gate_clauses kind h xs y)
-          ≡ (has_bits a z (if w then wide_bits kind (map a xs) else []) && output_is a h y (gate_value kind (map a xs)))
-      by_width true wide = wide-settles a kind h z xs y hh hz hy hs (omega (arith, ltb-true 4 (length xs) wide)) e
-      by_width false narrow = gate-holds a h xs y hh hy hs kind e
+          → all_hold a (if w then wide_clauses gate h z xs y else gate_clauses gate h xs y)
+          ≡ (has_bits a z (if w then wide_bits (gate_row gate).reduction (map a xs) else []) && output_is a h y (gate_value gate (map a xs)))
+      by_width true wide = wide-settles a gate h z xs y hh hz hy hs (omega (arith, ltb-true 4 (length xs) wide))
+      by_width false narrow = gate-holds a h xs y hh hy hs gate
 
 -- ---- how many
 
-length-gate_bits : (kind : Kind) (bits : List Bool) (ports : ℕ) → length bits ≡ ports - 1
-    → length (gate_bits kind bits) ≡ (if is_wide (ports - 1) then ports - 3 else 0)
-length-gate_bits kind bits ports long = by_width (is_wide (length bits)) refl ∙ ap (λ n. if is_wide n then ports - 3 else 0) long where
-  by_width : (w : Bool) → is_wide (length bits) ≡ w → length (if w then wide_bits kind bits else []) ≡ (if w then ports - 3 else 0)
+length-gate_bits : (reduction : Reduction) (bits : List Bool) (ports : ℕ) → length bits ≡ ports - 1
+    → length (gate_bits reduction bits) ≡ (if is_wide (ports - 1) then ports - 3 else 0)
+length-gate_bits reduction bits ports long = by_width (is_wide (length bits)) refl ∙ ap (λ n. if is_wide n then ports - 3 else 0) long where
+  by_width : (w : Bool) → is_wide (length bits) ≡ w → length (if w then wide_bits reduction bits else []) ≡ (if w then ports - 3 else 0)
   by_width true wide =
       let at_least : 4 < length bits = ltb-true 4 (length bits) wide in
-      length-chain_bits kind (bit_in bits 0) (take (length bits - 1 - 1) (drop 1 bits))
+      length-chain_bits reduction (bit_in bits 0) (take (length bits - 1 - 1) (drop 1 bits))
       ∙ length-take-le (length bits - 1 - 1) (drop 1 bits) (omega (arith, length-drop 1 bits))
       ∙ count (length bits) ports at_least long where
         count : (n ports : ℕ) → 4 < n → n ≡ ports - 1 → n - 1 - 1 ≡ ports - 3
@@ -243,43 +231,32 @@ length-gate_bits kind bits ports long = by_width (is_wide (length bits)) refl �
 -- the bits of the inner variables of a part, by those of its ports
 abbrev pub inner_bits : Kind → List Bool → List Bool
 inner_bits (Table t) row = []
-inner_bits kind row = gate_bits kind (take (length row - 1) row)
+inner_bits (OfGate gate) row = gate_bits (gate_row gate).reduction (take (length row - 1) row)
 
 pub length-inner_bits : (kind : Kind) (row : List Bool) → length (inner_bits kind row) ≡ inner_count kind (length row)
-length-inner_bits kind row = by_kind kind (length-take-le (length row - 1) row (omega arith)) where
-  by_kind : (kind : Kind) → length (take (length row - 1) row) ≡ length row - 1 → length (inner_bits kind row) ≡ inner_count kind (length row)
-  by_kind (Table t) long = refl
-  by_kind And long = length-gate_bits And (take (length row - 1) row) (length row) long
-  by_kind Or long = length-gate_bits Or (take (length row - 1) row) (length row) long
-  by_kind Nand long = length-gate_bits Nand (take (length row - 1) row) (length row) long
-  by_kind Nor long = length-gate_bits Nor (take (length row - 1) row) (length row) long
-  by_kind Xor long = length-gate_bits Xor (take (length row - 1) row) (length row) long
-  by_kind Xnor long = length-gate_bits Xnor (take (length row - 1) row) (length row) long
-  by_kind Not long = length-gate_bits Not (take (length row - 1) row) (length row) long
-  by_kind Buff long = length-gate_bits Buff (take (length row - 1) row) (length row) long
+length-inner_bits (Table t) row = refl
+length-inner_bits (OfGate gate) row =
+    length-gate_bits (gate_row gate).reduction (take (length row - 1) row) (length row) (length-take-le (length row - 1) row (omega arith))
 
 -- ---- a part of any kind
 
 -- the last port of a gate is its output
-ports-settle : (a : Assignment) (kind : Kind) (h z : ℕ) (ports : List ℕ) → 1 ≤ h → 1 ≤ z → AllPositive ports → takes kind (length ports - 1) ≡ true
-    → Settles a z (any_gate_clauses kind h z (take (length ports - 1) ports) (get_or ports (length ports - 1) 0))
-    (gate_bits kind (take (length (map a ports) - 1) (map a ports))) (gate_allows kind (a h) (map a ports))
-ports-settle a kind h z ports hh hz hs e =
-    any_gate-settles a kind h z (take inputs ports) (get_or ports inputs 0) hh hz (AllPositive-at ports inputs hs within) (AllPositive-take inputs ports hs) (ap (takes kind) long ∙ e)
+ports-settle : (a : Assignment) (gate : Gate) (h z : ℕ) (ports : List ℕ) → 1 ≤ h → 1 ≤ z → AllPositive ports → takes gate (length ports - 1) ≡ true
+    → Settles a z (any_gate_clauses gate h z (take (length ports - 1) ports) (get_or ports (length ports - 1) 0))
+    (gate_bits (gate_row gate).reduction (take (length (map a ports) - 1) (map a ports))) (gate_allows gate (a h) (map a ports))
+ports-settle a gate h z ports hh hz hs e =
+    any_gate-settles a gate h z (take inputs ports) (get_or ports inputs 0) hh hz (AllPositive-at ports inputs hs within) (AllPositive-take inputs ports hs)
     ∙ (λ i. says (output i) (sym (take-map a inputs ports) i))
     ∙ (λ i. says (bit_in (map a ports) (sym (length-map ports a) i - 1)) (take (sym (length-map ports a) i - 1) (map a ports)))
-    ∙ ap (λ b. has_bits a z (gate_bits kind (take (length (map a ports) - 1) (map a ports))) && b) (gate_allows-says kind (a h) (map a ports)) where
+    ∙ ap (λ b. has_bits a z (gate_bits (gate_row gate).reduction (take (length (map a ports) - 1) (map a ports))) && b) (gate_allows-says gate (a h) (map a ports)) where
       inputs : ℕ
       inputs = length ports - 1
 
       says : Bool → List Bool → Bool
-      says out bits = has_bits a z (gate_bits kind bits) && (not (a h) || same_bit out (gate_value kind bits))
+      says out bits = has_bits a z (gate_bits (gate_row gate).reduction bits) && (not (a h) || same_bit out (gate_value gate bits))
 
       within : inputs < length ports
-      within = omega (arith, takes-some kind (length ports - 1) e)
-
-      long : length (take inputs ports) ≡ inputs
-      long = length-take-le inputs ports (omega arith)
+      within = omega (arith, takes-some gate (length ports - 1) e)
 
       output : a (get_or ports inputs 0) ≡ bit_in (map a ports) inputs
       output = sym (get_or-map a ports inputs 0 false within)
@@ -292,11 +269,4 @@ raw-settles a tables (Table t) h z ports hh hz hs e = by_rows (slice_get tables 
   by_rows : (rows : Option TruthTable) → rows_take rows (length ports) ≡ true → all_hold a (table_clauses rows h ports) ≡ any_table_allows rows (a h) (map a ports)
   by_rows None e = absurd (false≢true e)
   by_rows (Some rows) e = table-holds a rows h ports hh hs
-raw-settles a tables And h z ports hh hz hs e = ports-settle a And h z ports hh hz hs e
-raw-settles a tables Or h z ports hh hz hs e = ports-settle a Or h z ports hh hz hs e
-raw-settles a tables Nand h z ports hh hz hs e = ports-settle a Nand h z ports hh hz hs e
-raw-settles a tables Nor h z ports hh hz hs e = ports-settle a Nor h z ports hh hz hs e
-raw-settles a tables Xor h z ports hh hz hs e = ports-settle a Xor h z ports hh hz hs e
-raw-settles a tables Xnor h z ports hh hz hs e = ports-settle a Xnor h z ports hh hz hs e
-raw-settles a tables Not h z ports hh hz hs e = ports-settle a Not h z ports hh hz hs e
-raw-settles a tables Buff h z ports hh hz hs e = ports-settle a Buff h z ports hh hz hs e
+raw-settles a tables (OfGate gate) h z ports hh hz hs e = ports-settle a gate h z ports hh hz hs e

@@ -1,5 +1,5 @@
 -- How many clauses a part has.
-use Rattle.std.proofs.Common.{◌≡◌, ℕ, ◌+◌, ◌-◌, ◌*◌, ◌%◌, ◌^◌, ◌<◌, ◌≤◌, Bool, true, false, not, ◌⊎◌, inl, inr, List, [], ◌∷◌, map, length, take, drop, get_or, refl, count_ones, Some, ap, sym, ◌∙◌, subst, arith}
+use Rattle.std.proofs.Common.{◌≡◌, ℕ, ◌+◌, ◌-◌, ◌*◌, ◌%◌, ◌^◌, ◌<◌, ◌≤◌, Bool, true, false, not, ◌⊎◌, inl, inr, List, [], ◌∷◌, map, length, take, drop, get_or, refl, count_ones, Some, ℤ, pos, neg_ℤ, ap, sym, ◌∙◌, subst, arith}
 use Rattle.std.specs.Prelude.{if◌then◌else◌}
 use Rattle.std.specs.List.{filter}
 use Rattle.std.proofs.Math.Pow.{pow_mono}
@@ -7,16 +7,18 @@ use lib.Count.{ones-le}
 use Rattle.std.proofs.lemmas.Bool.{lt-ltb}
 use Rattle.std.proofs.lemmas.List.{length-append, length-map, length-take-le, length-drop}
 use Rattle.std.proofs.lemmas.List.FromFn.{length-map-range_with_len}
-use Rattle.device_model.specs.declared.component.Kind.{Kind}
-use Rattle.device_model.specs.declared.component.Kind.TheVariants.{And, Or, Nand, Nor, Xor, Xnor, Not, Buff, Table}
+use Rattle.device_model.specs.declared.gates.Gate.{Gate}
+use Rattle.device_model.specs.declared.gates.Reduction.{Reduction}
+use Rattle.device_model.specs.declared.gates.Reduction.TheVariants.{AllOnes, AnyOne, OddOnes}
 use Rattle.device_model.specs.declared.component.Component.{Component}
 use Rattle.device_model.specs.declared.limits.TheConstants.{INPUT_LIMIT}
 use Rattle.device_model.specs.TruthTable.{TruthTable, is_table}
-use Rattle.device_model.specs.Devices.{Device, most_inputs, takes, is_set}
+use Rattle.device_model.specs.Devices.{Device, is_set}
+use Rattle.device_model.specs.Gates.{gate_row, takes}
 use Rattle.clause_encoder.specs.Clauses.{literal}
-use Rattle.clause_encoder.specs.Encoding.{parity_clauses, gate_clauses, step_clauses, chain_clauses, wide_clauses, any_gate_clauses, raw_clauses, clauses_from, wire_variable, blocked_rows, table_clauses, rows_of, row_bits, blocking_literals}
+use Rattle.clause_encoder.specs.Encoding.{and_clauses, parity_clauses, reduction_clauses, gate_clauses, step_clauses, chain_clauses, wide_clauses, any_gate_clauses, raw_clauses, clauses_from, wire_variable, blocked_rows, table_clauses, rows_of, row_bits, blocking_literals}
 use Rattle.clause_encoder.proofs.RowBits.{others}
-use Rattle.clause_encoder.proofs.Meaning.{takes-most, not_wide}
+use Rattle.clause_encoder.proofs.Meaning.{takes-most}
 use Rattle.clause_encoder.proofs.Writing.{IsTable-from, shifted_far, inner_at, split-at}
 
 -- ---- tables
@@ -55,52 +57,59 @@ length-table rows h vs e long =
 length-rows : (odd : Bool) (h : ℕ) (xs : List ℕ) (y n : ℕ) → length xs ≡ n → length (parity_clauses odd h xs y) ≡ 2 ^ n
 length-rows odd h xs y n long = length-map-range_with_len _ 0 (2 ^ length xs) ∙ ap (λ n. 2 ^ n) long
 
-pub length-parity : (kind : Kind) (h : ℕ) (xs : List ℕ) (y inputs : ℕ) → length xs ≡ inputs → inputs ≤ 4 → (kind ≡ Xor) ⊎ (kind ≡ Xnor)
-    → length (gate_clauses kind h xs y) ≡ 1 * 2 ^ inputs % 18446744073709551616
-length-parity kind h xs y inputs long few (inl e) = ap (λ k. length (gate_clauses k h xs y)) e ∙ length-rows true h xs y inputs long ∙ sym (shifted_far inputs (omega arith))
-length-parity kind h xs y inputs long few (inr e) = ap (λ k. length (gate_clauses k h xs y)) e ∙ length-rows false h xs y inputs long ∙ sym (shifted_far inputs (omega arith))
+pub length-parity : (gate : Gate) (h : ℕ) (xs : List ℕ) (y inputs : ℕ) → length xs ≡ inputs → inputs ≤ 4 → (gate_row gate).reduction ≡ OddOnes
+    → length (gate_clauses gate h xs y) ≡ 1 * 2 ^ inputs % 18446744073709551616
+length-parity gate h xs y inputs long few odd = ap (λ r. length (reduction_clauses r (gate_row gate).positive h xs y)) odd
+    ∙ length-rows (gate_row gate).positive h xs y inputs long ∙ sym (shifted_far inputs (omega arith))
+
+-- ands have a clause for each input, and one for all
+pub length-ands : (gate : Gate) (h : ℕ) (xs : List ℕ) (y inputs : ℕ) → length xs ≡ inputs → ((gate_row gate).reduction ≡ AllOnes) ⊎ ((gate_row gate).reduction ≡ AnyOne)
+    → length (gate_clauses gate h xs y) ≡ inputs + 1
+length-ands gate h xs y inputs long which = elim which [
+  | inl all ↦ ap (λ r. length (reduction_clauses r (gate_row gate).positive h xs y)) all ∙ of (literal (gate_row gate).positive y) true
+  | inr any ↦ ap (λ r. length (reduction_clauses r (gate_row gate).positive h xs y)) any ∙ of (literal (not (gate_row gate).positive) y) false
+] where
+  of : (output : ℤ) (positive : Bool) → length (and_clauses (pos h) output (map (literal positive) xs)) ≡ inputs + 1
+  of output positive = omega (
+    arith,
+    length-append (map (λ x. neg_ℤ (pos h) ∷ neg_ℤ output ∷ x ∷ []) (map (literal positive) xs)) ((neg_ℤ (pos h) ∷ output ∷ map neg_ℤ (map (literal positive) xs)) ∷ []),
+    length-map (map (literal positive) xs) (λ x. neg_ℤ (pos h) ∷ neg_ℤ output ∷ x ∷ []),
+    length-map xs (literal positive),
+    long,
+  )
 
 pub few-rows : (n : ℕ) → n ≤ 4 → 1 * 2 ^ n % 18446744073709551616 ≤ 16
 few-rows n h = let most : 2 ^ n ≤ 2 ^ 4 = pow_mono h in omega arith
 
 -- ---- chains
 
-few_inputs : (kind : Kind) → most_inputs kind ≤ INPUT_LIMIT
-few_inputs Not = omega arith
-few_inputs Buff = omega arith
-few_inputs (Table t) = omega arith
-few_inputs gate = omega arith
+few_inputs : (gate : Gate) → (gate_row gate).most_inputs ≤ INPUT_LIMIT
+few_inputs gate = grind arith
 
-pub takes-few : (kind : Kind) (n : ℕ) → takes kind n ≡ true → n ≤ INPUT_LIMIT
-takes-few kind n e = omega (arith, few_inputs kind, takes-most kind n e)
+pub takes-few : (gate : Gate) (n : ℕ) → takes gate n ≡ true → n ≤ INPUT_LIMIT
+takes-few gate n e = omega (arith, few_inputs gate, takes-most gate n e)
 
 -- the gate at the end of a chain has as many clauses as a step
-length-two : (kind : Kind) (inputs h b l y z c x : ℕ) → 5 ≤ inputs → takes kind inputs ≡ true → length (gate_clauses kind h (b ∷ l ∷ []) y) ≡ length (step_clauses kind z c x)
-length-two And inputs h b l y z c x wide e = refl
-length-two Nand inputs h b l y z c x wide e = refl
-length-two Or inputs h b l y z c x wide e = refl
-length-two Nor inputs h b l y z c x wide e = refl
-length-two Xor inputs h b l y z c x wide e = refl
-length-two Xnor inputs h b l y z c x wide e = refl
-length-two Not inputs h b l y z c x wide e = absurd (not_wide Not inputs (omega arith) wide e)
-length-two Buff inputs h b l y z c x wide e = absurd (not_wide Buff inputs (omega arith) wide e)
-length-two (Table t) inputs h b l y z c x wide e = absurd (not_wide (Table t) inputs (omega arith) wide e)
+length-two : (reduction : Reduction) (positive : Bool) (h b l y z c x : ℕ)
+    → length (reduction_clauses reduction positive h (b ∷ l ∷ []) y) ≡ length (step_clauses reduction z c x)
+length-two AllOnes positive h b l y z c x = refl
+length-two AnyOne positive h b l y z c x = refl
+length-two OddOnes positive h b l y z c x = refl
 
-module _ (kind : Kind) (h last y n : ℕ) (step : (z b x : ℕ) → length (step_clauses kind z b x) ≡ n) (two : (b : ℕ) → length (gate_clauses kind h (b ∷ last ∷ []) y) ≡ n) where
-  length-chain : (xs : List ℕ) (z before : ℕ) → length (chain_clauses kind h last y z before xs) ≡ n * length xs + n
+module _ (gate : Gate) (h last y n : ℕ) (step : (z b x : ℕ) → length (step_clauses (gate_row gate).reduction z b x) ≡ n) (two : (b : ℕ) → length (gate_clauses gate h (b ∷ last ∷ []) y) ≡ n) where
+  length-chain : (xs : List ℕ) (z before : ℕ) → length (chain_clauses gate h last y z before xs) ≡ n * length xs + n
   length-chain [] z before = omega (arith, two before)
   length-chain (x ∷ xs) z before = omega (
     arith,
-    length-append (step_clauses kind z before x) (chain_clauses kind h last y (z + 1) z xs),
+    length-append (step_clauses (gate_row gate).reduction z before x) (chain_clauses gate h last y (z + 1) z xs),
     step z before x,
     length-chain xs (z + 1) z,
   )
 
-pub length-any_gate : (kind : Kind) (inputs n : ℕ) → ((z b x : ℕ) → length (step_clauses kind z b x) ≡ n) → 5 ≤ inputs → takes kind inputs ≡ true
-    → (h z y : ℕ) (xs : List ℕ) → length xs ≡ inputs → length (any_gate_clauses kind h z xs y) ≡ n * (inputs - 1)
-length-any_gate kind inputs n step wide e h z y xs long =
-    ap (λ w. length (if w then wide_clauses kind h z xs y else gate_clauses kind h xs y)) (lt-ltb 4 (length xs) (omega arith))
-    ∙ length-chain kind h last y n step (λ b. length-two kind inputs h b last y z z z wide e ∙ step z z z) between z (get_or xs 0 0)
+pub length-any_gate : (gate : Gate) (inputs n : ℕ) → ((z b x : ℕ) → length (step_clauses (gate_row gate).reduction z b x) ≡ n) → 5 ≤ inputs → (h z y : ℕ) (xs : List ℕ) → length xs ≡ inputs → length (any_gate_clauses gate h z xs y) ≡ n * (inputs - 1)
+length-any_gate gate inputs n step wide h z y xs long =
+    ap (λ w. length (if w then wide_clauses gate h z xs y else gate_clauses gate h xs y)) (lt-ltb 4 (length xs) (omega arith))
+    ∙ length-chain gate h last y n step (λ b. length-two (gate_row gate).reduction (gate_row gate).positive h b last y z z z ∙ step z z z) between z (get_or xs 0 0)
     ∙ count (length between) inputs wide (length-take-le (length xs - 1 - 1) (drop 1 xs) (omega (arith, length-drop 1 xs)) ∙ less (length xs) inputs long) where
       last : ℕ
       last = get_or xs (length xs - 1) 0

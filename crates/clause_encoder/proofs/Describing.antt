@@ -8,12 +8,16 @@ use Rattle.std.proofs.lemmas.List.{get_or_append_left, get_or-append_right}
 use Rattle.ranking.specs.Bits.{bit_in, lists_of_bits, has_odd_ones, same_bit}
 use Rattle.ranking.specs.Assignments.{Assignment, assignment}
 use Rattle.device_model.specs.declared.component.Kind.{Kind}
-use Rattle.device_model.specs.declared.component.Kind.TheVariants.{And, Or, Nand, Nor, Xor, Xnor, Not, Buff, Table}
+use Rattle.device_model.specs.declared.component.Kind.TheVariants.{Gate as OfGate, Table}
+use Rattle.device_model.specs.declared.gates.Gate.{Gate}
+use Rattle.device_model.specs.declared.gates.Reduction.{Reduction}
+use Rattle.device_model.specs.declared.gates.Reduction.TheVariants.{AllOnes, AnyOne, OddOnes}
 use Rattle.device_model.specs.declared.component.Component.{Component}
 use Rattle.device_model.specs.TruthTable.{TruthTable}
-use Rattle.device_model.specs.Devices.{Device, IsDevice, allows, parts_fit, fits, takes_ports, has_arity, has_wires, takes}
+use Rattle.device_model.specs.Devices.{Device, IsDevice, allows, parts_fit, fits, takes_ports, has_arity, has_wires}
+use Rattle.device_model.specs.Gates.{gate_row, takes}
 use Rattle.clause_encoder.specs.Clauses.{Clause, var_of, literal, all_hold, is_clause}
-use Rattle.clause_encoder.specs.Encoding.{parity_clauses, and_clauses, row_bits, rows_of, blocking_literals, row_clause, blocked_rows, table_clauses, gate_clauses, and_step, xor_step, step_clauses, chain_clauses, wide_clauses, is_wide, any_gate_clauses, inner_count, raw_clauses, wire_variable, first_inner, inner_vars, clauses_from, all_clauses, clause_list, tidy, Describes}
+use Rattle.clause_encoder.specs.Encoding.{parity_clauses, and_clauses, row_bits, rows_of, blocking_literals, row_clause, blocked_rows, table_clauses, reduction_clauses, gate_clauses, and_step, xor_step, step_clauses, chain_clauses, wide_clauses, is_wide, any_gate_clauses, inner_count, raw_clauses, wire_variable, first_inner, inner_vars, clauses_from, all_clauses, clause_list, tidy, Describes}
 use Rattle.clause_encoder.proofs.Literals.{AllIn, AllRaw, AllIn-append, AllRaw-append, AllRaw-map, all_hold-tidy, are_clauses-tidy}
 use Rattle.clause_encoder.proofs.RowBits.{AllPositive}
 use Rattle.clause_encoder.proofs.Meaning.{and_clauses-literals, takes-some}
@@ -101,16 +105,10 @@ module _ (vars z before x : ℕ) (hs : InRange vars (z ∷ before ∷ x ∷ []))
     ),
   )
 
-  AllRaw-step : (kind : Kind) → AllRaw vars (step_clauses kind z before x)
-  AllRaw-step And = AllRaw-and_step true
-  AllRaw-step Nand = AllRaw-and_step true
-  AllRaw-step Or = AllRaw-and_step false
-  AllRaw-step Nor = AllRaw-and_step false
-  AllRaw-step Xor = AllRaw-xor_step
-  AllRaw-step Xnor = AllRaw-xor_step
-  AllRaw-step Not = tt
-  AllRaw-step Buff = tt
-  AllRaw-step (Table t) = tt
+  AllRaw-step : (reduction : Reduction) → AllRaw vars (step_clauses reduction z before x)
+  AllRaw-step AllOnes = AllRaw-and_step true
+  AllRaw-step AnyOne = AllRaw-and_step false
+  AllRaw-step OddOnes = AllRaw-xor_step
 
 module _ (vars h : ℕ) (hh : 1 ≤ h) (hm : h ≤ vars) where
   AllRaw-and : (y : ℕ) (t s : Bool) (xs : List ℕ) → 1 ≤ y → y ≤ vars → InRange vars xs → AllRaw vars (and_clauses (pos h) (literal t y) (map (literal s) xs))
@@ -134,49 +132,46 @@ module _ (vars h : ℕ) (hh : 1 ≤ h) (hm : h ≤ vars) where
   AllRaw-side ok allowed ports hs = AllRaw-map vars (λ r. literal (not ok) h ∷ blocking_literals ports (row_bits r ports)) _
       (λ r. (omega arith, AllIn-cons vars (not ok) h (blocking_literals ports (row_bits r ports)) hh hm (AllIn-blocking_literals vars ports (row_bits r ports) hs)))
 
-  AllRaw-gate : (kind : Kind) (xs : List ℕ) (y : ℕ) → 1 ≤ y → y ≤ vars → InRange vars xs → AllRaw vars (gate_clauses kind h xs y)
-  AllRaw-gate And xs y hy ym hs = AllRaw-and y true true xs hy ym hs
-  AllRaw-gate Buff xs y hy ym hs = AllRaw-and y true true xs hy ym hs
-  AllRaw-gate Nand xs y hy ym hs = AllRaw-and y false true xs hy ym hs
-  AllRaw-gate Not xs y hy ym hs = AllRaw-and y false true xs hy ym hs
-  AllRaw-gate Or xs y hy ym hs = AllRaw-and y false false xs hy ym hs
-  AllRaw-gate Nor xs y hy ym hs = AllRaw-and y true false xs hy ym hs
-  AllRaw-gate Xor xs y hy ym hs = AllRaw-parity true xs y hy ym hs
-  AllRaw-gate Xnor xs y hy ym hs = AllRaw-parity false xs y hy ym hs
-  AllRaw-gate (Table t) xs y hy ym hs = tt
+  AllRaw-reduction : (reduction : Reduction) (positive : Bool) (xs : List ℕ) (y : ℕ) → 1 ≤ y → y ≤ vars → InRange vars xs → AllRaw vars (reduction_clauses reduction positive h xs y)
+  AllRaw-reduction AllOnes positive xs y hy ym hs = AllRaw-and y positive true xs hy ym hs
+  AllRaw-reduction AnyOne positive xs y hy ym hs = AllRaw-and y (not positive) false xs hy ym hs
+  AllRaw-reduction OddOnes positive xs y hy ym hs = AllRaw-parity positive xs y hy ym hs
 
-  AllRaw-chain : (kind : Kind) (last y : ℕ) → InRange vars (last ∷ y ∷ []) → (xs : List ℕ) (z before : ℕ) → 1 ≤ z → z + length xs ≤ vars + 1
-      → 1 ≤ before → before ≤ vars → InRange vars xs → AllRaw vars (chain_clauses kind h last y z before xs)
-  AllRaw-chain kind last y ends [] z before hz zm hb bm hs = AllRaw-gate kind (before ∷ last ∷ []) y ends.2.0 ends.2.1 (hb, bm, (ends.0, ends.1, tt))
-  AllRaw-chain kind last y ends (x ∷ xs) z before hz zm hb bm hs =
-      AllRaw-append vars (step_clauses kind z before x) (chain_clauses kind h last y (z + 1) z xs)
-      (AllRaw-step vars z before x (hz, omega arith, (hb, bm, (hs.0, hs.1, tt))) kind)
-      (AllRaw-chain kind last y ends xs (z + 1) z (omega arith) (omega arith) hz (omega arith) hs.2)
+  AllRaw-gate : (gate : Gate) (xs : List ℕ) (y : ℕ) → 1 ≤ y → y ≤ vars → InRange vars xs → AllRaw vars (gate_clauses gate h xs y)
+  AllRaw-gate gate = AllRaw-reduction (gate_row gate).reduction (gate_row gate).positive
 
-  AllRaw-wide : (kind : Kind) (z : ℕ) (xs : List ℕ) (y : ℕ) → 5 ≤ length xs → 1 ≤ z → z + (length xs - 2) ≤ vars + 1 → 1 ≤ y → y ≤ vars → InRange vars xs
-      → AllRaw vars (wide_clauses kind h z xs y)
-  AllRaw-wide kind z xs y wide hz zm hy ym hs =
+  AllRaw-chain : (gate : Gate) (last y : ℕ) → InRange vars (last ∷ y ∷ []) → (xs : List ℕ) (z before : ℕ) → 1 ≤ z → z + length xs ≤ vars + 1
+      → 1 ≤ before → before ≤ vars → InRange vars xs → AllRaw vars (chain_clauses gate h last y z before xs)
+  AllRaw-chain gate last y ends [] z before hz zm hb bm hs = AllRaw-gate gate (before ∷ last ∷ []) y ends.2.0 ends.2.1 (hb, bm, (ends.0, ends.1, tt))
+  AllRaw-chain gate last y ends (x ∷ xs) z before hz zm hb bm hs =
+      AllRaw-append vars (step_clauses (gate_row gate).reduction z before x) (chain_clauses gate h last y (z + 1) z xs)
+      (AllRaw-step vars z before x (hz, omega arith, (hb, bm, (hs.0, hs.1, tt))) (gate_row gate).reduction)
+      (AllRaw-chain gate last y ends xs (z + 1) z (omega arith) (omega arith) hz (omega arith) hs.2)
+
+  AllRaw-wide : (gate : Gate) (z : ℕ) (xs : List ℕ) (y : ℕ) → 5 ≤ length xs → 1 ≤ z → z + (length xs - 2) ≤ vars + 1 → 1 ≤ y → y ≤ vars → InRange vars xs
+      → AllRaw vars (wide_clauses gate h z xs y)
+  AllRaw-wide gate z xs y wide hz zm hy ym hs =
       let first = InRange-at vars xs 0 hs (omega arith) in
       let last = InRange-at vars xs (length xs - 1) hs (omega arith) in
       let steps : length (take (length xs - 1 - 1) (drop 1 xs)) ≡ length xs - 1 - 1 = length-take-le (length xs - 1 - 1) (drop 1 xs) (omega (arith, length-drop 1 xs)) in
-      AllRaw-chain kind (get_or xs (length xs - 1) 0) y (last.0, last.1, (hy, ym, tt)) (take (length xs - 1 - 1) (drop 1 xs)) z (get_or xs 0 0) hz (omega (arith, steps)) first.0 first.1
+      AllRaw-chain gate (get_or xs (length xs - 1) 0) y (last.0, last.1, (hy, ym, tt)) (take (length xs - 1 - 1) (drop 1 xs)) z (get_or xs 0 0) hz (omega (arith, steps)) first.0 first.1
       (InRange-take vars (length xs - 1 - 1) (drop 1 xs) (InRange-drop vars 1 xs hs))
 
-  AllRaw-any_gate : (kind : Kind) (z ports : ℕ) (xs : List ℕ) (y : ℕ) → length xs ≡ ports - 1 → 1 ≤ z → z + (if is_wide (ports - 1) then ports - 3 else 0) ≤ vars + 1
-      → 1 ≤ y → y ≤ vars → InRange vars xs → AllRaw vars (any_gate_clauses kind h z xs y)
-  AllRaw-any_gate kind z ports xs y long hz zm hy ym hs =
+  AllRaw-any_gate : (gate : Gate) (z ports : ℕ) (xs : List ℕ) (y : ℕ) → length xs ≡ ports - 1 → 1 ≤ z → z + (if is_wide (ports - 1) then ports - 3 else 0) ≤ vars + 1
+      → 1 ≤ y → y ≤ vars → InRange vars xs → AllRaw vars (any_gate_clauses gate h z xs y)
+  AllRaw-any_gate gate z ports xs y long hz zm hy ym hs =
       by_width (is_wide (length xs)) refl (subst (λ n. z + (if is_wide n then ports - 3 else 0) ≤ vars + 1) (sym long) zm) where
         by_width : (w : Bool) → is_wide (length xs) ≡ w → z + (if w then ports - 3 else 0) ≤ vars + 1
-            → AllRaw vars (if w then wide_clauses kind h z xs y else gate_clauses kind h xs y)
-        by_width true wide fits = AllRaw-wide kind z xs y (omega (arith, ltb-true 4 (length xs) wide)) hz (omega (arith, long, fits)) hy ym hs
-        by_width false narrow fits = AllRaw-gate kind xs y hy ym hs
+            → AllRaw vars (if w then wide_clauses gate h z xs y else gate_clauses gate h xs y)
+        by_width true wide fits = AllRaw-wide gate z xs y (omega (arith, ltb-true 4 (length xs) wide)) hz (omega (arith, long, fits)) hy ym hs
+        by_width false narrow fits = AllRaw-gate gate xs y hy ym hs
 
-  AllRaw-ports : (kind : Kind) (z : ℕ) (ports : List ℕ) → 1 ≤ z → z + (if is_wide (length ports - 1) then length ports - 3 else 0) ≤ vars + 1 → InRange vars ports → takes kind (length ports - 1) ≡ true
-      → AllRaw vars (any_gate_clauses kind h z (take (length ports - 1) ports) (get_or ports (length ports - 1) 0))
-  AllRaw-ports kind z ports hz zm hs e =
-      let within : length ports - 1 < length ports = omega (arith, takes-some kind (length ports - 1) e) in
+  AllRaw-ports : (gate : Gate) (z : ℕ) (ports : List ℕ) → 1 ≤ z → z + (if is_wide (length ports - 1) then length ports - 3 else 0) ≤ vars + 1 → InRange vars ports → takes gate (length ports - 1) ≡ true
+      → AllRaw vars (any_gate_clauses gate h z (take (length ports - 1) ports) (get_or ports (length ports - 1) 0))
+  AllRaw-ports gate z ports hz zm hs e =
+      let within : length ports - 1 < length ports = omega (arith, takes-some gate (length ports - 1) e) in
       let output = InRange-at vars ports (length ports - 1) hs within in
-      AllRaw-any_gate kind z (length ports) (take (length ports - 1) ports) (get_or ports (length ports - 1) 0) (length-take-le (length ports - 1) ports (omega arith)) hz zm output.0 output.1
+      AllRaw-any_gate gate z (length ports) (take (length ports - 1) ports) (get_or ports (length ports - 1) 0) (length-take-le (length ports - 1) ports (omega arith)) hz zm output.0 output.1
       (InRange-take vars (length ports - 1) ports hs)
 
   AllRaw-raw : (tables : List TruthTable) (kind : Kind) (z : ℕ) (ports : List ℕ) → 1 ≤ z → z + inner_count kind (length ports) ≤ vars + 1 → InRange vars ports
@@ -185,14 +180,7 @@ module _ (vars h : ℕ) (hh : 1 ≤ h) (hm : h ≤ vars) where
     by_rows : (rows : Option TruthTable) → AllRaw vars (table_clauses rows h ports)
     by_rows None = tt
     by_rows (Some rows) = AllRaw-append vars (blocked_rows true rows.ok h ports) (blocked_rows false rows.bad h ports) (AllRaw-side true rows.ok ports hs) (AllRaw-side false rows.bad ports hs)
-  AllRaw-raw tables And z ports hz zm hs e = AllRaw-ports And z ports hz zm hs e
-  AllRaw-raw tables Or z ports hz zm hs e = AllRaw-ports Or z ports hz zm hs e
-  AllRaw-raw tables Nand z ports hz zm hs e = AllRaw-ports Nand z ports hz zm hs e
-  AllRaw-raw tables Nor z ports hz zm hs e = AllRaw-ports Nor z ports hz zm hs e
-  AllRaw-raw tables Xor z ports hz zm hs e = AllRaw-ports Xor z ports hz zm hs e
-  AllRaw-raw tables Xnor z ports hz zm hs e = AllRaw-ports Xnor z ports hz zm hs e
-  AllRaw-raw tables Not z ports hz zm hs e = AllRaw-ports Not z ports hz zm hs e
-  AllRaw-raw tables Buff z ports hz zm hs e = AllRaw-ports Buff z ports hz zm hs e
+  AllRaw-raw tables (OfGate gate) z ports hz zm hs e = AllRaw-ports gate z ports hz zm hs e
 
 -- ---- parts
 

@@ -2,26 +2,23 @@
 use Rattle.std.proofs.Common.{◌≡◌, ℕ, zero, suc, ◌-◌, ◌^◌, ◌<◌, ◌≤◌, Bool, true, false, not, ◌&&◌, ◌||◌, List, [], ◌∷◌, ◌++◌, map, length, take, get_or, pos, neg_ℤ, Some, refl, ap, sym, ◌∙◌, arith}
 use Rattle.std.specs.Prelude.{◌==◌, nat_le}
 use Rattle.std.specs.List.{list_any, list_all}
-use Rattle.std.proofs.lemmas.Bool.{leb-true, and_parts, false≢true}
+use Rattle.std.proofs.lemmas.Bool.{leb-true, and_parts}
 use Rattle.std.proofs.lemmas.List.{length-map}
 use Rattle.std.proofs.lemmas.List.Folds.{list_all-append, list_any-append, list_all-map}
 use Rattle.ranking.specs.Bits.{same_bit, bit_in, row_number, has_odd_ones}
 use Rattle.ranking.specs.Assignments.{Assignment}
-use Rattle.device_model.specs.declared.component.Kind.{Kind}
-use Rattle.device_model.specs.declared.component.Kind.TheVariants.{And, Or, Nand, Nor, Xor, Xnor, Not, Buff, Table}
+use Rattle.device_model.specs.declared.gates.Gate.{Gate}
+use Rattle.device_model.specs.declared.gates.Reduction.{Reduction}
+use Rattle.device_model.specs.declared.gates.Reduction.TheVariants.{AllOnes, AnyOne, OddOnes}
 use Rattle.device_model.specs.TruthTable.{TruthTable}
-use Rattle.device_model.specs.Devices.{is_set, first_bit, gate_value, gate_allows, table_allows, most_inputs, takes}
+use Rattle.device_model.specs.Devices.{is_set, gate_allows, table_allows}
+use Rattle.device_model.specs.Gates.{gate_row, takes, reduced, gate_value}
 use Rattle.clause_encoder.specs.Clauses.{Clause, literal, is_true_clause, all_hold}
-use Rattle.clause_encoder.specs.Encoding.{parity_clauses, and_clauses, row_bits, rows_of, blocking_literals, row_clause, blocked_rows, table_clauses, gate_clauses}
+use Rattle.clause_encoder.specs.Encoding.{parity_clauses, and_clauses, row_bits, rows_of, blocking_literals, row_clause, blocked_rows, table_clauses, reduction_clauses, gate_clauses}
 use Rattle.clause_encoder.proofs.Literals.{lit, lit-literal, neg-literal}
 use Rattle.clause_encoder.proofs.RowBits.{AllPositive, row_bits-number, row_number-below, blocking_literals-row, all-rows, all-filtered}
+use Rattle.ranking.proofs.Bits.{same_bit-swap}
 use Rattle.std.proofs.Math.Bool.{or-false, or-true, and-true}
-
-same_bit_comm : (b c : Bool) → same_bit b c ≡ same_bit c b
-same_bit_comm true true = refl
-same_bit_comm true false = refl
-same_bit_comm false true = refl
-same_bit_comm false false = refl
 
 -- ---- ands, of literals on either side
 
@@ -92,17 +89,19 @@ all_not a (x ∷ xs) = ap (λ b. not (a x) && b) (all_not a xs) ∙ not_or (a x)
 all_bits : (a : Assignment) (xs : List ℕ) → list_all (λ x. a x) xs ≡ list_all (λ b. b) (map a xs)
 all_bits a xs = sym (list_all-map (λ (b : Bool). b) a xs)
 
-turned : (y b : Bool) → same_bit (not y) b ≡ same_bit y (not b)
-turned true true = refl
-turned true false = refl
-turned false true = refl
-turned false false = refl
+-- a negation may stand on either side
+negated_output : (positive y b : Bool) → same_bit (same_bit positive y) b ≡ same_bit y (same_bit positive b)
+negated_output true y b = refl
+negated_output false true b = refl
+negated_output false false true = refl
+negated_output false false false = refl
 
-same_bit-twice : (y b : Bool) → same_bit (not y) (not b) ≡ same_bit y b
-same_bit-twice true true = refl
-same_bit-twice true false = refl
-same_bit-twice false true = refl
-same_bit-twice false false = refl
+negated_both : (positive y b : Bool) → same_bit (same_bit (not positive) y) (not b) ≡ same_bit y (same_bit positive b)
+negated_both true true true = refl
+negated_both true true false = refl
+negated_both true false b = refl
+negated_both false true b = refl
+negated_both false false b = refl
 
 -- ---- the rows of an exclusive or
 
@@ -117,7 +116,7 @@ parity-holds a odd h xs y hh hy hs = list_all-map (is_true_clause a) clause_of (
     ∙ all-rows (λ r. is_true_clause a (clause_of r)) (λ r. not (a h) || same_bit (value_of r) (a y)) xs row
     (row_number-below (map a xs) (length xs) (length-map xs a)) at_row
     ∙ ap (λ bits. not (a h) || same_bit (same_bit odd (has_odd_ones bits)) (a y)) (row_bits-number (map a xs) xs (length-map xs a))
-    ∙ ap (λ b. not (a h) || b) (same_bit_comm (same_bit odd (has_odd_ones (map a xs))) (a y)) where
+    ∙ ap (λ b. not (a h) || b) (same_bit-swap (same_bit odd (has_odd_ones (map a xs))) (a y)) where
       row : ℕ
       row = row_number (map a xs)
 
@@ -167,33 +166,23 @@ table-holds a rows h ports hh hs = list_all-append (is_true_clause a) (blocked_r
 
 -- ---- gates
 
-one_input : (a : Assignment) (xs : List ℕ) → (nat_le 1 (length xs) && nat_le (length xs) 1) ≡ true → list_all (λ b. b) (map a xs) ≡ first_bit (map a xs)
-one_input a [] e = absurd (false≢true e)
-one_input a (x ∷ []) e = and-true (a x)
-one_input a (x ∷ y ∷ xs) e =
-    absurd (omega (arith, leb-true (length (x ∷ y ∷ xs)) 1 (and_parts (nat_le 1 (length (x ∷ y ∷ xs))) (nat_le (length (x ∷ y ∷ xs)) 1) e).1))
-
 module _ (a : Assignment) (h : ℕ) (xs : List ℕ) (y : ℕ) (hh : 1 ≤ h) (hy : 1 ≤ y) (hs : AllPositive xs) where
-  pub gate-holds : (kind : Kind) → takes kind (length xs) ≡ true → all_hold a (gate_clauses kind h xs y) ≡ (not (a h) || same_bit (a y) (gate_value kind (map a xs)))
-  gate-holds And e = and-holds a h y true true hh hy xs hs ∙ ap (λ b. not (a h) || same_bit (a y) b) (all_bits a xs)
-  gate-holds Buff e = and-holds a h y true true hh hy xs hs ∙ ap (λ b. not (a h) || same_bit (a y) b) (all_bits a xs ∙ one_input a xs e)
-  gate-holds Nand e = and-holds a h y false true hh hy xs hs ∙ ap (λ b. not (a h) || b) (turned (a y) (list_all (λ x. a x) xs) ∙ ap (λ b. same_bit (a y) (not b)) (all_bits a xs))
-  gate-holds Not e = and-holds a h y false true hh hy xs hs ∙ ap (λ b. not (a h) || b) (turned (a y) (list_all (λ x. a x) xs) ∙ ap (λ b. same_bit (a y) (not b)) (all_bits a xs ∙ one_input a xs e))
-  gate-holds Or e = and-holds a h y false false hh hy xs hs ∙ ap (λ b. not (a h) || b) (ap (same_bit (not (a y))) (all_not a xs) ∙ same_bit-twice (a y) (list_any (λ b. b) (map a xs)))
-  gate-holds Nor e = and-holds a h y true false hh hy xs hs ∙ ap (λ b. not (a h) || same_bit (a y) b) (all_not a xs)
-  gate-holds Xor e = parity-holds a true h xs y hh hy hs
-  gate-holds Xnor e = parity-holds a false h xs y hh hy hs
-  gate-holds (Table t) e = absurd (omega (arith, leb-true 1 (length xs) (and_parts (nat_le 1 (length xs)) (nat_le (length xs) 0) e).0, leb-true (length xs) 0 (and_parts (nat_le 1 (length xs)) (nat_le (length xs) 0) e).1))
+  reduction-holds : (reduction : Reduction) (positive : Bool) → all_hold a (reduction_clauses reduction positive h xs y)
+      ≡ (not (a h) || same_bit (a y) (same_bit positive (reduced reduction (map a xs))))
+  reduction-holds AllOnes positive = and-holds a h y positive true hh hy xs hs
+      ∙ ap (λ b. not (a h) || b) (negated_output positive (a y) (list_all (λ x. a x) xs) ∙ ap (λ b. same_bit (a y) (same_bit positive b)) (all_bits a xs))
+  reduction-holds AnyOne positive = and-holds a h y (not positive) false hh hy xs hs
+      ∙ ap (λ b. not (a h) || b) (ap (same_bit (same_bit (not positive) (a y))) (all_not a xs) ∙ negated_both positive (a y) (list_any (λ b. b) (map a xs)))
+  reduction-holds OddOnes positive = parity-holds a positive h xs y hh hy hs
 
-pub takes-some : (kind : Kind) (n : ℕ) → takes kind n ≡ true → 1 ≤ n
-takes-some kind n e = leb-true 1 n (and_parts (nat_le 1 n) (nat_le n (most_inputs kind)) e).0
+  pub gate-holds : (gate : Gate) → all_hold a (gate_clauses gate h xs y) ≡ (not (a h) || same_bit (a y) (gate_value gate (map a xs)))
+  gate-holds gate = reduction-holds (gate_row gate).reduction (gate_row gate).positive
 
-pub takes-most : (kind : Kind) (n : ℕ) → takes kind n ≡ true → n ≤ most_inputs kind
-takes-most kind n e = leb-true n (most_inputs kind) (and_parts (nat_le 1 n) (nat_le n (most_inputs kind)) e).1
+pub takes-some : (gate : Gate) (n : ℕ) → takes gate n ≡ true → 1 ≤ n
+takes-some gate n e = leb-true 1 n (and_parts (nat_le 1 n) (nat_le n (gate_row gate).most_inputs) e).0
 
--- a kind of one input at most has no chain
-pub not_wide : (kind : Kind) (n : ℕ) → most_inputs kind ≤ 1 → 5 ≤ n → takes kind n ≡ true → ⊥
-not_wide kind n one wide e = omega (arith, one, takes-most kind n e)
+pub takes-most : (gate : Gate) (n : ℕ) → takes gate n ≡ true → n ≤ (gate_row gate).most_inputs
+takes-most gate n e = leb-true n (gate_row gate).most_inputs (and_parts (nat_le 1 n) (nat_le n (gate_row gate).most_inputs) e).1
 
 pub AllPositive-take : (n : ℕ) (vs : List ℕ) → AllPositive vs → AllPositive (take n vs)
 AllPositive-take zero vs h = tt
@@ -205,7 +194,7 @@ AllPositive-at [] i h lt = absurd (omega arith)
 AllPositive-at (v ∷ vs) zero h lt = h.0
 AllPositive-at (v ∷ vs) (suc i) h lt = AllPositive-at vs i h.1 (omega arith)
 
-pub gate_allows-says : (kind : Kind) (ok : Bool) (row : List Bool)
-    → (not ok || same_bit (bit_in row (length row - 1)) (gate_value kind (take (length row - 1) row))) ≡ gate_allows kind ok row
-gate_allows-says kind true row = refl
-gate_allows-says kind false row = refl
+pub gate_allows-says : (gate : Gate) (ok : Bool) (row : List Bool)
+    → (not ok || same_bit (bit_in row (length row - 1)) (gate_value gate (take (length row - 1) row))) ≡ gate_allows gate ok row
+gate_allows-says gate true row = refl
+gate_allows-says gate false row = refl

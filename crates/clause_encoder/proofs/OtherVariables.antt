@@ -1,17 +1,17 @@
 -- Clauses in which other variables stand for those that were there are true where these are.
-use Rattle.std.proofs.Common.{◌≡◌, ℕ, zero, suc, ◌+◌, ◌-◌, ◌<◌, ◌≤◌, Bool, true, false, not, ◌&&◌, ◌||◌, List, [], ◌∷◌, ◌++◌, map, length, take, get_or, ℤ, pos, negsuc, neg_ℤ, refl, ap, sym, ◌∙◌, arith, add-one}
+use Rattle.std.proofs.Common.{◌≡◌, ℕ, zero, suc, ◌+◌, ◌-◌, ◌<◌, ◌≤◌, true, false, ◌&&◌, ◌||◌, List, [], ◌∷◌, ◌++◌, map, length, take, get_or, ℤ, refl, ap, sym, ◌∙◌, arith}
 use Rattle.std.specs.Prelude.{nat_lt, nat_le}
-use Rattle.std.specs.List.{All, list_any, list_all}
+use Rattle.std.specs.List.{All, list_all}
 use Rattle.std.proofs.lemmas.Bool.{and_parts, ltb-true, leb-true}
-use Rattle.std.proofs.lemmas.List.{length-map, take_more, map-append, length-take-le}
+use Rattle.std.proofs.lemmas.List.{length-map, take_more, map-append}
 use Rattle.ranking.specs.Bits.{same_bit}
 use Rattle.ranking.specs.Assignments.{Assignment}
 use Rattle.ranking.proofs.Lists.{list_all-at}
 use Rattle.clause_encoder.specs.declared.limits.TheConstants.{CLAUSE_LIMIT, VARIABLE_LIMIT}
-use Rattle.clause_encoder.specs.Clauses.{Clause, ClauseList, var_of, is_positive, literal, is_true_clause, all_hold, vars_rise, is_clause, is_clause_list}
+use Rattle.clause_encoder.specs.Clauses.{Clause, ClauseList, var_of, is_positive, is_true_clause, all_hold, vars_rise, is_clause, is_clause_list}
 use Rattle.clause_encoder.specs.Encoding.{tidy}
-use Rattle.clause_encoder.specs.Replacing.{variable_for, literal_for, replaced}
-use Rattle.clause_encoder.proofs.Literals.{lit, lit-literal, AllIn, AllRaw, all_hold-tidy, are_clauses-tidy, tidy-append, length-tidy}
+use Rattle.clause_encoder.specs.Replacing.{variable_for, literal_for}
+use Rattle.clause_encoder.proofs.Literals.{lit-literal, AllIn, AllRaw, all_hold-tidy, are_clauses-tidy, tidy-append, length-tidy}
 use Rattle.clause_encoder.proofs.Describing.{var_of-literal}
 
 -- ---- the literals of a clause

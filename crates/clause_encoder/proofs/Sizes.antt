@@ -1,52 +1,66 @@
 -- How many variables a device that is encoded has: each inner one comes with three clauses or more, of which there are few.
-use Rattle.std.proofs.Common.{◌≡◌, ℕ, ◌+◌, ◌-◌, ◌*◌, ◌<◌, ◌≤◌, Bool, true, false, List, [], ◌∷◌, map, length, take, get_or, Ok, Err, refl, ap, sym, ◌∙◌, arith}
+use Rattle.std.proofs.Common.{◌≡◌, ℕ, ◌+◌, ◌-◌, ◌*◌, ◌<◌, ◌≤◌, Bool, true, false, List, [], ◌∷◌, map, length, take, get_or, Ok, Err, refl, ap, sym, ◌∙◌, subst, arith}
 use Rattle.std.specs.Prelude.{nat_lt, if◌then◌else◌}
 use Rattle.std.specs.List.{list_all}
 use Rattle.std.proofs.lemmas.Bool.{ltb-true, ltb-false, and_parts}
 use Rattle.std.proofs.lemmas.List.{length-append, length-map, length-take-le}
 use Rattle.device_model.specs.declared.component.Kind.{Kind}
-use Rattle.device_model.specs.declared.component.Kind.TheVariants.{And, Or, Nand, Nor, Xor, Xnor, Not, Buff, Table}
+use Rattle.device_model.specs.declared.component.Kind.TheVariants.{Gate as OfGate, Table}
+use Rattle.device_model.specs.declared.gates.Gate.{Gate}
+use Rattle.device_model.specs.declared.gates.Reduction.{Reduction}
+use Rattle.device_model.specs.declared.gates.Reduction.TheVariants.{AllOnes, AnyOne, OddOnes}
 use Rattle.device_model.specs.declared.component.Component.{Component}
 use Rattle.device_model.specs.TruthTable.{TruthTable}
-use Rattle.device_model.specs.Devices.{Device, IsDevice, takes, takes_ports, has_arity}
+use Rattle.device_model.specs.Devices.{Device, IsDevice, takes_ports, has_arity}
+use Rattle.device_model.specs.Gates.{gate_row}
 use Rattle.clause_encoder.specs.declared.limits.TheConstants.{CLAUSE_LIMIT, NARROW_LIMIT}
 use Rattle.clause_encoder.specs.declared.encoding.EncodeError.TheVariants.{TooManyClauses}
 use Rattle.clause_encoder.specs.Clauses.{ClauseList}
-use Rattle.clause_encoder.specs.Encoding.{any_gate_clauses, is_wide, raw_clauses, inner_count, inner_vars, wire_variable, clauses_from, first_inner, raw_count, clause_list, most_variables, encoded}
-use Rattle.clause_encoder.proofs.Meaning.{not_wide}
+use Rattle.clause_encoder.specs.Encoding.{step_clauses, any_gate_clauses, is_wide, raw_clauses, inner_count, inner_vars, wire_variable, clauses_from, first_inner, raw_count, clause_list, most_variables, encoded}
 use Rattle.clause_encoder.proofs.Counting.{length-any_gate}
 
 -- ---- inner variables and clauses
 
-module _ (h z y inputs : ℕ) (xs : List ℕ) (wide : 5 ≤ inputs) (long : length xs ≡ inputs) where
-  wide-inner : (kind : Kind) → takes kind inputs ≡ true → 3 * (inputs - 2) ≤ length (any_gate_clauses kind h z xs y)
-  wide-inner And e = omega (arith, length-any_gate And inputs 3 (λ z b x. refl) wide e h z y xs long)
-  wide-inner Nand e = omega (arith, length-any_gate Nand inputs 3 (λ z b x. refl) wide e h z y xs long)
-  wide-inner Or e = omega (arith, length-any_gate Or inputs 3 (λ z b x. refl) wide e h z y xs long)
-  wide-inner Nor e = omega (arith, length-any_gate Nor inputs 3 (λ z b x. refl) wide e h z y xs long)
-  wide-inner Xor e = omega (arith, length-any_gate Xor inputs 4 (λ z b x. refl) wide e h z y xs long)
-  wide-inner Xnor e = omega (arith, length-any_gate Xnor inputs 4 (λ z b x. refl) wide e h z y xs long)
-  wide-inner Not e = absurd (not_wide Not inputs (omega arith) wide e)
-  wide-inner Buff e = absurd (not_wide Buff inputs (omega arith) wide e)
-  wide-inner (Table t) e = absurd (not_wide (Table t) inputs (omega arith) wide e)
+-- how many clauses a step has: three, or four
+abbrev step-count : Reduction → ℕ
+step-count AllOnes = 3
+step-count AnyOne = 3
+step-count OddOnes = 4
 
-gate-inner : (kind : Kind) (h z : ℕ) (ports : List ℕ) → takes kind (length ports - 1) ≡ true
-    → 3 * (if is_wide (length ports - 1) then length ports - 3 else 0)
-    ≤ length (any_gate_clauses kind h z (take (length ports - 1) ports) (get_or ports (length ports - 1) 0))
-gate-inner kind h z ports e = by_width (is_wide (length ports - 1)) refl where
+length-step : (reduction : Reduction) (z b x : ℕ) → length (step_clauses reduction z b x) ≡ step-count reduction
+length-step AllOnes z b x = refl
+length-step AnyOne z b x = refl
+length-step OddOnes z b x = refl
+
+step-three : (reduction : Reduction) (n : ℕ) → 3 * n ≤ step-count reduction * n
+step-three AllOnes n = omega arith
+step-three AnyOne n = omega arith
+step-three OddOnes n = omega arith
+
+wide-inner : (gate : Gate) (h z y inputs : ℕ) (xs : List ℕ) → 5 ≤ inputs → length xs ≡ inputs → 3 * (inputs - 2) ≤ length (any_gate_clauses gate h z xs y)
+wide-inner gate h z y inputs xs wide long =
+    let reduction = (gate_row gate).reduction in
+    let count : length (any_gate_clauses gate h z xs y) ≡ step-count reduction * (inputs - 1) = length-any_gate gate inputs (step-count reduction) (length-step reduction) wide h z y xs long in
+    let three : 3 * (inputs - 1) ≤ step-count reduction * (inputs - 1) = step-three reduction (inputs - 1) in
+    let all : 3 * (inputs - 1) ≤ length (any_gate_clauses gate h z xs y) = subst (λ n. 3 * (inputs - 1) ≤ n) (sym count) three in
+    omega (arith, all)
+
+gate-inner : (gate : Gate) (h z : ℕ) (ports : List ℕ) → 3 * (if is_wide (length ports - 1) then length ports - 3 else 0)
+    ≤ length (any_gate_clauses gate h z (take (length ports - 1) ports) (get_or ports (length ports - 1) 0))
+gate-inner gate h z ports = by_width (is_wide (length ports - 1)) refl where
   by_width : (w : Bool) → is_wide (length ports - 1) ≡ w
-      → 3 * (if w then length ports - 3 else 0) ≤ length (any_gate_clauses kind h z (take (length ports - 1) ports) (get_or ports (length ports - 1) 0))
+      → 3 * (if w then length ports - 3 else 0) ≤ length (any_gate_clauses gate h z (take (length ports - 1) ports) (get_or ports (length ports - 1) 0))
   by_width true wide =
       let inputs = length ports - 1 in
       let many : NARROW_LIMIT < inputs = ltb-true NARROW_LIMIT inputs wide in
-      let at_least = wide-inner h z (get_or ports inputs 0) inputs (take inputs ports) (omega (arith, many)) (length-take-le inputs ports (omega arith)) kind e in
+      let at_least = wide-inner gate h z (get_or ports inputs 0) inputs (take inputs ports) (omega (arith, many)) (length-take-le inputs ports (omega arith)) in
       omega (arith, at_least)
   by_width false narrow = omega arith
 
 part-inner : (tables : List TruthTable) (kind : Kind) (h z : ℕ) (ports : List ℕ) → takes_ports tables kind (length ports) ≡ true
     → 3 * inner_count kind (length ports) ≤ length (raw_clauses tables kind h z ports)
 part-inner tables (Table t) h z ports e = omega arith
-part-inner tables gate h z ports e = gate-inner gate h z ports e
+part-inner tables (OfGate gate) h z ports e = gate-inner gate h z ports
 
 parts-inner : (device : Device) (h z : ℕ) (parts : List Component) → list_all (has_arity device.tables) parts ≡ true
     → 3 * inner_vars parts ≤ length (clauses_from device h z parts)

@@ -9,7 +9,9 @@ use Rattle.std.proofs.lemmas.Bool.Decides.{nat_tests}
 use Rattle.std.proofs.lemmas.Int.{to_z-of_z, fits_signed_from_abs}
 use Rattle.ranking.specs.Bits.{same_bit, has_odd_ones}
 use Rattle.device_model.specs.TruthTable.{TruthTable, has_few_ports, is_cost, is_table}
-use Rattle.device_model.specs.declared.component.Kind.{Kind}
+use Rattle.device_model.specs.declared.gates.Gate.{Gate}
+use Rattle.device_model.specs.declared.gates.Reduction.{Reduction}
+use Rattle.device_model.specs.Gates.{gate_row}
 use Rattle.device_model.specs.declared.component.Component.{Component}
 use Rattle.device_model.specs.Devices.{Device, IsDevice, has_arity, has_wires, is_set, rows_take, takes_ports}
 use Rattle.clause_encoder.specs.Clauses.{Clause, literal}
@@ -226,13 +228,14 @@ inner-next device place parts part inner next ports wires same lt is first p w e
 -- ---- chains
 
 -- the step of one input more
-pub step-written : (kind : Kind) (h last y z before : ℕ) (xs : List ℕ) (i : ℕ) (now next start : List Clause) → i < length xs
-    → next ≡ now ++ tidy (step_clauses kind z before (get_or xs i 0))
-    → now ++ tidy (chain_clauses kind h last y z before (drop i xs)) ≡ start
-    → next ++ tidy (chain_clauses kind h last y (z + 1) z (drop (i + 1) xs)) ≡ start
-step-written kind h last y z before xs i now next start lt e inv =
-    written now next start (step_clauses kind z before (get_or xs i 0)) (chain_clauses kind h last y (z + 1) z (drop (i + 1) xs)) e
-    (ap (λ ys. now ++ tidy (chain_clauses kind h last y z before ys)) (sym (drop_more xs i 0 lt)) ∙ inv)
+pub step-written : (gate : Gate) (reduction : Reduction) (h last y z before : ℕ) (xs : List ℕ) (i : ℕ) (now next start : List Clause) → i < length xs
+    → reduction ≡ (gate_row gate).reduction → next ≡ now ++ tidy (step_clauses reduction z before (get_or xs i 0))
+    → now ++ tidy (chain_clauses gate h last y z before (drop i xs)) ≡ start
+    → next ++ tidy (chain_clauses gate h last y (z + 1) z (drop (i + 1) xs)) ≡ start
+step-written gate reduction h last y z before xs i now next start lt is e inv =
+    written now next start (step_clauses (gate_row gate).reduction z before (get_or xs i 0)) (chain_clauses gate h last y (z + 1) z (drop (i + 1) xs))
+    (e ∙ ap (λ r. now ++ tidy (step_clauses r z before (get_or xs i 0))) is)
+    (ap (λ ys. now ++ tidy (chain_clauses gate h last y z before ys)) (sym (drop_more xs i 0 lt)) ∙ inv)
 
 -- the variables of wires are small
 pub small : (parts : ℕ) (wires ports items : List ℕ) → ports ≡ items → items ≡ map (λ wire. parts + wire + 1) wires → parts ≤ 4096 → ((k d : ℕ) → k < length wires → get_or wires k d < 16384)

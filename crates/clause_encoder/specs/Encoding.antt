@@ -4,10 +4,14 @@ use Rattle.std.specs.List.{filter, list_any, range_with_len}
 use Rattle.ranking.specs.Bits.{has_odd_ones, same_bit, lists_of_bits}
 use Rattle.ranking.specs.Assignments.{assignment}
 use Rattle.device_model.specs.declared.component.Kind.{Kind}
-use Rattle.device_model.specs.declared.component.Kind.TheVariants.{And, Or, Nand, Nor, Xor, Xnor, Not, Buff, Table}
+use Rattle.device_model.specs.declared.component.Kind.TheVariants.{Gate as OfGate, Table}
+use Rattle.device_model.specs.declared.gates.Gate.{Gate}
+use Rattle.device_model.specs.declared.gates.Reduction.{Reduction}
+use Rattle.device_model.specs.declared.gates.Reduction.TheVariants.{AllOnes, AnyOne, OddOnes}
 use Rattle.device_model.specs.declared.component.Component.{Component}
 use Rattle.device_model.specs.declared.limits.TheConstants.{PART_LIMIT, WIRE_LIMIT}
 use Rattle.device_model.specs.TruthTable.{TruthTable}
+use Rattle.device_model.specs.Gates.{gate_row}
 use Rattle.device_model.specs.Devices.{Device, is_set, fits}
 use Rattle.clause_encoder.specs.declared.limits.TheConstants.{CLAUSE_LIMIT, NARROW_LIMIT}
 use Rattle.clause_encoder.specs.declared.encoding.EncodeError.{EncodeError}
@@ -77,17 +81,16 @@ abbrev pub table_clauses : Option TruthTable → ℕ → List ℕ → List Claus
 table_clauses None h ports = []
 table_clauses (Some rows) h ports = blocked_rows true rows.ok h ports ++ blocked_rows false rows.bad h ports
 
+-- Where the part is ok, the output is what is asked of the inputs, or its opposite. That one input or more are 1 is that not all
+-- are 0.
+abbrev pub reduction_clauses : Reduction → Bool → ℕ → List ℕ → ℕ → List Clause
+reduction_clauses AllOnes positive h xs y = and_clauses (pos h) (literal positive y) (map (literal true) xs)
+reduction_clauses AnyOne positive h xs y = and_clauses (pos h) (literal (not positive) y) (map (literal false) xs)
+reduction_clauses OddOnes positive h xs y = parity_clauses positive h xs y
+
 -- the clauses of a gate by the variables of its health, of its inputs and of its output
-abbrev pub gate_clauses : Kind → ℕ → List ℕ → ℕ → List Clause
-gate_clauses And h xs y = and_clauses (pos h) (pos y) (map pos xs)
-gate_clauses Buff h xs y = and_clauses (pos h) (pos y) (map pos xs)
-gate_clauses Nand h xs y = and_clauses (pos h) (neg_ℤ (pos y)) (map pos xs)
-gate_clauses Not h xs y = and_clauses (pos h) (neg_ℤ (pos y)) (map pos xs)
-gate_clauses Or h xs y = and_clauses (pos h) (neg_ℤ (pos y)) (map (λ x. neg_ℤ (pos x)) xs)
-gate_clauses Nor h xs y = and_clauses (pos h) (pos y) (map (λ x. neg_ℤ (pos x)) xs)
-gate_clauses Xor h xs y = parity_clauses true h xs y
-gate_clauses Xnor h xs y = parity_clauses false h xs y
-gate_clauses (Table t) h xs y = []
+abbrev pub gate_clauses : Gate → ℕ → List ℕ → ℕ → List Clause
+gate_clauses gate h xs y = reduction_clauses (gate_row gate).reduction (gate_row gate).positive h xs y
 
 -- ---- a gate of more inputs than the limit: a chain of inner variables
 
@@ -107,46 +110,42 @@ xor_step z a b =
     ∷ (literal true z ∷ literal false a ∷ literal true b ∷ []) ∷ []
 
 -- what an inner variable is, by the one before it and the next input
-abbrev pub step_clauses : Kind → ℕ → ℕ → ℕ → List Clause
-step_clauses And z a b = and_step true z a b
-step_clauses Nand z a b = and_step true z a b
-step_clauses Or z a b = and_step false z a b
-step_clauses Nor z a b = and_step false z a b
-step_clauses Xor z a b = xor_step z a b
-step_clauses Xnor z a b = xor_step z a b
-step_clauses kind z a b = []
+abbrev pub step_clauses : Reduction → ℕ → ℕ → ℕ → List Clause
+step_clauses AllOnes z a b = and_step true z a b
+step_clauses AnyOne z a b = and_step false z a b
+step_clauses OddOnes z a b = xor_step z a b
 
 -- A step for each of these inputs, whose inner variables are z and up, and then the gate itself: of what the last step
 -- gave and of the last input.
-abbrev pub chain_clauses : Kind → ℕ → ℕ → ℕ → ℕ → ℕ → List ℕ → List Clause
-chain_clauses kind h last y z before [] = gate_clauses kind h (before ∷ last ∷ []) y
-chain_clauses kind h last y z before (x ∷ xs) =
-    step_clauses kind z before x ++ chain_clauses kind h last y (z + 1) z xs
+abbrev pub chain_clauses : Gate → ℕ → ℕ → ℕ → ℕ → ℕ → List ℕ → List Clause
+chain_clauses gate h last y z before [] = gate_clauses gate h (before ∷ last ∷ []) y
+chain_clauses gate h last y z before (x ∷ xs) =
+    step_clauses (gate_row gate).reduction z before x ++ chain_clauses gate h last y (z + 1) z xs
 
 -- The chain begins with the first input, and has a step for each between it and the last.
-abbrev pub wide_clauses : Kind → ℕ → ℕ → List ℕ → ℕ → List Clause
-wide_clauses kind h z xs y =
+abbrev pub wide_clauses : Gate → ℕ → ℕ → List ℕ → ℕ → List Clause
+wide_clauses gate h z xs y =
     let last = length xs - 1 in
-    chain_clauses kind h (slice_index_or xs last 0) y z (slice_index_or xs 0 0) (take (last - 1) (drop 1 xs))
+    chain_clauses gate h (slice_index_or xs last 0) y z (slice_index_or xs 0 0) (take (last - 1) (drop 1 xs))
 
 -- whether a gate of so many inputs has a chain
 abbrev pub is_wide : ℕ → Bool
 is_wide inputs = nat_lt NARROW_LIMIT inputs
 
 -- the clauses of a gate of any number of inputs, whose inner variables are z and up
-abbrev pub any_gate_clauses : Kind → ℕ → ℕ → List ℕ → ℕ → List Clause
-any_gate_clauses kind h z xs y = if is_wide (length xs) then wide_clauses kind h z xs y else gate_clauses kind h xs y
+abbrev pub any_gate_clauses : Gate → ℕ → ℕ → List ℕ → ℕ → List Clause
+any_gate_clauses gate h z xs y = if is_wide (length xs) then wide_clauses gate h z xs y else gate_clauses gate h xs y
 
 -- how many inner variables a part of so many ports has: one for each input but the first and the last
 abbrev pub inner_count : Kind → ℕ → ℕ
 inner_count (Table t) ports = 0
-inner_count kind ports = if is_wide (ports - 1) then ports - 3 else 0
+inner_count (OfGate gate) ports = if is_wide (ports - 1) then ports - 3 else 0
 
 -- The last port of a gate is its output. Its inner variables are z and up.
 abbrev pub raw_clauses : List TruthTable → Kind → ℕ → ℕ → List ℕ → List Clause
 raw_clauses tables (Table t) h z ports = table_clauses (slice_get tables t) h ports
-raw_clauses tables kind h z ports =
-    let inputs = length ports - 1 in any_gate_clauses kind h z (take inputs ports) (slice_index_or ports inputs 0)
+raw_clauses tables (OfGate gate) h z ports =
+    let inputs = length ports - 1 in any_gate_clauses gate h z (take inputs ports) (slice_index_or ports inputs 0)
 
 -- ---- the clauses of a device
 

@@ -1,6 +1,7 @@
 ghost use Rattle.std.specs.Prelude.{◌≡◌, ◌<◌, ◌≤◌, ◌+◌, ◌++◌, ℕ, true, List, map, length, All, IfOk, OnOk};
 ghost use Rattle.text_rules.specs.Expected.{Fulfils};
-ghost use Rattle.device_model.specs.Devices.{IsDevice, takes, takes_ports};
+ghost use Rattle.device_model.specs.Devices.{IsDevice, takes_ports};
+ghost use Rattle.device_model.specs.Gates.{takes};
 ghost use Rattle.clause_encoder.specs.Encoding.{encoded, reason, Describes, raw_count, raw_clauses, table_clauses, gate_clauses, step_clauses, any_gate_clauses, all_clauses, clause_list, tidy};
 ghost use Rattle.clause_encoder.specs.declared.encoding.EncodeError.TheVariants.{Memory};
 
@@ -8,7 +9,7 @@ use crate::cnf::Cnf;
 use crate::gates::push_part;
 use crate::limits::{CLAUSE_LIMIT, NARROW_LIMIT, VARIABLE_LIMIT};
 use crate::writer::Writer;
-use device_model::{Device, Kind, Table};
+use device_model::{Device, Gate, Kind, Reduction, Table};
 use std::alloc::{AllocError, Global};
 
 /// Why a device has no list of clauses.
@@ -104,45 +105,44 @@ pub fn part_count(tables: &[Table], kind: Kind, ports: usize) -> u64
 {
     match kind {
         Kind::Table(table) => table_count(&tables[table as usize]),
-        gate => gate_count(gate, ports - 1),
+        Kind::Gate(gate) => gate_count(gate, ports - 1),
     }
 }
 
-fn gate_count(gate: Kind, inputs: usize) -> u64
+fn gate_count(gate: Gate, inputs: usize) -> u64
     requires { takes gate inputs ≡ true }
     ensures count { (h z y : ℕ) (xs : List ℕ) → length xs ≡ inputs
         → length (any_gate_clauses gate h z xs y) ≡ result }
     ensures few { result ≤ 252 }
 {
     if inputs > NARROW_LIMIT {
-        return step_count(gate) * (inputs as u64 - 1);
+        return step_count(gate.reduction()) * (inputs as u64 - 1);
     }
     narrow_count(gate, inputs)
 }
 
 // How many clauses a gate without a chain has.
-fn narrow_count(gate: Kind, inputs: usize) -> u64
+fn narrow_count(gate: Gate, inputs: usize) -> u64
     requires arity { takes gate inputs ≡ true }
     requires few { inputs ≤ NARROW_LIMIT }
     ensures count { (h y : ℕ) (xs : List ℕ) → length xs ≡ inputs
         → length (gate_clauses gate h xs y) ≡ result }
     ensures few { result ≤ 16 }
 {
-    match gate {
-        Kind::Xor | Kind::Xnor => 1 << inputs,
-        _ => inputs as u64 + 1,
+    match gate.reduction() {
+        Reduction::AllOnes | Reduction::AnyOne => inputs as u64 + 1,
+        Reduction::OddOnes => 1 << inputs,
     }
 }
 
 // How many clauses a step of a chain has.
-fn step_count(gate: Kind) -> u64
-    ensures count { (z before x : ℕ) → length (step_clauses gate z before x) ≡ result }
+fn step_count(reduction: Reduction) -> u64
+    ensures count { (z before x : ℕ) → length (step_clauses reduction z before x) ≡ result }
     ensures few { result ≤ 4 }
 {
-    match gate {
-        Kind::And | Kind::Nand | Kind::Or | Kind::Nor => 3,
-        Kind::Xor | Kind::Xnor => 4,
-        Kind::Not | Kind::Buff | Kind::Table(_) => 0,
+    match reduction {
+        Reduction::AllOnes | Reduction::AnyOne => 3,
+        Reduction::OddOnes => 4,
     }
 }
 

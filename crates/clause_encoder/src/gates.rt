@@ -1,12 +1,13 @@
 ghost use Rattle.std.specs.Prelude.{◌≡◌, ◌<◌, ◌≤◌, ◌+◌, ◌-◌, ◌^◌, ◌%◌, ◌==◌, ◌++◌, ◌∷◌, pos, true, map, length, count_ones, All, OnOk, IfOk, if◌then◌else◌};
 ghost use Rattle.ranking.specs.Bits.{same_bit};
-ghost use Rattle.device_model.specs.Devices.{takes, takes_ports};
+ghost use Rattle.device_model.specs.Devices.{takes_ports};
+ghost use Rattle.device_model.specs.Gates.{gate_row, takes};
 ghost use Rattle.clause_encoder.specs.Clauses.{literal};
 ghost use Rattle.clause_encoder.specs.Encoding.{tidy, and_clauses, parity_clauses, row_bits, blocking_literals, blocked_rows, table_clauses, gate_clauses, and_step, xor_step, step_clauses, wide_clauses, is_wide, any_gate_clauses, inner_count, raw_clauses};
 
 use crate::limits::{NARROW_LIMIT, VARIABLE_LIMIT};
 use crate::writer::Writer;
-use device_model::{INPUT_LIMIT, Kind, Table};
+use device_model::{Gate, INPUT_LIMIT, Kind, Reduction, Table};
 use std::alloc::AllocError;
 
 // Writes the clauses of a part, by the variables of its health and of its ports. Its inner variables are `inner` and up; the
@@ -33,7 +34,7 @@ pub(crate) fn push_part(
             push_table(writer, &tables[table as usize], health, ports)?;
             Ok(inner)
         }
-        gate => {
+        Kind::Gate(gate) => {
             let inputs = ports.len() - 1;
             push_gate(writer, gate, health, inner, &ports[..inputs], ports[inputs])
         }
@@ -42,7 +43,7 @@ pub(crate) fn push_part(
 
 fn push_gate(
     writer: &mut Writer,
-    gate: Kind,
+    gate: Gate,
     health: u32,
     inner: u32,
     inputs: &[u32],
@@ -68,7 +69,7 @@ fn push_gate(
 // The chain of a gate of more than four inputs.
 fn push_chain(
     writer: &mut Writer,
-    gate: Kind,
+    gate: Gate,
     health: u32,
     inner: u32,
     inputs: &[u32],
@@ -89,7 +90,7 @@ fn push_chain(
     let mut next = inner;
     let mut before = inputs[0];
     for input in between {
-        push_step(writer, gate, next, before, *input)?;
+        push_step(writer, gate.reduction(), next, before, *input)?;
         before = next;
         next += 1;
     }
@@ -100,7 +101,7 @@ fn push_chain(
 // What an inner variable is, by the one before it and the next input.
 fn push_step(
     writer: &mut Writer,
-    gate: Kind,
+    reduction: Reduction,
     inner: u32,
     before: u32,
     input: u32,
@@ -108,13 +109,12 @@ fn push_step(
     requires inner { inner < VARIABLE_LIMIT }
     requires before { before < VARIABLE_LIMIT }
     requires input { input < VARIABLE_LIMIT }
-    ensures { OnOk result (writer.new.clauses ≡ writer.old.clauses ++ tidy (step_clauses gate inner before input)) }
+    ensures { OnOk result (writer.new.clauses ≡ writer.old.clauses ++ tidy (step_clauses reduction inner before input)) }
 {
-    match gate {
-        Kind::And | Kind::Nand => push_and_step(writer, inner, before, input, true),
-        Kind::Or | Kind::Nor => push_and_step(writer, inner, before, input, false),
-        Kind::Xor | Kind::Xnor => push_xor_step(writer, inner, before, input),
-        Kind::Not | Kind::Buff | Kind::Table(_) => Ok(()),
+    match reduction {
+        Reduction::AllOnes => push_and_step(writer, inner, before, input, true),
+        Reduction::AnyOne => push_and_step(writer, inner, before, input, false),
+        Reduction::OddOnes => push_xor_step(writer, inner, before, input),
     }
 }
 
@@ -161,7 +161,7 @@ fn push_xor_step(writer: &mut Writer, inner: u32, before: u32, input: u32) -> Re
 // The clauses of a gate without a chain.
 fn push_narrow(
     writer: &mut Writer,
-    gate: Kind,
+    gate: Gate,
     health: u32,
     inputs: &[u32],
     output: u32,
@@ -173,14 +173,11 @@ fn push_narrow(
     ensures { OnOk result
         (writer.new.clauses ≡ writer.old.clauses ++ tidy (gate_clauses gate health inputs.now output)) }
 {
-    match gate {
-        Kind::And | Kind::Buff => push_and(writer, health, inputs, true, output, true),
-        Kind::Nand | Kind::Not => push_and(writer, health, inputs, true, output, false),
-        Kind::Or => push_and(writer, health, inputs, false, output, false),
-        Kind::Nor => push_and(writer, health, inputs, false, output, true),
-        Kind::Xor => push_parity(writer, health, inputs, output, true),
-        Kind::Xnor => push_parity(writer, health, inputs, output, false),
-        Kind::Table(_) => Ok(()),
+    let positive = gate.is_positive();
+    match gate.reduction() {
+        Reduction::AllOnes => push_and(writer, health, inputs, true, output, positive),
+        Reduction::AnyOne => push_and(writer, health, inputs, false, output, !positive),
+        Reduction::OddOnes => push_parity(writer, health, inputs, output, positive),
     }
 }
 

@@ -8,14 +8,18 @@ use Rattle.std.proofs.lemmas.List.{length-map, get_or-map, get_or_append_left, g
 use Rattle.std.proofs.lemmas.List.FromFn.{get_or-range_with_len}
 use Rattle.ranking.specs.Bits.{has_odd_ones, same_bit}
 use Rattle.device_model.specs.declared.component.Kind.{Kind}
-use Rattle.device_model.specs.declared.component.Kind.TheVariants.{And, Or, Nand, Nor, Xor, Xnor, Not, Buff, Table}
+use Rattle.device_model.specs.declared.component.Kind.TheVariants.{Gate as OfGate, Table}
+use Rattle.device_model.specs.declared.gates.Gate.{Gate}
+use Rattle.device_model.specs.declared.gates.Reduction.{Reduction}
+use Rattle.device_model.specs.declared.gates.Reduction.TheVariants.{AllOnes, AnyOne, OddOnes}
 use Rattle.device_model.specs.declared.component.Component.{Component}
 use Rattle.device_model.specs.TruthTable.{TruthTable}
-use Rattle.device_model.specs.Devices.{Device, IsDevice, takes_ports, takes, has_arity}
+use Rattle.device_model.specs.Devices.{Device, IsDevice, takes_ports, has_arity}
+use Rattle.device_model.specs.Gates.{gate_row, takes}
 use Rattle.clause_encoder.specs.declared.limits.TheConstants.{CLAUSE_LIMIT}
 use Rattle.clause_encoder.specs.declared.encoding.EncodeError.TheVariants.{TooManyClauses}
 use Rattle.clause_encoder.specs.Clauses.{Clause, ClauseList, var_of, is_positive, literal, vars_rise, is_clause}
-use Rattle.clause_encoder.specs.Encoding.{same_literal, with_literal, sorted, is_tautology, tidy, parity_clauses, and_clauses, row_bits, rows_of, blocking_literals, row_clause, blocked_rows, table_clauses, gate_clauses, and_step, xor_step, step_clauses, chain_clauses, wide_clauses, is_wide, any_gate_clauses, inner_count, raw_clauses, wire_variable, first_inner, clauses_from, all_clauses, raw_count, clause_list, encoded}
+use Rattle.clause_encoder.specs.Encoding.{same_literal, with_literal, sorted, is_tautology, tidy, parity_clauses, and_clauses, row_bits, rows_of, blocking_literals, row_clause, blocked_rows, table_clauses, reduction_clauses, gate_clauses, and_step, xor_step, step_clauses, chain_clauses, wide_clauses, is_wide, any_gate_clauses, inner_count, raw_clauses, wire_variable, first_inner, clauses_from, all_clauses, raw_count, clause_list, encoded}
 use Rattle.clause_encoder.specs.Replacing.{variable_for, literal_for}
 use Rattle.clause_encoder.proofs.Literals.{AllIn, neg-literal}
 use Rattle.clause_encoder.proofs.Describing.{var_of-literal}
@@ -97,16 +101,10 @@ module _ (P : ℕ → Type 0) where
       ),
     )
 
-    Of-step : (kind : Kind) → OfEach (step_clauses kind z before x)
-    Of-step And = Of-and_step true
-    Of-step Nand = Of-and_step true
-    Of-step Or = Of-and_step false
-    Of-step Nor = Of-and_step false
-    Of-step Xor = Of-xor_step
-    Of-step Xnor = Of-xor_step
-    Of-step Not = tt
-    Of-step Buff = tt
-    Of-step (Table t) = tt
+    Of-step : (reduction : Reduction) → OfEach (step_clauses reduction z before x)
+    Of-step AllOnes = Of-and_step true
+    Of-step AnyOne = Of-and_step false
+    Of-step OddOnes = Of-xor_step
 
   module _ (h : ℕ) (hh : P h) where
     Of-and : (y : ℕ) (t s : Bool) (xs : List ℕ) → P y → Variables xs → OfEach (and_clauses (pos h) (literal t y) (map (literal s) xs))
@@ -129,57 +127,47 @@ module _ (P : ℕ → Type 0) where
     Of-side ok allowed ports hs = OfEach-map (λ r. literal (not ok) h ∷ blocking_literals ports (row_bits r ports)) _
         (λ r. Of-cons (not ok) h (blocking_literals ports (row_bits r ports)) hh (Of-blocking ports (row_bits r ports) hs))
 
-    Of-gate : (kind : Kind) (xs : List ℕ) (y : ℕ) → P y → Variables xs → OfEach (gate_clauses kind h xs y)
-    Of-gate And xs y hy hs = Of-and y true true xs hy hs
-    Of-gate Buff xs y hy hs = Of-and y true true xs hy hs
-    Of-gate Nand xs y hy hs = Of-and y false true xs hy hs
-    Of-gate Not xs y hy hs = Of-and y false true xs hy hs
-    Of-gate Or xs y hy hs = Of-and y false false xs hy hs
-    Of-gate Nor xs y hy hs = Of-and y true false xs hy hs
-    Of-gate Xor xs y hy hs = Of-parity true xs y hy hs
-    Of-gate Xnor xs y hy hs = Of-parity false xs y hy hs
-    Of-gate (Table t) xs y hy hs = tt
+    Of-reduction : (reduction : Reduction) (positive : Bool) (xs : List ℕ) (y : ℕ) → P y → Variables xs → OfEach (reduction_clauses reduction positive h xs y)
+    Of-reduction AllOnes positive xs y hy hs = Of-and y positive true xs hy hs
+    Of-reduction AnyOne positive xs y hy hs = Of-and y (not positive) false xs hy hs
+    Of-reduction OddOnes positive xs y hy hs = Of-parity positive xs y hy hs
 
-    Of-chain : (kind : Kind) (last y : ℕ) → P last → P y → (xs : List ℕ) (z before : ℕ) → ((v : ℕ) → z ≤ v → P v)
-        → P before → Variables xs → OfEach (chain_clauses kind h last y z before xs)
-    Of-chain kind last y hl hy [] z before hz hb hs = Of-gate kind (before ∷ last ∷ []) y hy (hb, (hl, tt))
-    Of-chain kind last y hl hy (x ∷ xs) z before hz hb hs =
-        OfEach-append (step_clauses kind z before x) (chain_clauses kind h last y (z + 1) z xs)
-        (Of-step z before x (hz z (omega arith)) hb hs.0 kind)
-        (Of-chain kind last y hl hy xs (z + 1) z (λ v le. hz v (omega arith)) (hz z (omega arith)) hs.1)
+    Of-gate : (gate : Gate) (xs : List ℕ) (y : ℕ) → P y → Variables xs → OfEach (gate_clauses gate h xs y)
+    Of-gate gate = Of-reduction (gate_row gate).reduction (gate_row gate).positive
+
+    Of-chain : (gate : Gate) (last y : ℕ) → P last → P y → (xs : List ℕ) (z before : ℕ) → ((v : ℕ) → z ≤ v → P v)
+        → P before → Variables xs → OfEach (chain_clauses gate h last y z before xs)
+    Of-chain gate last y hl hy [] z before hz hb hs = Of-gate gate (before ∷ last ∷ []) y hy (hb, (hl, tt))
+    Of-chain gate last y hl hy (x ∷ xs) z before hz hb hs =
+        OfEach-append (step_clauses (gate_row gate).reduction z before x) (chain_clauses gate h last y (z + 1) z xs)
+        (Of-step z before x (hz z (omega arith)) hb hs.0 (gate_row gate).reduction)
+        (Of-chain gate last y hl hy xs (z + 1) z (λ v le. hz v (omega arith)) (hz z (omega arith)) hs.1)
 
     module _ (z : ℕ) (hz : (v : ℕ) → z ≤ v → P v) where
-      Of-wide : (kind : Kind) (xs : List ℕ) (y : ℕ) → 5 ≤ length xs → P y → Variables xs → OfEach (wide_clauses kind h z xs y)
-      Of-wide kind xs y wide hy hs =
-          Of-chain kind (get_or xs (length xs - 1) 0) y (Variables-at xs (length xs - 1) hs (omega arith)) hy (take (length xs - 1 - 1) (drop 1 xs)) z (get_or xs 0 0) hz
+      Of-wide : (gate : Gate) (xs : List ℕ) (y : ℕ) → 5 ≤ length xs → P y → Variables xs → OfEach (wide_clauses gate h z xs y)
+      Of-wide gate xs y wide hy hs =
+          Of-chain gate (get_or xs (length xs - 1) 0) y (Variables-at xs (length xs - 1) hs (omega arith)) hy (take (length xs - 1 - 1) (drop 1 xs)) z (get_or xs 0 0) hz
           (Variables-at xs 0 hs (omega arith)) (Variables-take (length xs - 1 - 1) (drop 1 xs) (Variables-drop 1 xs hs))
 
-      Of-any_gate : (kind : Kind) (xs : List ℕ) (y : ℕ) → P y → Variables xs → OfEach (any_gate_clauses kind h z xs y)
-      Of-any_gate kind xs y hy hs = by (is_wide (length xs)) refl
+      Of-any_gate : (gate : Gate) (xs : List ℕ) (y : ℕ) → P y → Variables xs → OfEach (any_gate_clauses gate h z xs y)
+      Of-any_gate gate xs y hy hs = by (is_wide (length xs)) refl
         where
-          by : (w : Bool) → is_wide (length xs) ≡ w → OfEach (if w then wide_clauses kind h z xs y else gate_clauses kind h xs y)
-          by true wide = Of-wide kind xs y (omega (arith, ltb-true 4 (length xs) wide)) hy hs
-          by false narrow = Of-gate kind xs y hy hs
+          by : (w : Bool) → is_wide (length xs) ≡ w → OfEach (if w then wide_clauses gate h z xs y else gate_clauses gate h xs y)
+          by true wide = Of-wide gate xs y (omega (arith, ltb-true 4 (length xs) wide)) hy hs
+          by false narrow = Of-gate gate xs y hy hs
 
-      Of-ports : (kind : Kind) (ports : List ℕ) → Variables ports → takes kind (length ports - 1) ≡ true
-          → OfEach (any_gate_clauses kind h z (take (length ports - 1) ports) (get_or ports (length ports - 1) 0))
-      Of-ports kind ports hs e =
-          Of-any_gate kind (take (length ports - 1) ports) (get_or ports (length ports - 1) 0)
-          (Variables-at ports (length ports - 1) hs (omega (arith, takes-some kind (length ports - 1) e))) (Variables-take (length ports - 1) ports hs)
+      Of-ports : (gate : Gate) (ports : List ℕ) → Variables ports → takes gate (length ports - 1) ≡ true
+          → OfEach (any_gate_clauses gate h z (take (length ports - 1) ports) (get_or ports (length ports - 1) 0))
+      Of-ports gate ports hs e =
+          Of-any_gate gate (take (length ports - 1) ports) (get_or ports (length ports - 1) 0)
+          (Variables-at ports (length ports - 1) hs (omega (arith, takes-some gate (length ports - 1) e))) (Variables-take (length ports - 1) ports hs)
 
       pub Of-raw : (tables : List TruthTable) (kind : Kind) (ports : List ℕ) → Variables ports → takes_ports tables kind (length ports) ≡ true → OfEach (raw_clauses tables kind h z ports)
       Of-raw tables (Table t) ports hs e = by_rows (slice_get tables t) where
         by_rows : (rows : Option TruthTable) → OfEach (table_clauses rows h ports)
         by_rows None = tt
         by_rows (Some rows) = OfEach-append (blocked_rows true rows.ok h ports) (blocked_rows false rows.bad h ports) (Of-side true rows.ok ports hs) (Of-side false rows.bad ports hs)
-      Of-raw tables And ports hs e = Of-ports And ports hs e
-      Of-raw tables Or ports hs e = Of-ports Or ports hs e
-      Of-raw tables Nand ports hs e = Of-ports Nand ports hs e
-      Of-raw tables Nor ports hs e = Of-ports Nor ports hs e
-      Of-raw tables Xor ports hs e = Of-ports Xor ports hs e
-      Of-raw tables Xnor ports hs e = Of-ports Xnor ports hs e
-      Of-raw tables Not ports hs e = Of-ports Not ports hs e
-      Of-raw tables Buff ports hs e = Of-ports Buff ports hs e
+      Of-raw tables (OfGate gate) ports hs e = Of-ports gate ports hs e
 
   Of-with_literal : (l : ℤ) (c : Clause) → P (var_of l) → Of c → Of (with_literal l c)
   Of-with_literal l [] h k = (h, tt)

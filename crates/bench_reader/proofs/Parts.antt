@@ -1,17 +1,19 @@
 -- The parts of statements without a fault, over the driven signals in any order.
 use Rattle.std.proofs.Common.{◌≡◌, ℕ, ◌+◌, ◌-◌, Bool, true, false, List, [], ◌∷◌, ◌++◌, map, length, Option, Some, None, refl, ap, ◌∙◌, arith}
-use Rattle.std.specs.Prelude.{◌&&◌, is_none, nat_le, option_map, if◌then◌else◌}
+use Rattle.std.specs.Prelude.{◌&&◌, is_none, option_map, if◌then◌else◌}
 use Rattle.std.specs.List.{flat_map, list_all}
 use Rattle.std.specs.Option.{option_to_list}
-use Rattle.std.proofs.lemmas.Bool.{and_parts, and_from, leb-true}
+use Rattle.std.proofs.lemmas.Bool.{and_parts, and_from}
 use Rattle.std.proofs.lemmas.List.{length-map, length_push, map-append}
 use Rattle.std.proofs.lemmas.List.Folds.{list_all-append}
 use Rattle.std.proofs.lemmas.Simd.{map-map}
 use Rattle.text_rules.specs.Names.{Name, is_short_name, is_among}
-use Rattle.device_model.specs.declared.component.Kind.{Kind}
-use Rattle.device_model.specs.declared.component.Kind.TheVariants.{Buff, Table}
+use Rattle.device_model.specs.declared.component.Kind.TheVariants.{Gate as OfGate}
+use Rattle.device_model.specs.declared.gates.Gate.{Gate as GateKind}
+use Rattle.device_model.specs.declared.gates.Gate.TheVariants.{Buff}
 use Rattle.device_model.specs.declared.component.Component.{Component}
-use Rattle.device_model.specs.Devices.{part_names, takes, takes_ports, has_arity, has_wires}
+use Rattle.device_model.specs.Devices.{part_names, takes_ports, has_arity, has_wires}
+use Rattle.device_model.specs.Gates.{takes}
 use Rattle.device_model.specs.Building.{NamedPart, place_in, joined}
 use Rattle.device_model.proofs.Joining.{named, named-joined, joined-wired}
 use Rattle.bench_reader.specs.declared.kinds.FlipFlops.TheVariants.{Taken}
@@ -28,7 +30,7 @@ use Rattle.bench_reader.specs.inner.Steps.{is_faultless}
 
 pub record IsFaultlessGate (output : Name) (kind : NamedKind) (inputs : List Name) : Type 0 where
   pub named : is_short_name output ≡ true
-  pub gate : Kind
+  pub gate : GateKind
   pub meant : part_kind kind ≡ Some gate
   pub taken : takes gate (length inputs) ≡ true
 
@@ -46,7 +48,7 @@ faultless_gate output kind inputs h =
     took false e = cc
 
     by : (m : NamedKind) → is_short_name output ≡ true → is_none (kind_fault Taken (length inputs) m) ≡ true → IsFaultlessGate output m inputs
-    by (Combinational k) s f = record { named = s; gate = k; meant = refl; taken = took (takes k (length inputs)) f }
+    by (Combinational gate) s f = record { named = s; gate = gate; meant = refl; taken = took (takes gate (length inputs)) f }
     by Sequential s f = record { named = s; gate = Buff; meant = refl; taken = took (takes Buff (length inputs)) f }
     by Unknown s f = cc
 
@@ -61,8 +63,7 @@ names-part_of (Input signal) h = refl
 names-part_of (Output signal) h = refl
 names-part_of (Gate output kind inputs) h = ap (λ k. named_names (option_to_list (option_map (part_over output inputs) k))) (faultless_gate output kind inputs h).meant
 
-takes_one_more : (kind : Kind) (n : ℕ) → takes kind n ≡ true → takes_ports [] kind (n + 1) ≡ true
-takes_one_more (Table t) n h = let none = and_parts (nat_le 1 n) (nat_le n 0) h in absurd (omega (arith, leb-true 1 n none.0, leb-true n 0 none.1))
+takes_one_more : (gate : GateKind) (n : ℕ) → takes gate n ≡ true → takes_ports [] (OfGate gate) (n + 1) ≡ true
 takes_one_more gate n h = let same : n + 1 - 1 ≡ n = omega arith in ap (takes gate) same ∙ h
 
 module _ (wires : List Name) where
@@ -75,7 +76,7 @@ module _ (wires : List Name) where
   gate_fits output kind inputs gate there =
       let ports = length-map (inputs ++ output ∷ []) (place_in wires) ∙ length_push inputs output in
       ap (λ k. list_all fits (option_to_list (option_map (part_over output inputs) k))) gate.meant
-      ∙ and_from _ _ (and_from _ _ (ap (takes_ports [] gate.gate) ports ∙ takes_one_more gate.gate (length inputs) gate.taken) there) refl
+      ∙ and_from _ _ (and_from _ _ (ap (takes_ports [] (OfGate gate.gate)) ports ∙ takes_one_more gate.gate (length inputs) gate.taken) there) refl
 
   pub statement_fits : (s : Statement) → is_faultless s ≡ true → list_all (is_among wires) (driven_by_gate s) ≡ true → list_all (is_among wires) (used s) ≡ true
       → list_all fits (part_of s) ≡ true

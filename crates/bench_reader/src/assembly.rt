@@ -13,7 +13,7 @@ ghost use Rattle.bench_reader.specs.inner.Steps.{signals_in, is_faultless, AreFa
 use crate::fault::BenchError;
 use crate::signals::Signals;
 use crate::statement::{Inputs, NumberedStatement, Statement, has_no_mark};
-use device_model::{BuildError, Component, Device, Name, WIRE_LIMIT, Wires};
+use device_model::{BuildError, Component, Device, Kind, Name, WIRE_LIMIT, Wires};
 use std::alloc::{AllocError, Global};
 
 // The place of the wire of a driven signal.
@@ -64,12 +64,16 @@ fn part_of(
     else {
         return Ok(None);
     };
-    let Some(kind) = kind.part_kind() else {
+    let Some(gate) = kind.part_kind() else {
         return Ok(None);
     };
     let name = Name::new(alloc, output)?;
     let ports = ports_of(alloc, signals, inputs, output)?;
-    Ok(Some(Component { name, kind, ports }))
+    Ok(Some(Component {
+        name,
+        kind: Kind::Gate(gate),
+        ports,
+    }))
 }
 
 fn parts_of(

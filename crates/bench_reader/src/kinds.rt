@@ -1,11 +1,11 @@
 ghost use Rattle.std.specs.Prelude.{◌≡◌, true};
 ghost use Rattle.std.specs.List.{list_all};
 ghost use Rattle.text_rules.specs.Names.{same_name};
-ghost use Rattle.device_model.specs.GateWords.{gate_named};
+ghost use Rattle.device_model.specs.Gates.{gate_named};
 ghost use Rattle.bench_reader.specs.Statements.{capitals, kind_named, part_kind};
 ghost use Rattle.bench_reader.specs.inner.Lines.{is_capital};
 
-use device_model::Kind;
+use device_model::Gate;
 
 /// Whether flip-flops are taken.
 #[derive(Clone, Copy, Debug, PartialEq, Eq)]
@@ -20,20 +20,20 @@ pub enum FlipFlops {
 #[derive(Clone, Copy, Debug, PartialEq, Eq)]
 pub enum NamedKind {
     /// A gate, whose output follows its inputs at once.
-    Combinational(Kind),
+    Combinational(Gate),
     /// A flip-flop, which keeps its value from one time to the next.
     Sequential,
     Unknown,
 }
 
 impl NamedKind {
-    /// The kind of the part: a flip-flop is a buffer.
-    pub fn part_kind(self) -> Option<Kind>
+    /// The gate that the part is: a flip-flop is a buffer.
+    pub fn part_kind(self) -> Option<Gate>
         ensures { result ≡ part_kind self }
     {
         match self {
-            NamedKind::Combinational(kind) => Some(kind),
-            NamedKind::Sequential => Some(Kind::Buff),
+            NamedKind::Combinational(gate) => Some(gate),
+            NamedKind::Sequential => Some(Gate::Buff),
             NamedKind::Unknown => None,
         }
     }
@@ -48,10 +48,10 @@ pub fn spells_in_any_case(word: &[u8], keyword: &[u8]) -> bool
 }
 
 // The gate that a word names, in capital letters, small letters or both.
-fn gate_spelled(word: &[u8]) -> Option<Kind>
+fn gate_spelled(word: &[u8]) -> Option<Gate>
     ensures { result ≡ gate_named (capitals word.now) }
 {
-    for gate in Kind::GATES {
+    for gate in Gate::ALL {
         if spells_in_any_case(word, gate.word()) {
             return Some(gate);
         }
@@ -66,7 +66,7 @@ pub fn kind_named(word: &[u8]) -> NamedKind
     if let Some(gate) = gate_spelled(word) {
         NamedKind::Combinational(gate)
     } else if spells_in_any_case(word, b"BUF") {
-        NamedKind::Combinational(Kind::Buff)
+        NamedKind::Combinational(Gate::Buff)
     } else if spells_in_any_case(word, b"DFF") {
         NamedKind::Sequential
     } else {

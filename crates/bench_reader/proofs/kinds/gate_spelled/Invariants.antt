@@ -1,7 +1,7 @@
 use Rattle.std.proofs.Common.{◌≡◌, drop}
 use Rattle.text_rules.specs.Names.{same_name}
-use Rattle.device_model.specs.GateWords.{gate_named}
-use Rattle.device_model.proofs.GateWords.{first_named}
+use Rattle.device_model.specs.Gates.{gate_named}
+use Rattle.device_model.proofs.NamedGates.{first_named}
 use Rattle.bench_reader.specs.Statements.{capitals}
 use Rattle.bench_reader.proofs.kinds.gate_spelled.Given as goal
 

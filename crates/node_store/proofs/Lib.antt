@@ -1,5 +1,5 @@
 mod Examples
-pub mod Pieces
+pub mod Zipped
 pub mod Meaning
 pub mod Keeping
 pub mod Literals

@@ -1,32 +1,31 @@
 ghost use Rattle.std.specs.Prelude.{◌≡◌, ◌<◌, ◌↔◌, ◌++◌, [], ◌∷◌, length, IsTrue, OnOk, OnErr};
 ghost use Rattle.graph_rules.specs.Graphs.{node_at};
 ghost use Rattle.graph_rules.specs.GraphTexts.{edges};
-ghost use Rattle.node_store.specs.inner.Flat.{start_at};
 
 use crate::walk::Walk;
+use flat_lists::FlatLists;
 use graph_rules::NodeKind;
 use std::alloc::{AllocError, Global};
 use std::marker::Model;
 
-/// Nodes in order, whatever they are. Their children stand one behind the other in one list.
+/// Nodes in order, whatever they are. Their children stand one behind the other in one vector.
 #[derive(Debug, Drop)]
 pub struct Nodes {
     kinds: Vec<NodeKind>,
-    // where the children of each node end
-    ends: Vec<usize>,
-    kids: Vec<u32>,
+    // as many as kinds
+    kids: FlatLists<u32>,
 }
 
 impl Model for Nodes {
-    ghost use Rattle.std.specs.Prelude.{List};
+    ghost use Rattle.std.specs.Prelude.{◌≡◌, List, length};
     ghost use Rattle.graph_rules.specs.Graphs.{Node};
-    ghost use Rattle.node_store.specs.inner.Flat.{nodes_of, AreFlat};
+    ghost use Rattle.node_store.specs.inner.Flat.{nodes_of};
 
     ghost Value = { List Node };
 
-    ghost view = { λ f. nodes_of f.kids.items 0 f.kinds.items f.ends.items };
+    ghost view = { λ f. nodes_of f.kinds.items f.kids };
 
-    ghost invariant = { λ f. AreFlat f.kinds.items f.ends.items f.kids.items };
+    ghost invariant = { λ f. length f.kids ≡ length f.kinds.items };
 }
 
 impl Nodes {
@@ -36,8 +35,7 @@ impl Nodes {
     {
         Nodes {
             kinds: Vec::new(alloc),
-            ends: Vec::new(alloc),
-            kids: Vec::new(alloc),
+            kids: FlatLists::new(alloc),
         }
     }
 
@@ -59,7 +57,7 @@ impl Nodes {
     pub fn edges(&self) -> usize
         ensures { result ≡ edges self.now }
     {
-        self.kids.len()
+        self.kids.item_count()
     }
 
     /// What a node is.
@@ -75,16 +73,14 @@ impl Nodes {
         requires { node < length self.now }
         ensures { result.now ≡ (node_at self.now node).kids }
     {
-        let start = start_at(&self.ends, node);
-        let end = self.ends[node];
-        &self.kids[start..end]
+        self.kids.get(node)
     }
 
     /// Walks the nodes in order.
     pub fn walk(&self) -> Walk<'_>
         ensures { result ≡ self.now }
     {
-        Walk::new(&self.kinds, &self.ends, &self.kids)
+        Walk::new(&self.kinds, self.kids.lists())
     }
 
     /// Takes memory for so many more nodes, which have so many children in all.
@@ -92,8 +88,7 @@ impl Nodes {
         ensures { self.new ≡ self.old }
     {
         self.kinds.reserve(nodes)?;
-        self.ends.reserve(nodes)?;
-        self.kids.reserve(kids)
+        self.kids.reserve(nodes, kids)
     }
 
     /// Lets go of all nodes, and keeps their memory.
@@ -101,7 +96,6 @@ impl Nodes {
         ensures { self.new ≡ [] }
     {
         self.kinds.clear();
-        self.ends.clear();
         self.kids.clear();
     }
 
@@ -111,21 +105,8 @@ impl Nodes {
         ensures err { OnErr result (self.new ≡ self.old) }
     {
         self.kinds.reserve(1)?;
-        self.ends.reserve(1)?;
-        self.kids.extend_from_slice(kids)?;
-        self.ends.push(self.kids.len())?;
+        self.kids.push(kids)?;
         self.kinds.push(what)?;
         Ok(())
-    }
-}
-
-// Where the children of the node at a place begin, by the places where they end.
-fn start_at(ends: &[usize], at: usize) -> usize
-    requires { at < length ends.now }
-    ensures { result ≡ start_at 0 ends.now at }
-{
-    match at.checked_sub(1) {
-        None => 0,
-        Some(before) => ends[before],
     }
 }

@@ -1,7 +1,8 @@
-ghost use Rattle.std.specs.Prelude.{◌≡◌};
+ghost use Rattle.std.specs.Prelude.{◌≡◌, length};
 ghost use Rattle.std.specs.Iterator.{YieldsFirst, item_count};
-ghost use Rattle.node_store.specs.inner.Flat.{nodes_of, AreFlat};
+ghost use Rattle.node_store.specs.inner.Flat.{nodes_of};
 
+use flat_lists::Lists;
 use graph_rules::NodeKind;
 use std::marker::Model;
 
@@ -28,36 +29,29 @@ impl<'a> Model for NodeRef<'a> {
 #[derive(Debug, Drop)]
 pub struct Walk<'a> {
     kinds: &'a [NodeKind],
-    ends: &'a [usize],
-    // the children of all nodes, and where those of the next one begin
-    kids: &'a [u32],
-    start: usize,
+    // as many as kinds
+    kids: Lists<'a, u32>,
 }
 
 impl<'a> Model for Walk<'a> {
-    ghost use Rattle.std.specs.Prelude.{List};
+    ghost use Rattle.std.specs.Prelude.{◌≡◌, List, length};
     ghost use Rattle.graph_rules.specs.Graphs.{Node};
-    ghost use Rattle.node_store.specs.inner.Flat.{nodes_of, AreFlatFrom};
+    ghost use Rattle.node_store.specs.inner.Flat.{nodes_of};
 
     ghost Value = { List Node };
 
-    ghost view = { λ w. nodes_of w.kids.now w.start w.kinds.now w.ends.now };
+    ghost view = { λ w. nodes_of w.kinds.now w.kids };
 
-    ghost invariant = { λ w. AreFlatFrom w.start w.kinds.now w.ends.now w.kids.now };
+    ghost invariant = { λ w. length w.kids ≡ length w.kinds.now };
 }
 
 impl<'a> Walk<'a> {
-    // Over nodes of these kinds, by the places where the children of each end.
-    pub(crate) fn new(kinds: &'a [NodeKind], ends: &'a [usize], kids: &'a [u32]) -> Walk<'a>
-        requires flat { AreFlat kinds.now ends.now kids.now }
-        ensures { result ≡ nodes_of kids.now 0 kinds.now ends.now }
+    // Over nodes of these kinds, which have these children.
+    pub(crate) fn new(kinds: &'a [NodeKind], kids: Lists<'a, u32>) -> Walk<'a>
+        requires { length kids ≡ length kinds.now }
+        ensures { result ≡ nodes_of kinds.now kids.entry }
     {
-        Walk {
-            kinds,
-            ends,
-            kids,
-            start: 0,
-        }
+        Walk { kinds, kids }
     }
 }
 
@@ -70,15 +64,8 @@ impl<'a> Iterator for Walk<'a> {
 
     fn next(&mut self) -> Option<NodeRef<'a>> {
         let (what, kinds) = self.kinds.split_first()?;
-        let (end, ends) = self.ends.split_first()?;
-        let (start, end) = (self.start, *end);
+        let kids = self.kids.next()?;
         self.kinds = kinds;
-        self.ends = ends;
-        self.start = end;
-        let kids = self.kids;
-        Some(NodeRef {
-            what: *what,
-            kids: &kids[start..end],
-        })
+        Some(NodeRef { what: *what, kids })
     }
 }

@@ -1,7 +1,7 @@
-use Rattle.std.proofs.Common.{ap, arith}
+use Rattle.std.proofs.Common.{ap, sym, ◌∙◌}
 use Rattle.graph_rules.specs.GraphTexts.{edges}
-use Rattle.node_store.proofs.Pieces.{edges-all}
+use Rattle.node_store.proofs.Zipped.{edges-nodes_of}
 use Rattle.node_store.proofs.flat.Nodes.edges.Goals as goal
 
 pub returns : goal.returns
-returns c = omega (arith, edges-all c.self.inside.kids.items c.self.inside.kinds.items c.self.inside.ends.items c.self.invariant.long c.self.invariant.cut, ap edges c.self.view_is, c.self.inside.kids.ok.0)
+returns c = c.item_count.ensures ∙ sym (edges-nodes_of c.self.inside.kinds.items c.self.inside.kids c.self.invariant) ∙ ap edges c.self.view_is

@@ -1,6 +1,6 @@
 use Rattle.std.proofs.Common.{length, ap, arith}
-use Rattle.node_store.proofs.Pieces.{length-nodes_of}
+use Rattle.node_store.proofs.Zipped.{length-nodes_of}
 use Rattle.node_store.proofs.flat.Nodes.len.Goals as goal
 
 pub returns : goal.returns
-returns c = omega (arith, length-nodes_of c.self.inside.kids.items 0 c.self.inside.kinds.items c.self.inside.ends.items c.self.invariant.long, ap length c.self.view_is, c.self.inside.kinds.ok.0)
+returns c = omega (arith, length-nodes_of c.self.inside.kinds.items c.self.inside.kids c.self.invariant, ap length c.self.view_is, c.self.inside.kinds.ok.0)

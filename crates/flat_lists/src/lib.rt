@@ -1,0 +1,8 @@
+//! Lists that stand one behind the other in one vector.
+#![tactic(auto)]
+
+mod flat;
+mod lists;
+
+pub use flat::FlatLists;
+pub use lists::Lists;

@@ -1,4 +1,3 @@
 pub mod Refusals
 pub mod Script
-pub mod Meaning
 pub mod inner

@@ -7,6 +7,12 @@ use Rattle.text_rules.specs.Names.{Name, same_name, is_name, is_short_name}
 use Rattle.text_rules.specs.Tokens.{words}
 use Rattle.text_rules.specs.Numbers.{plain_number_in}
 use Rattle.device_model.specs.declared.limits.TheConstants.{NAME_LIMIT}
+use Rattle.script_lang.specs.declared.line.Line.{Line as LineRead}
+use Rattle.script_lang.specs.declared.line.Line.TheVariants as line
+use Rattle.script_lang.specs.declared.line.Question.{Question as QuestionRead}
+use Rattle.script_lang.specs.declared.line.Question.TheVariants as question
+use Rattle.script_lang.specs.declared.line.Request.{Request as RequestRead}
+use Rattle.script_lang.specs.declared.line.Request.TheVariants as request
 use Rattle.script_lang.specs.declared.line.Noted.{Noted}
 use Rattle.script_lang.specs.declared.line.Noted.TheVariants.{Wire, Part}
 use Rattle.script_lang.specs.declared.refusal.LineRefusal.{LineRefusal}
@@ -133,3 +139,32 @@ line_of_words (word ∷ ws) = if begins_comment word then Blank else read_as wor
 -- A line that is too long is refused, a comment too.
 abbrev pub line_of : List ℕ → Line
 line_of bytes = if nat_lt LINE_LIMIT (length bytes) then Refused TooLong else line_of_words (words bytes)
+
+-- ---- what the values that the code hands on mean
+
+-- what is told of a session's case
+abbrev pub question_of : QuestionRead → Question
+question_of question.Min = Min
+question_of (question.Probe wire) = Probe wire.now
+question_of question.Probes = Probes
+question_of question.Blame = Blame
+
+-- what is asked of a session
+abbrev pub asked : RequestRead → Request
+asked request.Start = Start
+asked request.Stop = Stop
+asked (request.Note what name known) = Note what name.now known
+asked (request.Tell question) = Tell (question_of question)
+asked request.Next = Next
+asked (request.List count) = Several count
+asked (request.After names) = After (words names.now)
+asked request.Dnnf = Dnnf
+asked request.Level = Level
+asked (request.Levels count) = Levels count
+asked request.LeastNnf = LeastNnf
+
+-- what a line that was read means
+abbrev pub meaning : LineRead → Line
+meaning line.Blank = Blank
+meaning (line.Refused refusal) = Refused refusal
+meaning (line.Ask session request) = Ask session.now (asked request)

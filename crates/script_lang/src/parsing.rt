@@ -3,10 +3,9 @@ ghost use Rattle.std.specs.List.{list_all};
 ghost use Rattle.std.specs.Map.{lookup};
 ghost use Rattle.text_rules.specs.Names.{Name, same_name};
 ghost use Rattle.text_rules.specs.Tokens.{words};
-ghost use Rattle.script_lang.specs.Meaning.{asked, meaning};
+ghost use Rattle.script_lang.specs.Script.{asked, meaning, Ask, Note, Tell, Probe, Several, After, Levels, begins_comment, commands, is_script_name, line_of, on_session, on_name, on_value, on_count, on_names, read_as, read_by};
 ghost use Rattle.script_lang.specs.inner.Found.{asked_by};
 ghost use Rattle.script_lang.specs.Script as script;
-ghost use Rattle.script_lang.specs.Script.{Ask, Note, Tell, Probe, Several, After, Levels, begins_comment, commands, is_script_name, line_of, on_session, on_name, on_value, on_count, on_names, read_as, read_by};
 
 use crate::cutting::{at_equals, one_word, split_word, two_words};
 use crate::limits::{COUNT_LIMIT, LINE_LIMIT};

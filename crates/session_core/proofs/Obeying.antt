@@ -5,8 +5,7 @@ use Rattle.text_rules.specs.Names.{Name}
 use Rattle.text_rules.specs.Tokens.{spaced}
 use Rattle.diag_edge.specs.Edge.{Puts}
 use Rattle.ranking.specs.Systems.{System}
-use Rattle.script_lang.specs.Meaning.{asked}
-use Rattle.script_lang.specs.Script.{Request, Question, Tell, Line, Ask, line_of}
+use Rattle.script_lang.specs.Script.{asked, Request, Question, Tell, Line, Ask, line_of}
 use Rattle.script_lang.specs.declared.line.Request.{Request as Read}
 use Rattle.script_lang.specs.declared.line.Request.TheVariants as read
 use Rattle.session_rules.specs.declared.refusal.Refusal.{Refusal}

@@ -1,8 +1,7 @@
 //! Requests that leave every session as it is.
 ghost use Rattle.std.specs.Prelude.{◌≡◌, ◌∷◌, [], codes, true};
 ghost use Rattle.diag_edge.specs.Edge.{HasCause};
-ghost use Rattle.script_lang.specs.Meaning.{question_of};
-ghost use Rattle.script_lang.specs.Script.{Tell, Dnnf, LeastNnf};
+ghost use Rattle.script_lang.specs.Script.{question_of, Tell, Dnnf, LeastNnf};
 ghost use Rattle.session_rules.specs.Items.{Plain, line};
 ghost use Rattle.session_rules.specs.Spelling.{Replies};
 ghost use Rattle.session_core.specs.Services.{case_text, least_case_text};

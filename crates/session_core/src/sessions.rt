@@ -1,8 +1,7 @@
 ghost use Rattle.std.specs.Prelude.{◌≡◌, ◌≤◌, [], None, length, true, IfOk};
 ghost use Rattle.text_rules.specs.Names.{is_short_name};
 ghost use Rattle.diag_edge.specs.Edge.{HasCause};
-ghost use Rattle.script_lang.specs.Meaning.{asked};
-ghost use Rattle.script_lang.specs.Script.{Start, Stop, Note};
+ghost use Rattle.script_lang.specs.Script.{asked, Start, Stop, Note};
 ghost use Rattle.session_rules.specs.Carrying.{CarriesOut};
 ghost use Rattle.session_rules.specs.Sessions.{entry_of, no_such};
 ghost use Rattle.session_core.specs.Services.{moves_of, ChangesTable, IsSound};

@@ -2,7 +2,7 @@
 ghost use Rattle.std.specs.Prelude.{◌≡◌, ◌<◌, ◌++◌, ◌∷◌, [], map};
 ghost use Rattle.diag_edge.specs.Edge.{HasCause};
 ghost use Rattle.device_model.specs.Devices.{place_of};
-ghost use Rattle.script_lang.specs.Meaning.{question_of};
+ghost use Rattle.script_lang.specs.Script.{question_of};
 ghost use Rattle.session_rules.specs.GraphSystems.{system_of};
 ghost use Rattle.session_rules.specs.Items.{line};
 ghost use Rattle.session_rules.specs.Replies.{end_line, min_line, blame_lines, if_any, probe_told, told};

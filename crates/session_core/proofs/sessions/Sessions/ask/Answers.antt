@@ -1,5 +1,5 @@
 use Rattle.std.proofs.Common.{◌≡◌, ◌<◌, None, length, subst}
-use Rattle.script_lang.specs.Meaning.{asked}
+use Rattle.script_lang.specs.Script.{asked}
 use Rattle.session_rules.specs.declared.refusal.Refusal.TheVariants.{NoSession}
 use Rattle.session_rules.specs.Sessions.{entry_of}
 use Rattle.session_table.specs.Tables.{StandsAt}

@@ -1,7 +1,6 @@
 use Rattle.std.proofs.Common.{◌≡◌, ◌∙◌, ap, subst, sym}
 use Rattle.ranking.specs.Cases.{Case}
-use Rattle.script_lang.specs.Meaning.{question_of}
-use Rattle.script_lang.specs.Script.{Tell}
+use Rattle.script_lang.specs.Script.{question_of, Tell}
 use Rattle.session_rules.specs.GraphSystems.{system_of}
 use Rattle.session_rules.specs.Replies.{told}
 use Rattle.session_rules.specs.Spelling.{Replies}

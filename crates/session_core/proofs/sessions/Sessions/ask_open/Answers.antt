@@ -1,5 +1,5 @@
 use Rattle.std.proofs.Common.{◌∙◌, ap, subst, sym}
-use Rattle.script_lang.specs.Meaning.{asked}
+use Rattle.script_lang.specs.Script.{asked}
 use Rattle.script_lang.specs.declared.line.Request.{Request}
 use Rattle.session_rules.specs.declared.refusal.Refusal.TheVariants.{OpenAlready}
 use Rattle.session_rules.specs.GraphSystems.{system_of}

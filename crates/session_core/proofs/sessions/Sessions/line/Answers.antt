@@ -3,8 +3,7 @@ use Rattle.std.proofs.lemmas.Bool.{and_parts}
 use Rattle.text_rules.specs.Names.{is_short_name}
 use Rattle.script_lang.proofs.Asked.{is_well_named, is_well_asked}
 use Rattle.script_lang.proofs.AskedLemmas.{well_asked}
-use Rattle.script_lang.specs.Meaning.{asked}
-use Rattle.script_lang.specs.Script.{Line}
+use Rattle.script_lang.specs.Script.{asked, Line}
 use Rattle.session_core.specs.Services.{exact_moves}
 use Rattle.session_rules.specs.Carrying.{Makes, CarriesOut}
 use Rattle.session_rules.proofs.Broken.{carries_step}

@@ -4,7 +4,8 @@ use Rattle.std.specs.Fmt.{digits}
 use Rattle.session_rules.specs.Items.{Item, Plain}
 use Rattle.ranking.specs.Systems.{no_extras}
 use Rattle.diag_cli.specs.declared.words.ServeOptions.{ServeOptions}
-use Rattle.diag_cli.specs.Words.{Load, Over, Serve, ServeFrames, Ask, Plan, Check, Compile, form_of}
+use Rattle.diag_cli.specs.declared.words.Command.TheVariants.{Serve, ServeFrames, Ask, Plan, Check, Compile}
+use Rattle.diag_cli.specs.Words.{Load, Over, form_of}
 use Rattle.device_files.specs.declared.status.Status.TheVariants.{Done, ReadFailed, CutShort}
 use Rattle.device_files.specs.Describing.{long_file_line}
 use Rattle.diag_cli.specs.Besides.{levels_bits, least_bits, bits_line}

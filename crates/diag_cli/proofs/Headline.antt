@@ -19,7 +19,9 @@ use Rattle.clause_encoder.specs.Clauses.{ClauseList}
 use Rattle.bench_reader.specs.SequentialNetlists.{sequential_netlist}
 use Rattle.diag_cli.specs.declared.serving.TheConstants.{SCRIPT_LIMIT}
 use Rattle.diag_cli.specs.declared.words.ServeOptions.{ServeOptions}
-use Rattle.diag_cli.specs.Words.{Form, Load, Over, Command, Serve, ServeFrames, Ask, Plan, Check, Compile, asks_script}
+use Rattle.diag_cli.specs.declared.words.Command.{Command}
+use Rattle.diag_cli.specs.declared.words.Command.TheVariants.{Serve, ServeFrames, Ask, Plan, Check, Compile}
+use Rattle.diag_cli.specs.Words.{Form, Load, Over, asks_script}
 use Rattle.device_files.proofs.Statuses.{cases_status}
 use Rattle.device_files.specs.declared.status.Status.{Status}
 use Rattle.device_files.specs.declared.status.Status.TheVariants.{Done, Refused, Usage, ReadFailed, WriteFailed, NoMemory, CutShort}

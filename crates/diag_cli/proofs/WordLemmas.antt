@@ -17,8 +17,9 @@ use Rattle.diag_cli.specs.declared.words.OptionKind.{OptionKind}
 use Rattle.diag_cli.specs.declared.words.OptionKind.TheVariants.{Budget, Sessions, Frames, Levels, Narrow, Least}
 use Rattle.diag_cli.specs.declared.words.Options.{Options}
 use Rattle.diag_cli.specs.declared.words.ServeOptions.{ServeOptions}
+use Rattle.diag_cli.specs.declared.words.Command.TheVariants.{Serve, ServeFrames, Ask, Plan, Check, Compile}
 use Rattle.diag_cli.specs.declared.words.Form.{Form as FormRead}
-use Rattle.diag_cli.specs.Words.{Form, Load, Over, Serve, ServeFrames, Ask, Plan, Check, Compile, row_of, option_for, number_for, with_option, no_options, and_options, serve_options, form_serve, form_by, ask_by, form_ask, form_load, form_by_words, form_of, only_if}
+use Rattle.diag_cli.specs.Words.{Form, Load, Over, row_of, option_for, number_for, with_option, no_options, and_options, serve_options, form_serve, form_by, ask_by, form_ask, form_load, form_by_words, form_of, only_if}
 use Rattle.device_files.specs.Paths.{is_netlist_path, is_device_path, is_graph_path}
 use Rattle.diag_cli.specs.inner.Forms.{meant, AreWithinLimits, IsWithinLimits}
 

@@ -17,7 +17,9 @@ use Rattle.session_rules.specs.Sessions.{replies}
 use Rattle.session_rules.specs.GraphSystems.{system_of}
 use Rattle.diag_cli.specs.declared.serving.TheConstants.{SCRIPT_LIMIT}
 use Rattle.diag_cli.specs.declared.words.ServeOptions.{ServeOptions}
-use Rattle.diag_cli.specs.Words.{Form, Load, Over, Command, Serve, ServeFrames, Ask, Plan, Check, Compile}
+use Rattle.diag_cli.specs.declared.words.Command.{Command}
+use Rattle.diag_cli.specs.declared.words.Command.TheVariants.{Serve, ServeFrames, Ask, Plan, Check, Compile}
+use Rattle.diag_cli.specs.Words.{Form, Load, Over}
 use Rattle.device_files.specs.declared.status.Status.TheVariants.{Done, Refused, Usage, ReadFailed, CutShort}
 use Rattle.device_files.specs.Output.{Output, says, too_long_line, no_memory, result_and_then, told_or_refused}
 use Rattle.device_files.specs.Describing.{long_file_line, device_in}

@@ -9,6 +9,8 @@ use Rattle.branch_states.specs.declared.measuring.TheConstants.{BUDGET_LIMIT}
 use Rattle.frame_unroller.specs.declared.unrolling.TheConstants.{FRAME_LIMIT}
 use Rattle.diag_edge.specs.Edge.{Holding, told_bytes}
 use Rattle.device_files.specs.Paths.{is_netlist_path, is_device_path, is_graph_path}
+use Rattle.diag_cli.specs.declared.words.Command.{Command}
+use Rattle.diag_cli.specs.declared.words.Command.TheVariants.{Serve, ServeFrames, Ask, Plan, Check, Compile}
 use Rattle.diag_cli.specs.declared.words.OptionKind.{OptionKind}
 use Rattle.diag_cli.specs.declared.words.OptionKind.TheVariants.{Budget, Sessions, Frames, Levels, Narrow, Least}
 use Rattle.diag_cli.specs.declared.words.Numbers.{Numbers}
@@ -20,16 +22,7 @@ use Rattle.diag_cli.specs.declared.words.TheConstants.{DEFAULT_BUDGET, DEFAULT_S
 
 -- ---- forms
 
--- what is done over a file; `serve` with a number of frames takes flip-flops
-pub data Command : Type 0 where
-  Serve : (options : ServeOptions) → Command
-  ServeFrames : (frames : ℕ) (options : ServeOptions) → Command
-  Ask : (health sessions : ℕ) → Command
-  Plan : (narrow : Bool) → Command
-  Check : Command
-  Compile : (budget : ℕ) (narrow : Bool) → Command
-
--- the forms of the command line: an adder of so many places is made, or a file is named
+-- the forms of the command line: an adder of so many places is made, or a command is done over a file
 pub data Form : Type 0 where
   Load : (places : ℕ) → Form
   Over : (path : List ℕ) (command : Command) → Form

@@ -2,7 +2,7 @@ ghost use Rattle.std.specs.Prelude.{◌-◌, ◌^◌, ◌<◌, map, string_bytes
 ghost use Rattle.diag_cli.specs.Words.{form_of, named_file, Over};
 ghost use Rattle.device_files.specs.Orders.{ByOrder};
 ghost use Rattle.diag_cli.specs.Runs.{IsRun};
-ghost use Rattle.diag_cli.specs.inner.Forms.{command_meant, IsCommandWithin};
+ghost use Rattle.diag_cli.specs.inner.Forms.{IsCommandWithin};
 
 use crate::loading::load_adder;
 use crate::run::run_file;
@@ -23,13 +23,13 @@ fn run_over<H: Shelf, I: Source, O: Sink>(
     out: &mut O,
 ) -> Status
     requires may { H.may shelf.old path.now }
-    requires limits { IsCommandWithin (command_meant command) }
+    requires limits { IsCommandWithin command }
     requires shelf_taken { H.taken shelf.old < 2 ^ 62 }
     requires input_taken { I.taken input.old < 2 ^ 62 }
     requires shelf_faults { H.faults shelf.old < 2 ^ 64 - 1 }
     requires input_faults { I.faults input.old < 2 ^ 64 - 1 }
     requires out_faults { O.faults out.old < 2 ^ 64 - 1 }
-    ensures { ByOrder (λ order. IsRun order (Some (Over path.now (command_meant command))) (H.held shelf.old)
+    ensures { ByOrder (λ order. IsRun order (Some (Over path.now command)) (H.held shelf.old)
         (H.shown shelf.old) (H.shown shelf.new) (I.shown input.old) (I.shown input.new) (O.shown out.old) (O.shown out.new) result) }
 {
     match load(alloc, shelf, path, TEXT_LIMIT) {

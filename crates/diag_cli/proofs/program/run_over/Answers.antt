@@ -1,7 +1,6 @@
 use Rattle.std.proofs.Common.{◌+◌, ◌≤◌, length, Err, ap, ◌∙◌, sym, subst}
 use Rattle.text_rules.specs.declared.text_lines.TheConstants.{TEXT_LIMIT}
 use Rattle.diag_edge.specs.declared.loading.LoadError.TheVariants.{Long}
-use Rattle.diag_cli.specs.inner.Forms.{command_meant}
 use Rattle.diag_cli.specs.Courses.{course_by}
 use Rattle.diag_cli.specs.Following.{Follows}
 use Rattle.diag_cli.proofs.Shown.{at_ends, run_shown}
@@ -19,12 +18,12 @@ returns-in-Ok g c =
     let out = g.O.Sink.shown_is in
     by_same done.follows (λ order follows.
     run_shown (g.H.Source.shown_is _) (g.H.Source.shown_is _) (input _) (input _) (out _) (out _)
-    (run_loaded _ _ _ _ _ order c.args.path.now (command_meant c.args.command) _ _ _ c.deref.result.now (same_file c.deref.result.now c.in-Ok.file.items _ c.deref.ensures.value read.bytes)
+    (run_loaded _ _ _ _ _ order c.args.path.now c.args.command _ _ _ c.deref.result.now (same_file c.deref.result.now c.in-Ok.file.items _ c.deref.ensures.value read.bytes)
     (λ gone. let is = read.absent gone in let never : ⊥ = cc in never)
     (read.failed.stayed (λ is. let never : ⊥ = cc in never))
     (read.taken ∙ ap (λ text. g.H.Source.taken c.args.shelf.now + length text) same) (subst (λ text. length text ≤ TEXT_LIMIT) same read.short)
     done.write_fault done.read_fault done.not_usage
-    (at_ends (λ x y u v. Follows (course_by order c.args.path.now (command_meant c.args.command) c.deref.result.now) x y u v c.run_file.result)
+    (at_ends (λ x y u v. Follows (course_by order c.args.path.now c.args.command c.deref.result.now) x y u v c.run_file.result)
     (sym (input _)) (sym (input _)) (sym (out _)) (sym (out _)) follows) done.cut done.short))
 
 pub say_load_error-requires-clause-limit : goal.say_load_error-requires-clause-limit
@@ -35,6 +34,6 @@ returns-in-Err g c =
     let read = c.in-Err.ensures in
     by_any (λ order.
     run_shown (g.H.Source.shown_is _) (g.H.Source.shown_is _) (g.I.Source.shown_is _) (g.I.Source.shown_is _) (g.O.Sink.shown_is _) (g.O.Sink.shown_is _)
-    (run_unread order _ _ _ _ _ _ _ c.args.path.now (command_meant c.args.command) c.in-Err.error
+    (run_unread order _ _ _ _ _ _ _ c.args.path.now c.args.command c.in-Err.error
     (unread c.in-Err.error _ _ _ c.requires.shelf_faults read.failed read.absent read.that_limit read.long_file)
     read.at_most read.once (λ limit is. read.long.0 (ap Err (is ∙ ap Long (read.that_limit limit (ap Err is))))) c.say_load_error.ensures.write_fault c.say_load_error.ensures.said))

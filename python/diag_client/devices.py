@@ -6,11 +6,56 @@ The program has read a file before it is read here, so nothing is looked for tha
 from __future__ import annotations
 
 import dataclasses
+import enum
 import os
 import pathlib
 import re
+from collections.abc import Iterable
 
-GATES = ("AND", "OR", "NAND", "NOR", "XOR", "XNOR", "NOT", "BUFF")
+
+class Reduction(enum.Enum):
+    """What is asked of the inputs of a gate."""
+
+    ALL_ONES = "whether all are 1"
+    ANY_ONE = "whether one or more are 1"
+    ODD_ONES = "whether an odd number of them is 1"
+
+    def of(self, bits: Iterable[int]) -> bool:
+        """The answer for these bits."""
+        if self is Reduction.ODD_ONES:
+            return sum(bits) % 2 == 1
+        return all(bits) if self is Reduction.ALL_ONES else any(bits)
+
+
+@dataclasses.dataclass(frozen=True)
+class Gate:
+    """What a gate puts out: what is asked of its inputs, or the opposite; and the most inputs that it takes."""
+
+    reduction: Reduction
+    positive: bool
+    most_inputs: int = 64
+
+    def output(self, bits: Iterable[int]) -> int:
+        """What it puts out where it is ok.
+
+        >>> GATES["NAND"].output([1, 0]), GATES["NAND"].output([1, 1])
+        (1, 0)
+        """
+        return int(self.reduction.of(bits) == self.positive)
+
+
+GATES = {
+    "AND": Gate(Reduction.ALL_ONES, True),
+    "OR": Gate(Reduction.ANY_ONE, True),
+    "NAND": Gate(Reduction.ALL_ONES, False),
+    "NOR": Gate(Reduction.ANY_ONE, False),
+    "XOR": Gate(Reduction.ODD_ONES, True),
+    "XNOR": Gate(Reduction.ODD_ONES, False),
+    "NOT": Gate(Reduction.ALL_ONES, False, most_inputs=1),
+    "BUFF": Gate(Reduction.ALL_ONES, True, most_inputs=1),
+}
+# Other words of gates in netlists.
+OTHER_WORDS = {"BUF": "BUFF"}
 FLIP_FLOP = "DFF"
 
 
@@ -62,7 +107,7 @@ def read_netlist(text: str) -> Device:
         if "=" in line.split("#")[0]:
             name, kind, *reads = words
             kind = kind.upper()
-            parts.append(Part(name, "BUFF" if kind == "BUF" else kind, (*reads, name)))
+            parts.append(Part(name, OTHER_WORDS.get(kind, kind), (*reads, name)))
         else:
             (inputs if words[0].upper() == "INPUT" else outputs).add(words[1])
     return Device(parts, sorted(inputs | {part.name for part in parts}), frozenset(inputs), frozenset(outputs))

@@ -12,7 +12,7 @@ import shutil
 import subprocess
 from collections.abc import Iterable, Mapping
 
-from .devices import Device, Part, read_device
+from .devices import FLIP_FLOP, GATES, Device, Part, Reduction, read_device
 from .errors import DiagError, Inconsistent, Refused
 from .replies import Verdict
 from .service import Service, Session
@@ -20,13 +20,11 @@ from .service import Service, Session
 # So many parts are drawn where nothing else is said: of more, those nearest to the suspects.
 MOST = 60
 
-# A gate's shape tells its kind, and a circle at its output that it negates.
-SHAPES = {
-    "AND": "box", "NAND": "box", "OR": "ellipse", "NOR": "ellipse", "XOR": "hexagon", "XNOR": "hexagon", "NOT": "cds", "BUFF": "cds",
-    "DFF": "box3d",
-}
+# A gate's shape tells what is asked of its inputs, and a circle at its output that it negates.
+SHAPES = {Reduction.ALL_ONES: "box", Reduction.ANY_ONE: "ellipse", Reduction.ODD_ONES: "hexagon"}
+ONE_INPUT_SHAPE = "cds"
+FLIP_FLOP_SHAPE = "box3d"
 TABLE_SHAPE = "component"
-NEGATED = ("NAND", "NOR", "XNOR", "NOT")
 FILLS = {Verdict.ALWAYS: "#e34a33", Verdict.SOMETIMES: "#fdcc8a", Verdict.NEVER: "white"}
 BITS = {0: "#cfe2f3", 1: "#fff2a8"}
 HELD = {"ok": "#1a7f37", "bad": "#b30000"}
@@ -54,6 +52,19 @@ class Case:
     def suspects(self) -> list[str]:
         """The parts that are faulty in some diagnosis, those first that are so in all."""
         return [part for wanted in (Verdict.ALWAYS, Verdict.SOMETIMES) for part, verdict in self.verdicts.items() if verdict is wanted]
+
+
+def shape(kind: str) -> str:
+    """The shape of the parts of a kind."""
+    gate = GATES.get(kind)
+    if gate is None:
+        return FLIP_FLOP_SHAPE if kind == FLIP_FLOP else TABLE_SHAPE
+    return ONE_INPUT_SHAPE if gate.most_inputs == 1 else SHAPES[gate.reduction]
+
+
+def is_negated(part: Part) -> bool:
+    """Whether a part is a gate that puts out the opposite of what is asked of its inputs."""
+    return part.kind in GATES and not GATES[part.kind].positive
 
 
 def quoted(text: str) -> str:
@@ -142,7 +153,7 @@ class Drawing:
         verdict = self.case.verdicts.get(part.name, Verdict.NEVER)
         held = self.case.held.get(part.name)
         told = [part.name, part.kind] + ([str(verdict)] if verdict is not Verdict.NEVER else []) + ([f"held {held}"] if held else [])
-        style: dict[str, object] = {"label": "\n".join(told), "shape": SHAPES.get(part.kind, TABLE_SHAPE), "fillcolor": FILLS[verdict]}
+        style: dict[str, object] = {"label": "\n".join(told), "shape": shape(part.kind), "fillcolor": FILLS[verdict]}
         if held:
             style |= {"color": HELD[held], "penwidth": 3}
         self.nodes[self._home(part.name)].append(f"{quoted('part ' + part.name)} {attributes(**style)};")
@@ -175,7 +186,7 @@ class Drawing:
         self.edges.append(f"{quoted(here)} -> {quoted(there)} {attributes(dir='none', **name)};")
 
     def _edge(self, here: str, there: str, driver: Part | None, **style: object) -> None:
-        if driver is not None and driver.kind in NEGATED:
+        if driver is not None and is_negated(driver):
             style |= {"dir": "both", "arrowtail": "odot"}
         self.edges.append(f"{quoted(here)} -> {quoted(there)}{' ' + attributes(**style) if style else ''};")
 
@@ -232,7 +243,7 @@ def _heading(told: Iterable[str], case: Case, parts: Iterable[Part]) -> str:
     if case.held:
         cells += [("held ok", "white", HELD["ok"]), ("held bad", "white", HELD["bad"])]
     row = "".join(f'<td bgcolor="{fill}" color="{edge}">{text}</td>' for text, fill, edge in cells)
-    if any(part.kind in NEGATED for part in parts):
+    if any(map(is_negated, parts)):
         row += '<td border="0">a circle at an output: negated</td>'
     title = "<br/>".join(html.escape(text) for text in told)
     return (

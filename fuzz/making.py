@@ -6,7 +6,7 @@ from functools import partial
 
 from rules import designs, frames, netlists
 from rules.clauses import clauses_of, sum_of, tidied
-from rules.devices import MANY_INPUTS
+from rules.devices import GATES, ODD_ONES
 from rules.graphs import BITS_LIMIT
 from rules.runs import LEVELS_LIMIT
 from rules.texts import Refused
@@ -20,6 +20,7 @@ OFTEN = [2, 1, 16, 2, 3, 2, 8, 10, 6, 2, 4, 2, 8, 2]
 ALLOWED = {"--levels": (["level", "levels", "after"], [8, 8, 4]), "--least": (["leastnnf"], [8])}
 # What may stand where a byte is broken.
 BYTES = b"(),=# \t\r\n\x0b\0.-+_~\x7f\x80\xff019aALOn"
+PARITIES = [word for word, gate in GATES.items() if gate.asked == ODD_ONES]
 VARIABLES = 17
 # So many steps over all times take a tenth of a second, and a greater sum seconds.
 STEPS, SUM = 50000, 5000
@@ -52,8 +53,8 @@ def ended(r, lines):
 
 def gate_of(r, signals):
     """A kind and its inputs, now and then more than four."""
-    kind = r.choice([*MANY_INPUTS, "NOT", "BUFF", "BUF"])
-    count = 1 if kind in ("NOT", "BUFF", "BUF") else r.choice([1, 2, 2, 2, 2, 3, 3, 4, 5, 6])
+    kind = r.choice([*GATES, "BUF"])
+    count = 1 if kind == "BUF" or GATES[kind].most_inputs == 1 else r.choice([1, 2, 2, 2, 2, 3, 3, 4, 5, 6])
     return kind, [r.choice(signals) for _ in range(count)]
 
 
@@ -70,7 +71,7 @@ def netlist(r, flip_flops=0, most=8):
         # mostly without a cycle
         signals = names if chance(r, 20) or not inputs + outputs[:place] else inputs + outputs[:place]
         # now and then so many clauses that a state has more than one word
-        kind, of = (r.choice(["XOR", "XNOR"]), same) if is_wide else gate_of(r, signals)
+        kind, of = (r.choice(PARITIES), same) if is_wide else gate_of(r, signals)
         if place < flip_flops:
             kind, of = "DFF", r.choices(names, k=r.choices([1, 2, 0], [97, 2, 1])[0])
         commas = [token for name in of for token in (name, b",")][:-1]
@@ -104,7 +105,7 @@ def block_lines(r, name, kinds):
             kind, takes = r.choice(kinds)
         else:
             gate, of = gate_of(r, wires)
-            kind, takes = gate.replace("BUFF", "BUF").replace("BUF", "BUFF").encode(), len(of) + 1
+            kind, takes = (b"BUFF" if gate == "BUF" else gate.encode()), len(of) + 1
         lines.append(b" ".join([b"part", part, kind, *(r.choice(wires) for _ in range(takes))]))
     return lines + [b"end"], ports
 

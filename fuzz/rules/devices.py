@@ -5,10 +5,23 @@ from dataclasses import dataclass
 
 from . import truths
 
-MANY_INPUTS = ("AND", "OR", "NAND", "NOR", "XOR", "XNOR")
-GATES = (*MANY_INPUTS, "NOT", "BUFF")
 PARTS_LIMIT = 4096
 WIRES_LIMIT = 16384
+INPUTS_LIMIT = 64
+# What may be asked of the inputs of a gate.
+ALL_ONES, ANY_ONE, ODD_ONES = "whether all are 1", "whether one or more are 1", "whether an odd number of them is 1"
+
+
+@dataclass(frozen=True)
+class Gate:
+    """What is asked of the inputs, whether the output is that or its opposite, and how many inputs there may be."""
+    asked: str
+    positive: bool
+    most_inputs: int = INPUTS_LIMIT
+
+
+GATES = {"AND": Gate(ALL_ONES, True), "OR": Gate(ANY_ONE, True), "NAND": Gate(ALL_ONES, False), "NOR": Gate(ANY_ONE, False),
+         "XOR": Gate(ODD_ONES, True), "XNOR": Gate(ODD_ONES, False), "NOT": Gate(ALL_ONES, False, 1), "BUFF": Gate(ALL_ONES, True, 1)}
 
 
 @dataclass
@@ -29,19 +42,17 @@ class Part:
 
 
 def takes(gate, inputs):
-    return 1 <= inputs <= 64 if gate in MANY_INPUTS else inputs == 1
+    return 1 <= inputs <= GATES[gate].most_inputs
+
+
+def reduced(asked, inputs):
+    if asked == ODD_ONES:
+        return sum(inputs) % 2 == 1
+    return all(inputs) if asked == ALL_ONES else any(inputs)
 
 
 def gate_value(gate, inputs):
-    if gate in ("AND", "NAND"):
-        value = all(inputs)
-    elif gate in ("OR", "NOR"):
-        value = any(inputs)
-    elif gate in ("XOR", "XNOR"):
-        value = sum(inputs) % 2 == 1
-    else:
-        value = inputs[0]
-    return value != (gate in ("NAND", "NOR", "XNOR", "NOT"))
+    return reduced(GATES[gate].asked, inputs) == GATES[gate].positive
 
 
 def allows(kind, is_ok, row):

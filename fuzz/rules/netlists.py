@@ -62,7 +62,7 @@ def statement_of(number, tokens, takes_flip_flops):
         raise fault(number, 5)
     if kind not in (*GATES, FLIP_FLOP):
         raise fault(number, 3)
-    if not takes(kind, len(inputs)):
+    if not (len(inputs) == 1 if kind == FLIP_FLOP else takes(kind, len(inputs))):
         raise fault(number, 4)
     return Statement(number, "GATE", tokens[0], kind, inputs)
 

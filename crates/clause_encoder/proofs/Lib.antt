@@ -1,4 +1,3 @@
-pub mod Pieces
 pub mod Literals
 pub mod RowBits
 pub mod Meaning

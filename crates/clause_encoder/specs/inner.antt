@@ -1,3 +1,2 @@
 -- What only the private contracts of this crate cite.
-pub mod Flat
 pub mod Places

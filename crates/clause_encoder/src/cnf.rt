@@ -2,8 +2,8 @@ ghost use Rattle.std.specs.Prelude.{◌≡◌, ◌<◌, ◌≤◌, length, true,
 ghost use Rattle.std.specs.List.{list_all};
 ghost use Rattle.clause_encoder.specs.Clauses.{is_clause, is_clause_list};
 
-use crate::flat::FlatClauses;
 use crate::limits::{CLAUSE_LIMIT, VARIABLE_LIMIT};
+use flat_lists::FlatLists;
 use std::alloc::{AllocError, Global};
 use std::marker::Model;
 
@@ -41,7 +41,7 @@ impl Clause {
 #[derive(Debug, Drop)]
 pub struct Cnf {
     vars: u32,
-    clauses: FlatClauses,
+    clauses: FlatLists<i32>,
 }
 
 impl Model for Cnf {
@@ -65,7 +65,7 @@ impl Cnf {
         requires each { list_all (is_clause vars) clauses.items ≡ true }
         ensures { IfOk result (λ cnf. cnf ≡ record { vars = vars; clauses = clauses.items }) }
     {
-        let mut flat = FlatClauses::new(alloc);
+        let mut flat = FlatLists::new(alloc);
         for clause in &clauses {
             flat.push(clause.as_slice())?;
         }
@@ -75,7 +75,7 @@ impl Cnf {
         })
     }
 
-    pub(crate) fn of_flat(vars: u32, clauses: FlatClauses) -> Cnf
+    pub(crate) fn of_flat(vars: u32, clauses: FlatLists<i32>) -> Cnf
         requires vars { vars < VARIABLE_LIMIT }
         requires few { length clauses ≤ CLAUSE_LIMIT }
         requires each { list_all (is_clause vars) clauses ≡ true }

@@ -3,7 +3,6 @@
 
 mod cnf;
 mod encoding;
-mod flat;
 mod gates;
 mod limits;
 mod replacement;

@@ -11,8 +11,7 @@ use Rattle.clause_encoder.specs.declared.limits.TheConstants.{CLAUSE_LIMIT, VARI
 use Rattle.clause_encoder.specs.Clauses.{Clause, ClauseList, var_of, is_positive, is_true_clause, all_hold, vars_rise, is_clause, is_clause_list}
 use Rattle.clause_encoder.specs.Encoding.{tidy}
 use Rattle.clause_encoder.specs.Replacing.{variable_for, literal_for}
-use Rattle.clause_encoder.proofs.Literals.{lit-literal, AllIn, AllRaw, all_hold-tidy, are_clauses-tidy, tidy-append, length-tidy}
-use Rattle.clause_encoder.proofs.Describing.{var_of-literal}
+use Rattle.clause_encoder.proofs.Literals.{var_of-literal, lit-literal, AllIn, AllRaw, all_hold-tidy, are_clauses-tidy, tidy-append, length-tidy}
 
 -- ---- the literals of a clause
 

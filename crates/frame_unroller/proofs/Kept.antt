@@ -21,164 +21,24 @@ use Rattle.clause_encoder.specs.declared.encoding.EncodeError.TheVariants.{TooMa
 use Rattle.clause_encoder.specs.Clauses.{Clause, ClauseList, var_of, is_positive, literal, vars_rise, is_clause}
 use Rattle.clause_encoder.specs.Encoding.{same_literal, with_literal, sorted, is_tautology, tidy, parity_clauses, and_clauses, row_bits, rows_of, blocking_literals, row_clause, blocked_rows, table_clauses, reduction_clauses, gate_clauses, and_step, xor_step, step_clauses, chain_clauses, wide_clauses, is_wide, any_gate_clauses, inner_count, raw_clauses, wire_variable, first_inner, clauses_from, all_clauses, raw_count, clause_list, encoded}
 use Rattle.clause_encoder.specs.Replacing.{variable_for, literal_for}
-use Rattle.clause_encoder.proofs.Literals.{AllIn, neg-literal}
-use Rattle.clause_encoder.proofs.Describing.{var_of-literal}
-use Rattle.clause_encoder.proofs.Meaning.{and_clauses-literals, takes-some}
+use Rattle.clause_encoder.proofs.Literals.{AllIn, neg-literal, var_of-literal}
+use Rattle.clause_encoder.proofs.Mentioning.{Of, OfEach, Variables, Of-raw}
 use Rattle.clause_encoder.proofs.OtherVariables.{raw_from}
 use Rattle.frame_unroller.specs.Unrolling.{shared_variables}
 
--- ---- what holds of the variables of a part's ports, of its health and of its inner ones holds of all in its clauses
+-- ---- what holds of all variables of a clause holds of it in order
 
 module _ (P : ℕ → Type 0) where
-  abbrev pub Of : Clause → Type 0
-  Of [] = Unit {0}
-  Of (l ∷ c) = P (var_of l) × Of c
-
-  abbrev pub OfEach : List Clause → Type 0
-  OfEach [] = Unit {0}
-  OfEach (c ∷ cs) = Of c × OfEach cs
-
-  abbrev pub Variables : List ℕ → Type 0
-  Variables [] = Unit {0}
-  Variables (v ∷ vs) = P v × Variables vs
-
-  Variables-take : (n : ℕ) (vs : List ℕ) → Variables vs → Variables (take n vs)
-  Variables-take zero vs h = tt
-  Variables-take (suc n) [] h = tt
-  Variables-take (suc n) (v ∷ vs) h = (h.0, Variables-take n vs h.1)
-
-  Variables-drop : (n : ℕ) (vs : List ℕ) → Variables vs → Variables (drop n vs)
-  Variables-drop zero vs h = h
-  Variables-drop (suc n) [] h = tt
-  Variables-drop (suc n) (v ∷ vs) h = Variables-drop n vs h.1
-
-  Variables-at : (vs : List ℕ) (i : ℕ) → Variables vs → i < length vs → P (get_or vs i 0)
-  Variables-at [] i h lt = absurd (omega arith)
-  Variables-at (v ∷ vs) zero h lt = h.0
-  Variables-at (v ∷ vs) (suc i) h lt = Variables-at vs i h.1 (omega arith)
-
-  Of-cons : (b : Bool) (v : ℕ) (c : Clause) → P v → Of c → Of (literal b v ∷ c)
-  Of-cons b v c h rest = (subst P (sym (var_of-literal b v)) h, rest)
-
-  Of-append : (c d : Clause) → Of c → Of d → Of (c ++ d)
-  Of-append [] d h k = k
-  Of-append (l ∷ c) d h k = (h.0, Of-append c d h.1 k)
-
-  OfEach-append : (cs ds : List Clause) → OfEach cs → OfEach ds → OfEach (cs ++ ds)
-  OfEach-append [] ds h k = k
-  OfEach-append (c ∷ cs) ds h k = (h.0, OfEach-append cs ds h.1 k)
-
-  OfEach-map : {A : Type 0} (f : A → Clause) (xs : List A) → ((x : A) → Of (f x)) → OfEach (map f xs)
-  OfEach-map f [] h = tt
-  OfEach-map f (x ∷ xs) h = (h x, OfEach-map f xs h)
-
-  Of-literals : (b : Bool) (vs : List ℕ) → Variables vs → Of (map (literal b) vs)
-  Of-literals b [] h = tt
-  Of-literals b (v ∷ vs) h = Of-cons b v (map (literal b) vs) h.0 (Of-literals b vs h.1)
-
-  Of-blocking : (vs : List ℕ) (bits : List Bool) → Variables vs → Of (blocking_literals vs bits)
-  Of-blocking [] bits h = tt
-  Of-blocking (v ∷ vs) [] h = tt
-  Of-blocking (v ∷ vs) (b ∷ bits) h = Of-cons (not b) v (blocking_literals vs bits) h.0 (Of-blocking vs bits h.1)
-
-  Of-two : (b c : Bool) (v w : ℕ) → P v → P w → Of (literal b v ∷ literal c w ∷ [])
-  Of-two b c v w hv hw = Of-cons b v (literal c w ∷ []) hv (Of-cons c w [] hw tt)
-
-  Of-three : (b c d : Bool) (u v w : ℕ) → P u → P v → P w → Of (literal b u ∷ literal c v ∷ literal d w ∷ [])
-  Of-three b c d u v w hu hv hw = Of-cons b u (literal c v ∷ literal d w ∷ []) hu (Of-two c d v w hv hw)
-
-  -- the steps of a chain
-  module _ (z before x : ℕ) (hz : P z) (hb : P before) (hx : P x) where
-    Of-and_step : (s : Bool) → OfEach (and_step s z before x)
-    Of-and_step s = (Of-two (not s) s z before hz hb, (Of-two (not s) s z x hz hx, (Of-three s (not s) (not s) z before x hz hb hx, tt)))
-
-    Of-xor_step : OfEach (xor_step z before x)
-    Of-xor_step = (
-      Of-three false true true z before x hz hb hx,
-      (
-        Of-three false false false z before x hz hb hx,
-        (Of-three true true false z before x hz hb hx, (Of-three true false true z before x hz hb hx, tt)),
-      ),
-    )
-
-    Of-step : (reduction : Reduction) → OfEach (step_clauses reduction z before x)
-    Of-step AllOnes = Of-and_step true
-    Of-step AnyOne = Of-and_step false
-    Of-step OddOnes = Of-xor_step
-
-  module _ (h : ℕ) (hh : P h) where
-    Of-and : (y : ℕ) (t s : Bool) (xs : List ℕ) → P y → Variables xs → OfEach (and_clauses (pos h) (literal t y) (map (literal s) xs))
-    Of-and y t s xs hy hs = subst OfEach (sym (and_clauses-literals h y t s xs))
-        (OfEach-append (map (λ x. literal false h ∷ literal (not t) y ∷ literal s x ∷ []) xs) ((literal false h ∷ literal t y ∷ map (literal (not s)) xs) ∷ [])
-        (fronts xs hs)
-        (Of-cons false h (literal t y ∷ map (literal (not s)) xs) hh (Of-cons t y (map (literal (not s)) xs) hy (Of-literals (not s) xs hs)), tt)) where
-          fronts : (xs : List ℕ) → Variables xs → OfEach (map (λ x. literal false h ∷ literal (not t) y ∷ literal s x ∷ []) xs)
-          fronts [] hs = tt
-          fronts (x ∷ xs) hs = (Of-three false (not t) s h y x hh hy hs.0, fronts xs hs.1)
-
-    Of-parity : (odd : Bool) (xs : List ℕ) (y : ℕ) → P y → Variables xs → OfEach (parity_clauses odd h xs y)
-    Of-parity odd xs y hy hs = OfEach-map (λ r. row_clause h xs y (row_bits r xs) (same_bit odd (has_odd_ones (row_bits r xs)))) (rows_of xs)
-        (λ r.
-        let value = same_bit odd (has_odd_ones (row_bits r xs)) in
-        Of-cons false h (blocking_literals xs (row_bits r xs) ++ literal value y ∷ []) hh
-        (Of-append (blocking_literals xs (row_bits r xs)) (literal value y ∷ []) (Of-blocking xs (row_bits r xs) hs) (Of-cons value y [] hy tt)))
-
-    Of-side : (ok : Bool) (allowed : ℕ) (ports : List ℕ) → Variables ports → OfEach (blocked_rows ok allowed h ports)
-    Of-side ok allowed ports hs = OfEach-map (λ r. literal (not ok) h ∷ blocking_literals ports (row_bits r ports)) _
-        (λ r. Of-cons (not ok) h (blocking_literals ports (row_bits r ports)) hh (Of-blocking ports (row_bits r ports) hs))
-
-    Of-reduction : (reduction : Reduction) (positive : Bool) (xs : List ℕ) (y : ℕ) → P y → Variables xs → OfEach (reduction_clauses reduction positive h xs y)
-    Of-reduction AllOnes positive xs y hy hs = Of-and y positive true xs hy hs
-    Of-reduction AnyOne positive xs y hy hs = Of-and y (not positive) false xs hy hs
-    Of-reduction OddOnes positive xs y hy hs = Of-parity positive xs y hy hs
-
-    Of-gate : (gate : Gate) (xs : List ℕ) (y : ℕ) → P y → Variables xs → OfEach (gate_clauses gate h xs y)
-    Of-gate gate = Of-reduction (gate_row gate).reduction (gate_row gate).positive
-
-    Of-chain : (gate : Gate) (last y : ℕ) → P last → P y → (xs : List ℕ) (z before : ℕ) → ((v : ℕ) → z ≤ v → P v)
-        → P before → Variables xs → OfEach (chain_clauses gate h last y z before xs)
-    Of-chain gate last y hl hy [] z before hz hb hs = Of-gate gate (before ∷ last ∷ []) y hy (hb, (hl, tt))
-    Of-chain gate last y hl hy (x ∷ xs) z before hz hb hs =
-        OfEach-append (step_clauses (gate_row gate).reduction z before x) (chain_clauses gate h last y (z + 1) z xs)
-        (Of-step z before x (hz z (omega arith)) hb hs.0 (gate_row gate).reduction)
-        (Of-chain gate last y hl hy xs (z + 1) z (λ v le. hz v (omega arith)) (hz z (omega arith)) hs.1)
-
-    module _ (z : ℕ) (hz : (v : ℕ) → z ≤ v → P v) where
-      Of-wide : (gate : Gate) (xs : List ℕ) (y : ℕ) → 5 ≤ length xs → P y → Variables xs → OfEach (wide_clauses gate h z xs y)
-      Of-wide gate xs y wide hy hs =
-          Of-chain gate (get_or xs (length xs - 1) 0) y (Variables-at xs (length xs - 1) hs (omega arith)) hy (take (length xs - 1 - 1) (drop 1 xs)) z (get_or xs 0 0) hz
-          (Variables-at xs 0 hs (omega arith)) (Variables-take (length xs - 1 - 1) (drop 1 xs) (Variables-drop 1 xs hs))
-
-      Of-any_gate : (gate : Gate) (xs : List ℕ) (y : ℕ) → P y → Variables xs → OfEach (any_gate_clauses gate h z xs y)
-      Of-any_gate gate xs y hy hs = by (is_wide (length xs)) refl
-        where
-          by : (w : Bool) → is_wide (length xs) ≡ w → OfEach (if w then wide_clauses gate h z xs y else gate_clauses gate h xs y)
-          by true wide = Of-wide gate xs y (omega (arith, ltb-true 4 (length xs) wide)) hy hs
-          by false narrow = Of-gate gate xs y hy hs
-
-      Of-ports : (gate : Gate) (ports : List ℕ) → Variables ports → takes gate (length ports - 1) ≡ true
-          → OfEach (any_gate_clauses gate h z (take (length ports - 1) ports) (get_or ports (length ports - 1) 0))
-      Of-ports gate ports hs e =
-          Of-any_gate gate (take (length ports - 1) ports) (get_or ports (length ports - 1) 0)
-          (Variables-at ports (length ports - 1) hs (omega (arith, takes-some gate (length ports - 1) e))) (Variables-take (length ports - 1) ports hs)
-
-      pub Of-raw : (tables : List TruthTable) (kind : Kind) (ports : List ℕ) → Variables ports → takes_ports tables kind (length ports) ≡ true → OfEach (raw_clauses tables kind h z ports)
-      Of-raw tables (Table t) ports hs e = by_rows (slice_get tables t) where
-        by_rows : (rows : Option TruthTable) → OfEach (table_clauses rows h ports)
-        by_rows None = tt
-        by_rows (Some rows) = OfEach-append (blocked_rows true rows.ok h ports) (blocked_rows false rows.bad h ports) (Of-side true rows.ok ports hs) (Of-side false rows.bad ports hs)
-      Of-raw tables (OfGate gate) ports hs e = Of-ports gate ports hs e
-
-  Of-with_literal : (l : ℤ) (c : Clause) → P (var_of l) → Of c → Of (with_literal l c)
+  Of-with_literal : (l : ℤ) (c : Clause) → P (var_of l) → Of P c → Of P (with_literal l c)
   Of-with_literal l [] h k = (h, tt)
   Of-with_literal l (b ∷ c) h k = by (same_literal l b) (nat_lt (var_of b) (var_of l)) (Of-with_literal l c h k.1)
     where
-      by : (s t : Bool) → Of (with_literal l c) → Of (if s then b ∷ c else if t then b ∷ with_literal l c else l ∷ b ∷ c)
+      by : (s t : Bool) → Of P (with_literal l c) → Of P (if s then b ∷ c else if t then b ∷ with_literal l c else l ∷ b ∷ c)
       by true t rest = k
       by false true rest = (k.0, rest)
       by false false rest = (h, k)
 
-  pub Of-sorted : (c : Clause) → Of c → Of (sorted c)
+  pub Of-sorted : (c : Clause) → Of P c → Of P (sorted c)
   Of-sorted [] h = tt
   Of-sorted (l ∷ c) h = Of-with_literal l (sorted c) h.0 (Of-sorted c h.1)
 
@@ -198,7 +58,7 @@ OneEach-append parts (c ∷ cs) ds h k = (h.0, OneEach-append parts cs ds h.1 k)
 
 OneEach-of : (parts h : ℕ) (cs : List Clause) → OfEach (Names parts h) cs → OneEach parts cs
 OneEach-of parts h [] k = tt
-OneEach-of parts h (c ∷ cs) k = ((h, k.0), OneEach-of parts h cs k.1)
+OneEach-of parts h (c ∷ cs) k = ((h, k.1), OneEach-of parts h cs k.2)
 
 OneEach-tidy : (parts : ℕ) (cs : List Clause) → OneEach parts cs → OneEach parts (tidy cs)
 OneEach-tidy parts [] h = tt
@@ -222,7 +82,7 @@ module _ (device : Device) where
       let inner = inner_count part.kind (length part.ports) in
       OneEach-append (length device.parts) (raw_clauses device.tables part.kind h z ports) (clauses_from device (h + 1) (z + inner) parts)
       (OneEach-of (length device.parts) h (raw_clauses device.tables part.kind h z ports)
-      (Of-raw (Names (length device.parts) h) h (inl refl) z (λ v le. inr (omega arith)) device.tables part.kind ports (wires_only h part.ports)
+      (Of-raw (Names (length device.parts) h) h (inl refl) device.tables part.kind z ports (λ v le lt. inr (omega arith)) (wires_only h part.ports)
       (ap (takes_ports device.tables part.kind) (length-map part.ports (wire_variable device)) ∙ fit.0)))
       (one_health (h + 1) (z + inner) parts (omega arith) fit.1)
 

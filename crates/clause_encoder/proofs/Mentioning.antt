@@ -1,0 +1,177 @@
+-- What holds of the variables of a part's ports, of its health and of its inner ones holds of all in its clauses.
+use Rattle.std.proofs.Common.{◌≡◌, ℕ, zero, suc, ◌+◌, ◌-◌, ◌<◌, ◌≤◌, Bool, true, false, not, List, [], ◌∷◌, ◌++◌, map, length, take, drop, get_or, pos, Option, Some, None, refl, sym, subst, arith}
+use Rattle.std.specs.Prelude.{slice_get, if◌then◌else◌}
+use Rattle.std.proofs.lemmas.Bool.{ltb-true}
+use Rattle.std.proofs.lemmas.List.{length-take-le, length-drop}
+use Rattle.ranking.specs.Bits.{has_odd_ones, same_bit}
+use Rattle.device_model.specs.declared.component.Kind.{Kind}
+use Rattle.device_model.specs.declared.component.Kind.TheVariants.{Gate as OfGate, Table}
+use Rattle.device_model.specs.declared.gates.Gate.{Gate}
+use Rattle.device_model.specs.declared.gates.Reduction.{Reduction}
+use Rattle.device_model.specs.declared.gates.Reduction.TheVariants.{AllOnes, AnyOne, OddOnes}
+use Rattle.device_model.specs.TruthTable.{TruthTable}
+use Rattle.device_model.specs.Devices.{takes_ports}
+use Rattle.device_model.specs.Gates.{gate_row, takes}
+use Rattle.clause_encoder.specs.Clauses.{Clause, var_of, literal}
+use Rattle.clause_encoder.specs.Encoding.{parity_clauses, and_clauses, row_bits, rows_of, blocking_literals, row_clause, blocked_rows, table_clauses, reduction_clauses, gate_clauses, and_step, xor_step, step_clauses, chain_clauses, wide_clauses, is_wide, any_gate_clauses, inner_count, raw_clauses}
+use Rattle.clause_encoder.proofs.Literals.{var_of-literal}
+use Rattle.clause_encoder.proofs.Meaning.{and_clauses-literals, takes-some}
+
+module _ (P : ℕ → Type 0) where
+  abbrev pub Of : Clause → Type 0
+  Of [] = Unit {0}
+  Of (l ∷ c) = P (var_of l) × Of c
+
+  -- each clause has a literal, too
+  abbrev pub OfEach : List Clause → Type 0
+  OfEach [] = Unit {0}
+  OfEach (c ∷ cs) = (1 ≤ length c) × Of c × OfEach cs
+
+  abbrev pub Variables : List ℕ → Type 0
+  Variables [] = Unit {0}
+  Variables (v ∷ vs) = P v × Variables vs
+
+  Variables-take : (n : ℕ) (vs : List ℕ) → Variables vs → Variables (take n vs)
+  Variables-take zero vs h = tt
+  Variables-take (suc n) [] h = tt
+  Variables-take (suc n) (v ∷ vs) h = (h.0, Variables-take n vs h.1)
+
+  Variables-drop : (n : ℕ) (vs : List ℕ) → Variables vs → Variables (drop n vs)
+  Variables-drop zero vs h = h
+  Variables-drop (suc n) [] h = tt
+  Variables-drop (suc n) (v ∷ vs) h = Variables-drop n vs h.1
+
+  Variables-at : (vs : List ℕ) (i : ℕ) → Variables vs → i < length vs → P (get_or vs i 0)
+  Variables-at [] i h lt = absurd (omega arith)
+  Variables-at (v ∷ vs) zero h lt = h.0
+  Variables-at (v ∷ vs) (suc i) h lt = Variables-at vs i h.1 (omega arith)
+
+  Of-cons : (b : Bool) (v : ℕ) (c : Clause) → P v → Of c → Of (literal b v ∷ c)
+  Of-cons b v c h rest = (subst P (sym (var_of-literal b v)) h, rest)
+
+  Of-append : (c d : Clause) → Of c → Of d → Of (c ++ d)
+  Of-append [] d h k = k
+  Of-append (l ∷ c) d h k = (h.0, Of-append c d h.1 k)
+
+  pub OfEach-append : (cs ds : List Clause) → OfEach cs → OfEach ds → OfEach (cs ++ ds)
+  OfEach-append [] ds h k = k
+  OfEach-append (c ∷ cs) ds h k = (h.0, h.1, OfEach-append cs ds h.2 k)
+
+  OfEach-map : {A : Type 0} (f : A → Clause) (xs : List A) → ((x : A) → (1 ≤ length (f x)) × Of (f x)) → OfEach (map f xs)
+  OfEach-map f [] h = tt
+  OfEach-map f (x ∷ xs) h = ((h x).0, (h x).1, OfEach-map f xs h)
+
+  Of-literals : (b : Bool) (vs : List ℕ) → Variables vs → Of (map (literal b) vs)
+  Of-literals b [] h = tt
+  Of-literals b (v ∷ vs) h = Of-cons b v (map (literal b) vs) h.0 (Of-literals b vs h.1)
+
+  Of-blocking : (vs : List ℕ) (bits : List Bool) → Variables vs → Of (blocking_literals vs bits)
+  Of-blocking [] bits h = tt
+  Of-blocking (v ∷ vs) [] h = tt
+  Of-blocking (v ∷ vs) (b ∷ bits) h = Of-cons (not b) v (blocking_literals vs bits) h.0 (Of-blocking vs bits h.1)
+
+  Of-two : (b c : Bool) (v w : ℕ) → P v → P w → Of (literal b v ∷ literal c w ∷ [])
+  Of-two b c v w hv hw = Of-cons b v (literal c w ∷ []) hv (Of-cons c w [] hw tt)
+
+  Of-three : (b c d : Bool) (u v w : ℕ) → P u → P v → P w → Of (literal b u ∷ literal c v ∷ literal d w ∷ [])
+  Of-three b c d u v w hu hv hw = Of-cons b u (literal c v ∷ literal d w ∷ []) hu (Of-two c d v w hv hw)
+
+  -- the steps of a chain
+  module _ (z before x : ℕ) (hz : P z) (hb : P before) (hx : P x) where
+    Of-and_step : (s : Bool) → OfEach (and_step s z before x)
+    Of-and_step s = (
+      omega arith,
+      Of-two (not s) s z before hz hb,
+      (omega arith, Of-two (not s) s z x hz hx, (omega arith, Of-three s (not s) (not s) z before x hz hb hx, tt)),
+    )
+
+    Of-xor_step : OfEach (xor_step z before x)
+    Of-xor_step = (
+      omega arith,
+      Of-three false true true z before x hz hb hx,
+      (
+        omega arith,
+        Of-three false false false z before x hz hb hx,
+        (
+          omega arith,
+          Of-three true true false z before x hz hb hx,
+          (omega arith, Of-three true false true z before x hz hb hx, tt),
+        ),
+      ),
+    )
+
+    Of-step : (reduction : Reduction) → OfEach (step_clauses reduction z before x)
+    Of-step AllOnes = Of-and_step true
+    Of-step AnyOne = Of-and_step false
+    Of-step OddOnes = Of-xor_step
+
+  module _ (h : ℕ) (hh : P h) where
+    Of-and : (y : ℕ) (t s : Bool) (xs : List ℕ) → P y → Variables xs → OfEach (and_clauses (pos h) (literal t y) (map (literal s) xs))
+    Of-and y t s xs hy hs = subst OfEach (sym (and_clauses-literals h y t s xs))
+        (OfEach-append (map (λ x. literal false h ∷ literal (not t) y ∷ literal s x ∷ []) xs) ((literal false h ∷ literal t y ∷ map (literal (not s)) xs) ∷ [])
+        (fronts xs hs)
+        (omega arith, Of-cons false h (literal t y ∷ map (literal (not s)) xs) hh (Of-cons t y (map (literal (not s)) xs) hy (Of-literals (not s) xs hs)), tt)) where
+          fronts : (xs : List ℕ) → Variables xs → OfEach (map (λ x. literal false h ∷ literal (not t) y ∷ literal s x ∷ []) xs)
+          fronts [] hs = tt
+          fronts (x ∷ xs) hs = (omega arith, Of-three false (not t) s h y x hh hy hs.0, fronts xs hs.1)
+
+    Of-parity : (odd : Bool) (xs : List ℕ) (y : ℕ) → P y → Variables xs → OfEach (parity_clauses odd h xs y)
+    Of-parity odd xs y hy hs = OfEach-map (λ r. row_clause h xs y (row_bits r xs) (same_bit odd (has_odd_ones (row_bits r xs)))) (rows_of xs)
+        (λ r.
+        let value = same_bit odd (has_odd_ones (row_bits r xs)) in (
+          omega arith,
+          Of-cons false h (blocking_literals xs (row_bits r xs) ++ literal value y ∷ []) hh
+              (Of-append (blocking_literals xs (row_bits r xs)) (literal value y ∷ []) (Of-blocking xs (row_bits r xs) hs) (Of-cons value y [] hy tt)),
+        ))
+
+    Of-side : (ok : Bool) (allowed : ℕ) (ports : List ℕ) → Variables ports → OfEach (blocked_rows ok allowed h ports)
+    Of-side ok allowed ports hs = OfEach-map (λ r. literal (not ok) h ∷ blocking_literals ports (row_bits r ports)) _
+        (λ r. (omega arith, Of-cons (not ok) h (blocking_literals ports (row_bits r ports)) hh (Of-blocking ports (row_bits r ports) hs)))
+
+    Of-reduction : (reduction : Reduction) (positive : Bool) (xs : List ℕ) (y : ℕ) → P y → Variables xs → OfEach (reduction_clauses reduction positive h xs y)
+    Of-reduction AllOnes positive xs y hy hs = Of-and y positive true xs hy hs
+    Of-reduction AnyOne positive xs y hy hs = Of-and y (not positive) false xs hy hs
+    Of-reduction OddOnes positive xs y hy hs = Of-parity positive xs y hy hs
+
+    Of-gate : (gate : Gate) (xs : List ℕ) (y : ℕ) → P y → Variables xs → OfEach (gate_clauses gate h xs y)
+    Of-gate gate = Of-reduction (gate_row gate).reduction (gate_row gate).positive
+
+    -- The inner variables of a chain are z and up, one for each step.
+    Of-chain : (gate : Gate) (last y : ℕ) → P last → P y → (xs : List ℕ) (z before : ℕ) → ((v : ℕ) → z ≤ v → v < z + length xs → P v)
+        → P before → Variables xs → OfEach (chain_clauses gate h last y z before xs)
+    Of-chain gate last y hl hy [] z before hz hb hs = Of-gate gate (before ∷ last ∷ []) y hy (hb, (hl, tt))
+    Of-chain gate last y hl hy (x ∷ xs) z before hz hb hs =
+        OfEach-append (step_clauses (gate_row gate).reduction z before x) (chain_clauses gate h last y (z + 1) z xs)
+        (Of-step z before x (hz z (omega arith) (omega arith)) hb hs.0 (gate_row gate).reduction)
+        (Of-chain gate last y hl hy xs (z + 1) z (λ v le lt. hz v (omega arith) (omega arith)) (hz z (omega arith) (omega arith)) hs.1)
+
+    Of-wide : (gate : Gate) (z : ℕ) (xs : List ℕ) (y : ℕ) → 5 ≤ length xs → ((v : ℕ) → z ≤ v → v < z + (length xs - 2) → P v) → P y → Variables xs
+        → OfEach (wide_clauses gate h z xs y)
+    Of-wide gate z xs y wide hz hy hs =
+        let steps : length (take (length xs - 1 - 1) (drop 1 xs)) ≡ length xs - 1 - 1 = length-take-le (length xs - 1 - 1) (drop 1 xs) (omega (arith, length-drop 1 xs)) in
+        Of-chain gate (get_or xs (length xs - 1) 0) y (Variables-at xs (length xs - 1) hs (omega arith)) hy (take (length xs - 1 - 1) (drop 1 xs)) z (get_or xs 0 0)
+        (λ v le lt. hz v le (omega (arith, lt, steps))) (Variables-at xs 0 hs (omega arith)) (Variables-take (length xs - 1 - 1) (drop 1 xs) (Variables-drop 1 xs hs))
+
+    Of-any_gate : (gate : Gate) (z ports : ℕ) (xs : List ℕ) (y : ℕ) → length xs ≡ ports - 1 → ((v : ℕ) → z ≤ v → v < z + (if is_wide (ports - 1) then ports - 3 else 0) → P v)
+        → P y → Variables xs → OfEach (any_gate_clauses gate h z xs y)
+    Of-any_gate gate z ports xs y long hz hy hs =
+        by (is_wide (length xs)) refl (subst (λ n. (v : ℕ) → z ≤ v → v < z + (if is_wide n then ports - 3 else 0) → P v) (sym long) hz)
+      where
+        by : (w : Bool) → is_wide (length xs) ≡ w → ((v : ℕ) → z ≤ v → v < z + (if w then ports - 3 else 0) → P v)
+            → OfEach (if w then wide_clauses gate h z xs y else gate_clauses gate h xs y)
+        by true wide inner = Of-wide gate z xs y (omega (arith, ltb-true 4 (length xs) wide)) (λ v le lt. inner v le (omega (arith, lt, long))) hy hs
+        by false narrow inner = Of-gate gate xs y hy hs
+
+    Of-ports : (gate : Gate) (z : ℕ) (ports : List ℕ) → ((v : ℕ) → z ≤ v → v < z + (if is_wide (length ports - 1) then length ports - 3 else 0) → P v)
+        → Variables ports → takes gate (length ports - 1) ≡ true → OfEach (any_gate_clauses gate h z (take (length ports - 1) ports) (get_or ports (length ports - 1) 0))
+    Of-ports gate z ports hz hs e =
+        Of-any_gate gate z (length ports) (take (length ports - 1) ports) (get_or ports (length ports - 1) 0) (length-take-le (length ports - 1) ports (omega arith)) hz
+        (Variables-at ports (length ports - 1) hs (omega (arith, takes-some gate (length ports - 1) e))) (Variables-take (length ports - 1) ports hs)
+
+    pub Of-raw : (tables : List TruthTable) (kind : Kind) (z : ℕ) (ports : List ℕ) → ((v : ℕ) → z ≤ v → v < z + inner_count kind (length ports) → P v)
+        → Variables ports → takes_ports tables kind (length ports) ≡ true → OfEach (raw_clauses tables kind h z ports)
+    Of-raw tables (Table t) z ports hz hs e = by_rows (slice_get tables t) where
+      by_rows : (rows : Option TruthTable) → OfEach (table_clauses rows h ports)
+      by_rows None = tt
+      by_rows (Some rows) = OfEach-append (blocked_rows true rows.ok h ports) (blocked_rows false rows.bad h ports) (Of-side true rows.ok ports hs) (Of-side false rows.bad ports hs)
+    Of-raw tables (OfGate gate) z ports hz hs e = Of-ports gate z ports hz hs e

@@ -9,15 +9,12 @@ from rules.clauses import clauses_of, sum_of, tidied
 from rules.devices import GATES, ODD_ONES
 from rules.graphs import BITS_LIMIT
 from rules.runs import LEVELS_LIMIT
+from rules.sessions import COMMANDS, COUNT, PART, PARTS, VALUES, WIRE
 from rules.texts import Refused
 
 NAMES = [b"a", b"b", b"c", b"a1", b"a-1", b"a.1", b"10", b"2", b"22", b"INPUT", b"and", b"AND", b"x[0]", b"~", b"!y", b"Z", b"z" * 64,
          b"a@", b"a@0001"]
 PLAIN_NAMES = [name for name in NAMES if b"." not in name and name != b"AND"]
-COMMANDS = ["open", "close", "see", "unsee", "hold", "unhold", "min", "next", "list", "after", "probe", "probes", "blame", "dnnf"]
-OFTEN = [2, 1, 16, 2, 3, 2, 8, 10, 6, 2, 4, 2, 8, 2]
-# Commands that an option of `serve` allows, and how often they stand where it is given.
-ALLOWED = {"--levels": (["level", "levels", "after"], [8, 8, 4]), "--least": (["leastnnf"], [8])}
 # What may stand where a byte is broken.
 BYTES = b"(),=# \t\r\n\x0b\0.-+_~\x7f\x80\xff019aALOn"
 PARITIES = [word for word, gate in GATES.items() if gate.asked == ODD_ONES]
@@ -184,29 +181,26 @@ def broken(r, text):
 
 def commands(options):
     """The commands, and how often each stands in a script under these options: one that is not allowed now and then."""
-    found, often = [*COMMANDS], [*OFTEN]
-    for option, (more, times) in ALLOWED.items():
-        found += more
-        often += times if option in options else [0.3] * len(more)
-    return found, often
+    found = [(command, it.often) for command, it in COMMANDS.items() if it.often]
+    found += [(command, more if option in options else 0.3) for command, it in COMMANDS.items() for option, more in it.more.items()]
+    return zip(*found)
+
+
+def arguments(r, takes, parts, wires):
+    """What stands behind the name of a session."""
+    part, wire = (r.choice(names) if names and not chance(r, 2) else b"nobody" for names in (parts, wires))
+    if takes in VALUES:
+        return [(wire if takes.startswith(WIRE) else part) + b"=" + r.choice([*VALUES[takes]])]
+    if takes == COUNT:
+        return [b"%d" % r.choice([1, 2, 3, 9, 1000000])]
+    if takes == PARTS:
+        return r.choices(parts, k=r.randint(0, 3)) if parts else []
+    return [{WIRE: wire, PART: part}[takes]] if takes else []
 
 
 def script_line(r, sessions, parts, wires, options):
     command = r.choices(*commands(options))[0]
-    words = [command.encode(), r.choice(sessions)]
-    part, wire = (r.choice(names) if names and not chance(r, 2) else b"nobody" for names in (parts, wires))
-    if command == "see":
-        words.append(wire + b"=" + r.choice([b"0", b"1"]))
-    elif command == "hold":
-        words.append(part + b"=" + r.choice([b"ok", b"bad"]))
-    elif command in ("unsee", "probe"):
-        words.append(wire)
-    elif command == "unhold":
-        words.append(part)
-    elif command in ("list", "levels"):
-        words.append(b"%d" % r.choice([1, 2, 3, 9, 1000000]))
-    elif command == "after":
-        words += r.choices(parts, k=r.randint(0, 3)) if parts else []
+    words = [command, r.choice(sessions), *arguments(r, COMMANDS[command].takes, parts, wires)]
     return r.choice([b" ", b" ", b" ", b"\t", b" \r"]).join(words)
 
 

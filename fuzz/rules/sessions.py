@@ -10,11 +10,28 @@ from .texts import is_name, plain_number_in, words_of
 LINE_LIMIT = 1048576
 LIST_LIMIT = 1000000
 SESSION_NAME, NAME = 64, 255
-# How many words each command has; of `after` at least so many.
-COMMANDS = {b"open": 2, b"close": 2, b"see": 3, b"unsee": 3, b"hold": 3, b"unhold": 3, b"min": 2, b"next": 2, b"list": 3, b"after": 2,
-            b"probe": 3, b"probes": 2, b"blame": 2, b"dnnf": 2, b"level": 2, b"levels": 3, b"leastnnf": 2}
-COUNTED = (b"list", b"levels")
-VALUES = {b"see": {b"0": False, b"1": True}, b"hold": {b"ok": True, b"bad": False}}
+# What may stand behind the name of a session.
+WIRE, PART, READING, MODE, COUNT, PARTS = "w", "p", "w=b", "p=m", "k", "p1 .. pk"
+VALUES = {READING: {b"0": False, b"1": True}, MODE: {b"ok": True, b"bad": False}}
+
+
+@dataclass(frozen=True)
+class Command:
+    """What stands behind the session's name, and how often the command stands in a script that is made. With an option it stands there
+    so much more often; what only an option allows stands there now and then without it too."""
+    takes: str = ""
+    often: int = 0
+    more: dict = field(default_factory=dict)
+
+
+# A method of the session answers each, but for the first two.
+COMMANDS = {
+    b"open": Command(often=2), b"close": Command(often=1),
+    b"see": Command(READING, 16), b"unsee": Command(WIRE, 2), b"hold": Command(MODE, 3), b"unhold": Command(PART, 2),
+    b"min": Command(often=8), b"next": Command(often=10), b"list": Command(COUNT, 6),
+    b"level": Command(more={"--levels": 8}), b"levels": Command(COUNT, more={"--levels": 8}), b"after": Command(PARTS, 2, {"--levels": 4}),
+    b"probe": Command(WIRE, 4), b"probes": Command(often=2), b"blame": Command(often=8),
+    b"dnnf": Command(often=2), b"leastnnf": Command(more={"--least": 8})}
 REASONS = {1: "unknown command", 2: "bad words", 3: "bad name", 4: "bad value", 5: "line too long", 6: "no session",
            7: "open already", 8: "full", 9: "no wire", 10: "no part", 11: "no levels", 12: "no least"}
 
@@ -198,16 +215,17 @@ def asked(line):
         return None
     command, *rest = words
     demand(command in COMMANDS, 1)
-    demand(len(words) == COMMANDS[command] or command == b"after" and len(words) >= 2, 2)
-    if command in VALUES:
+    takes = COMMANDS[command].takes
+    demand(len(words) >= 2 if takes == PARTS else len(words) == (3 if takes else 2), 2)
+    if takes in VALUES:
         demand(b"=" in rest[1], 2)
         rest[1:] = rest[1].split(b"=", 1)
-    names = rest[1:2] if command in VALUES else [] if command in COUNTED else rest[1:]
+    names = rest[1:2] if takes in VALUES else [] if takes == COUNT else rest[1:]
     demand(is_name(rest[0], SESSION_NAME) and all(is_name(name, NAME) for name in names), 3)
-    if command in VALUES:
-        demand(rest[2] in VALUES[command], 4)
-        rest[2] = VALUES[command][rest[2]]
-    if command in COUNTED:
+    if takes in VALUES:
+        demand(rest[2] in VALUES[takes], 4)
+        rest[2] = VALUES[takes][rest[2]]
+    if takes == COUNT:
         rest[1] = plain_number_in(rest[1], 1, LIST_LIMIT)
         demand(rest[1] is not None, 4)
     return command, rest[0], rest[1:]

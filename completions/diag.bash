@@ -1,29 +1,73 @@
-# Completion of `diag` for bash: `source completions/diag.bash`. What may stand where is what `diag --help` says, and python/tests
-# compares the two.
+# Completion of `diag` for bash: `source completions/diag.bash`. What may stand where is what `diag --help` says, which is asked at each
+# completion: that of the checkout in which this file stands, or else of what was typed.
+
+_diag_launcher=$(dirname "$(dirname "$(readlink -f "${BASH_SOURCE[0]}")")")/diag
+
+# A line for each form: the form, how many words stand before its options, the endings of its FILE, and its options, with `=` behind those
+# that take a number: `ask|4|.nnf |--sessions= `.
+_diag_forms() {
+  local launcher=$_diag_launcher
+  [ -x "$launcher" ] || launcher=${COMP_WORDS[0]}
+  "$launcher" --help 2>/dev/null | awk '
+    # An entry begins at the left edge. What is indented further than an option explains it.
+    /^[^ ]/ || !NF { form = 0; option = 0 }
+    /^diag -*[a-z]+( |$)/ {
+      form = ++forms
+      head = $0
+      sub(/  .*/, "", head)
+      word[form] = $2
+      words[form] = split(head, parts, " ")
+      takes_file[form] = head ~ / FILE/
+      $0 = substr($0, length(head) + 1)
+    }
+    form {
+      indent = match($0, /[^ ]/)
+      if (option && indent > option) next
+      if (match($0, /^ +--[a-z]+( [A-Z])?  /)) { option = indent; $0 = substr($0, 1, RLENGTH) }
+      $1 = $1
+      said[form] = said[form] " " $0
+    }
+    # What is said of FILE is said of all forms above that take one, up to those of which it is said already.
+    END {
+      for (form = forms; form; form--) {
+        text = said[form]
+        if (match(text, /FILE ends in [^,]*/)) endings = all(substr(text, RSTART, RLENGTH), "[.][a-z]+")
+        line[form] = word[form] "|" words[form] "|" (takes_file[form] ? endings : "") "|" all(text, "--[a-z]+( [A-Z]($|[^A-Za-z]))?")
+      }
+      for (form = 1; form <= forms; form++) print line[form]
+    }
+    # What in a text looks so, each once, with a blank behind it.
+    function all(text, pattern,    found, it) {
+      found = " "
+      while (match(text, pattern)) {
+        it = substr(text, RSTART, RLENGTH)
+        sub(/ .*/, "=", it)
+        if (!index(found, " " it " ")) found = found it " "
+        text = substr(text, RSTART + RLENGTH)
+      }
+      return substr(found, 2)
+    }'
+}
 
 _diag() {
-  local word=${COMP_WORDS[COMP_CWORD]} form=${COMP_WORDS[1]-} ending options='' given place=3
+  local word=${COMP_WORDS[COMP_CWORD]} form=${COMP_WORDS[1]-} name words ending forms='' place=0 endings='' options='' given
   COMPREPLY=()
+  while IFS='|' read -r name words ending given; do
+    forms+="$name "
+    if [ "$name" = "$form" ]; then place=$words endings=$ending options=$given; fi
+  done < <(_diag_forms)
   if [ "$COMP_CWORD" -eq 1 ]; then
-    mapfile -t COMPREPLY < <(compgen -W 'serve plan compile check ask load --build --help' -- "$word")
+    mapfile -t COMPREPLY < <(compgen -W "$forms" -- "$word")
     return
   fi
-  case $form in
-    serve) ending='@(bench|dev)' options='--budget --sessions --frames --levels --least --narrow' ;;
-    plan) ending='@(bench|dev)' options='--narrow' ;;
-    compile) ending='@(bench|dev)' options='--budget --narrow' ;;
-    check) ending='nnf' ;;
-    ask) ending='nnf' options='--sessions' place=4 ;;
-    *) return ;;
-  esac
+  [ -n "$endings" ] || return
   if [ "$COMP_CWORD" -eq 2 ]; then
     # Folders, and files with an ending that the form takes.
     local path
     while read -r path; do
-      # shellcheck disable=SC2053
       if [ -d "$path" ]; then
         COMPREPLY+=("$path/")
-      elif [[ $path == *.$ending ]]; then
+      elif [[ $path == *.* && " $endings" == *" .${path##*.} "* ]]; then
         COMPREPLY+=("$path")
       fi
     done < <(compgen -f -- "$word")
@@ -31,15 +75,11 @@ _diag() {
     if [[ ${#COMPREPLY[@]} -eq 1 && ${COMPREPLY[0]} == */ ]]; then compopt -o nospace 2>/dev/null; fi
     return
   fi
-  # Behind `--budget`, `--sessions`, `--frames` and `--levels` stands a number, which nobody but the user knows; so does HEALTH behind the file
-  # of `ask`.
-  if [ "$COMP_CWORD" -lt "$place" ]; then return; fi
-  case ${COMP_WORDS[COMP_CWORD - 1]} in
-    --budget | --sessions | --frames | --levels) return ;;
-  esac
+  # A number, as HEALTH behind the file of `ask`, and that behind an option, nobody but the user knows.
+  if [ "$COMP_CWORD" -lt "$place" ] || [[ " $options" == *" ${COMP_WORDS[COMP_CWORD - 1]}= "* ]]; then return; fi
   # Each option stands at most once.
+  options=" ${options//=/}"
   for given in "${COMP_WORDS[@]:2:COMP_CWORD-2}"; do
-    options=" $options "
     options=${options/" $given "/ }
   done
   mapfile -t COMPREPLY < <(compgen -W "$options" -- "$word")

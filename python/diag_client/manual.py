@@ -1,7 +1,7 @@
 """The launcher's help, read into its entries, and the manual page that is made of them.
 
-What commands, options and statuses there are is told by the launcher alone: the terminal, the manual page and the tests of both and
-of the completion have it from here.
+What commands, options and statuses there are is told by the launcher alone: the terminal, the manual page and the tests of both have it
+from here, and so have those of the completion, which reads the help by itself.
 """
 
 from __future__ import annotations

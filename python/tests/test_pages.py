@@ -1,6 +1,7 @@
 """The manual page and the completion say what the launcher's help says."""
 
 import os
+import pathlib
 import re
 import shutil
 import subprocess
@@ -62,10 +63,10 @@ class Completion(unittest.TestCase):
         entries = [entry for section in manual.read_help() for entry in section.entries]
         self.forms = {entry.head.split()[1]: entry for entry in entries if entry.head.startswith("diag ")}
 
-    def complete(self, *words, folder=TOP):
+    def complete(self, *words, folder=TOP, completion=COMPLETION):
         script = 'source "$1"; shift; COMP_WORDS=(diag "$@"); COMP_CWORD=$#; _diag; printf "%s\\n" "${COMPREPLY[@]}"'
         done = subprocess.run(
-            ["bash", "-c", script, "bash", str(COMPLETION), *words], capture_output=True, text=True, check=True, cwd=folder
+            ["bash", "-c", script, "bash", str(completion), *words], capture_output=True, text=True, check=True, cwd=folder
         )
         self.assertEqual(done.stderr, "")
         return sorted(done.stdout.split())
@@ -102,6 +103,23 @@ class Completion(unittest.TestCase):
             for form in ("check", "ask"):
                 self.assertEqual(self.complete(form, "", folder=folder), ["c.nnf"])
         self.assertIn("examples/", self.complete("serve", "ex"))
+
+    def test_a_further_form(self):
+        """A form that the help tells is completed as the others are."""
+        text = subprocess.run([TOP / "diag", "--help"], capture_output=True, text=True, check=True).stdout
+        text = text.replace("diag check FILE ", "diag tell FILE NUMBER\n    tells; --wide N\n    and --narrow may follow\ndiag check FILE ")
+        with tempfile.TemporaryDirectory() as folder:
+            launcher, completion = pathlib.Path(folder, "diag"), pathlib.Path(folder, "completions/diag.bash")
+            completion.parent.mkdir()
+            shutil.copy(COMPLETION, completion)
+            pathlib.Path(folder, "c.nnf").write_text(text)
+            launcher.write_text(f"#!/usr/bin/env bash\ncat {folder}/c.nnf\n")
+            launcher.chmod(0o755)
+            for words, wanted in (
+                ("t", ["tell"]), ("tell c", ["c.nnf", "completions/"]), ("tell c.nnf ", []), ("tell c.nnf 1 ", ["--narrow", "--wide"]),
+                ("tell c.nnf 1 --wide ", []), ("tell c.nnf 1 --wide 2 ", ["--narrow"]), ("tell c.nnf 1 --narrow ", ["--wide"]),
+            ):
+                self.assertEqual(self.complete(*words.split(" "), folder=folder, completion=completion), wanted, words)
 
 
 if __name__ == "__main__":

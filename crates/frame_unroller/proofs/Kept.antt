@@ -1,25 +1,18 @@
 -- No clause of the copies is left out where the health of a part stands for that of its copies: a clause names the health of one copy
 -- at most, and all other variables stay apart.
-use Rattle.std.proofs.Common.{◌≡◌, ℕ, zero, suc, ◌+◌, ◌-◌, ◌<◌, ◌≤◌, ◌⊎◌, inl, inr, Bool, true, false, not, cond, ◌&&◌, ◌||◌, List, [], ◌∷◌, ◌++◌, map, length, take, drop, get_or, ℤ, pos, neg_ℤ, Option, Some, None, Ok, Err, refl, sym, ap, ◌∙◌, subst, arith}
-use Rattle.std.specs.Prelude.{◌==◌, slice_get, nat_lt, if◌then◌else◌}
+use Rattle.std.proofs.Common.{◌≡◌, ℕ, suc, ◌+◌, ◌-◌, ◌<◌, ◌≤◌, ◌⊎◌, inl, inr, Bool, true, false, not, cond, ◌&&◌, ◌||◌, List, [], ◌∷◌, ◌++◌, map, length, ℤ, neg_ℤ, Ok, Err, refl, sym, ap, ◌∙◌, arith}
+use Rattle.std.specs.Prelude.{◌==◌, nat_lt, if◌then◌else◌}
 use Rattle.std.specs.List.{All, list_any, list_all, filter, range_with_len}
 use Rattle.std.proofs.lemmas.Bool.{ne_eqb, ltb-true, cases_lt, and_parts}
 use Rattle.std.proofs.lemmas.List.{length-map, get_or-map, get_or_append_left, get_or-append_right}
 use Rattle.std.proofs.lemmas.List.FromFn.{get_or-range_with_len}
-use Rattle.ranking.specs.Bits.{has_odd_ones, same_bit}
-use Rattle.device_model.specs.declared.component.Kind.{Kind}
-use Rattle.device_model.specs.declared.component.Kind.TheVariants.{Gate as OfGate, Table}
-use Rattle.device_model.specs.declared.gates.Gate.{Gate}
-use Rattle.device_model.specs.declared.gates.Reduction.{Reduction}
-use Rattle.device_model.specs.declared.gates.Reduction.TheVariants.{AllOnes, AnyOne, OddOnes}
+use Rattle.ranking.specs.Bits.{same_bit}
 use Rattle.device_model.specs.declared.component.Component.{Component}
-use Rattle.device_model.specs.TruthTable.{TruthTable}
 use Rattle.device_model.specs.Devices.{Device, IsDevice, takes_ports, has_arity}
-use Rattle.device_model.specs.Gates.{gate_row, takes}
 use Rattle.clause_encoder.specs.declared.limits.TheConstants.{CLAUSE_LIMIT}
 use Rattle.clause_encoder.specs.declared.encoding.EncodeError.TheVariants.{TooManyClauses}
-use Rattle.clause_encoder.specs.Clauses.{Clause, ClauseList, var_of, is_positive, literal, vars_rise, is_clause}
-use Rattle.clause_encoder.specs.Encoding.{same_literal, with_literal, sorted, is_tautology, tidy, parity_clauses, and_clauses, row_bits, rows_of, blocking_literals, row_clause, blocked_rows, table_clauses, reduction_clauses, gate_clauses, and_step, xor_step, step_clauses, chain_clauses, wide_clauses, is_wide, any_gate_clauses, inner_count, raw_clauses, wire_variable, first_inner, clauses_from, all_clauses, raw_count, clause_list, encoded}
+use Rattle.clause_encoder.specs.Clauses.{Clause, ClauseList, var_of, is_positive, vars_rise, is_clause}
+use Rattle.clause_encoder.specs.Encoding.{same_literal, with_literal, sorted, is_tautology, tidy, inner_count, raw_clauses, wire_variable, first_inner, clauses_from, all_clauses, raw_count, clause_list, encoded}
 use Rattle.clause_encoder.specs.Replacing.{variable_for, literal_for}
 use Rattle.clause_encoder.proofs.Literals.{AllIn, neg-literal, var_of-literal}
 use Rattle.clause_encoder.proofs.Mentioning.{Of, OfEach, Variables, Of-raw}

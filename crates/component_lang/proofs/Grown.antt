@@ -34,7 +34,7 @@ block_more (Some block) p args more h = ap (λ q. block_takes q args) (more bloc
 
 takes_more : (types types' : List Shape) (above above' : List Block) (kind : UsedKind) (args : ℕ)
     → takes_args types above kind args ≡ true → takes_args (types ++ types') (above ++ above') kind args ≡ true
-takes_more types types' above above' (Gate kind) args h = h
+takes_more types types' above above' (Gate gate) args h = h
 takes_more types types' above above' (OfShape place) args h = shape_more (slice_get types place) (slice_get (types ++ types') place) args (λ s e. slice_get-more types types' place s e) h
 takes_more types types' above above' (OfBlock place) args h = block_more (slice_get above place) (slice_get (above ++ above') place) args (λ b e. slice_get-more above above' place b e) h
 

@@ -94,7 +94,7 @@ module _ (reader : Reader) (n : ℕ) (blocks_sound : are_blocks reader.types [] 
 
   top_of_kind-keeps : (name : Name) (o : Option UsedKind) → kind_named reader name ≡ o → length reader.types + length reader.blocks ≤ n → Keeps n (top_of_kind reader o)
   top_of_kind-keeps name None e l = tt
-  top_of_kind-keeps name (Some (Gate kind)) e l = tt
+  top_of_kind-keeps name (Some (Gate gate)) e l = tt
   top_of_kind-keeps name (Some (OfShape place)) e l = tt
   top_of_kind-keeps name (Some (OfBlock place)) e l = (and_from _ _ blocks_sound (lt-ltb place (length reader.blocks) (kind_named-place reader name place e)), omega arith)
 

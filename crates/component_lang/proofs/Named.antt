@@ -9,7 +9,7 @@ use Rattle.std.proofs.lemmas.List.{length-map}
 use Rattle.std.proofs.lemmas.Bool.Decides.{nat_tests}
 use Rattle.std.proofs.lemmas.Map.Made.{lookup-map_values}
 use Rattle.text_rules.specs.Names.{Name, same_name, is_among}
-use Rattle.device_model.specs.GateWords.{gate_words, gate_named}
+use Rattle.device_model.specs.Gates.{gate_words, gate_named}
 use Rattle.component_lang.specs.declared.design.UsedKind.{UsedKind}
 use Rattle.component_lang.specs.declared.design.UsedKind.TheVariants.{Gate, Shape as OfShape, Block as OfBlock}
 use Rattle.component_lang.specs.declared.design.Shape.{Shape}
@@ -149,7 +149,7 @@ free_names reader name h =
 -- ---- the place of a block
 
 abbrev is_gate : UsedKind → Bool
-is_gate (Gate kind) = true
+is_gate (Gate gate) = true
 is_gate (OfShape place) = false
 is_gate (OfBlock place) = false
 

@@ -47,7 +47,7 @@ block_line reader name ports =
 abbrev pub top_of_kind : Reader → Option UsedKind → Result Reader LangFault
 top_of_kind reader (Some (OfBlock place)) = Ok (at reader (AfterTop place))
 top_of_kind reader (Some (OfShape place)) = Err Unknown
-top_of_kind reader (Some (Gate kind)) = Err Unknown
+top_of_kind reader (Some (Gate gate)) = Err Unknown
 top_of_kind reader None = Err Unknown
 
 -- `top NAME`

@@ -11,7 +11,7 @@ use Rattle.ranking.proofs.Values.{values-at}
 use Rattle.device_model.specs.declared.component.Component.{Component}
 use Rattle.device_model.specs.declared.limits.TheConstants.{PART_LIMIT, WIRE_LIMIT}
 use Rattle.device_model.specs.declared.building.BuildError.{BuildError}
-use Rattle.device_model.specs.declared.building.BuildError.TheVariants.{TooMany, TwoParts, TwoWires, Arity, NoWire, Memory as NoMemory}
+use Rattle.device_model.specs.declared.building.BuildError.TheVariants.{Memory as NoMemory}
 use Rattle.device_model.specs.TruthTable.{TruthTable}
 use Rattle.device_model.specs.Devices.{Device, part_names, takes_ports, has_arity}
 use Rattle.device_model.specs.Building.{NamedPart, reason, repeated, built, device_over}

@@ -1,15 +1,15 @@
 -- Each part of an instance has as many wires as its kind takes.
-use Rattle.std.proofs.Common.{◌≡◌, ℕ, zero, suc, ◌-◌, Bool, true, List, [], ◌∷◌, ◌++◌, map, length, get_or, drop, refl, ap, ◌∙◌, arith}
-use Rattle.std.specs.Prelude.{slice_get, nat_le}
+use Rattle.std.proofs.Common.{◌≡◌, ℕ, zero, suc, ◌-◌, Bool, true, List, [], ◌∷◌, ◌++◌, map, length, get_or, drop, refl, ap, ◌∙◌}
+use Rattle.std.specs.Prelude.{slice_get}
 use Rattle.std.specs.List.{list_all, flat_map}
-use Rattle.std.proofs.lemmas.Bool.{and_parts, and_from, leb-true}
+use Rattle.std.proofs.lemmas.Bool.{and_parts, and_from}
 use Rattle.std.proofs.lemmas.List.{length-map}
 use Rattle.text_rules.specs.Names.{Name}
 use Rattle.ranking.specs.Values.{values}
-use Rattle.device_model.specs.declared.component.Kind.{Kind}
-use Rattle.device_model.specs.declared.component.Kind.TheVariants.{Table}
+use Rattle.device_model.specs.declared.component.Kind.TheVariants.{Gate as OfGate}
 use Rattle.device_model.specs.TruthTable.{TruthTable}
-use Rattle.device_model.specs.Devices.{takes, takes_ports, rows_take}
+use Rattle.device_model.specs.Devices.{takes_ports, rows_take}
+use Rattle.device_model.specs.Gates.{takes}
 use Rattle.device_model.specs.Building.{NamedPart}
 use Rattle.component_lang.specs.declared.design.UsedKind.{UsedKind}
 use Rattle.component_lang.specs.declared.design.UsedKind.TheVariants.{Gate, Shape as OfShape, Block as OfBlock}
@@ -28,10 +28,6 @@ tables_of types = map (λ (s : Shape). s.table) types
 abbrev pub is_fed : List TruthTable → NamedPart → Bool
 is_fed tables part = takes_ports tables part.kind (length part.wires)
 
-gate_fed : (tables : List TruthTable) (kind : Kind) (n : ℕ) → takes kind (n - 1) ≡ true → takes_ports tables kind n ≡ true
-gate_fed tables (Table t) n h = let none = and_parts (nat_le 1 (n - 1)) (nat_le (n - 1) 0) h in absurd (omega (arith, leb-true 1 (n - 1) none.0, leb-true (n - 1) 0 none.1))
-gate_fed tables gate n h = h
-
 type_fed : (types : List Shape) (place n : ℕ) → shape_takes (slice_get types place) n ≡ true → rows_take (slice_get (tables_of types) place) n ≡ true
 type_fed [] place n h = h
 type_fed (s ∷ types) zero n h = h
@@ -43,8 +39,7 @@ AllFed types made = (path : Name) (passed : List Name) → list_all (is_fed (tab
 module _ (types : List Shape) (above : List Block) (mades : List Instance) (h : (j : ℕ) → AllFed types (get_or mades j nothing)) where
   kind_fed : (kind : UsedKind) (path : Name) (passed : List Name) (n : ℕ) → length passed ≡ n → takes_args types above kind n ≡ true
       → list_all (is_fed (tables_of types)) (kind_content mades kind path passed).parts ≡ true
-  kind_fed (Gate kind) path passed n e g =
-      and_from (takes_ports (tables_of types) kind (length passed)) true (gate_fed (tables_of types) kind (length passed) (ap (λ k. takes kind (k - 1)) e ∙ g)) refl
+  kind_fed (Gate gate) path passed n e g = and_from (takes_ports (tables_of types) (OfGate gate) (length passed)) true (ap (λ k. takes gate (k - 1)) e ∙ g) refl
   kind_fed (OfShape place) path passed n e g =
       and_from (rows_take (slice_get (tables_of types) place) (length passed)) true (type_fed types place (length passed) (ap (shape_takes (slice_get types place)) e ∙ g)) refl
   kind_fed (OfBlock place) path passed n e g = h place path passed

@@ -11,7 +11,8 @@ use Rattle.text_rules.specs.Names.{Name}
 use Rattle.ranking.specs.Values.{values}
 use Rattle.ranking.proofs.Values.{values-at, values-before}
 use Rattle.device_model.specs.declared.component.Kind.{Kind}
-use Rattle.device_model.specs.declared.component.Kind.TheVariants.{Table}
+use Rattle.device_model.specs.declared.component.Kind.TheVariants.{Gate as OfGate, Table}
+use Rattle.device_model.specs.declared.gates.Gate.{Gate as GateKind}
 use Rattle.device_model.specs.declared.component.Component.{Component}
 use Rattle.device_model.specs.declared.limits.TheConstants.{WIRE_LIMIT, NAME_LIMIT}
 use Rattle.device_model.specs.Devices.{has_wires}
@@ -150,7 +151,7 @@ short_all c h = all_both is_short (names_of Parts c) (c.wires ++ c.instances) (h
 
 -- the path of a part of a block is one of its paths
 name_short : (above : List Instance) (kind : UsedKind) (path : Name) (passed : List Name) → ((which : Which) → are_short (names_of which (kind_content above kind path passed)) ≡ true) → length path ≤ NAME_LIMIT
-name_short above (Gate kind) path passed h = leb-true (length path) NAME_LIMIT (and_parts (is_short path) true (h Parts)).0
+name_short above (Gate gate) path passed h = leb-true (length path) NAME_LIMIT (and_parts (is_short path) true (h Parts)).0
 name_short above (OfShape shape) path passed h = leb-true (length path) NAME_LIMIT (and_parts (is_short path) true (h Parts)).0
 name_short above (OfBlock inner) path passed h = leb-true (length path) NAME_LIMIT (and_parts (is_short path) (are_short (get_or above inner nothing path passed).instances) (h Instances)).0
 
@@ -203,7 +204,7 @@ module _ (types : List Shape) (blocks : List Block) (good : are_blocks types [] 
   -- a block is made of the blocks before it, and so of all
   kind-fixed : (kind : UsedKind) (args : ℕ) (path : Name) (passed : List Name) → takes_args types (take place blocks) kind args ≡ true
       → kind_content (values instance (take place blocks)) kind path passed ≡ kind_content (values instance blocks) kind path passed
-  kind-fixed (Gate kind) args path passed h = refl
+  kind-fixed (Gate gate) args path passed h = refl
   kind-fixed (OfShape shape) args path passed h = refl
   kind-fixed (OfBlock inner) args path passed h =
       let b = before inner args h in
@@ -444,10 +445,10 @@ module _ {design : Design} {place : ℕ} {path : Name} {passed : List ℕ} {old 
       as_kind : (kind : UsedKind) → used.kind ≡ kind → content used ≡ kind_content (values instance design.blocks) kind (below path used.name) (map (wire_at (names ++ own)) used.args)
       as_kind kind e = ap (λ (k : UsedKind). kind_content (values instance design.blocks) k (below path used.name) (map (wire_at (names ++ own)) used.args)) e
 
-      pub gate_grows : (kind : Kind) (more_parts : List Component) → used.kind ≡ Gate kind
-          → more_parts ≡ parts ++ record { name = below path used.name; kind = kind; ports = map (position_of passed (length old)) used.args } ∷ []
+      pub gate_grows : (gate : GateKind) (more_parts : List Component) → used.kind ≡ Gate gate
+          → more_parts ≡ parts ++ record { name = below path used.name; kind = OfGate gate; ports = map (position_of passed (length old)) used.args } ∷ []
           → Grows old_parts old (so_far design place (i + 1) path names) more_parts wires
-      gate_grows kind more_parts e is = part_grows kind more_parts (as_kind (Gate kind) e) is
+      gate_grows gate more_parts e is = part_grows (OfGate gate) more_parts (as_kind (Gate gate) e) is
 
       pub type_grows : (shape : ℕ) (more_parts : List Component) → used.kind ≡ OfShape shape
           → more_parts ≡ parts ++ record { name = below path used.name; kind = Table shape; ports = map (position_of passed (length old)) used.args } ∷ []

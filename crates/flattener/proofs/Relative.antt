@@ -58,7 +58,7 @@ instance_named name inner Wires = map (below name) (inner Wires)
 instance_named name inner Instances = name ∷ map (below name) (inner Instances)
 
 abbrev pub kind_names : List Inner → Name → UsedKind → Inner
-kind_names above name (Gate kind) = part_named name
+kind_names above name (Gate gate) = part_named name
 kind_names above name (OfShape place) = part_named name
 kind_names above name (OfBlock place) = instance_named name (slice_index_or above place no_names)
 
@@ -96,9 +96,9 @@ below-twice path name (n ∷ ns) h = λ i. below-below path name n h i ∷ below
 module _ (inners : List Inner) (mades : List Instance) (h : (j : ℕ) → Shows (get_or inners j no_names) (get_or mades j nothing)) (path : Name) where
   kind-shows : (which : Which) (name : Name) (kind : UsedKind) (passed : List Name) → 1 ≤ length name
       → names_of which (kind_content mades kind (below path name) passed) ≡ map (below path) (kind_names inners name kind which)
-  kind-shows Parts name (Gate kind) passed l = refl
-  kind-shows Wires name (Gate kind) passed l = refl
-  kind-shows Instances name (Gate kind) passed l = refl
+  kind-shows Parts name (Gate gate) passed l = refl
+  kind-shows Wires name (Gate gate) passed l = refl
+  kind-shows Instances name (Gate gate) passed l = refl
   kind-shows Parts name (OfShape place) passed l = refl
   kind-shows Wires name (OfShape place) passed l = refl
   kind-shows Instances name (OfShape place) passed l = refl

@@ -39,7 +39,9 @@ pub(crate) fn expand(
         let name = with_prefix(alloc, &mut prefix, used.name.as_slice())?;
         read_positions(used.args.as_slice(), passed, start, &mut ports)?;
         match used.kind {
-            UsedKind::Gate(kind) => push_part(alloc, name, kind, &ports, &mut flat.parts)?,
+            UsedKind::Gate(gate) => {
+                push_part(alloc, name, Kind::Gate(gate), &ports, &mut flat.parts)?
+            }
             UsedKind::Shape(table) => {
                 push_part(alloc, name, Kind::Table(table), &ports, &mut flat.parts)?
             }

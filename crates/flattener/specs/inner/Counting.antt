@@ -50,7 +50,7 @@ counts_of_instance name inner = record {
 }
 
 abbrev pub counts_of_kind : List Counts → Name → UsedKind → Counts
-counts_of_kind above name (Gate kind) = counts_of_part name
+counts_of_kind above name (Gate gate) = counts_of_part name
 counts_of_kind above name (OfShape place) = counts_of_part name
 counts_of_kind above name (OfBlock place) = counts_of_instance name (slice_index_or above place no_counts)
 

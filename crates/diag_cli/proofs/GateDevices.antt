@@ -1,13 +1,12 @@
 -- A device of gates of which no part is held is never at odds with what was seen: where all gates are faulty, they allow anything.
-use Rattle.std.proofs.Common.{◌≡◌, ℕ, zero, suc, Bool, true, false, List, [], ◌∷◌, ◌++◌, map, length, replicate, Option, Some, None, refl, ap, sym, ◌∙◌, subst, arith}
-use Rattle.std.specs.Prelude.{Ok, ◌&&◌, IsSome, nat_le, option_map, unwrap_or}
+use Rattle.std.proofs.Common.{◌≡◌, ℕ, zero, suc, Bool, true, false, List, [], ◌∷◌, ◌++◌, map, length, replicate, Option, Some, None, refl, sym, ◌∙◌, subst}
+use Rattle.std.specs.Prelude.{Ok, ◌&&◌, IsSome, option_map, unwrap_or}
 use Rattle.std.specs.List.{filter_map, flat_map, list_all}
 use Rattle.std.specs.Option.{option_to_list}
-use Rattle.std.proofs.lemmas.Bool.{and_parts, and_from, leb-true}
+use Rattle.std.proofs.lemmas.Bool.{and_parts, and_from}
 use Rattle.std.proofs.lemmas.List.{length-map}
 use Rattle.std.proofs.lemmas.List.Folds.{list_all-append}
 use Rattle.text_rules.specs.Names.{Name}
-use Rattle.text_rules.specs.TextLines.{all_lines}
 use Rattle.ranking.specs.Bits.{bit_in, lists_of_bits}
 use Rattle.ranking.specs.Cases.{Case, agrees}
 use Rattle.ranking.specs.Ranking.{cost}
@@ -15,20 +14,19 @@ use Rattle.ranking.specs.Systems.{least_cost}
 use Rattle.ranking.proofs.Bits.{same_bit-refl}
 use Rattle.ranking.proofs.Members.{In, bits_in, any_in, AtMost, least-below}
 use Rattle.device_model.specs.declared.component.Kind.{Kind}
-use Rattle.device_model.specs.declared.component.Kind.TheVariants.{Table}
+use Rattle.device_model.specs.declared.component.Kind.TheVariants.{Gate as OfGate, Table}
+use Rattle.device_model.specs.declared.gates.Gate.{Gate as GateKind}
 use Rattle.device_model.specs.declared.component.Component.{Component}
 use Rattle.device_model.specs.TruthTable.{TruthTable}
-use Rattle.device_model.specs.Devices.{Device, takes, allows, parts_fit, fits, part_names, part_costs}
+use Rattle.device_model.specs.Devices.{Device, allows, parts_fit, fits, part_names, part_costs}
 use Rattle.device_model.specs.Diagnosis.{is_consistent, device_system}
 use Rattle.device_model.specs.Building.{NamedPart, joined}
 use Rattle.device_model.proofs.Making.{component_name, list_all-sorted_distinct}
 use Rattle.bench_reader.specs.declared.kinds.FlipFlops.TheVariants.{Refused}
 use Rattle.bench_reader.specs.Faults.{Fault, unless_fault}
-use Rattle.bench_reader.specs.Statements.{Statement, Input, Output, Gate}
+use Rattle.bench_reader.specs.Statements.{Statement, Input, Output, Gate, part_kind}
 use Rattle.bench_reader.specs.Netlists.{part_over, part_of, device_of, fault_in, statement_in, faults_together, readings, netlist}
-use Rattle.bench_reader.specs.inner.Steps.{is_faultless}
-use Rattle.bench_reader.proofs.Lines.{said, read_are_faultless}
-use Rattle.bench_reader.proofs.Parts.{faultless_gate}
+use Rattle.bench_reader.proofs.Lines.{said}
 use Rattle.adder_load.specs.Adders.{adder_text}
 use Rattle.adder_load.specs.Readings.{readings as adder_readings, with_readings, adder_case}
 use Rattle.adder_load.proofs.Cases.{case_seen}
@@ -37,7 +35,7 @@ use Rattle.adder_load.proofs.Cases.{case_seen}
 
 abbrev is_gate : Kind → Bool
 is_gate (Table t) = false
-is_gate kind = true
+is_gate (OfGate gate) = true
 
 abbrev named_gate : NamedPart → Bool
 named_gate part = is_gate part.kind
@@ -45,32 +43,28 @@ named_gate part = is_gate part.kind
 abbrev gate_part : Component → Bool
 gate_part part = is_gate part.kind
 
-gate_taken : (kind : Kind) (inputs : ℕ) → takes kind inputs ≡ true → is_gate kind ≡ true
-gate_taken (Table t) n h = let none = and_parts (nat_le 1 n) (nat_le n 0) h in absurd (omega (arith, leb-true 1 n none.0, leb-true n 0 none.1))
-gate_taken kind n h = refl
+of_kind : (output : Name) (inputs : List Name) (gate : Option GateKind) → list_all named_gate (option_to_list (option_map (part_over output inputs) gate)) ≡ true
+of_kind output inputs None = refl
+of_kind output inputs (Some gate) = refl
 
-of_statement : (s : Statement) → is_faultless s ≡ true → list_all named_gate (part_of s) ≡ true
-of_statement (Input signal) h = refl
-of_statement (Output signal) h = refl
-of_statement (Gate output kind inputs) h =
-    let gate = faultless_gate output kind inputs h in
-    ap (λ k. list_all named_gate (option_to_list (option_map (part_over output inputs) k))) gate.meant ∙ and_from _ _ (gate_taken gate.gate (length inputs) gate.taken) refl
+of_statement : (s : Statement) → list_all named_gate (part_of s) ≡ true
+of_statement (Input signal) = refl
+of_statement (Output signal) = refl
+of_statement (Gate output kind inputs) = of_kind output inputs (part_kind kind)
 
-of_statements : (statements : List Statement) → list_all is_faultless statements ≡ true → list_all named_gate (flat_map part_of statements) ≡ true
-of_statements [] h = refl
-of_statements (s ∷ statements) h =
-    let two = and_parts (is_faultless s) (list_all is_faultless statements) h in
-    list_all-append named_gate (part_of s) (flat_map part_of statements) ∙ and_from _ _ (of_statement s two.0) (of_statements statements two.1)
+of_statements : (statements : List Statement) → list_all named_gate (flat_map part_of statements) ≡ true
+of_statements [] = refl
+of_statements (s ∷ statements) = list_all-append named_gate (part_of s) (flat_map part_of statements) ∙ and_from _ _ (of_statement s) (of_statements statements)
 
 over_wires : (wires : List Name) (parts : List NamedPart) → list_all named_gate parts ≡ true → list_all gate_part (map (joined wires) parts) ≡ true
 over_wires wires [] h = refl
 over_wires wires (part ∷ parts) h = let two = and_parts (named_gate part) (list_all named_gate parts) h in and_from _ _ two.0 (over_wires wires parts two.1)
 
-device_of_gates : (statements : List Statement) → list_all is_faultless statements ≡ true → list_all gate_part (device_of statements).parts ≡ true
-device_of_gates statements h =
+device_of_gates : (statements : List Statement) → list_all gate_part (device_of statements).parts ≡ true
+device_of_gates statements =
     let wires = (device_of statements).wires in
     let parts = flat_map part_of statements in
-    list_all-sorted_distinct component_name gate_part (map (joined wires) parts) (over_wires wires parts (of_statements statements h))
+    list_all-sorted_distinct component_name gate_part (map (joined wires) parts) (over_wires wires parts (of_statements statements))
 
 abbrev statements_in : List ℕ → List Statement
 statements_in text = map said (filter_map statement_in (readings Refused text))
@@ -81,14 +75,14 @@ netlist_of_gates text device is = by (filter_map fault_in (readings Refused text
     by : (faults : List Fault) → unless_fault faults (device_of (statements_in text)) ≡ Ok device → list_all gate_part device.parts ≡ true
     by [] e =
         let same : device_of (statements_in text) ≡ device = cc in
-        subst (λ (d : Device). list_all gate_part d.parts ≡ true) same (device_of_gates (statements_in text) (read_are_faultless Refused 1 (all_lines text)))
+        subst (λ (d : Device). list_all gate_part d.parts ≡ true) same (device_of_gates (statements_in text))
     by (fault ∷ faults) e = cc
 
 -- ---- faulty gates allow anything
 
 faulty_allows : (tables : List TruthTable) (kind : Kind) (row : List Bool) → is_gate kind ≡ true → allows tables kind false row ≡ true
 faulty_allows tables (Table t) row h = cc
-faulty_allows tables kind row h = refl
+faulty_allows tables (OfGate gate) row h = refl
 
 all_faulty : List Component → List Bool
 all_faulty parts = map (λ (part : Component). false) parts

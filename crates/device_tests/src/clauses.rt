@@ -1,15 +1,15 @@
 use crate::{gates, name_of};
 use clause_encoder::{Clause, Cnf, EncodeError, encode};
-use device_model::{Component, Device, Kind, Wires};
+use device_model::{Component, Device, Gate, Kind, Wires};
 use std::alloc::Global;
 use std::process::Abort;
 use std::test::Fail;
 
 // The device of one gate y, over the wires a and y.
-fn of_a(alloc: Global, kind: Kind) -> Result<Device, Fail> {
+fn of_a(alloc: Global, gate: Gate) -> Result<Device, Fail> {
     let part = Component {
         name: name_of(alloc, "y")?,
-        kind,
+        kind: Kind::Gate(gate),
         ports: Wires::new(alloc, &[0, 0, 1])?,
     };
     let parts = vec![in alloc; part]?;
@@ -31,9 +31,9 @@ fn encodes_gates(rt: HostRuntime) -> Result<(), Fail> {
     let alloc = rt.alloc();
     let nand: [&[i32]; 3] = [&[-1, 2, 3], &[-1, 2, 3], &[-1, -2, -3]];
     let xor: [&[i32]; 2] = [&[-1, 2, -3], &[-1, -2, -3]];
-    let rows: [(Kind, &[&[i32]]); 2] = [(Kind::Nand, &nand), (Kind::Xor, &xor)];
-    for (kind, expected) in rows {
-        let cnf = encode(alloc, &of_a(alloc, kind)?)?;
+    let rows: [(Gate, &[&[i32]]); 2] = [(Gate::Nand, &nand), (Gate::Xor, &xor)];
+    for (gate, expected) in rows {
+        let cnf = encode(alloc, &of_a(alloc, gate)?)?;
         assert_eq!(rt; cnf.vars(), 3);
         assert_clauses(&rt, &cnf, expected)?;
     }
@@ -57,14 +57,14 @@ fn chains_wide_gates(rt: HostRuntime) -> Result<(), Fail> {
         &[-1, 6, -7],
         &[-1, -6, 7, -10],
     ];
-    let cnf = encode(alloc, &gates(alloc, Kind::And, 5, 1, false)?)?;
+    let cnf = encode(alloc, &gates(alloc, Gate::And, 5, 1, false)?)?;
     assert_eq!(rt; cnf.vars(), 10);
     assert_clauses(&rt, &cnf, &expected)
 }
 
 // How many clauses and variables so many exclusive ors of the same inputs have, or how many clauses are too many.
 fn counts(alloc: Global, inputs: u32, count: u32) -> Result<Result<(u32, u32), EncodeError>, Fail> {
-    let device = gates(alloc, Kind::Xor, inputs, count, false)?;
+    let device = gates(alloc, Gate::Xor, inputs, count, false)?;
     Ok(encode(alloc, &device).map(|cnf| (cnf.len(), cnf.vars())))
 }
 

@@ -1,5 +1,5 @@
 use component_lang::{Design, UsedKind, read_lang};
-use device_model::Kind;
+use device_model::Gate;
 use std::test::Fail;
 
 const PAIR: &str = "type T p q # two ports\nok 00\nok 11\nbad 01\nend\n
@@ -65,7 +65,7 @@ fn reads_types_and_blocks(rt: HostRuntime) -> Result<(), Fail> {
     assert!(rt; is_type(&design, 1, "U", (1, 2, 3, 30)));
     assert_eq!(rt; sizes_of(&design, 0), Some((2, 3, 2)));
     assert_eq!(rt; sizes_of(&design, 1), Some((1, 1, 2)));
-    let gate = UsedKind::Gate(Kind::Not);
+    let gate = UsedKind::Gate(Gate::Not);
     assert!(rt; is_used(&design, 0, 0, "u", gate, &[0, 2]));
     assert!(rt; is_used(&design, 0, 1, "v", UsedKind::Shape(0), &[2, 1]));
     assert!(rt; is_used(&design, 1, 0, "m", UsedKind::Block(0), &[0, 0]));

@@ -1,19 +1,19 @@
 use crate::{has_parts, name_of};
-use device_model::{BuildError, Component, Device, Kind, Name, Names, Table, Wires};
+use device_model::{BuildError, Component, Device, Gate, Kind, Name, Names, Table, Wires};
 use std::alloc::Global;
 use std::test::Fail;
 
-// Makes a device of parts, each a name, a kind and ports, and of wires.
+// Makes a device of gates, each with its name and its ports, and of wires.
 fn build(
     alloc: Global,
-    parts: &[(&str, Kind, &[u32])],
+    parts: &[(&str, Gate, &[u32])],
     wires: &[&str],
 ) -> Result<Result<Device, BuildError>, Fail> {
     let mut made = Vec::new(alloc);
-    for (name, kind, ports) in parts {
+    for (name, gate, ports) in parts {
         made.push(Component {
             name: name_of(alloc, name)?,
-            kind: *kind,
+            kind: Kind::Gate(*gate),
             ports: Wires::new(alloc, ports)?,
         })?;
     }
@@ -36,13 +36,13 @@ fn is_wire(device: &Device, place: u32, name: &str) -> bool {
 
 #[test]
 fn sorts_and_renumbers(rt: HostRuntime) -> Result<(), Fail> {
-    let parts: [(&str, Kind, &[u32]); 2] = [
-        ("c", Kind::Buff, [2, 0].as_slice()),
-        ("b", Kind::Buff, [1, 2].as_slice()),
+    let parts: [(&str, Gate, &[u32]); 2] = [
+        ("c", Gate::Buff, [2, 0].as_slice()),
+        ("b", Gate::Buff, [1, 2].as_slice()),
     ];
-    let sorted: [(&str, Kind, &[u32]); 2] = [
-        ("b", Kind::Buff, [0, 1].as_slice()),
-        ("c", Kind::Buff, [1, 2].as_slice()),
+    let sorted: [(&str, Gate, &[u32]); 2] = [
+        ("b", Gate::Buff, [0, 1].as_slice()),
+        ("c", Gate::Buff, [1, 2].as_slice()),
     ];
     let device = build(rt.alloc(), &parts, &["c", "a", "b"])??;
     assert!(rt; has_parts(&device, &sorted));
@@ -69,7 +69,7 @@ enum Reason {
     None,
 }
 
-fn refusal(alloc: Global, parts: &[(&str, Kind, &[u32])], wires: &[&str]) -> Result<Reason, Fail> {
+fn refusal(alloc: Global, parts: &[(&str, Gate, &[u32])], wires: &[&str]) -> Result<Reason, Fail> {
     let Err(error) = build(alloc, parts, wires)? else {
         return Ok(Reason::None);
     };
@@ -91,21 +91,21 @@ fn refuses(rt: HostRuntime) -> Result<(), Fail> {
     let alloc = rt.alloc();
     let pair = [0, 0].as_slice();
     let twice = [
-        ("d", Kind::Buff, pair),
-        ("b", Kind::Buff, pair),
-        ("d", Kind::Buff, pair),
-        ("b", Kind::Buff, pair),
+        ("d", Gate::Buff, pair),
+        ("b", Gate::Buff, pair),
+        ("d", Gate::Buff, pair),
+        ("b", Gate::Buff, pair),
     ];
     let two_parts = refusal(alloc, &twice, &["a", "a"])?;
     assert_eq!(rt; two_parts, Reason::TwoParts(b'b'));
-    let one = [("b", Kind::Buff, pair)];
+    let one = [("b", Gate::Buff, pair)];
     let two_wires = refusal(alloc, &one, &["d", "c", "d", "c"])?;
     assert_eq!(rt; two_wires, Reason::TwoWires(b'c'));
-    let unfit = [("c", Kind::Buff, pair), ("b", Kind::Nand, [0].as_slice())];
+    let unfit = [("c", Gate::Buff, pair), ("b", Gate::Nand, [0].as_slice())];
     assert_eq!(rt; refusal(alloc, &unfit, &["a"])?, Reason::Arity(1));
     let loose = [
-        ("c", Kind::Buff, pair),
-        ("b", Kind::Buff, [0, 1].as_slice()),
+        ("c", Gate::Buff, pair),
+        ("b", Gate::Buff, [0, 1].as_slice()),
     ];
     assert_eq!(rt; refusal(alloc, &loose, &["a"])?, Reason::NoWire(1));
     Ok(())
@@ -127,7 +127,7 @@ fn refuses_too_many(rt: HostRuntime) -> Result<(), Fail> {
     for name in numbered(alloc, 4097)? {
         parts.push(Component {
             name,
-            kind: Kind::Buff,
+            kind: Kind::Gate(Gate::Buff),
             ports: Wires::new(alloc, [0, 0].as_slice())?,
         })?;
     }
@@ -144,7 +144,7 @@ fn refuses_too_many(rt: HostRuntime) -> Result<(), Fail> {
 fn tells_costs(rt: HostRuntime) -> Result<(), Fail> {
     let alloc = rt.alloc();
     let mut parts = Vec::new(alloc);
-    for (name, kind) in [("c", Kind::Table(0)), ("b", Kind::Buff)] {
+    for (name, kind) in [("c", Kind::Table(0)), ("b", Kind::Gate(Gate::Buff))] {
         parts.push(Component {
             name: name_of(alloc, name)?,
             kind,

@@ -1,4 +1,4 @@
-use device_model::{Component, Device, Kind, Name, Wires};
+use device_model::{Component, Device, Gate, Kind, Name, Wires};
 use std::alloc::{AllocError, Global};
 use std::test::Fail;
 
@@ -29,7 +29,7 @@ fn wires_before(alloc: Global, end: u32) -> Result<Vec<Name>, Fail> {
 /// output, so that it is driven by those before it, or else all have the first ones.
 pub fn gates(
     alloc: Global,
-    kind: Kind,
+    gate: Gate,
     inputs: u32,
     count: u32,
     in_a_row: bool,
@@ -39,16 +39,16 @@ pub fn gates(
     }
     let mut parts = Vec::new(alloc);
     let mut ports = Vec::new(alloc);
-    for gate in 0..count {
-        let first = if in_a_row { gate } else { 0 };
+    for place in 0..count {
+        let first = if in_a_row { place } else { 0 };
         ports.clear();
         for input in first..first + inputs {
             ports.push(input)?;
         }
-        ports.push(gate + inputs)?;
+        ports.push(place + inputs)?;
         parts.push(Component {
-            name: numbered(alloc, gate + inputs)?,
-            kind,
+            name: numbered(alloc, place + inputs)?,
+            kind: Kind::Gate(gate),
             ports: Wires::new(alloc, &ports)?,
         })?;
     }
@@ -62,21 +62,21 @@ pub fn adder(alloc: Global, bits: u32) -> Result<Device, Fail> {
         return Err("at most 800 bits".into());
     }
     // The wires of each gate, counted from the carry that comes in.
-    let gates: [(Kind, [u8; 3]); 5] = [
-        (Kind::Xor, [1, 2, 3]),
-        (Kind::And, [1, 2, 4]),
-        (Kind::And, [0, 3, 5]),
-        (Kind::Xor, [0, 3, 6]),
-        (Kind::Or, [4, 5, 7]),
+    let gates: [(Gate, [u8; 3]); 5] = [
+        (Gate::Xor, [1, 2, 3]),
+        (Gate::And, [1, 2, 4]),
+        (Gate::And, [0, 3, 5]),
+        (Gate::Xor, [0, 3, 6]),
+        (Gate::Or, [4, 5, 7]),
     ];
     let mut parts = Vec::new(alloc);
     for bit in 0..bits {
         let carry = 7 * bit;
-        for (kind, [a, b, output]) in gates {
+        for (gate, [a, b, output]) in gates {
             let output = carry + u32::from(output);
             parts.push(Component {
                 name: numbered(alloc, output)?,
-                kind,
+                kind: Kind::Gate(gate),
                 ports: Wires::new(alloc, &[carry + u32::from(a), carry + u32::from(b), output])?,
             })?;
         }
@@ -85,13 +85,13 @@ pub fn adder(alloc: Global, bits: u32) -> Result<Device, Fail> {
     Ok(Device::build(alloc, parts, wires, Vec::new(alloc))?)
 }
 
-/// Whether a device has these parts and no others: of each its name, its kind and its ports.
-pub fn has_parts(device: &Device, parts: &[(&str, Kind, &[u32])]) -> bool {
+/// Whether a device has these gates as parts and no others: of each its name, its gate and its ports.
+pub fn has_parts(device: &Device, parts: &[(&str, Gate, &[u32])]) -> bool {
     let mut has_all = device.parts().len() == parts.len();
-    for (part, (name, kind, ports)) in device.parts().iter().zip(parts) {
+    for (part, (name, gate, ports)) in device.parts().iter().zip(parts) {
         has_all = has_all
             && part.name.as_slice() == name.as_bytes()
-            && part.kind == *kind
+            && part.kind == Kind::Gate(*gate)
             && part.ports.as_slice() == *ports;
     }
     has_all

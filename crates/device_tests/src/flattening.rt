@@ -1,6 +1,6 @@
 use crate::has_parts;
 use component_lang::read_lang;
-use device_model::Kind;
+use device_model::Gate;
 use flattener::flatten;
 use std::test::Fail;
 
@@ -9,12 +9,12 @@ block FULL a b c sum carry\nwire s g1 g2\npart first HALF a b s g1\npart second 
 top FULL\n";
 
 // The wires by name: a b c carry g1 g2 s sum. The ports are the inputs and then the output.
-const PARTS: [(&str, Kind, &[u32]); 5] = [
-    ("first.g", Kind::And, &[0, 1, 4]),
-    ("first.x", Kind::Xor, &[0, 1, 6]),
-    ("or", Kind::Or, &[4, 5, 3]),
-    ("second.g", Kind::And, &[6, 2, 5]),
-    ("second.x", Kind::Xor, &[6, 2, 7]),
+const PARTS: [(&str, Gate, &[u32]); 5] = [
+    ("first.g", Gate::And, &[0, 1, 4]),
+    ("first.x", Gate::Xor, &[0, 1, 6]),
+    ("or", Gate::Or, &[4, 5, 3]),
+    ("second.g", Gate::And, &[6, 2, 5]),
+    ("second.x", Gate::Xor, &[6, 2, 7]),
 ];
 
 #[test]

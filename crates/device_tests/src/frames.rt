@@ -1,6 +1,6 @@
 use crate::has_parts;
 use bench_reader::read_sequential;
-use device_model::{Kind, Name};
+use device_model::{Gate, Name};
 use frame_unroller::{FRAME_LIMIT, UnrollError, unroll};
 use std::alloc::Global;
 use std::test::Fail;
@@ -18,7 +18,7 @@ fn reads_flip_flops(rt: HostRuntime) -> Result<(), Fail> {
     let text = "INPUT(d)\nq = dff(d)\ny = NOT(q)\n";
     assert!(rt; text.len() <= TEXT_LIMIT);
     let seq = read_sequential(rt.alloc(), text.as_bytes())?;
-    let parts: [(&str, Kind, &[u32]); 2] = [("q", Kind::Buff, &[0, 1]), ("y", Kind::Not, &[1, 2])];
+    let parts: [(&str, Gate, &[u32]); 2] = [("q", Gate::Buff, &[0, 1]), ("y", Gate::Not, &[1, 2])];
     assert!(rt; has_parts(&seq.device, &parts));
     let delayed: &[u32] = &[0];
     assert_eq!(rt; seq.delayed.as_slice(), delayed);

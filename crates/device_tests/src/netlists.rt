@@ -1,6 +1,6 @@
 use crate::{C17, has_parts};
 use bench_reader::read_bench;
-use device_model::Kind;
+use device_model::Gate;
 use std::test::Fail;
 use text_rules::TEXT_LIMIT;
 
@@ -8,7 +8,7 @@ use text_rules::TEXT_LIMIT;
 type Netlist = (
     &'static str,
     usize,
-    &'static [(&'static str, Kind, &'static [u32])],
+    &'static [(&'static str, Gate, &'static [u32])],
 );
 
 const NETLISTS: [Netlist; 4] = [
@@ -17,23 +17,23 @@ const NETLISTS: [Netlist; 4] = [
         C17,
         11,
         &[
-            ("10", Kind::Nand, &[0, 8, 1]),
-            ("11", Kind::Nand, &[8, 9, 2]),
-            ("16", Kind::Nand, &[5, 2, 3]),
-            ("19", Kind::Nand, &[2, 10, 4]),
-            ("22", Kind::Nand, &[1, 3, 6]),
-            ("23", Kind::Nand, &[3, 4, 7]),
+            ("10", Gate::Nand, &[0, 8, 1]),
+            ("11", Gate::Nand, &[8, 9, 2]),
+            ("16", Gate::Nand, &[5, 2, 3]),
+            ("19", Gate::Nand, &[2, 10, 4]),
+            ("22", Gate::Nand, &[1, 3, 6]),
+            ("23", Gate::Nand, &[3, 4, 7]),
         ],
     ),
     (
         "INPUT(a)\nOUTPUT(c)\nb = BUFF(a)\nc = BUFF(b)\n",
         3,
-        &[("b", Kind::Buff, &[0, 1]), ("c", Kind::Buff, &[1, 2])],
+        &[("b", Gate::Buff, &[0, 1]), ("c", Gate::Buff, &[1, 2])],
     ),
     (
         "INPUT(a)\nINPUT(b)\ny = xor(a, b)\n",
         3,
-        &[("y", Kind::Xor, &[0, 1, 2])],
+        &[("y", Gate::Xor, &[0, 1, 2])],
     ),
     // 64 inputs
     (
@@ -41,7 +41,7 @@ const NETLISTS: [Netlist; 4] = [
         2,
         &[(
             "y",
-            Kind::Xor,
+            Gate::Xor,
             &[
                 0, 0, 0, 0, 0, 0, 0, 0, 0, 0, 0, 0, 0, 0, 0, 0, 0, 0, 0, 0, 0, 0, 0, 0, 0, 0, 0, 0,
                 0, 0, 0, 0, 0, 0, 0, 0, 0, 0, 0, 0, 0, 0, 0, 0, 0, 0, 0, 0, 0, 0, 0, 0, 0, 0, 0, 0,

@@ -1,21 +1,21 @@
 use crate::{adder, gates};
 use branch_states::{Branches, Descent, MeasureError, measure};
 use clause_encoder::{Cnf, encode};
-use device_model::Kind;
+use device_model::Gate;
 use std::alloc::Global;
 use std::process::Abort;
 use std::test::Fail;
 
 // The clauses of so many gates of one input.
-fn clauses_of(alloc: Global, kind: Kind, count: u32, in_a_row: bool) -> Result<Cnf, Fail> {
-    let device = gates(alloc, kind, 1, count, in_a_row)?;
+fn clauses_of(alloc: Global, gate: Gate, count: u32, in_a_row: bool) -> Result<Cnf, Fail> {
+    let device = gates(alloc, gate, 1, count, in_a_row)?;
     Ok(encode(alloc, &device)?)
 }
 
 #[test]
 fn goes_through_the_levels(rt: HostRuntime) -> Result<(), Fail> {
     let alloc = rt.alloc();
-    let cnf = clauses_of(alloc, Kind::Buff, 2, true)?;
+    let cnf = clauses_of(alloc, Gate::Buff, 2, true)?;
     let mut branches = Branches::of(alloc, &cnf)?;
     let mut order = Vec::new(alloc);
     for level in 0..branches.len() {
@@ -45,7 +45,7 @@ fn left_of(rt: &impl Abort, branches: &Branches<'_>, state: u64, bit: bool) -> O
 #[test]
 fn steps_to_what_is_left(rt: HostRuntime) -> Result<(), Fail> {
     let alloc = rt.alloc();
-    let cnf = clauses_of(alloc, Kind::Not, 1, true)?;
+    let cnf = clauses_of(alloc, Gate::Not, 1, true)?;
     let mut branches = Branches::of(alloc, &cnf)?;
     // At each level a state, a bit and the state of what is left, if that is living.
     let levels = [
@@ -70,7 +70,7 @@ fn steps_to_what_is_left(rt: HostRuntime) -> Result<(), Fail> {
 #[test]
 fn descends_with_forks(rt: HostRuntime) -> Result<(), Fail> {
     let alloc = rt.alloc();
-    let cnf = clauses_of(alloc, Kind::Not, 1, true)?;
+    let cnf = clauses_of(alloc, Gate::Not, 1, true)?;
     let mut descent = Descent::begin(alloc, &cnf, 7)?;
     // At each level of an inverter where its lists lead by 0 and by 1, and the sum with the next level.
     let levels: [(&[(Option<u32>, Option<u32>)], u32); 3] = [
@@ -113,7 +113,7 @@ fn measures_gates_of_one_input(rt: HostRuntime) -> Result<(), Fail> {
         (500, false, 25021),
     ];
     for (count, in_a_row, sum) in rows {
-        let cnf = clauses_of(alloc, Kind::Buff, count, in_a_row)?;
+        let cnf = clauses_of(alloc, Gate::Buff, count, in_a_row)?;
         assert_sum(&rt, alloc, &cnf, sum);
     }
     Ok(())

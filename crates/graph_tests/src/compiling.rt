@@ -2,7 +2,7 @@ ghost use Rattle.std.specs.Prelude.{◌<◌, length};
 
 use branch_states::{BUDGET_LIMIT, MeasureError, measure};
 use clause_encoder::{Cnf, encode};
-use device_model::Kind;
+use device_model::Gate;
 use device_tests::{gates, is_true};
 use dnnf_compiler::{Compiled, compile, compile_within};
 use graph_rules::NodeKind;
@@ -40,12 +40,12 @@ fn is_plain(graph: &Graph) -> bool {
 fn means(
     rt: &impl Abort,
     alloc: Global,
-    kind: Kind,
+    gate: Gate,
     inputs: u32,
     fitting: u32,
 ) -> Result<bool, Fail> {
     assert!(rt; 1 <= inputs && inputs <= 2);
-    let cnf = encode(alloc, &gates(alloc, kind, inputs, 1, true)?)?;
+    let cnf = encode(alloc, &gates(alloc, gate, inputs, 1, true)?)?;
     let graph = compiled(alloc, &cnf)?.graph;
     let mut is_right = graph.vars() == inputs + 2 && is_plain(&graph);
     for row in 0..8u32 >> (2 - inputs) {
@@ -59,15 +59,15 @@ fn means(
 
 #[test]
 fn means_a_gate(rt: HostRuntime) -> Result<(), Fail> {
-    let rows: [(Kind, u32, u32); 5] = [
-        (Kind::Buff, 1, 0b1001),
-        (Kind::Not, 1, 0b0110),
-        (Kind::And, 2, 0b1000_0111),
-        (Kind::Nor, 2, 0b0001_1110),
-        (Kind::Xor, 2, 0b0110_1001),
+    let rows: [(Gate, u32, u32); 5] = [
+        (Gate::Buff, 1, 0b1001),
+        (Gate::Not, 1, 0b0110),
+        (Gate::And, 2, 0b1000_0111),
+        (Gate::Nor, 2, 0b0001_1110),
+        (Gate::Xor, 2, 0b0110_1001),
     ];
-    for (kind, inputs, fitting) in rows {
-        assert!(&rt; means(&rt, rt.alloc(), kind, inputs, fitting)?);
+    for (gate, inputs, fitting) in rows {
+        assert!(&rt; means(&rt, rt.alloc(), gate, inputs, fitting)?);
     }
     Ok(())
 }
@@ -97,7 +97,7 @@ fn compiles_chains(rt: HostRuntime) -> Result<(), Fail> {
     // So there are 8 a buffer, and 4. In the graph are all but the two constants, and both literals of each of the 2 * count + 1
     // variables.
     for (count, made, nodes) in [(1, 12, 16), (40, 324, 484), (1000, 8_004, 12_004)] {
-        let cnf = encode(alloc, &gates(alloc, Kind::Buff, 1, count, true)?)?;
+        let cnf = encode(alloc, &gates(alloc, Gate::Buff, 1, count, true)?)?;
         let compiled = compiled(alloc, &cnf)?;
         assert_eq!(&rt; compiled.made, made);
         assert_eq!(&rt; compiled.graph.len(), nodes);
@@ -106,9 +106,9 @@ fn compiles_chains(rt: HostRuntime) -> Result<(), Fail> {
 }
 
 // Whether so many gates in a row are compiled within a sum, and not within less.
-fn stops(rt: &impl Abort, alloc: Global, kind: Kind, count: u32, sum: u32) -> Result<bool, Fail> {
+fn stops(rt: &impl Abort, alloc: Global, gate: Gate, count: u32, sum: u32) -> Result<bool, Fail> {
     assert!(rt; 1 <= sum && sum <= BUDGET_LIMIT);
-    let cnf = encode(alloc, &gates(alloc, kind, 1, count, true)?)?;
+    let cnf = encode(alloc, &gates(alloc, gate, 1, count, true)?)?;
     let within = compile_within(alloc, &cnf, sum)?.graph.vars();
     let none = compile_within(alloc, &cnf, 0).err();
     let less = compile_within(alloc, &cnf, sum - 1).err();
@@ -122,8 +122,8 @@ fn stops(rt: &impl Abort, alloc: Global, kind: Kind, count: u32, sum: u32) -> Re
 #[test]
 fn stops_above_a_limit(rt: HostRuntime) -> Result<(), Fail> {
     // The sums of an inverter and of buffers in a row.
-    for (kind, count, sum) in [(Kind::Not, 1, 7), (Kind::Buff, 40, 202)] {
-        assert!(&rt; stops(&rt, rt.alloc(), kind, count, sum)?);
+    for (gate, count, sum) in [(Gate::Not, 1, 7), (Gate::Buff, 40, 202)] {
+        assert!(&rt; stops(&rt, rt.alloc(), gate, count, sum)?);
     }
     Ok(())
 }

@@ -4,7 +4,9 @@ use Rattle.std.specs.Prelude.{codes}
 use Rattle.std.specs.Fmt.{digits}
 use Rattle.device_model.specs.declared.component.Component.{Component}
 use Rattle.device_model.specs.declared.component.Kind.{Kind}
-use Rattle.device_model.specs.declared.component.Kind.TheVariants.{Nand, Buff, Table}
+use Rattle.device_model.specs.declared.component.Kind.TheVariants.{Gate as OfGate, Table}
+use Rattle.device_model.specs.declared.gates.Gate.{Gate}
+use Rattle.device_model.specs.declared.gates.Gate.TheVariants.{Nand, Buff}
 use Rattle.device_model.specs.Devices.{Device}
 use Rattle.device_model.specs.Diagnosis.{device_system}
 use Rattle.ranking.specs.Systems.{with_extras}
@@ -28,8 +30,11 @@ text (l ∷ ls) = l ++ (10 ∷ text ls)
 abbrev pub replied : ℕ → Device → List (List ℕ) → List ℕ
 replied limit device lines = text_of (replies (device_system device) limit [] lines)
 
-abbrev gate : List ℕ → Kind → List ℕ → Component
-gate name kind ports = record { name = name; kind = kind; ports = ports }
+abbrev part : List ℕ → Kind → List ℕ → Component
+part name kind ports = record { name = name; kind = kind; ports = ports }
+
+abbrev gate : List ℕ → Gate → List ℕ → Component
+gate name what ports = part name (OfGate what) ports
 
 -- ---- two buffers: b = BUFF(a), c = BUFF(b)
 
@@ -150,7 +155,7 @@ no_part = refl
 -- ---- one part with a table: ok allows 00 and 11, bad allows 00 and 10
 
 abbrev tabled : Device
-tabled = record { parts = gate (codes "u") (Table 0) (0 ∷ 1 ∷ []) ∷ []; wires = codes "a" ∷ codes "y" ∷ []; tables = record { ports = 2; ok = 9; bad = 3; cost = 1 } ∷ [] }
+tabled = record { parts = part (codes "u") (Table 0) (0 ∷ 1 ∷ []) ∷ []; wires = codes "a" ∷ codes "y" ∷ []; tables = record { ports = 2; ok = 9; bad = 3; cost = 1 } ∷ [] }
 
 -- a row that neither allows leaves no state
 projected_none : replies (device_system tabled) 16 [] (map codes ("open S" ∷ "see S a=0" ∷ "see S y=1" ∷ "dnnf S" ∷ []))
@@ -165,7 +170,7 @@ none_is_inconsistent = refl
 -- ---- one part that allows every bit, and a wire that no part has
 
 abbrev free : Device
-free = record { parts = gate (codes "u") (Table 0) (0 ∷ []) ∷ []; wires = codes "a" ∷ codes "d" ∷ []; tables = record { ports = 1; ok = 3; bad = 3; cost = 1 } ∷ [] }
+free = record { parts = part (codes "u") (Table 0) (0 ∷ []) ∷ []; wires = codes "a" ∷ codes "d" ∷ []; tables = record { ports = 1; ok = 3; bad = 3; cost = 1 } ∷ [] }
 
 nothing_is_against_it : replied 16 free (map codes ("open S" ∷ "see S d=1" ∷ "hold S u=bad" ∷ "min S" ∷ "next S" ∷ "next S" ∷ "hold S u=ok" ∷ "min S" ∷ []))
     ≡ text (map codes ("S open" ∷ "S ok" ∷ "S ok" ∷ "S min 1 u" ∷ "S diag u" ∷ "S end" ∷ "S ok" ∷ "S min 0" ∷ []))

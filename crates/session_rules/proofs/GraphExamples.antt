@@ -4,7 +4,8 @@ use Rattle.std.specs.Prelude.{codes}
 use Rattle.std.specs.Fmt.{digits}
 use Rattle.graph_rules.specs.declared.NodeKind.TheVariants.{And, Or}
 use Rattle.graph_rules.specs.Graphs.{Graph, literal_node}
-use Rattle.device_model.specs.declared.component.Kind.TheVariants.{Buff}
+use Rattle.device_model.specs.declared.component.Kind.TheVariants.{Gate as OfGate}
+use Rattle.device_model.specs.declared.gates.Gate.TheVariants.{Buff}
 use Rattle.device_model.specs.Devices.{Device}
 use Rattle.graph_rules.specs.GraphsOver.{holds_for}
 use Rattle.conditioner.specs.Models.{models}
@@ -24,7 +25,7 @@ words_of_what_is_open = refl
 
 abbrev buffer : Device
 buffer = record {
-  parts = record { name = codes "b"; kind = Buff; ports = 0 ∷ 1 ∷ [] } ∷ [];
+  parts = record { name = codes "b"; kind = OfGate Buff; ports = 0 ∷ 1 ∷ [] } ∷ [];
   wires = codes "a" ∷ codes "b" ∷ [];
   tables = [];
 }

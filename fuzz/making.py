@@ -8,7 +8,7 @@ from rules import designs, frames, netlists
 from rules.clauses import clauses_of, sum_of, tidied
 from rules.devices import GATES, ODD_ONES
 from rules.graphs import BITS_LIMIT
-from rules.runs import LEVELS_LIMIT
+from rules.runs import FORMS, GRAPHS, LEVELS_LIMIT
 from rules.sessions import COMMANDS, COUNT, PART, PARTS, VALUES, WIRE
 from rules.texts import Refused
 
@@ -233,17 +233,17 @@ def levels_option(r, nodes):
 def options(r, form, sum, times=0, vars=0):
     """Options in any order, a few of them wrong."""
     # of a form that knows no times, or over a design, it is wrong whatever its number
-    found = [frames_option(r, times)] if times else []
+    found, takes = [frames_option(r, times)] if times else [], FORMS[form].options
     # over several times a budget is all that shows the sum
-    if form in ("serve", "compile") and chance(r, 60 if times else 30):
+    if "--budget" in takes and chance(r, 60 if times else 30):
         found.append(["--budget", str(max(1, r.choice([sum - 1, sum - 1, sum, sum, sum, sum + 1, sum // 2, 8388608, 1])))])
-    if form in ("serve", "ask") and chance(r, 40):
+    if "--sessions" in takes and chance(r, 40):
         found.append(["--sessions", str(r.choice([1, 1, 2, 3, 1024]))])
-    if form in ("serve", "plan", "compile") and chance(r, 25):
+    if "--narrow" in takes and chance(r, 25):
         found.append(["--narrow"])
-    if form == "serve" and chance(r, 35):
+    if "--levels" in takes and chance(r, 35):
         found.append(levels_option(r, nodes_within(sum, vars)))
-    if form == "serve" and chance(r, 35):
+    if "--least" in takes and chance(r, 35):
         found.append(["--least"])
     r.shuffle(found)
     words = [word for option in found for word in option]
@@ -302,9 +302,9 @@ def asking(r):
     return Case(words, {"f.nnf": text}, script(r, names[:health], names[health:]))
 
 
-def checking(r):
+def checking(r, form):
     text, _ = graph(r, r.choice([8, 200]))
-    return Case(["check", "f.nnf"], {"f.nnf": broken(r, text) if chance(r, 60) else text}, b"")
+    return Case([form, "f.nnf"], {"f.nnf": broken(r, text) if chance(r, 60) else text}, b"")
 
 
 def describing(r, form):
@@ -413,26 +413,29 @@ def crowded(r):
 
 def misspelling(r):
     """Words in no order, over a file that is there."""
-    words = ["serve", "plan", "compile", "check", "ask", "load", "f.bench", "f.dev", "f.nnf", ".bench", "g.bench", "1", "0", "801",
-             "--narrow", "--budget", "--sessions", "2", "--frames", "--frames", "--levels", "--least"]
+    forms, names = [*FORMS, "load"], ["f.bench", "f.dev", "f.nnf", ".bench", "g.bench"]
+    others = ["1", "0", "801", "--narrow", "--budget", "--sessions", "2", "--frames", "--frames", "--levels", "--least"]
     files = {"f.bench": b"INPUT(a)\ny = NOT(a)\n", "f.dev": b"block M\nend\ntop M\n", "f.nnf": b"nnf 1 0 1\nL 1\n"}
-    form, file = r.choice(words[:6]), r.choice(words[6:11])
-    given = [form, file, *r.choices(words[11:], k=r.randint(0, 4))] if chance(r, 70) else r.choices(words, k=r.randint(0, 4))
+    words = [r.choice(forms), r.choice(names)]
+    given = [*words, *r.choices(others, k=r.randint(0, 4))] if chance(r, 70) else r.choices(forms + names + others, k=r.randint(0, 4))
     return Case(given, files, b"open S\nmin S\n")
 
 
 def case_of(r):
-    form = r.choices(["serve", "frames", "plan", "compile", "check", "ask", "words"], [28, 24, 10, 10, 8, 16, 4])[0]
+    often = [(form, it.often) for form, it in FORMS.items()]
+    # `serve` over several times, and words that are no form or one of another file
+    often[1:1] = [("frames", 24)]
+    form = r.choices(*zip(*often, ("words", 4)))[0]
     if form == "ask":
         case = asking(r)
     elif form == "serve" and chance(r, 13):
         case = doubtful(r) if chance(r, 75) else brimming(r)
     elif form == "frames":
         case = crowded(r) if chance(r, 2) else serving_times(r)
-    elif form == "check":
-        case = checking(r)
     elif form == "words":
         case = misspelling(r)
+    elif FORMS[form].endings == GRAPHS:
+        case = checking(r, form)
     else:
         case = describing(r, form)
     case.piece = max(r.choice([1, 2, 7, 64, 4096]), len(case.script) // 1000)

@@ -23,8 +23,21 @@ SUM_TRIED = 100000
 STEPS_TRIED = 200000
 USAGE = Refused("error: usage", 2)
 DEVICES = {".bench": netlists.read, ".dev": designs.read}
-OPTIONS = {"serve": ("--budget", "--sessions", "--frames", "--levels", "--least", "--narrow"), "plan": ("--narrow",),
-           "compile": ("--budget", "--narrow"), "check": (), "ask": ("--sessions",)}
+GRAPHS = (".nnf",)
+
+
+@dataclass(frozen=True)
+class Form:
+    """How often it is tried, how its file ends, and its options."""
+    often: int
+    endings: tuple
+    options: tuple = ()
+
+
+# The forms over a file.
+FORMS = {"serve": Form(28, (*DEVICES,), ("--budget", "--sessions", "--frames", "--levels", "--least", "--narrow")),
+         "plan": Form(10, (*DEVICES,), ("--narrow",)), "compile": Form(10, (*DEVICES,), ("--budget", "--narrow")),
+         "check": Form(8, GRAPHS), "ask": Form(16, GRAPHS, ("--sessions",))}
 
 
 class TooLarge(Exception):
@@ -56,7 +69,7 @@ def options_of(form, words):
     words = list(words)
     while words:
         word = words.pop(0)
-        if word not in OPTIONS[form] or word[2:] in found:
+        if word not in FORMS[form].options or word[2:] in found:
             raise USAGE
         if word in FLAGS:
             found[word[2:]] = True
@@ -71,8 +84,7 @@ def asked_by(words):
     form, file, *rest = words
     if form == "load" and not rest:
         return Asked(form, number=number(file, 1, PLACES_LIMIT))
-    endings = (".nnf",) if form in ("check", "ask") else DEVICES
-    if form not in OPTIONS or not any(file.endswith(ending) and file != ending for ending in endings):
+    if form not in FORMS or not any(file.endswith(ending) and file != ending for ending in FORMS[form].endings):
         raise USAGE
     health = number(rest.pop(0) if rest else "", 0, HEALTH_LIMIT) if form == "ask" else 0
     asked = Asked(form, file, health, **options_of(form, rest))
@@ -168,7 +180,7 @@ def timed(asked, text, script):
 
 
 def described(asked, text, script):
-    """`serve`, `plan` and `compile`."""
+    """What is done over a device."""
     read = next(read for ending, read in DEVICES.items() if asked.file.endswith(ending))
     encoded = Encoded(read(text))
     if asked.form == "plan":
@@ -185,7 +197,7 @@ def described(asked, text, script):
 
 
 def questioned(asked, text, script):
-    """`check` and `ask`."""
+    """What is done over a graph."""
     nodes, vars = graphs.read(text)
     if asked.form == "check":
         return [([f"decomposable {len(nodes)} {graphs.edges(nodes)} {vars}\n".encode()], 0)]
@@ -236,7 +248,7 @@ def wanted(words, files, script):
             raise Refused("error: read", 4)
         if len(text) > FILE_LIMIT:
             raise Refused(f"error: file above {FILE_LIMIT} bytes")
-        answer = timed if asked.frames else described if asked.form in ("serve", "plan", "compile") else questioned
+        answer = timed if asked.frames else questioned if FORMS[asked.form].endings == GRAPHS else described
         return answer(asked, text, script)
     except Refused as refused:
         return [([refused.line], refused.status)]

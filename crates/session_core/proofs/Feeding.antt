@@ -10,8 +10,8 @@ use Rattle.session_rules.specs.Moves.{left_by, script_moves}
 use Rattle.session_rules.specs.Carrying.{Makes, BreaksOff, CarriesOut}
 use Rattle.session_core.specs.declared.serving.TheConstants.{READ_LIMIT}
 use Rattle.session_core.specs.Serving.{FailsBehind, FailsAtOnce}
-use Rattle.session_core.specs.inner.Gathering.{ended_from, rest_from, IsCut, Fed}
-use Rattle.session_core.proofs.Lines.{take-take-same, cut_push, ended_from-start, rest_from-start}
+use Rattle.session_core.specs.inner.Gathering.{ended_from, rest_from, kept, IsCut, Fed}
+use Rattle.session_core.proofs.Lines.{kept-kept, kept-none, kept-append, kept-some, ended_from-start, rest_from-start}
 use Rattle.session_rules.proofs.Broken.{makes_none, makes_more, breaks_before, breaks_after, script_moves-append}
 
 ended_from-append : (l xs ys : List ℕ) → ended_from l (xs ++ ys) ≡ ended_from l xs ++ ended_from (rest_from l xs) ys
@@ -29,43 +29,39 @@ rest_from-append l (b ∷ xs) ys = elim (b == 10) as (λ v. (if v then rest_from
 ]
 
 -- how much of the line before the bytes is kept past the limit does not matter
-rest-take : (line bytes : List ℕ) → take 1048577 (rest_from (take 1048577 line) bytes) ≡ take 1048577 (rest_from line bytes)
-rest-take line [] = take-take-same 1048577 line
-rest-take line (b ∷ bs) = elim (b == 10) as (λ v. take 1048577 (if v then rest_from [] bs else rest_from (take 1048577 line ++ b ∷ []) bs) ≡ take 1048577 (if v then rest_from [] bs else rest_from (line ++ b ∷ []) bs)) [
+rest-take : (line bytes : List ℕ) → kept (rest_from (kept line) bytes) ≡ kept (rest_from line bytes)
+rest-take line [] = kept-kept line
+rest-take line (b ∷ bs) = elim (b == 10) as (λ v. kept (if v then rest_from [] bs else rest_from (kept line ++ b ∷ []) bs) ≡ kept (if v then rest_from [] bs else rest_from (line ++ b ∷ []) bs)) [
   | true ↦ refl
-  | false ↦ sym (rest-take (take 1048577 line ++ b ∷ []) bs) ∙ ap (λ l. take 1048577 (rest_from l bs)) (cut_push 1048577 line (b ∷ [])) ∙ rest-take (line ++ b ∷ []) bs
+  | false ↦ sym (rest-take (kept line ++ b ∷ []) bs) ∙ ap (λ l. kept (rest_from l bs)) (kept-append line (b ∷ [])) ∙ rest-take (line ++ b ∷ []) bs
 ]
 
-alike_rest : (l k bytes : List ℕ) → take 1048577 l ≡ take 1048577 k → take 1048577 (rest_from l bytes) ≡ take 1048577 (rest_from k bytes)
-alike_rest l k bytes e = sym (rest-take l bytes) ∙ ap (λ j. take 1048577 (rest_from j bytes)) e ∙ rest-take k bytes
-
--- what is kept of a line that has a byte is something
-kept_byte : (n b : ℕ) (k : List ℕ) → 0 < n → take n (b ∷ k) ≡ [] → ⊥
-kept_byte n b k some e = omega (arith, ap length e, length-take n (b ∷ k), some)
+alike_rest : (l k bytes : List ℕ) → kept l ≡ kept k → kept (rest_from l bytes) ≡ kept (rest_from k bytes)
+alike_rest l k bytes e = sym (rest-take l bytes) ∙ ap (λ j. kept (rest_from j bytes)) e ∙ rest-take k bytes
 
 -- the same lines, but for the first, of which no more than counts is the same
 abbrev FirstAlike : List (List ℕ) → List (List ℕ) → Type 0
 FirstAlike [] [] = ⊤
 FirstAlike [] (k ∷ ks) = ⊥
 FirstAlike (l ∷ ls) [] = ⊥
-FirstAlike (l ∷ ls) (k ∷ ks) = (take 1048577 l ≡ take 1048577 k) × (ls ≡ ks)
+FirstAlike (l ∷ ls) (k ∷ ks) = (kept l ≡ kept k) × (ls ≡ ks)
 
-ended_alike : (l k bytes : List ℕ) → take 1048577 l ≡ take 1048577 k → FirstAlike (ended_from l bytes) (ended_from k bytes)
+ended_alike : (l k bytes : List ℕ) → kept l ≡ kept k → FirstAlike (ended_from l bytes) (ended_from k bytes)
 ended_alike l k [] e = tt
 ended_alike l k (b ∷ bs) e = elim (b == 10) as (λ v. FirstAlike (if v then l ∷ ended_from [] bs else ended_from (l ++ b ∷ []) bs) (if v then k ∷ ended_from [] bs else ended_from (k ++ b ∷ []) bs)) [
   | true ↦ (e, refl)
-  | false ↦ ended_alike (l ++ b ∷ []) (k ++ b ∷ []) bs (sym (cut_push 1048577 l (b ∷ [])) ∙ ap (λ j. take 1048577 (j ++ b ∷ [])) e ∙ cut_push 1048577 k (b ∷ []))
+  | false ↦ ended_alike (l ++ b ∷ []) (k ++ b ∷ []) bs (sym (kept-append l (b ∷ [])) ∙ ap (λ j. kept (j ++ b ∷ [])) e ∙ kept-append k (b ∷ []))
 ]
 
-last_line_alike : (l k : List ℕ) → take 1048577 l ≡ take 1048577 k → FirstAlike (last_line l) (last_line k)
+last_line_alike : (l k : List ℕ) → kept l ≡ kept k → FirstAlike (last_line l) (last_line k)
 last_line_alike [] [] e = tt
-last_line_alike [] (b ∷ k) e = absurd (kept_byte 1048577 b k (lit< tt) (sym e))
-last_line_alike (b ∷ l) [] e = absurd (kept_byte 1048577 b l (lit< tt) e)
+last_line_alike [] (b ∷ k) e = absurd (kept-some b k (sym e ∙ kept-none))
+last_line_alike (b ∷ l) [] e = absurd (kept-some b l (e ∙ kept-none))
 last_line_alike (b ∷ l) (c ∷ k) e = (e, refl)
 
 -- lines that are alike as far as counts have the same moves
 module _ (one : Table → List ℕ → List Step) (h : IsCut one) where
-  alike_moves : (t : Table) (l k : List ℕ) → take 1048577 l ≡ take 1048577 k → one t l ≡ one t k
+  alike_moves : (t : Table) (l k : List ℕ) → kept l ≡ kept k → one t l ≡ one t k
   alike_moves t l k e = sym (h.same t l) ∙ ap (one t) e ∙ h.same t k
 
   script_moves-alike : (t : Table) (ls ks : List (List ℕ)) → FirstAlike ls ks → script_moves one t ls ≡ script_moves one t ks
@@ -82,14 +78,14 @@ module _ (one : Table → List ℕ → List Step) (h : IsCut one) where
       ∙ sym (script_moves-append one s ls ms)
 
   -- the moves of two pieces, one after the other
-  moves_to_both : (s t : Table) (l k xs ys : List ℕ) → t ≡ left_by s (script_moves one s (ended_from l xs)) → take 1048577 k ≡ take 1048577 (rest_from l xs)
+  moves_to_both : (s t : Table) (l k xs ys : List ℕ) → t ≡ left_by s (script_moves one s (ended_from l xs)) → kept k ≡ kept (rest_from l xs)
       → script_moves one s (ended_from l xs) ++ script_moves one t (ended_from k ys) ≡ script_moves one s (ended_from l (xs ++ ys))
   moves_to_both s t l k xs ys is alike =
       moves_behind s t (ended_from l xs) (ended_from k ys) (ended_from (rest_from l xs) ys) is (ended_alike k (rest_from l xs) ys alike)
       ∙ ap (script_moves one s) (sym (ended_from-append l xs ys))
 
   -- and those of the last line after a text
-  moves_to_all : (s t : Table) (l bytes : List ℕ) → t ≡ left_by s (script_moves one s (ended_from [] bytes)) → take 1048577 l ≡ take 1048577 (rest_from [] bytes)
+  moves_to_all : (s t : Table) (l bytes : List ℕ) → t ≡ left_by s (script_moves one s (ended_from [] bytes)) → kept l ≡ kept (rest_from [] bytes)
       → script_moves one s (ended_from [] bytes) ++ script_moves one t (last_line l) ≡ script_moves one s (all_lines bytes)
   moves_to_all s t l bytes is alike =
       moves_behind s t (ended_from [] bytes) (last_line l) (last_line (rest_from [] bytes)) is (last_line_alike l (rest_from [] bytes) alike)
@@ -100,16 +96,16 @@ module _ (one : Table → List ℕ → List Step) (h : IsCut one) where
 pub fed_more : {one : Table → List ℕ → List Step} {s t u : Table} {l k j xs ys : List ℕ} {a b c : Option (List ℕ)} → IsCut one → Fed one s t l k xs a b → Fed one t u k j ys b c → Fed one s u l j (xs ++ ys) a c
 fed_more {one} {s} {t} {u} {l} {k} {j} {xs} {ys} {a} {b} {c} h first second = record {
   made = subst (λ ms. Makes s u ms a c) (moves_to_both one h s t l k xs ys first.made.table first.begun) (makes_more first.made second.made);
-  begun = second.begun ∙ alike_rest k (rest_from l xs) ys first.begun ∙ ap (take 1048577) (sym (rest_from-append l xs ys));
+  begun = second.begun ∙ alike_rest k (rest_from l xs) ys first.begun ∙ ap kept (sym (rest_from-append l xs ys));
 }
 
 -- a byte that is no line feed goes on with the line
-pub fed_other : (one : Table → List ℕ → List Step) (s : Table) (l k : List ℕ) (b : ℕ) (a : Option (List ℕ)) → b ≢ 10 → k ≡ take 1048577 (l ++ b ∷ []) → Fed one s s l k (b ∷ []) a a
+pub fed_other : (one : Table → List ℕ → List Step) (s : Table) (l k : List ℕ) (b : ℕ) (a : Option (List ℕ)) → b ≢ 10 → k ≡ kept (l ++ b ∷ []) → Fed one s s l k (b ∷ []) a a
 fed_other one s l k b a other is =
     let no : (b == 10) ≡ false = grind arith in
     record {
       made = rw no (makes_none s a);
-      begun = rw (no, is) (take-take-same 1048577 (l ++ b ∷ []));
+      begun = rw (no, is) (kept-kept (l ++ b ∷ []));
     }
 
 -- the one line that a line feed ends has its moves
@@ -120,7 +116,7 @@ moves_of_feed one s l k b is feed = ap (one s) is ∙ sym (append-nil (one s l))
 pub fed_feed : (one : Table → List ℕ → List Step) (s t : Table) (l k rest : List ℕ) (b : ℕ) (a c : Option (List ℕ)) → k ≡ l → b ≡ 10 → rest ≡ [] → Makes s t (one s k) a c → Fed one s t l rest (b ∷ []) a c
 fed_feed one s t l k rest b a c is feed none made = record {
   made = subst (λ ms. Makes s t ms a c) (moves_of_feed one s l k b is feed) made;
-  begun = ap (take 1048577) (none ∙ ap (λ x. rest_from l (x ∷ [])) (sym feed));
+  begun = ap kept (none ∙ ap (λ x. rest_from l (x ∷ [])) (sym feed));
 }
 
 -- one byte more of a piece was taken
@@ -201,7 +197,7 @@ fails_at_end {one} {s} {t} {u} {l} {bytes} {a} {b} {c} h first broke =
       table = t;
       middle = b;
       made = makes_whole first;
-      broke = subst (λ ms. BreaksOff u ms b c) (script_moves-alike one h t (last_line l) (last_line last) (last_line_alike l last (first.begun ∙ ap (take 1048577) (rest_from-start bytes)))) broke;
+      broke = subst (λ ms. BreaksOff u ms b c) (script_moves-alike one h t (last_line l) (last_line last) (last_line_alike l last (first.begun ∙ ap kept (rest_from-start bytes)))) broke;
     }
 
 -- a last line, of which something stands, was carried out

@@ -1,13 +1,14 @@
 -- Lines that are gathered byte by byte, and what of a line counts.
-use Rattle.std.proofs.Common.{◌≡◌, ℕ, ◌+◌, ◌<◌, ◌≤◌, List, [], ◌∷◌, ◌++◌, length, take, refl, sym, ◌∙◌, ap, inl, inr, arith, true, false, ◌==◌, if◌then◌else◌, append_assoc, append-nil, take_all}
+use Rattle.std.proofs.Common.{◌≡◌, ℕ, ◌+◌, ◌<◌, ◌≤◌, List, [], ◌∷◌, ◌++◌, length, take, refl, sym, ◌∙◌, ap, inl, inr, arith, true, false, ◌==◌, if◌then◌else◌, append_assoc, append-nil, take_all, length-take, lit<}
 use Rattle.std.proofs.lemmas.Grind.{common_steps}
 use Rattle.std.proofs.lemmas.Bool.{cases_lt}
 use Rattle.std.proofs.lemmas.List.{take-take}
 use Rattle.text_rules.specs.TextLines.{cut, with_byte, whole_lines}
+use Rattle.script_lang.specs.declared.limits.TheConstants.{LINE_LIMIT}
 use Rattle.script_lang.specs.Script.{line_of}
 use Rattle.script_lang.proofs.LineLemmas.{line_of-too_long}
 use Rattle.session_core.specs.Services.{Shown, exact_moves, moves_of}
-use Rattle.session_core.specs.inner.Gathering.{ended_from, rest_from, IsCut}
+use Rattle.session_core.specs.inner.Gathering.{ended_from, rest_from, kept, IsCut}
 
 onto : List ℕ → List (List ℕ) → List (List ℕ)
 onto line [] = []
@@ -66,27 +67,56 @@ is_short : (n : ℕ) (line : List ℕ) → length line ≤ n → take (n + 1) li
 is_short n line short = grind (arith, common_steps)
 
 -- how much of a line is kept past the limit does not matter
-pub line_of-take : (line : List ℕ) → line_of (take 1048577 line) ≡ line_of line
-line_of-take line = elim (cases_lt 1048576 (length line)) [
-  | inl long ↦ line_of-too_long (take 1048577 line) (is_long 1048576 line long) ∙ sym (line_of-too_long line long)
-  | inr short ↦ ap line_of (is_short 1048576 line short)
+pub line_of-kept : (line : List ℕ) → line_of (kept line) ≡ line_of line
+unfolding kept
+line_of-kept line = elim (cases_lt LINE_LIMIT (length line)) [
+  | inl long ↦ line_of-too_long (take (LINE_LIMIT + 1) line) (is_long LINE_LIMIT line long) ∙ sym (line_of-too_long line long)
+  | inr short ↦ ap line_of (is_short LINE_LIMIT line short)
 ]
 
 -- and so the moves of a service are the same
 pub moves_are_cut : (shown : Shown) → IsCut (moves_of shown)
-moves_are_cut shown = record { same = λ table line. ap (exact_moves shown table) (line_of-take line) }
+moves_are_cut shown = record { same = λ table line. ap (exact_moves shown table) (line_of-kept line) }
 
-pub take-take-same : (m : ℕ) (line : List ℕ) → take m (take m line) ≡ take m line
-take-take-same m line = take-take m m line (omega arith)
+-- ---- of any number of bytes
 
-pub cut_push : (m : ℕ) (line ys : List ℕ) → take m (take m line ++ ys) ≡ take m (line ++ ys)
+cut_push : (m : ℕ) (line ys : List ℕ) → take m (take m line ++ ys) ≡ take m (line ++ ys)
 cut_push m line ys = elim (cases_lt m (length line)) [
   | inl long ↦ grind (arith, common_steps)
   | inr short ↦ rw (take_all m line short)
 ]
 
-pub push_room : (m : ℕ) (line : List ℕ) (b : ℕ) → length line < m → take m (line ++ b ∷ []) ≡ line ++ b ∷ []
+push_room : (m : ℕ) (line : List ℕ) (b : ℕ) → length line < m → take m (line ++ b ∷ []) ≡ line ++ b ∷ []
 push_room m line b less = grind (arith, common_steps)
 
-pub push_full : (m : ℕ) (line : List ℕ) (b : ℕ) → length line ≡ m → take m (line ++ b ∷ []) ≡ line
+push_full : (m : ℕ) (line : List ℕ) (b : ℕ) → length line ≡ m → take m (line ++ b ∷ []) ≡ line
 push_full m line b same = grind (arith, common_steps)
+
+some_kept : (n b : ℕ) (line : List ℕ) → 0 < n → take n (b ∷ line) ≡ [] → ⊥
+some_kept n b line some e = omega (arith, ap length e, length-take n (b ∷ line), some)
+
+-- ---- what is kept of a line
+
+pub kept-kept : (line : List ℕ) → kept (kept line) ≡ kept line
+unfolding kept
+kept-kept line = take-take (LINE_LIMIT + 1) (LINE_LIMIT + 1) line (omega arith)
+
+pub kept-none : kept [] ≡ []
+unfolding kept
+kept-none = refl
+
+pub kept-append : (line ys : List ℕ) → kept (kept line ++ ys) ≡ kept (line ++ ys)
+unfolding kept
+kept-append line ys = cut_push (LINE_LIMIT + 1) line ys
+
+pub kept-some : (b : ℕ) (line : List ℕ) → kept (b ∷ line) ≡ [] → ⊥
+unfolding kept
+kept-some b line e = some_kept (LINE_LIMIT + 1) b line (lit< tt) e
+
+pub kept-room : (line : List ℕ) (b : ℕ) → length line < LINE_LIMIT + 1 → kept (line ++ b ∷ []) ≡ line ++ b ∷ []
+unfolding kept
+kept-room line b less = push_room (LINE_LIMIT + 1) line b less
+
+pub kept-full : (line : List ℕ) (b : ℕ) → length line ≡ LINE_LIMIT + 1 → kept (line ++ b ∷ []) ≡ line
+unfolding kept
+kept-full line b same = push_full (LINE_LIMIT + 1) line b same

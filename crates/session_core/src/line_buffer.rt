@@ -1,4 +1,5 @@
-ghost use Rattle.std.specs.Prelude.{◌≡◌, ◌≤◌, [], ◌∷◌, ◌++◌, take, IfOk};
+ghost use Rattle.std.specs.Prelude.{◌≡◌, ◌≤◌, [], ◌∷◌, ◌++◌, IfOk};
+ghost use Rattle.session_core.specs.inner.Gathering.{kept};
 
 use script_lang::LINE_LIMIT;
 use std::alloc::{AllocError, Global};
@@ -14,13 +15,14 @@ pub struct LineBuffer {
 }
 
 impl Model for LineBuffer {
-    ghost use Rattle.std.specs.Prelude.{ℕ, List, ◌≤◌, vec_len, vec_capacity};
+    ghost use Rattle.std.specs.Prelude.{ℕ, List, ◌+◌, ◌≤◌, vec_len, vec_capacity};
+    ghost use Rattle.script_lang.specs.declared.limits.TheConstants.{LINE_LIMIT};
 
     ghost Value = { List ℕ };
 
     ghost view = { λ g. g.bytes.items };
 
-    ghost invariant = { λ g. (vec_len g.bytes ≤ 1048577) × (1048577 ≤ vec_capacity g.bytes) };
+    ghost invariant = { λ g. (vec_len g.bytes ≤ LINE_LIMIT + 1) × (LINE_LIMIT + 1 ≤ vec_capacity g.bytes) };
 }
 
 impl LineBuffer {
@@ -34,7 +36,7 @@ impl LineBuffer {
 
     /// Adds a byte, or drops it where the line is past the longest.
     pub fn push(&mut self, byte: u8)
-        ensures { self.new ≡ take 1048577 (self.old ++ byte ∷ []) }
+        ensures { self.new ≡ kept (self.old ++ byte ∷ []) }
     {
         if self.bytes.len() < ROOM {
             self.bytes.push(byte).unwrap();

@@ -1,5 +1,6 @@
 -- Bytes of a script that are taken piece by piece, and the beginning of a line that is gathered from them.
-use Rattle.std.specs.Prelude.{◌≡◌, ℕ, List, [], ◌∷◌, ◌++◌, take, Option, ◌==◌, if◌then◌else◌}
+use Rattle.std.specs.Prelude.{◌≡◌, ℕ, ◌+◌, List, [], ◌∷◌, ◌++◌, take, Option, ◌==◌, if◌then◌else◌}
+use Rattle.script_lang.specs.declared.limits.TheConstants.{LINE_LIMIT}
 use Rattle.session_rules.specs.Sessions.{Table, Step}
 use Rattle.session_rules.specs.Moves.{script_moves}
 use Rattle.session_rules.specs.Carrying.{Makes}
@@ -14,12 +15,15 @@ abbrev pub rest_from : List ℕ → List ℕ → List ℕ
 rest_from line [] = line
 rest_from line (byte ∷ bytes) = if byte == 10 then rest_from [] bytes else rest_from (line ++ byte ∷ []) bytes
 
--- of a line no more counts than one byte past the longest
+-- what of a line counts: no more than one byte past the longest
+unfoldable pub kept : List ℕ → List ℕ
+kept line = take (LINE_LIMIT + 1) line
+
 pub record IsCut (one : Table → List ℕ → List Step) : Type 0 where
-  pub same : (table : Table) (line : List ℕ) → one table (take 1048577 line) ≡ one table line
+  pub same : (table : Table) (line : List ℕ) → one table (kept line) ≡ one table line
 
 -- Bytes were taken after the beginning of a line: the moves of the lines that they end were made, and the beginning of a
 -- line stands again.
 pub record Fed (one : Table → List ℕ → List Step) (old new : Table) (line rest bytes : List ℕ) (before after : Option (List ℕ)) : Type 0 where
   pub made : Makes old new (script_moves one old (ended_from line bytes)) before after
-  pub begun : take 1048577 rest ≡ take 1048577 (rest_from line bytes)
+  pub begun : kept rest ≡ kept (rest_from line bytes)

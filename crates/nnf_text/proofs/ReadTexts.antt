@@ -1,10 +1,11 @@
 -- What is known of the graph that a text is read as.
 use Rattle.std.proofs.Common.{◌≡◌, ℕ, zero, suc, ◌+◌, ◌-◌, ◌*◌, ◌^◌, ◌<◌, ◌≤◌, Bool, true, false, not, cond, ◌==◌, List, [], ◌∷◌, ◌++◌, map, length, Option, Some, None, Ok, Err, codes, refl, sym, ap, ◌∙◌, subst, arith, inl, inr}
 use Rattle.std.specs.Prelude.{nat_lt}
-use Rattle.std.specs.List.{list_all, filter, filter_map, cons_option, enumerate_from}
+use Rattle.std.specs.List.{list_all, filter_map, cons_option, enumerate_from}
 use Rattle.std.proofs.lemmas.Bool.{and_from, eqb-true, eq-eqb, lt-ltb, not-false}
 use Rattle.std.proofs.lemmas.List.{length-map}
 use Rattle.std.proofs.lemmas.List.FromFn.{length-enumerate_from}
+use Rattle.std.proofs.lemmas.List.Sums.{length-filter, count_by-le-length}
 use Rattle.text_rules.specs.Names.{same_name}
 use Rattle.text_rules.specs.TextLines.{all_lines}
 use Rattle.text_rules.specs.Tokens.{words}
@@ -129,13 +130,6 @@ nodes-from vars own (l ∷ lines) e =
 
 -- ---- a text
 
-length-filter : {A : Type 0} (p : A → Bool) (xs : List A) → length (filter p xs) ≤ length xs
-length-filter p [] = omega arith
-length-filter p (x ∷ xs) = by_test (p x) (length-filter p xs) where
-  by_test : (b : Bool) → length (filter p xs) ≤ length xs → length (cond b (x ∷ filter p xs) (filter p xs)) ≤ suc (length xs)
-  by_test true h = omega arith
-  by_test false h = omega arith
-
 length-filter_map : {A B : Type 0} (h : A → Option B) (xs : List A) → length (filter_map h xs) ≤ length xs
 length-filter_map h [] = omega arith
 length-filter_map h (x ∷ xs) = by_option (h x) (length-filter_map h xs) where
@@ -228,7 +222,7 @@ IsParsed-from text graph e =
     let p = IsParsed-lines (filled_lines text) graph e in
     record {
       some = p.some;
-      few = omega (arith, p.few, length-filter has_words (enumerate_from 1 (map words (all_lines text))), length-enumerate_from 1 (map words (all_lines text)), length-map (all_lines text) words, length-all_lines text);
+      few = omega (arith, p.few, length-filter has_words (enumerate_from 1 (map words (all_lines text))), count_by-le-length has_words (enumerate_from 1 (map words (all_lines text))), length-enumerate_from 1 (map words (all_lines text)), length-map (all_lines text) words, length-all_lines text);
       vars_fit = p.vars_fit;
       fit = p.fit;
     }

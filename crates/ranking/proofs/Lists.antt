@@ -1,8 +1,9 @@
 -- Lists of any items.
-use Rattle.std.proofs.Common.{◌≡◌, ℕ, zero, suc, ◌<◌, Bool, true, ◌||◌, List, [], ◌∷◌, ◌++◌, map, length, get_or, refl, ap, ◌∙◌, arith}
-use Rattle.std.specs.List.{list_any, list_all, flat_map, AllByRecursion}
+use Rattle.std.proofs.Common.{◌≡◌, ℕ, zero, suc, ◌<◌, ◌≤◌, Bool, true, ◌||◌, List, [], ◌∷◌, ◌++◌, map, length, get_or, refl, ap, ◌∙◌, arith}
+use Rattle.std.specs.List.{filter, list_any, list_all, flat_map, AllByRecursion}
 use Rattle.std.proofs.lemmas.Bool.{and_parts}
 use Rattle.std.proofs.lemmas.List.{map-append}
+use Rattle.std.proofs.lemmas.List.Sums.{length-filter, count_by-le-length}
 
 pub list_any-map : {A B : Type 0} (p : B → Bool) (f : A → B) (xs : List A) → list_any p (map f xs) ≡ list_any (λ x. p (f x)) xs
 list_any-map p f [] = refl
@@ -12,6 +13,9 @@ pub list_all-at : {A : Type 0} (p : A → Bool) (xs : List A) (i : ℕ) (d : A) 
 list_all-at p [] i d all lt = absurd (omega arith)
 list_all-at p (x ∷ xs) zero d all lt = (and_parts (p x) (list_all p xs) all).0
 list_all-at p (x ∷ xs) (suc i) d all lt = list_all-at p xs i d (and_parts (p x) (list_all p xs) all).1 (omega arith)
+
+pub length-filter-le : {A : Type 0} (p : A → Bool) (xs : List A) → length (filter p xs) ≤ length xs
+length-filter-le p xs = omega (arith, length-filter p xs, count_by-le-length p xs)
 
 pub map-flat_map : {A B C : Type 0} (f : B → C) (g : A → List B) (xs : List A) → map f (flat_map g xs) ≡ flat_map (λ x. map f (g x)) xs
 map-flat_map f g [] = refl

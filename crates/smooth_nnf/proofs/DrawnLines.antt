@@ -10,6 +10,7 @@ use Rattle.ranking.specs.Bits.{same_bit}
 use Rattle.ranking.specs.Assignments.{Assignment}
 use Rattle.ranking.specs.Values.{values}
 use Rattle.ranking.proofs.Members.{In}
+use Rattle.ranking.proofs.Lists.{length-filter-le}
 use Rattle.graph_rules.specs.declared.TheConstants.{CHILD_LIMIT}
 use Rattle.graph_rules.specs.declared.NodeKind.{NodeKind}
 use Rattle.graph_rules.specs.declared.NodeKind.TheVariants.{Literal, And, Or}
@@ -55,13 +56,6 @@ same-const false (k ∷ kids) = all_false kids where
   all_false : (kids : List ℕ) → list_all (same_bit false) (map (λ k. false) kids) ≡ true
   all_false [] = refl
   all_false (j ∷ kids) = all_false kids
-
-pub length-filter-le : {A : Type 0} (p : A → Bool) (xs : List A) → length (filter p xs) ≤ length xs
-length-filter-le p [] = omega arith
-length-filter-le {A} p (x ∷ xs) = by_test (length-filter-le p xs) (p x) where
-  by_test : length (filter p xs) ≤ length xs → (b : Bool) → length (cond b (x ∷ filter p xs) (filter p xs)) ≤ length (x ∷ xs)
-  by_test le true = omega arith
-  by_test le false = omega arith
 
 one_alone : (b : Bool) → at_most_one (b ∷ []) ≡ true
 one_alone true = refl

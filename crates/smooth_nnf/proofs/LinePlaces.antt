@@ -4,6 +4,7 @@ use Rattle.std.specs.Prelude.{◌⊎◌}
 use Rattle.std.proofs.lemmas.Bool.{cond-true, eq-eqb, ne_eqb, cases_eq}
 use Rattle.std.proofs.lemmas.List.Filters.{length-filter_more}
 use Rattle.std.proofs.lemmas.List.Sums.{sum_by-cons}
+use Rattle.ranking.proofs.Lists.{length-filter-le}
 use Rattle.graph_rules.specs.declared.NodeKind.{NodeKind}
 use Rattle.graph_rules.specs.declared.NodeKind.TheVariants.{Literal, And, Or}
 use Rattle.graph_rules.specs.Graphs.{Node, node_at}
@@ -13,7 +14,6 @@ use Rattle.minimiser.specs.Stored.{cost_in}
 use Rattle.minimiser.proofs.Sums.{cost_at-map, cost_in-some}
 use Rattle.smooth_nnf.specs.Layouts.{costs_just, cheapest_kids, lines_before, lines_to, own_lines}
 use Rattle.smooth_nnf.specs.inner.Drawings.{lines_after}
-use Rattle.smooth_nnf.proofs.DrawnLines.{length-filter-le}
 
 -- ---- kids of a cost
 

@@ -30,12 +30,13 @@ use Rattle.graph_rules.specs.StateGraphs.{IsSmoothGraphOfStates}
 use Rattle.smooth_nnf.specs.Layouts.{Layout, own_lines, layout_of, literal_pairs, lines_before, lines_to, node_lines, last_at, last_line, all_lines, least_graph, least_text}
 use Rattle.minimiser.specs.Stored.{cost_in, costs_to, AreLeastCosts}
 use Rattle.std.proofs.Math.Seq.{take-length}
+use Rattle.ranking.proofs.Lists.{length-filter-le}
 use Rattle.smooth_nnf.specs.inner.Drawings.{lines_after}
 use Rattle.smooth_nnf.proofs.LinePlaces.{lines_after-le}
 use Rattle.smooth_nnf.proofs.Standing.{value_of-there, Stand, MayFollow, stand-behind}
 use Rattle.smooth_nnf.proofs.Meaning.{Means}
 use Rattle.smooth_nnf.proofs.Fillers.{length-literal_pairs}
-use Rattle.smooth_nnf.proofs.DrawnLines.{length-filter-le, Means-same, Drawn, over-mention, over-follows, over-means, length-lines, body, all-drawn}
+use Rattle.smooth_nnf.proofs.DrawnLines.{Means-same, Drawn, over-mention, over-follows, over-means, length-lines, body, all-drawn}
 
 module _ (graph : Graph) (words costs : List ℕ) (ok : IsGraph graph) (long : length words ≡ graph.vars) (within : length costs ≤ graph.vars) (dear : All (λ c. 0 < c) costs)
     (small : length graph.nodes + edges graph.nodes + 2 * length costs + 1 < 2 ^ 32) where

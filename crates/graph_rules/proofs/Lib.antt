@@ -1,4 +1,5 @@
 mod Examples
+pub mod WordBits
 pub mod NodeValues
 pub mod NodesFit
 pub mod Kids

@@ -1,3 +1,4 @@
+pub mod WordBits
 pub mod Graphs
 pub mod GraphTexts
 pub mod WrittenGraphs

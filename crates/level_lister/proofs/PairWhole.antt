@@ -2,11 +2,12 @@
 use Rattle.std.proofs.Common.{◌≡◌, ℕ, ◌+◌, ◌-◌, ◌*◌, ◌<◌, ◌≤◌, true, List, length, sym, ◌∙◌, subst, arith}
 use Rattle.ranking.specs.Assignments.{Assignment}
 use Rattle.graph_rules.specs.Graphs.{Graph, IsGraph, is_true}
+use Rattle.graph_rules.specs.WordBits.{has_bit}
 use Rattle.minimiser.proofs.Whole.{state_of, assignment_of}
 use Rattle.level_lister.specs.declared.pairs.Pair.{Pair}
 use Rattle.level_lister.specs.declared.pairs.Groups.{Groups}
 use Rattle.level_lister.specs.inner.CostSets.{cost_among}
-use Rattle.level_lister.specs.inner.Pairs.{has_bit, TellsWhole, FaultOf, group_count}
+use Rattle.level_lister.specs.inner.Pairs.{TellsWhole, FaultOf, group_count}
 use Rattle.level_lister.specs.inner.Searching.{HasCost}
 use Rattle.level_lister.specs.inner.Skips.{living, IsEnough}
 use Rattle.level_lister.proofs.Living.{living-true}

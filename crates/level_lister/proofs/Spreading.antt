@@ -2,22 +2,13 @@
 use Rattle.std.proofs.Common.{◌≡◌, ℕ, ◌+◌, ◌-◌, ◌*◌, ◌/◌, ◌%◌, ◌^◌, ◌<◌, ◌≤◌, true, false, ap, sym, ◌∙◌, arith, inl, inr, ⊎_elim, bit_or}
 use Rattle.std.specs.Prelude.{◌⊎◌, ◌==◌}
 use Rattle.std.specs.Int.{bit_at}
-use Rattle.std.proofs.lemmas.Nat.{pow_pos, one_shl}
-use Rattle.std.proofs.lemmas.Nat.Bits.{bit_at-zero, bit_at-pow_same, bit_at-pow_other, bit_at_cat_low, bit_at_cat_high, bit_at_above}
-use Rattle.std.proofs.lemmas.Bool.{cases_eq, cases_lt, or_cases, or_left, or_right, eq-eqb, ne_eqb, false≢true}
-use Rattle.level_lister.specs.inner.Pairs.{has_bit, SpreadOf, IsSpread}
-use Rattle.part_sets.proofs.SetBits.{or-bit}
+use Rattle.std.proofs.lemmas.Nat.{pow_pos}
+use Rattle.std.proofs.lemmas.Nat.Bits.{bit_at-zero, bit_at_cat_low, bit_at_cat_high, bit_at_above}
+use Rattle.std.proofs.lemmas.Bool.{cases_lt, or_cases, or_left, or_right, false≢true}
+use Rattle.graph_rules.specs.WordBits.{has_bit}
+use Rattle.graph_rules.proofs.WordBits.{has_bit-zero, has_bit-or}
+use Rattle.level_lister.specs.inner.Pairs.{SpreadOf, IsSpread}
 use Rattle.level_lister.proofs.SetBits.{no_high}
-
-pub no_bit : (n : ℕ) → has_bit 0 n ≡ false
-no_bit n = ap (λ b. b == 1) (bit_at-zero n)
-
--- one bit alone
-pub one_bit : (k n : ℕ) → k < 32 → has_bit (1 * 2 ^ k % 4294967296) n ≡ (n == k)
-one_bit k n h = ap (λ w. bit_at w n == 1) (one_shl k 32 h) ∙ ⊎_elim
-    (λ e. ap (λ m. bit_at (2 ^ k) m == 1) e ∙ ap (λ b. b == 1) (bit_at-pow_same k) ∙ sym (eq-eqb n k e))
-    (λ ne. ap (λ b. b == 1) (bit_at-pow_other k n ne) ∙ sym (ne_eqb n k ne))
-    (cases_eq n k)
 
 -- a word has no bit from 32 on
 pub bit-within : (w n : ℕ) → w < 2 ^ 32 → has_bit w n ≡ true → n < 32
@@ -42,7 +33,7 @@ moved_low x k b lt h =
 module _ (left right step : ℕ) where
   pub spread_none : IsSpread left right step 0 0
   spread_none = record {
-    sound = λ m e. absurd (false≢true (sym (no_bit m) ∙ e));
+    sound = λ m e. absurd (false≢true (sym (has_bit-zero m) ∙ e));
     whole = λ m j e lt f h. absurd (omega arith);
   }
 
@@ -71,8 +62,8 @@ module _ (left right step : ℕ) where
   pub spread_more : (count set : ℕ) → has_bit right count ≡ true → IsSpread left right step count set
       → IsSpread left right step (count + 1) (bit_or set (left * 2 ^ (step * count) % 4294967296))
   spread_more count set some is = record {
-    sound = λ m e. ⊎_elim (λ p. wider count m (is.sound m p)) (λ p. by_place m p (cases_lt m (step * count))) (or_cases _ _ (sym (or-bit set moved m) ∙ e));
-    whole = λ m j e lt f h. or-bit set moved (m + step * j) ∙ ⊎_elim
+    sound = λ m e. ⊎_elim (λ p. wider count m (is.sound m p)) (λ p. by_place m p (cases_lt m (step * count))) (or_cases _ _ (sym (has_bit-or set moved m) ∙ e));
+    whole = λ m j e lt f h. has_bit-or set moved (m + step * j) ∙ ⊎_elim
         (λ (p : j < count). or_left _ _ (is.whole m j e p f h))
         (λ (p : count ≤ j). let same : j ≡ count = omega arith in or_right _ _ (at_end m j same e h))
         (cases_lt j count);

@@ -7,14 +7,14 @@ use Rattle.ranking.specs.Cases.{agrees_at}
 use Rattle.ranking.specs.Bits.{same_bit}
 use Rattle.ranking.proofs.Bits.{not_left}
 use Rattle.ranking.proofs.Cases.{agrees_cond}
+use Rattle.graph_rules.specs.WordBits.{has_bit}
+use Rattle.graph_rules.proofs.WordBits.{has_bit-zero, one_bit, has_bit-or}
 use Rattle.minimiser.specs.Costs.{known_at}
 use Rattle.level_lister.specs.declared.pairs.Pair.{Pair}
 use Rattle.level_lister.specs.inner.CostSets.{cost_among, Follows}
-use Rattle.level_lister.specs.inner.Pairs.{has_bit, SpreadOf, IsSpread, Meets, AreCosts, HasFault, Tells}
-use Rattle.part_sets.proofs.SetBits.{or-bit}
+use Rattle.level_lister.specs.inner.Pairs.{SpreadOf, IsSpread, Meets, AreCosts, HasFault, Tells}
 use Rattle.level_lister.proofs.Among.{among-same, among-none, among-apart, among-one}
 use Rattle.level_lister.proofs.Reaching.{usual, usual-follows, set_to, set_to-here, set_to-follows}
-use Rattle.level_lister.proofs.Spreading.{no_bit, one_bit}
 use Rattle.part_sets.proofs.Kids.{room_for}
 
 -- ---- one word
@@ -58,8 +58,8 @@ module _ (words costs : List ℕ) (top step first : ℕ) where
     sound = λ n le e. ⊎_elim
         (λ p. let m = is_p.sound n le p in record { by = m.by; follows = m.follows; holds = inl m.holds; cost_is = m.cost_is })
         (λ q. let m = is_q.sound n le q in record { by = m.by; follows = m.follows; holds = inr m.holds; cost_is = m.cost_is })
-        (or_cases _ _ (sym (or-bit left right (step * n + first)) ∙ e));
-    whole = λ a f s le. or-bit left right (step * cost_among some a 1 costs + first) ∙ ⊎_elim
+        (or_cases _ _ (sym (has_bit-or left right (step * n + first)) ∙ e));
+    whole = λ a f s le. has_bit-or left right (step * cost_among some a 1 costs + first) ∙ ⊎_elim
         (λ p. or_left _ _ (is_p.whole a f p le))
         (λ q. or_right _ _ (is_q.whole a f q le)) s;
   }
@@ -199,8 +199,8 @@ module _ (words costs : List ℕ) (top step : ℕ) (group : ℕ → ℕ → Bool
   pub tells_none : (t : Assignment → Bool) (some : ℕ → Bool) → ((a : Assignment) → Follows words a → t a ≡ true → ⊥) → ((a b : Assignment) → ((v : ℕ) → some v ≡ true → a v ≡ b v) → t a ≡ t b)
       → Tells words costs top step group t some (record { costs = 0; faults = 0 })
   tells_none t some none local = record {
-    cost_bits = record { sound = λ n le e. absurd (false≢true (sym (no_bit (1 * n + 0)) ∙ e)); whole = λ a f e le. absurd (none a f e) };
-    fault_bits = λ g lt. record { sound = λ n le e. absurd (false≢true (sym (no_bit (step * n + g)) ∙ e)); whole = λ a f e le. absurd (none a f e.0) };
+    cost_bits = record { sound = λ n le e. absurd (false≢true (sym (has_bit-zero (1 * n + 0)) ∙ e)); whole = λ a f e le. absurd (none a f e) };
+    fault_bits = λ g lt. record { sound = λ n le e. absurd (false≢true (sym (has_bit-zero (step * n + g)) ∙ e)); whole = λ a f e le. absurd (none a f e.0) };
     local = local;
   }
 
@@ -209,12 +209,12 @@ module _ (words costs : List ℕ) (top step : ℕ) (group : ℕ → ℕ → Bool
   tells_true = record {
     cost_bits = record {
       sound = λ n le e.
-          let zero : n ≡ 0 = omega (arith, eqb-true (1 * n + 0) 0 (sym (one_bit 0 (1 * n + 0) (omega arith)) ∙ e)) in
+          let zero : n ≡ 0 = omega (arith, eqb-true (1 * n + 0) 0 (sym (one_bit 32 0 (1 * n + 0) (omega arith)) ∙ e)) in
           record { by = usual words costs; follows = usual-follows words costs; holds = refl; cost_is = among-none (usual words costs) 1 costs ∙ sym zero };
-      whole = λ a f e le. one_bit 0 _ (omega arith) ∙ eq-eqb _ 0 (omega (arith, among-none a 1 costs));
+      whole = λ a f e le. one_bit 32 0 _ (omega arith) ∙ eq-eqb _ 0 (omega (arith, among-none a 1 costs));
     };
     fault_bits = λ g lt. record {
-      sound = λ n le e. absurd (false≢true (sym (no_bit (step * n + g)) ∙ e));
+      sound = λ n le e. absurd (false≢true (sym (has_bit-zero (step * n + g)) ∙ e));
       whole = λ a f e le. absurd (false≢true e.1.among);
     };
     local = λ a b h. refl;
@@ -232,13 +232,13 @@ module _ (words costs : List ℕ) (top step : ℕ) (group : ℕ → ℕ → Bool
     tells_ok allowed = record {
       cost_bits = record {
         sound = λ n le e.
-            let zero : n ≡ 0 = omega (arith, eqb-true (1 * n + 0) 0 (sym (one_bit 0 (1 * n + 0) (omega arith)) ∙ e)) in
+            let zero : n ≡ 0 = omega (arith, eqb-true (1 * n + 0) 0 (sym (one_bit 32 0 (1 * n + 0) (omega arith)) ∙ e)) in
             let by' = set_to words costs var true (usual words costs) in
             record { by = by'; follows = set_to-follows words costs var true (usual words costs) (usual-follows words costs) allowed; holds = set_to-here words costs var true (usual words costs); cost_is = own_cost true by' (set_to-here words costs var true (usual words costs)) ∙ sym zero };
-        whole = λ a f e le. one_bit 0 _ (omega arith) ∙ eq-eqb _ 0 (omega (arith, own_cost true a e));
+        whole = λ a f e le. one_bit 32 0 _ (omega arith) ∙ eq-eqb _ 0 (omega (arith, own_cost true a e));
       };
       fault_bits = λ g lt. record {
-        sound = λ n le e. absurd (false≢true (sym (no_bit (step * n + g)) ∙ e));
+        sound = λ n le e. absurd (false≢true (sym (has_bit-zero (step * n + g)) ∙ e));
         whole = λ a f e le. absurd (false≢true (sym e.1.faulty ∙ same_here a true e.1.var e.0 e.1.among));
       };
       local = λ a b h. h var (eq-eqb var var refl);

@@ -5,11 +5,12 @@ ghost use Rattle.ranking.specs.Bits.{same_bit};
 ghost use Rattle.ranking.specs.Cases.{agrees_at};
 ghost use Rattle.graph_rules.specs.declared.NodeKind.TheVariants.{And, Or};
 ghost use Rattle.graph_rules.specs.Graphs.{node_at};
+ghost use Rattle.graph_rules.specs.WordBits.{has_bit};
 ghost use Rattle.minimiser.specs.Costs.{known_at};
 ghost use Rattle.level_lister.specs.Passes.{group_count};
 ghost use Rattle.part_sets.specs.Numbers.{part_words, set_at};
 ghost use Rattle.part_sets.specs.PartSets.{ArePartsOf, SameBelow};
-ghost use Rattle.level_lister.specs.inner.Pairs.{has_bit, Tells, TellsNode, TellNodes, TellsWhole, group_in, pair_at};
+ghost use Rattle.level_lister.specs.inner.Pairs.{Tells, TellsNode, TellNodes, TellsWhole, group_in, pair_at};
 
 use crate::levels::Levels;
 use crate::pairs::{Groups, Pair, either, joined, one};

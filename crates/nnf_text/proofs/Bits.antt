@@ -1,60 +1,25 @@
 -- Bits of words.
-use Rattle.std.proofs.Common.{◌≡◌, ℕ, zero, suc, ◌+◌, ◌*◌, ◌%◌, ◌^◌, ◌<◌, ◌≤◌, min, max, Bool, true, false, not, ◌&&◌, ◌||◌, ◌==◌, List, [], ◌∷◌, ◌++◌, map, length, take, get_or, refl, sym, ap, ◌∙◌, arith}
+use Rattle.std.proofs.Common.{◌≡◌, ℕ, ◌+◌, ◌*◌, ◌%◌, ◌^◌, ◌<◌, ◌≤◌, Bool, true, false, not, ◌&&◌, ◌||◌, ◌==◌, List, [], ◌∷◌, ◌++◌, map, length, take, get_or, refl, sym, ap, ◌∙◌, arith}
 use Rattle.std.specs.Prelude.{bit_and, bit_or}
-use Rattle.std.specs.Int.{bit_at}
 use Rattle.std.specs.List.{list_any}
 use Rattle.std.specs.List.Sorted.{IsStrictlyIncreasing}
 use Rattle.std.proofs.lemmas.Bool.{cases_eq, cases_lt, eq-eqb, ne_eqb}
 use Rattle.std.specs.Prelude.{◌⊎◌}
 use Rattle.std.proofs.Common.{inl, inr}
-use Rattle.std.proofs.lemmas.Nat.{pow_below}
-use Rattle.std.proofs.lemmas.Nat.Bits.{bit_at_and, bit_at_or, bit_at-lt, bit_at-zero, bit_at-pow_same, bit_at-pow_other}
 use Rattle.std.proofs.lemmas.List.{take_more, map-append, get_or_past}
 use Rattle.std.proofs.lemmas.List.Kept.{AllPairs-from_increasing}
-use Rattle.std.proofs.lemmas.List.Folds.{list_any-append}
 use Rattle.graph_rules.specs.Graphs.{at_most_one}
-use Rattle.nnf_text.specs.inner.Sharing.{has_bit, has, IsJoined}
-
-or-bits : (m n : ℕ) → m < 2 → n < 2 → (max m n == 1) ≡ ((m == 1) || (n == 1))
-or-bits zero zero h g = refl
-or-bits zero (suc zero) h g = refl
-or-bits (suc zero) zero h g = refl
-or-bits (suc zero) (suc zero) h g = refl
-or-bits zero (suc (suc n)) h g = absurd (omega arith)
-or-bits (suc zero) (suc (suc n)) h g = absurd (omega arith)
-or-bits (suc (suc m)) n h g = absurd (omega arith)
-
-and-bits : (m n : ℕ) → m < 2 → n < 2 → (min m n == 1) ≡ ((m == 1) && (n == 1))
-and-bits zero zero h g = refl
-and-bits zero (suc zero) h g = refl
-and-bits (suc zero) zero h g = refl
-and-bits (suc zero) (suc zero) h g = refl
-and-bits zero (suc (suc n)) h g = absurd (omega arith)
-and-bits (suc zero) (suc (suc n)) h g = absurd (omega arith)
-and-bits (suc (suc m)) n h g = absurd (omega arith)
-
-pub has_bit-or : (x y b : ℕ) → has_bit (bit_or x y) b ≡ (has_bit x b || has_bit y b)
-has_bit-or x y b = ap (λ n. n == 1) (bit_at_or x y b) ∙ or-bits (bit_at x b) (bit_at y b) (bit_at-lt x b) (bit_at-lt y b)
-
-pub has_bit-and : (x y b : ℕ) → has_bit (bit_and x y) b ≡ (has_bit x b && has_bit y b)
-has_bit-and x y b = ap (λ n. n == 1) (bit_at_and x y b) ∙ and-bits (bit_at x b) (bit_at y b) (bit_at-lt x b) (bit_at-lt y b)
-
-pub has_bit-zero : (b : ℕ) → has_bit 0 b ≡ false
-has_bit-zero b = ap (λ n. n == 1) (bit_at-zero b)
+use Rattle.graph_rules.specs.WordBits.{has_bit}
+use Rattle.graph_rules.proofs.WordBits.{has_bit-or, has_bit-and, has_bit-zero, one_bit, joined_more}
+use Rattle.graph_rules.proofs.Kids.{any-push}
+use Rattle.nnf_text.specs.inner.Sharing.{has, IsJoined}
 
 -- ---- one more
-
-none_more : (x : Bool) → list_any (λ b. b) (x ∷ []) ≡ x
-none_more true = refl
-none_more false = refl
-
-any-more : (bs : List Bool) (x : Bool) → list_any (λ b. b) (bs ++ x ∷ []) ≡ (list_any (λ b. b) bs || x)
-any-more bs x = list_any-append (λ b. b) bs (x ∷ []) ∙ ap (λ y. list_any (λ b. b) bs || y) (none_more x)
 
 more-than-one : (bs : List Bool) (x : Bool) → not (at_most_one (bs ++ x ∷ [])) ≡ (not (at_most_one bs) || (list_any (λ b. b) bs && x))
 more-than-one [] true = refl
 more-than-one [] false = refl
-more-than-one (true ∷ bs) x = ap (λ y. not (not y)) (any-more bs x) ∙ by (list_any (λ b. b) bs) x where
+more-than-one (true ∷ bs) x = ap (λ y. not (not y)) (any-push (λ b. b) bs x) ∙ by (list_any (λ b. b) bs) x where
   by : (y z : Bool) → not (not (y || z)) ≡ (not (not y) || z)
   by true z = refl
   by false true = refl
@@ -62,12 +27,10 @@ more-than-one (true ∷ bs) x = ap (λ y. not (not y)) (any-more bs x) ∙ by (l
 more-than-one (false ∷ bs) x = more-than-one bs x
 
 -- the words of the kids before a place were joined, and then one more
-pub joined_more : (column kids : List ℕ) (i any twice word : ℕ) → i < length kids → word ≡ get_or column (get_or kids i 0) 0 → IsJoined column (take i kids) any twice
+pub both_more : (column kids : List ℕ) (i any twice word : ℕ) → i < length kids → word ≡ get_or column (get_or kids i 0) 0 → IsJoined column (take i kids) any twice
     → IsJoined column (take (i + 1) kids) (bit_or any word) (bit_or twice (bit_and any word))
-joined_more column kids i any twice word lt is joined = record {
-  some = λ b.
-      has_bit-or any word b ∙ (λ j. joined.some b j || has_bit (is j) b) ∙ sym (any-more (map (has column b) (take i kids)) (has column b (get_or kids i 0)))
-      ∙ ap (list_any (λ x. x)) (sym (longer b));
+both_more column kids i any twice word lt is joined = record {
+  some = λ b. ap (λ w. has_bit (bit_or any w) b) is ∙ joined_more (λ k. get_or column k 0) kids i any b lt (joined.some b);
   more = λ b.
       has_bit-or twice (bit_and any word) b ∙ (λ j. joined.more b j || (has_bit-and any word b ∙ (λ k. joined.some b k && has_bit (is k) b)) j)
       ∙ sym (more-than-one (map (has column b) (take i kids)) (has column b (get_or kids i 0)))
@@ -77,15 +40,6 @@ joined_more column kids i any twice word lt is joined = record {
   longer b = ap (map (has column b)) (take_more kids i 0 lt) ∙ map-append (has column b) (take i kids) (get_or kids i 0 ∷ [])
 
 -- ---- one variable
-
-one-place : (k b : ℕ) → k < 64 → has_bit (1 * 2 ^ k % 18446744073709551616) b ≡ (b == k)
-one-place k b lt =
-    let fits : 2 ^ k < 2 ^ 64 = pow_below k 64 lt in
-    let one : 1 * 2 ^ k % 18446744073709551616 ≡ 2 ^ k = omega arith in
-    ap (λ n. has_bit n b) one ∙ by (cases_eq b k) where
-      by : (b ≡ k) ⊎ (b ≡ k → ⊥) → has_bit (2 ^ k) b ≡ (b == k)
-      by (inl same) = ap (λ n. has_bit (2 ^ k) n) same ∙ ap (λ n. n == 1) (bit_at-pow_same k) ∙ sym (eq-eqb b k same)
-      by (inr other) = ap (λ n. n == 1) (bit_at-pow_other k b other) ∙ sym (ne_eqb b k other)
 
 -- ---- the bit of a variable among some that rise
 
@@ -107,7 +61,7 @@ module _ (variables : List ℕ) (rise : IsStrictlyIncreasing variables) (short :
     at_side (inr behind) (inr past) same = omega (arith, get_or_past variables b 0 past)
 
   pub found-bit : (place word : ℕ) → place < length variables → get_or variables place 0 ≡ var → word ≡ 1 * 2 ^ place % 18446744073709551616 → (b : ℕ) → b < 64 → has_bit word b ≡ (var == get_or variables b 0)
-  found-bit place word inside is w b small = ap (λ n. has_bit n b) w ∙ one-place place b (omega arith) ∙ by (cases_eq b place) where
+  found-bit place word inside is w b small = ap (λ n. has_bit n b) w ∙ one_bit 64 place b (omega arith) ∙ by (cases_eq b place) where
     by : (b ≡ place) ⊎ (b ≡ place → ⊥) → (b == place) ≡ (var == get_or variables b 0)
     by (inl same) = eq-eqb b place same ∙ sym (eq-eqb var (get_or variables b 0) (sym is ∙ ap (λ i. get_or variables i 0) (sym same)))
     by (inr other) = ne_eqb b place other ∙ sym (other_places place b inside is other)

@@ -4,14 +4,14 @@ use Rattle.std.specs.Prelude.{◌==◌, nat_lt}
 use Rattle.std.specs.List.{list_any}
 use Rattle.std.specs.Int.{bit_at}
 use Rattle.std.proofs.lemmas.Bool.{cases_lt, cases_eq, lt-ltb, le-ltb, eq-eqb, ne_eqb}
-use Rattle.std.proofs.lemmas.Nat.{one_shl}
-use Rattle.std.proofs.lemmas.Nat.Bits.{bit_at-pow_same, bit_at-pow_other}
 use Rattle.std.proofs.lemmas.List.{take_more, get_or-set_same, get_or-set_other}
 use Rattle.graph_rules.specs.declared.NodeKind.TheVariants.{Literal}
 use Rattle.graph_rules.specs.Graphs.{Graph, node_at, mention_by, mentions, IsGraph}
+use Rattle.graph_rules.proofs.WordBits.{has_bit-or, one_bit}
+use Rattle.graph_rules.proofs.Kids.{any-push}
 use Rattle.part_sets.specs.Numbers.{has_number, part_words, set_at}
 use Rattle.part_sets.specs.PartSets.{ArePartsOf, ArePartsBelow}
-use Rattle.part_sets.proofs.SetBits.{has-within, or-bit}
+use Rattle.part_sets.proofs.SetBits.{has-within, same_place}
 use Rattle.part_sets.proofs.Kids.{room_for, kid-below, mention-is}
 use Rattle.part_sets.proofs.Stacks.{set_at-front, set_at-here}
 
@@ -23,25 +23,13 @@ added_one xs number n h = ⊎_elim (λ e. here e) (λ ne. there ne) (cases_eq (n
   or-none true y e = refl
   or-none false y e = e
 
-  bit-is : (b r : ℕ) → r < 32 → (bit_at (1 * 2 ^ r % 4294967296) b == 1) ≡ (b == r)
-  bit-is b r lt = ap (λ w. bit_at w b == 1) (one_shl r 32 lt) ∙ ⊎_elim
-      (λ e. ap (λ k. bit_at (2 ^ r) k == 1) e ∙ ap (λ m. m == 1) (bit_at-pow_same r) ∙ sym (eq-eqb b r e))
-      (λ ne. ap (λ m. m == 1) (bit_at-pow_other r b ne) ∙ sym (ne_eqb b r ne))
-      (cases_eq b r)
-
-  same_test : n / 32 ≡ number / 32 → (n % 32 == number % 32) ≡ (n == number)
-  same_test e = ⊎_elim
-      (λ q. eq-eqb (n % 32) (number % 32) q ∙ sym (eq-eqb n number (omega arith)))
-      (λ q. ne_eqb (n % 32) (number % 32) q ∙ sym (ne_eqb n number (λ r. q (ap (λ m. m % 32) r))))
-      (cases_eq (n % 32) (number % 32))
-
   here : n / 32 ≡ number / 32 → has_number (set xs (number / 32) (bit_or (get_or xs (number / 32) 0) (1 * 2 ^ (number % 32) % 4294967296))) n ≡ (has_number xs n || (n == number))
   here e =
       let at : get_or (set xs (number / 32) (bit_or (get_or xs (number / 32) 0) (1 * 2 ^ (number % 32) % 4294967296))) (n / 32) 0 ≡ bit_or (get_or xs (n / 32) 0) (1 * 2 ^ (number % 32) % 4294967296) =
       ap (λ k. get_or (set xs (number / 32) (bit_or (get_or xs (number / 32) 0) (1 * 2 ^ (number % 32) % 4294967296))) k 0) e ∙ get_or-set_same xs (number / 32) _ 0 h
       ∙ ap (λ k. bit_or (get_or xs k 0) (1 * 2 ^ (number % 32) % 4294967296)) (sym e) in
-      ap (λ w. bit_at w (n % 32) == 1) at ∙ or-bit (get_or xs (n / 32) 0) (1 * 2 ^ (number % 32) % 4294967296) (n % 32)
-      ∙ ap (λ b. has_number xs n || b) (bit-is (n % 32) (number % 32) (omega arith) ∙ same_test e)
+      ap (λ w. bit_at w (n % 32) == 1) at ∙ has_bit-or (get_or xs (n / 32) 0) (1 * 2 ^ (number % 32) % 4294967296) (n % 32)
+      ∙ ap (λ b. has_number xs n || b) (one_bit 32 (number % 32) (n % 32) (omega arith) ∙ same_place n number e)
 
   there : (n / 32 ≡ number / 32 → ⊥) → has_number (set xs (number / 32) (bit_or (get_or xs (number / 32) 0) (1 * 2 ^ (number % 32) % 4294967296))) n ≡ (has_number xs n || (n == number))
   there ne = ap (λ w. bit_at w (n % 32) == 1) (get_or-set_other xs (number / 32) (n / 32) _ 0 ne)
@@ -63,21 +51,11 @@ every_more xs new number are added n = added n ∙ ap (λ b. b || (n == number))
 abbrev pub one_has : List ℕ → ℕ → ℕ → List ℕ → Bool
 one_has sets size n kids = list_any (λ k. has_number (set_at sets k size) n) kids
 
-any_last : (p : ℕ → Bool) (xs : List ℕ) (x : ℕ) → list_any p (xs ++ x ∷ []) ≡ (list_any p xs || p x)
-any_last p [] x = last (p x) where
-  last : (b : Bool) → (b || false) ≡ b
-  last true = refl
-  last false = refl
-any_last p (y ∷ xs) x = ap (λ b. p y || b) (any_last p xs x) ∙ assoc (p y) (list_any p xs) (p x) where
-  assoc : (a b c : Bool) → (a || (b || c)) ≡ ((a || b) || c)
-  assoc true b c = refl
-  assoc false b c = refl
-
 pub joined_more : (sets kids old new : List ℕ) (j n : ℕ) → j < length kids → length new ≡ length old → has_number old n ≡ one_has sets (length old) n (take j kids)
     → has_number new n ≡ (has_number old n || has_number (set_at sets (get_or kids j 0) (length old)) n) → has_number new n ≡ one_has sets (length new) n (take (j + 1) kids)
 joined_more sets kids old new j n lt long are added =
     added ∙ ap (λ b. b || has_number (set_at sets (get_or kids j 0) (length old)) n) are
-    ∙ sym (ap (λ m. one_has sets m n (take (j + 1) kids)) long ∙ ap (one_has sets (length old) n) (take_more kids j 0 lt) ∙ any_last (λ k. has_number (set_at sets k (length old)) n) (take j kids) (get_or kids j 0))
+    ∙ sym (ap (λ m. one_has sets m n (take (j + 1) kids)) long ∙ ap (one_has sets (length old) n) (take_more kids j 0 lt) ∙ any-push (λ k. has_number (set_at sets k (length old)) n) (take j kids) (get_or kids j 0))
 
 -- ---- a node
 

@@ -1,11 +1,12 @@
 -- The bits of words, and the numbers in sets.
-use Rattle.std.proofs.Common.{◌≡◌, ℕ, zero, suc, ◌+◌, ◌*◌, ◌/◌, ◌%◌, ◌^◌, ◌<◌, ◌≤◌, max, Bool, true, false, ◌&&◌, ◌||◌, List, length, get_or, set, refl, ap, sym, ◌∙◌, arith, ⊎_elim, bit_or}
+use Rattle.std.proofs.Common.{◌≡◌, ℕ, ◌+◌, ◌*◌, ◌/◌, ◌%◌, ◌^◌, ◌<◌, ◌≤◌, Bool, true, false, ◌&&◌, ◌||◌, List, length, get_or, set, refl, ap, sym, ◌∙◌, arith, ⊎_elim, bit_or}
 use Rattle.std.specs.Prelude.{◌==◌, nat_lt}
 use Rattle.std.specs.Int.{bit_at}
-use Rattle.std.proofs.lemmas.Nat.{one_shl}
-use Rattle.std.proofs.lemmas.Nat.Bits.{bit_at-zero, bit_at_or, bit_at-lt, bit_at-pow_same, bit_at-pow_other}
+use Rattle.std.proofs.lemmas.Nat.Bits.{bit_at-zero}
 use Rattle.std.proofs.lemmas.Bool.{cases_eq, cases_lt, lt-ltb, le-ltb, eq-eqb, ne_eqb, false≢true}
 use Rattle.std.proofs.lemmas.List.{get_or-set_same, get_or-set_other, get_or_past}
+use Rattle.graph_rules.specs.WordBits.{has_bit}
+use Rattle.graph_rules.proofs.WordBits.{has_bit-or, one_bit}
 use Rattle.part_sets.specs.Numbers.{has_number}
 
 -- ---- the numbers in a set
@@ -17,41 +18,24 @@ none_at set n e = ap (λ w. bit_at w (n % 32) == 1) e ∙ ap (λ b. b == 1) (bit
 pub has-within : (set : List ℕ) (n : ℕ) → has_number set n ≡ true → n < 32 * length set
 has-within set n e = ⊎_elim (λ p. omega arith) (λ p. absurd (false≢true (sym (none_at set n (get_or_past set (n / 32) 0 p)) ∙ e))) (cases_lt (n / 32) (length set))
 
-abbrev one_bit : ℕ → ℕ
-one_bit r = 1 * 2 ^ r % 4294967296
-
-one_bit-is : (r : ℕ) → r < 32 → one_bit r ≡ 2 ^ r
-one_bit-is r h = one_shl r 32 h
+-- of numbers in one word
+pub same_place : (n m : ℕ) → n / 32 ≡ m / 32 → (n % 32 == m % 32) ≡ (n == m)
+same_place n m e = ⊎_elim
+    (λ q. eq-eqb (n % 32) (m % 32) q ∙ sym (eq-eqb n m (omega arith)))
+    (λ q. ne_eqb (n % 32) (m % 32) q ∙ sym (ne_eqb n m (λ r. q (ap (λ k. k % 32) r))))
+    (cases_eq (n % 32) (m % 32))
 
 -- one bit is put into an empty set
 pub one_is : (xs : List ℕ) (cost n : ℕ) → ((m : ℕ) → has_number xs m ≡ false) → cost / 32 < length xs → has_number (set xs (cost / 32) (1 * 2 ^ (cost % 32) % 4294967296)) n ≡ (n == cost)
 one_is xs cost n none h = ⊎_elim (λ e. here e) (λ ne. there ne) (cases_eq (n / 32) (cost / 32)) where
-  word : ℕ
-  word = 1 * 2 ^ (cost % 32) % 4294967296
-
   here : n / 32 ≡ cost / 32 → has_number (set xs (cost / 32) (1 * 2 ^ (cost % 32) % 4294967296)) n ≡ (n == cost)
   here e =
-      let at : get_or (set xs (cost / 32) (1 * 2 ^ (cost % 32) % 4294967296)) (n / 32) 0 ≡ 2 ^ (cost % 32) =
-      ap (λ k. get_or (set xs (cost / 32) (1 * 2 ^ (cost % 32) % 4294967296)) k 0) e ∙ get_or-set_same xs (cost / 32) _ 0 h ∙ one_bit-is (cost % 32) (omega arith) in
-      ap (λ w. bit_at w (n % 32) == 1) at ∙ ⊎_elim
-      (λ same. ap (λ b. b == 1) (ap (bit_at (2 ^ (cost % 32))) same ∙ bit_at-pow_same (cost % 32)) ∙ sym (eq-eqb n cost (omega arith)))
-      (λ other. ap (λ b. b == 1) (bit_at-pow_other (cost % 32) (n % 32) other) ∙ sym (ne_eqb n cost (λ q. other (ap (λ m. m % 32) q))))
-      (cases_eq (n % 32) (cost % 32))
+      let at : get_or (set xs (cost / 32) (1 * 2 ^ (cost % 32) % 4294967296)) (n / 32) 0 ≡ 1 * 2 ^ (cost % 32) % 4294967296 =
+      ap (λ k. get_or (set xs (cost / 32) (1 * 2 ^ (cost % 32) % 4294967296)) k 0) e ∙ get_or-set_same xs (cost / 32) _ 0 h in
+      ap (λ w. has_bit w (n % 32)) at ∙ one_bit 32 (cost % 32) (n % 32) (omega arith) ∙ same_place n cost e
 
   there : (n / 32 ≡ cost / 32 → ⊥) → has_number (set xs (cost / 32) (1 * 2 ^ (cost % 32) % 4294967296)) n ≡ (n == cost)
   there ne = ap (λ w. bit_at w (n % 32) == 1) (get_or-set_other xs (cost / 32) (n / 32) _ 0 ne) ∙ none n ∙ sym (ne_eqb n cost (λ q. ne (ap (λ m. m / 32) q)))
-
--- a bit of two words
-pub or-bit : (x y b : ℕ) → (bit_at (bit_or x y) b == 1) ≡ ((bit_at x b == 1) || (bit_at y b == 1))
-or-bit x y b = ap (λ m. m == 1) (bit_at_or x y b) ∙ by_bits (bit_at x b) (bit_at y b) (bit_at-lt x b) (bit_at-lt y b) where
-  by_bits : (p q : ℕ) → p < 2 → q < 2 → (max p q == 1) ≡ ((p == 1) || (q == 1))
-  by_bits zero zero h g = refl
-  by_bits zero (suc zero) h g = refl
-  by_bits (suc zero) zero h g = refl
-  by_bits (suc zero) (suc zero) h g = refl
-  by_bits (suc (suc p)) q h g = absurd (omega arith)
-  by_bits zero (suc (suc q)) h g = absurd (omega arith)
-  by_bits (suc zero) (suc (suc q)) h g = absurd (omega arith)
 
 -- ---- words one after the other
 
@@ -76,7 +60,7 @@ added_more old xs f i word h are is n = ⊎_elim (λ e. here e) (λ ne. there ne
       let at : get_or (set xs i (bit_or (get_or xs i 0) word)) (n / 32) 0 ≡ bit_or (get_or xs (n / 32) 0) word =
       ap (λ k. get_or (set xs i (bit_or (get_or xs i 0) word)) k 0) e ∙ get_or-set_same xs i _ 0 h ∙ ap (λ k. bit_or (get_or xs k 0) word) (sym e) in
       let was : has_number xs n ≡ has_number old n = are n ∙ or-none (has_number old n) (ap (λ b. b && f n) (le-ltb (n / 32) i (omega arith))) in
-      ap (λ w. bit_at w (n % 32) == 1) at ∙ or-bit (get_or xs (n / 32) 0) word (n % 32)
+      ap (λ w. bit_at w (n % 32) == 1) at ∙ has_bit-or (get_or xs (n / 32) 0) word (n % 32)
       ∙ (λ j. was j || is n e j)
       ∙ ap (λ b. has_number old n || (b && f n)) (sym (lt-ltb (n / 32) (i + 1) (omega arith))) where
         or-none : (x : Bool) {y : Bool} → y ≡ false → (x || y) ≡ x

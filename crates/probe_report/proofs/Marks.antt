@@ -7,14 +7,16 @@ use Rattle.std.proofs.lemmas.Bool.{and_from, and_parts, or_cases, or_left, or_ri
 use Rattle.graph_rules.specs.declared.NodeKind.{NodeKind}
 use Rattle.graph_rules.specs.declared.NodeKind.TheVariants.{Literal, And, Or}
 use Rattle.graph_rules.specs.Graphs.{Node, Graph, node_at, mention_by, mentions, IsGraph}
+use Rattle.graph_rules.specs.WordBits.{has_bit}
 use Rattle.graph_rules.proofs.NodeValues.{map-below, value_of-at}
 use Rattle.graph_rules.proofs.NodesFit.{fits-at}
+use Rattle.graph_rules.proofs.WordBits.{has_bit-zero}
 use Rattle.minimiser.proofs.Models.{same_or_not}
 use Rattle.minimiser.specs.inner.Marked.{is_kid}
-use Rattle.probe_report.specs.inner.Outside.{lowered, IsLowered, AtLiteral, AtKid, Without, With, has_bit, mark_at, is_left}
+use Rattle.probe_report.specs.inner.Outside.{lowered, IsLowered, AtLiteral, AtKid, Without, With, mark_at, is_left}
 use Rattle.probe_report.specs.inner.Leaving.{IsMarked, LeftKid, LeftNode, LowersBlock}
 use Rattle.probe_report.proofs.Lowering.{lowered-is, lowered-then, lowered-as, is_kid-more, is_left-before, is_left-behind, is_left-in, block-lowered, block-then, block-as, block-none}
-use Rattle.probe_report.proofs.Bits.{has_bit-all, has_bit-zero}
+use Rattle.probe_report.proofs.Bits.{has_bit-all}
 use Rattle.minimiser.proofs.Sweeping.{kid_before}
 
 -- ---- one more kid

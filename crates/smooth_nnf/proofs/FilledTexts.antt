@@ -9,13 +9,14 @@ use Rattle.std.proofs.lemmas.List.FromFn.{get_or-range_with_len}
 use Rattle.diag_edge.specs.Adding.{Grown}
 use Rattle.text_rules.specs.Tokens.{spaced}
 use Rattle.graph_rules.specs.WrittenGraphs.{node_words}
+use Rattle.graph_rules.specs.WordBits.{has_bit}
+use Rattle.graph_rules.proofs.WordBits.{has_bit-zero}
 use Rattle.nnf_text.proofs.LineTexts.{and-spaced}
 use Rattle.smooth_nnf.specs.Layouts.{filler, fillers}
 use Rattle.part_sets.specs.Numbers.{part_words}
-use Rattle.smooth_nnf.specs.inner.Sets.{has_bit, part_at}
+use Rattle.smooth_nnf.specs.inner.Sets.{part_at}
 use Rattle.smooth_nnf.specs.inner.Drawings.{Drawing, missing_in, filled_line}
 use Rattle.smooth_nnf.specs.inner.Texts.{numbers_text, bit_text, word_text}
-use Rattle.nnf_text.proofs.Bits.{has_bit-zero}
 use Rattle.smooth_nnf.proofs.WordParts.{range-append, all-words, word-parts}
 
 -- ---- a word

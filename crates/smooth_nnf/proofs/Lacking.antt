@@ -7,10 +7,11 @@ use Rattle.std.proofs.lemmas.Bool.{cases_lt, lt-ltb, le-ltb, le-leb, lt-leb}
 use Rattle.std.proofs.lemmas.List.{get_or-take, get_or-drop}
 use Rattle.ranking.proofs.Members.{filter_same}
 use Rattle.graph_rules.specs.Graphs.{node_at, mentions, IsGraph}
+use Rattle.graph_rules.specs.WordBits.{has_bit}
 use Rattle.part_sets.specs.Numbers.{part_words, set_at}
 use Rattle.part_sets.specs.PartSets.{ArePartsOf}
 use Rattle.smooth_nnf.specs.Layouts.{filler, fillers}
-use Rattle.smooth_nnf.specs.inner.Sets.{has_bit, part_at}
+use Rattle.smooth_nnf.specs.inner.Sets.{part_at}
 use Rattle.smooth_nnf.specs.inner.Drawings.{Drawing, IsDrawing, IsUnder, is_over, missing_in}
 use Rattle.smooth_nnf.proofs.Fillers.{in_range}
 use Rattle.smooth_nnf.proofs.LineLemmas.{kid-wider}

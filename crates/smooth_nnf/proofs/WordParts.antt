@@ -14,9 +14,10 @@ use Rattle.graph_rules.specs.Graphs.{mentions}
 use Rattle.scratch_pool.proofs.Counted.{block-below}
 use Rattle.ranking.proofs.Members.{filter_same}
 use Rattle.ranking.proofs.Lists.{length-filter-le}
-use Rattle.nnf_text.proofs.Bits.{has_bit-and}
+use Rattle.graph_rules.specs.WordBits.{has_bit}
+use Rattle.graph_rules.proofs.WordBits.{has_bit-and}
 use Rattle.part_sets.specs.Numbers.{part_words}
-use Rattle.smooth_nnf.specs.inner.Sets.{has_bit, part_at}
+use Rattle.smooth_nnf.specs.inner.Sets.{part_at}
 use Rattle.smooth_nnf.specs.inner.Drawings.{Drawing, IsDrawing, word_parts, set_parts, part_count}
 use Rattle.smooth_nnf.proofs.Fillers.{in_range}
 use Rattle.smooth_nnf.proofs.Lacking.{set-bit}

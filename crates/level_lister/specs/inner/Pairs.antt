@@ -1,19 +1,15 @@
 -- What two words tell of a node: its costs, where few are listed, and at which of them a part of a group is faulty.
 use Rattle.std.specs.Prelude.{◌≡◌, ℕ, ◌+◌, ◌-◌, ◌*◌, ◌/◌, ◌<◌, ◌≤◌, Bool, true, false, ◌&&◌, List, length, slice_index, nat_le, ◌==◌}
-use Rattle.std.specs.Int.{bit_at}
 use Rattle.ranking.specs.Assignments.{Assignment}
 use Rattle.ranking.specs.Bits.{bit_in}
 use Rattle.graph_rules.specs.Graphs.{Graph, is_true, mentions}
+use Rattle.graph_rules.specs.WordBits.{has_bit}
 use Rattle.level_lister.specs.declared.pairs.Pair.{Pair}
 use Rattle.level_lister.specs.declared.pairs.Groups.{Groups}
 pub use Rattle.level_lister.specs.Passes.{group_count}
 use Rattle.level_lister.specs.inner.CostSets.{Follows, cost_among}
 use Rattle.level_lister.specs.inner.Skips.{living}
 use Rattle.level_lister.specs.inner.Searching.{OfCost}
-
--- the bit of a number in a word
-abbrev pub has_bit : ℕ → ℕ → Bool
-has_bit word n = bit_at word n == 1
 
 -- a number of the one word, and so many steps, as the other word has it, come to so much
 pub record SpreadOf (left right step count m : ℕ) : Type 0 where

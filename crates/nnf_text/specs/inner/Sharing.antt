@@ -1,12 +1,12 @@
 -- Sets of variables, as bits of words: some variables of each node at a time.
-use Rattle.std.specs.Prelude.{◌≡◌, ℕ, ◌<◌, Bool, not, List, [], ◌∷◌, ◌++◌, map, length, Option, Some, None, ◌==◌, slice_index, nat_lt, if◌then◌else◌, MatchOption}
-use Rattle.std.specs.Int.{bit_at}
+use Rattle.std.specs.Prelude.{◌≡◌, ℕ, ◌<◌, Bool, not, List, [], ◌∷◌, ◌++◌, map, length, Option, Some, None, slice_index, nat_lt, if◌then◌else◌, MatchOption}
 use Rattle.std.specs.List.{find, list_any, Contains}
 use Rattle.std.specs.List.Sorted.{IsStrictlyIncreasing}
 use Rattle.graph_rules.specs.declared.NodeKind.{NodeKind}
 use Rattle.graph_rules.specs.declared.NodeKind.TheVariants.{Literal, And, Or}
 use Rattle.graph_rules.specs.Graphs.{Node, node_at, at_most_one, mention_by, apart_at}
 use Rattle.graph_rules.specs.GraphTexts.{shares}
+use Rattle.graph_rules.specs.WordBits.{has_bit}
 
 -- the variable of a literal was added
 abbrev pub AddsVariable : List ℕ → NodeKind → List ℕ → Type 0
@@ -18,9 +18,6 @@ AddsVariable old Or new = new ≡ old
 pub record AreVariables (nodes : List Node) (variables : List ℕ) : Type 0 where
   pub rise : IsStrictlyIncreasing variables
   pub all : (k var : ℕ) (positive : Bool) → k < length nodes → (node_at nodes k).what ≡ Literal positive var → Contains variables var
-
-abbrev pub has_bit : ℕ → ℕ → Bool
-has_bit word b = bit_at word b == 1
 
 -- whether the word of a node has a bit
 abbrev pub has : List ℕ → ℕ → ℕ → Bool

@@ -2,8 +2,9 @@
 use Rattle.std.specs.Prelude.{◌≡◌, ℕ, ◌+◌, ◌-◌, ◌<◌, ◌≤◌, ◌⊎◌, true, false, List, length, slice_index}
 use Rattle.graph_rules.specs.declared.NodeKind.TheVariants.{Or}
 use Rattle.graph_rules.specs.Graphs.{Node, node_at, mentions}
+use Rattle.graph_rules.specs.WordBits.{has_bit}
 use Rattle.minimiser.specs.inner.Marked.{is_kid}
-use Rattle.probe_report.specs.inner.Outside.{IsLowered, has_bit, mark_at}
+use Rattle.probe_report.specs.inner.Outside.{IsLowered, mark_at}
 
 -- the marks of the nodes before one say which of the variables from the first on they mention
 abbrev pub IsMarked : List Node → ℕ → ℕ → List ℕ → Type 0

@@ -1,9 +1,9 @@
 -- What a derivation of the root costs outside of a node, and where it leaves the nodes that mention a variable.
-use Rattle.std.specs.Prelude.{◌≡◌, ℕ, ◌+◌, ◌-◌, ◌*◌, ◌<◌, ◌≤◌, ◌⊎◌, min, Bool, true, false, not, ◌&&◌, ◌==◌, nat_le, nat_lt, List, length, sum_by, slice_index, if◌then◌else◌}
-use Rattle.std.specs.Int.{bit_at}
+use Rattle.std.specs.Prelude.{◌≡◌, ℕ, ◌+◌, ◌-◌, ◌*◌, ◌<◌, ◌≤◌, ◌⊎◌, min, Bool, true, false, not, ◌&&◌, nat_le, nat_lt, List, length, sum_by, slice_index, if◌then◌else◌}
 use Rattle.graph_rules.specs.declared.NodeKind.{NodeKind}
 use Rattle.graph_rules.specs.declared.NodeKind.TheVariants.{Literal, And, Or}
 use Rattle.graph_rules.specs.Graphs.{Node, node_at, mentions}
+use Rattle.graph_rules.specs.WordBits.{has_bit}
 use Rattle.minimiser.specs.inner.Marked.{is_kid}
 
 -- ---- numbers that are lowered
@@ -81,9 +81,6 @@ abbrev pub With : List Node → List ℕ → ℕ → Bool → ℕ → Type 0
 With nodes outers var bit cost = (node : ℕ) × AtLiteral nodes outers var bit node cost
 
 -- ---- marks of 64 variables
-
-abbrev pub has_bit : ℕ → ℕ → Bool
-has_bit mark b = bit_at mark b == 1
 
 -- the mark of a node stands in two words
 abbrev pub mark_at : List ℕ → ℕ → ℕ

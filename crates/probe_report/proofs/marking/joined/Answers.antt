@@ -1,7 +1,8 @@
 use Rattle.std.proofs.Common.{◌∙◌, ap}
 use Rattle.std.specs.Prelude.{bit_or}
-use Rattle.probe_report.specs.inner.Outside.{has_bit, mark_at}
-use Rattle.probe_report.proofs.Bits.{joined_more}
+use Rattle.graph_rules.specs.WordBits.{has_bit}
+use Rattle.graph_rules.proofs.WordBits.{joined_more}
+use Rattle.probe_report.specs.inner.Outside.{mark_at}
 use Rattle.probe_report.proofs.marking.joined.Goals as goal
 
 pub loop-k-preserved : goal.loop-k-preserved

@@ -1,8 +1,8 @@
 use Rattle.std.proofs.Common.{◌≡◌, ◌+◌, ◌*◌, ◌-◌, ◌≤◌, length, get_or, ap, sym, ◌∙◌, arith}
 use Rattle.std.specs.Prelude.{◌==◌}
 use Rattle.std.proofs.lemmas.List.{get_or_past}
+use Rattle.graph_rules.proofs.WordBits.{has_bit-zero, one_bit}
 use Rattle.level_lister.specs.inner.Pairs.{group_count, group_in}
-use Rattle.level_lister.proofs.Spreading.{no_bit, one_bit}
 use Rattle.level_lister.proofs.Telling.{tells_faulty}
 use Rattle.level_lister.proofs.PairNodes.{none_marked}
 use Rattle.level_lister.proofs.levels.Levels.fault_pair.Goals as goal
@@ -16,8 +16,8 @@ returns-then-part-costs c =
     let past : length costs ≤ part = omega (arith, c.if-part-costs.true, ap length c.costs-costs.ensures) in
     let none : 0 ≡ get_or costs (part + 1 - 1) 0 = sym (get_or_past costs (part + 1 - 1) 0 (omega arith)) in
     tells_faulty words costs top (group_count top) (group_in words (length costs) c.args.groups) (part + 1) (omega arith) 0 1 0 c.requires.top none c.requires.allowed
-    (λ n h. one_bit 0 n (omega arith))
-    (λ n g le lt. no_bit (group_count top * n + g) ∙ none_marked words (length costs) c.args.groups g (part + 1) (n == 0) (λ is. absurd (omega (arith, is.high, past))))
+    (λ n h. one_bit 32 0 n (omega arith))
+    (λ n g le lt. has_bit-zero (group_count top * n + g) ∙ none_marked words (length costs) c.args.groups g (part + 1) (n == 0) (λ is. absurd (omega (arith, is.high, past))))
 
 pub returns : goal.returns
 returns c =

@@ -1,6 +1,7 @@
 use Rattle.std.proofs.Common.{◌≡◌, ◌+◌, ◌*◌, ◌<◌, ◌≤◌, true, sym, ◌∙◌, subst, arith, ⊎_elim}
 use Rattle.std.proofs.lemmas.Bool.{cases_lt, false≢true}
-use Rattle.level_lister.specs.inner.Pairs.{has_bit, FaultOf}
+use Rattle.graph_rules.specs.WordBits.{has_bit}
+use Rattle.level_lister.specs.inner.Pairs.{FaultOf}
 use Rattle.level_lister.proofs.Telling.{step_below}
 use Rattle.level_lister.proofs.PairWhole.{group_sound, group_whole}
 use Rattle.level_lister.proofs.search.Search.faulty_group_by_pairs.Goals as goal

@@ -1,2 +1,3 @@
 pub mod FittingWords
 pub mod ModelsWith
+pub mod StateBits

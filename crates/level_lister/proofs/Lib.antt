@@ -14,7 +14,6 @@ pub mod Exact
 pub mod Leaving
 pub mod Finding
 pub mod Listed
-pub mod StateBits
 pub mod Behind
 pub mod Spreading
 pub mod Telling

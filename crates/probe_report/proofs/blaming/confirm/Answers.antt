@@ -5,11 +5,12 @@ use borrow.Author.Count.{below_more}
 use Rattle.ranking.specs.Bits.{bit_in}
 use Rattle.conditioner.specs.Words.{bits_of}
 use Rattle.conditioner.specs.Models.{least_with}
+use Rattle.conditioner.proofs.StateBits.{is_ok, is_faulty, faulty_word, ok_word}
 use Rattle.diagnosis_lister.proofs.Marking.{length-bits}
 use Rattle.probe_report.specs.Verdicts.{blame_of}
 use Rattle.probe_report.proofs.With.{bit-in}
 use Rattle.probe_report.proofs.Blames.{presumed-stays}
-use Rattle.probe_report.proofs.Written.{slice_get-set_same, slice_get-set_other, bit-ok, bit-faulty, is-ok, is-faulty, not_open}
+use Rattle.probe_report.proofs.Written.{slice_get-set_same, slice_get-set_other, not_open}
 use Rattle.probe_report.proofs.blaming.confirm.Goals as goal
 use Rattle.probe_report.proofs.blaming.confirm.Goals.{then-is_faulty+then-is_open, else-is_faulty, else-is_faulty-via-then-is_faulty+else-is_open, else-is_faulty-via-else-is_faulty}
 
@@ -20,7 +21,7 @@ blame_faulty-requires-clause-faulty g c =
     let state = c.args.state.now in
     let i = c.loop-part.part in
     let back : i ≡ i + 1 - 1 = omega arith in
-    let faulty : bit_in (bits_of state) i ≡ false = bit-faulty state i (omega arith) (is-faulty _ c.is_faulty.ensures c.if-is_faulty.true) in
+    let faulty : bit_in (bits_of state) i ≡ false = is_faulty state i (omega arith) (faulty_word _ _ c.is_faulty.ensures c.if-is_faulty.true) in
     subst (λ (ws : List ℕ). least_with graph ws costs (i + 1) false ≡ Some c.args.fewest) (sym c.loop-part.invariant.words)
     (bit-in graph c.args.words.now costs (i + 1 - 1) false (omega (arith, c.requires.state)) c.args.fewest c.requires.parts c.requires.least (bits_of state) c.requires.diagnosis
     (ap (bit_in (bits_of state)) (sym back) ∙ faulty))
@@ -40,7 +41,7 @@ loop-part-preserved g c =
           let found = w.blame_faulty.result in
           let back : i + 1 - 1 ≡ i = omega arith in
           let verdict : found ≡ blame_of graph words costs i = w.blame_faulty.ensures.blame ∙ (λ j. blame_of graph (c.loop-part.invariant.words j) costs (back j)) in
-          let faulty : bit_in (bits_of state) i ≡ false = bit-faulty state i here (is-faulty _ c.is_faulty.ensures w.if-is_faulty.true) in
+          let faulty : bit_in (bits_of state) i ≡ false = is_faulty state i here (faulty_word _ _ c.is_faulty.ensures w.if-is_faulty.true) in
           record {
             words = w.words-is ∙ w.blame_faulty.ensures.words ∙ c.loop-part.invariant.words;
             done = below_more (λ (k : ℕ). slice_get c.if-is_faulty.verdicts k ≡ Some (blame_of graph words costs k)) i
@@ -52,7 +53,7 @@ loop-part-preserved g c =
       | else-is_faulty w ↦
           let ok : get_or words i 0 ≡ 0 → bit_in (bits_of state) i ≡ true = λ e. elim w.else-is_faulty.branch [
             | else-is_faulty-via-then-is_faulty+else-is_open v ↦ absurd (not_open _ v.is_open.ensures v.if-is_open.false (ap (λ ws. get_or ws i 0) c.loop-part.invariant.words ∙ e))
-            | else-is_faulty-via-else-is_faulty v ↦ bit-ok state i here (is-ok _ c.is_faulty.ensures v.if-is_faulty.false)
+            | else-is_faulty-via-else-is_faulty v ↦ is_ok state i here (ok_word _ _ c.is_faulty.ensures v.if-is_faulty.false)
           ] in
           let stays = presumed-stays graph words costs i c.args.fewest (omega (arith, c.requires.state)) c.requires.parts c.requires.long c.requires.least c.args.verdicts.now (bits_of state) c.requires.diagnosis ok
           (c.requires.presumed i (omega (arith, c.requires.state))) in

@@ -1,7 +1,7 @@
--- The bits of a state.
+-- The bits of a state in words.
 use Rattle.std.proofs.Common.{◌≡◌, ◌≢◌, ℕ, zero, suc, ◌<◌, Bool, true, false, not, List, [], ◌∷◌, length, get_or, refl, sym, ap, ◌∙◌, arith}
 use Rattle.std.specs.Prelude.{◌==◌}
-use Rattle.std.proofs.lemmas.Bool.{eq-eqb, ne_eqb, eqb-true, false≢true}
+use Rattle.std.proofs.lemmas.Bool.{eq-eqb, ne_eqb, eqb-true, false≢true, not-false}
 use Rattle.ranking.specs.Bits.{bit_in}
 use Rattle.conditioner.specs.Words.{bits_of}
 
@@ -13,15 +13,12 @@ bit_in-bits (s ∷ state) (suc i) h = bit_in-bits state i (omega arith)
 pub is_ok : (state : List ℕ) (i : ℕ) → i < length state → get_or state i 0 ≡ 0 → bit_in (bits_of state) i ≡ true
 is_ok state i h e = bit_in-bits state i h ∙ eq-eqb (get_or state i 0) 0 e
 
-pub is_faulty : (state : List ℕ) (i : ℕ) → i < length state → (get_or state i 0 ≡ 0 → ⊥) → bit_in (bits_of state) i ≡ false
+pub is_faulty : (state : List ℕ) (i : ℕ) → i < length state → get_or state i 0 ≢ 0 → bit_in (bits_of state) i ≡ false
 is_faulty state i h ne = bit_in-bits state i h ∙ ne_eqb (get_or state i 0) 0 ne
 
 -- what the test of a word says
 pub faulty_word : (word : ℕ) (faulty : Bool) → faulty ≡ not (word == 0) → faulty ≡ true → word ≢ 0
-faulty_word word faulty e t zero_ = false≢true (sym (e ∙ ap not (eq-eqb word 0 zero_)) ∙ t)
+faulty_word word faulty is said zero_word = false≢true (sym (ap not (eq-eqb word 0 zero_word)) ∙ (sym is ∙ said))
 
 pub ok_word : (word : ℕ) (faulty : Bool) → faulty ≡ not (word == 0) → faulty ≡ false → word ≡ 0
-ok_word word faulty e f = by_test (word == 0) refl where
-  by_test : (b : Bool) → (word == 0) ≡ b → word ≡ 0
-  by_test true q = eqb-true word 0 q
-  by_test false q = absurd (false≢true (sym f ∙ e ∙ ap not q))
+ok_word word faulty is said = eqb-true word 0 (not-false (word == 0) (sym is ∙ said))

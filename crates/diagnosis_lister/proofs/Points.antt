@@ -93,7 +93,7 @@ pub record GoesBack (graph : Graph) (costs : List ℕ) (old : List ℕ) (point :
   pub behind : (k : ℕ) → n ≤ k → get_or words k 0 ≡ get_or old k 0
   pub none : NoneAfter graph old costs most point n
 
-alike-more : (h k : List Bool) (n : ℕ) → AlikeBelow n h k → bit_in h n ≡ bit_in k n → AlikeBelow (n + 1) h k
+pub alike-more : (h k : List Bool) (n : ℕ) → AlikeBelow n h k → bit_in h n ≡ bit_in k n → AlikeBelow (n + 1) h k
 alike-more h k n a e i lt = ⊎_elim (λ p. a i p) (λ p. let same : i ≡ n = omega arith in ap (bit_in h) same ∙ e ∙ ap (bit_in k) (sym same)) (cases_lt i n)
 
 module _ (graph : Graph) (costs : List ℕ) (within : length costs ≤ graph.vars) (old : List ℕ) (point : List Bool) (most : ℕ) (long : length old ≡ graph.vars) (bits : length point ≡ length costs) where

@@ -11,6 +11,7 @@ use Rattle.conditioner.specs.Words.{word_of}
 use Rattle.minimiser.proofs.Models.{same_or_not, Agree, Agree-bit, Agree-same, Refines}
 use Rattle.diagnosis_lister.specs.inner.Working.{IsFirst, AlikeBelow, Follows}
 use Rattle.diagnosis_lister.proofs.Order.{before-at, not_both_before, Differs, differs}
+use Rattle.diagnosis_lister.proofs.Points.{alike-more}
 use Rattle.level_lister.specs.inner.Searching.{OfCost, HasCost, NoneAfter, Leaves}
 use Rattle.level_lister.proofs.Exact.{OfCost-agrees, OfCost-old, OfCost-new}
 
@@ -20,9 +21,6 @@ pub record GoesBack (graph : Graph) (costs : List ℕ) (c : ℕ) (old : List ℕ
   pub kept : (k : ℕ) → get_or old k 0 ≢ 0 → get_or words k 0 ≡ get_or old k 0
   pub behind : (k : ℕ) → n ≤ k → get_or words k 0 ≡ get_or old k 0
   pub none : NoneAfter graph old costs c point n
-
-alike-more : (h k : List Bool) (n : ℕ) → AlikeBelow n h k → bit_in h n ≡ bit_in k n → AlikeBelow (n + 1) h k
-alike-more h k n a e i lt = ⊎_elim (λ p. a i p) (λ p. let same : i ≡ n = omega arith in ap (bit_in h) same ∙ e ∙ ap (bit_in k) (sym same)) (cases_lt i n)
 
 module _ (graph : Graph) (costs : List ℕ) (within : length costs ≤ graph.vars) (c : ℕ) (old : List ℕ) (point : List Bool) (long : length old ≡ graph.vars) (bits : length point ≡ length costs) where
   pub back_start : (words : List ℕ) (n : ℕ) → Follows old point words n → GoesBack graph costs c old point words n

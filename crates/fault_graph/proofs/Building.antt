@@ -1,20 +1,22 @@
 -- The nodes of the smaller graph, one after the other, and the places of what stands for the nodes so far.
-use Rattle.std.proofs.Common.{◌≡◌, ◌≢◌, ℕ, zero, suc, ◌+◌, ◌-◌, ◌<◌, ◌≤◌, Bool, true, false, cond, List, [], ◌∷◌, ◌++◌, map, length, take, get_or, set, All, Option, Some, refl, ap, sym, ◌∙◌, subst, arith, inl, inr, ⊎_elim, length-append, get_or-set_same, get_or-set_other}
+use Rattle.std.proofs.Common.{◌≡◌, ◌≢◌, ℕ, ◌+◌, ◌-◌, ◌<◌, ◌≤◌, Bool, true, false, cond, List, [], ◌∷◌, ◌++◌, map, length, take, get_or, set, All, Option, Some, refl, ap, sym, ◌∙◌, subst, arith, inl, inr, ⊎_elim, length-append, get_or-set_same, get_or-set_other}
 use Rattle.std.specs.Prelude.{◌⊎◌, slice_get, nat_lt}
 use Rattle.std.specs.List.{list_any, filter}
 use Rattle.std.proofs.Math.Bool.{and-true, or-false}
 use Rattle.std.proofs.Math.ListN.{length-map}
 use Rattle.std.proofs.lemmas.Bool.{and_from, cases_lt, leb-true, le-leb, ltb-true, lt-ltb, false≢true}
-use Rattle.std.proofs.lemmas.List.Sums.{sum_by-append, sum_by-take-le}
+use Rattle.std.proofs.lemmas.List.Sums.{sum_by-take-le}
 use Rattle.std.proofs.lemmas.Option.{slice_get-get_or, get_or_from_slice_get, same_Some}
 use Rattle.ranking.specs.Assignments.{Assignment}
 use Rattle.ranking.proofs.Members.{In, In-map, In-filtered, AtMost}
+use Rattle.ranking.proofs.Lists.{length-filter-le}
 use Rattle.graph_rules.specs.declared.NodeKind.{NodeKind}
 use Rattle.graph_rules.specs.declared.NodeKind.TheVariants.{Literal, And, Or}
 use Rattle.graph_rules.specs.Graphs.{Node, Graph, true_node, node_at, truth_by, mention_by, is_true, mentions, apart_at, kind_fits, node_fits, AreNodes, IsGraph}
 use Rattle.graph_rules.specs.GraphTexts.{edges}
 use Rattle.graph_rules.proofs.NodeValues.{are_below, value_of-last}
 use Rattle.graph_rules.proofs.NodesFit.{fits-get, apart-get, literal, AreNodes-push}
+use Rattle.node_store.proofs.Copying.{take-more, edges-push}
 use Rattle.conditioner.specs.Models.{total_cost}
 use Rattle.minimiser.specs.Costs.{part_cost, known_at, sum_costs, cheapest}
 use Rattle.minimiser.specs.Stored.{cost_in, AreLeastCosts}
@@ -36,27 +38,8 @@ use Rattle.fault_graph.proofs.Roots.{IsWhole, whole}
 
 -- ---- lists
 
-take-more : (nodes : List Node) (i : ℕ) (node : Node) → slice_get nodes i ≡ Some node → take (i + 1) nodes ≡ take i nodes ++ node ∷ []
-take-more nodes i node e = (let next : i + 1 ≡ suc i = omega arith in ap (λ n. take n nodes) next) ∙ go nodes i e where
-  go : (nodes : List Node) (i : ℕ) → slice_get nodes i ≡ Some node → take (suc i) nodes ≡ take i nodes ++ node ∷ []
-  go [] i e = absurd (cc)
-  go (m ∷ nodes) zero e = let s : m ≡ node = cc in λ j. s j ∷ []
-  go (m ∷ nodes) (suc i) e = ap (λ ns. m ∷ ns) (go nodes i e)
-
-edges-push : (nodes : List Node) (node : Node) → edges (nodes ++ node ∷ []) ≡ edges nodes + length node.kids
-edges-push nodes node =
-    let one : edges (node ∷ []) ≡ length node.kids = omega arith in
-    omega (arith, sum_by-append (λ (x : Node). length x.kids) nodes (node ∷ []), one)
-
-filter-le : (keep : ℕ → Bool) (kids : List ℕ) → length (filter keep kids) ≤ length kids
-filter-le keep [] = omega arith
-filter-le keep (k ∷ kids) = by_first (keep k) (filter-le keep kids) where
-  by_first : (b : Bool) → length (filter keep kids) ≤ length kids → length (cond b (k ∷ filter keep kids) (filter keep kids)) ≤ length (k ∷ kids)
-  by_first true h = omega arith
-  by_first false h = omega arith
-
 row-le : (values places : List ℕ) (cost : ℕ) (kids : List ℕ) → length (row_of values places cost kids) ≤ length kids
-row-le values places cost kids = omega (arith, length-map (filter (keeps values cost) kids) (λ k. get_or places k 0), filter-le (keeps values cost) kids)
+row-le values places cost kids = omega (arith, length-map (filter (keeps values cost) kids) (λ k. get_or places k 0), length-filter-le (keeps values cost) kids)
 
 empty : (xs : List ℕ) → length xs ≤ 0 → xs ≡ []
 empty [] h = refl

@@ -1,11 +1,11 @@
 -- What stands at the places of the smaller graph: for which nodes, and for which parents these are needed.
-use Rattle.std.proofs.Common.{◌≡◌, ◌≢◌, ℕ, suc, ◌+◌, ◌<◌, ◌≤◌, true, List, [], ◌∷◌, ◌++◌, length, get_or, Some, refl, ap, sym, ◌∙◌, subst, arith, inl, inr, ⊎_elim, length-append}
+use Rattle.std.proofs.Common.{◌≡◌, ◌≢◌, ℕ, suc, ◌<◌, ◌≤◌, true, List, [], ◌∷◌, ◌++◌, length, get_or, Some, refl, ap, sym, ◌∙◌, subst, arith, inl, inr, ⊎_elim, length-append}
 use Rattle.std.specs.Prelude.{◌⊎◌, Contains}
-use Rattle.std.proofs.lemmas.List.{get_or_append_left, get_or-append-add}
+use Rattle.std.proofs.lemmas.List.{get_or_append_left}
 use Rattle.ranking.proofs.Members.{In}
 use Rattle.graph_rules.specs.declared.NodeKind.TheVariants.{Or}
 use Rattle.graph_rules.specs.Graphs.{Node, Graph, true_node, node_at, truth_by, mention_by, is_true, mentions}
-use Rattle.graph_rules.proofs.NodeValues.{value_of-before}
+use Rattle.graph_rules.proofs.NodeValues.{value_of-before, node_at-last}
 use Rattle.minimiser.specs.Costs.{part_cost, known_at}
 use Rattle.minimiser.proofs.Models.{same_or_not}
 use Rattle.minimiser.proofs.Sweeping.{node_least}
@@ -15,9 +15,6 @@ use Rattle.fault_graph.proofs.Standing.{StandsFor, StandsFor-same}
 
 node_at-before : (nodes : List Node) (node : Node) (p : ℕ) → p < length nodes → node_at (nodes ++ node ∷ []) p ≡ node_at nodes p
 node_at-before nodes node p h = get_or_append_left nodes (node ∷ []) true_node p h
-
-node_at-last : (nodes : List Node) (node : Node) → node_at (nodes ++ node ∷ []) (length nodes) ≡ node
-node_at-last nodes node = (let same : length nodes ≡ length nodes + 0 = omega arith in ap (node_at (nodes ++ node ∷ [])) same) ∙ get_or-append-add nodes (node ∷ []) 0 true_node
 
 In-Contains : (xs : List ℕ) (x : ℕ) → In x xs → Contains xs x
 In-Contains [] x m = absurd m

@@ -31,7 +31,7 @@ map-below f g own (kid ∷ kids) below same =
     let parts = and_parts (nat_lt kid own) (are_below own kids) below in
     λ i. same kid (ltb-true kid own parts.0) i ∷ map-below f g own kids parts.1 same i
 
-node_at-last : (nodes : List Node) (node : Node) → node_at (nodes ++ node ∷ []) (length nodes) ≡ node
+pub node_at-last : (nodes : List Node) (node : Node) → node_at (nodes ++ node ∷ []) (length nodes) ≡ node
 node_at-last nodes node = get_or_at nodes node [] true_node (length nodes) refl
 
 module _ (by_kind : NodeKind → List Bool → Bool) where

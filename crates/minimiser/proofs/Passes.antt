@@ -14,6 +14,7 @@ use Rattle.graph_rules.specs.declared.NodeKind.TheVariants.{Literal, And}
 use Rattle.graph_rules.specs.Graphs.{Node, Graph, mention, true_node, node_at, node_fits, IsGraph}
 use Rattle.graph_rules.proofs.NodeValues.{below-each}
 use Rattle.graph_rules.proofs.NodesFit.{nodes_fit-at, fits-get, literal}
+use Rattle.node_store.proofs.Copying.{take-more}
 use Rattle.conditioner.specs.Models.{least_under, total_cost}
 use Rattle.minimiser.specs.Costs.{part_cost, known_at, cost_at, sum_costs, node_cost}
 use Rattle.minimiser.specs.inner.Held.{held_cost}
@@ -30,15 +31,10 @@ use Rattle.minimiser.proofs.Whole.{AddHeld, least_is, part_cost-none}
 abbrev pub cost_under : List ℕ → List ℕ → Node → List (Option ℕ) → Option ℕ
 cost_under words costs = node_cost (known_at words) (part_cost costs)
 
-take-one_more : (nodes : List Node) (i : ℕ) (n : Node) → slice_get nodes i ≡ Some n → take (suc i) nodes ≡ take i nodes ++ n ∷ []
-take-one_more [] i n e = absurd (cc)
-take-one_more (m ∷ nodes) zero n e = let s : m ≡ n = cc in λ j. s j ∷ []
-take-one_more (m ∷ nodes) (suc i) n e = λ j. m ∷ take-one_more nodes i n e j
-
 pub costs-step : (graph : Graph) (words costs : List ℕ) (i : ℕ) (n : Node) → slice_get graph.nodes i ≡ Some n
     → costs_to graph words costs (i + 1) ≡ costs_to graph words costs i ++ cost_under words costs n (costs_to graph words costs i) ∷ []
 unfolding costs_to
-costs-step graph words costs i n e = (λ j. values (cost_under words costs) ((ap (λ k. take k graph.nodes) (add-one i) ∙ take-one_more graph.nodes i n e) j))
+costs-step graph words costs i n e = (λ j. values (cost_under words costs) (take-more graph.nodes i n e j))
     ∙ values_after-append (cost_under words costs) [] (take i graph.nodes) (n ∷ [])
 
 ApartAfter-take : (v : ℕ) (earlier : List Bool) (nodes : List Node) (i : ℕ) → ApartAfter v earlier nodes → ApartAfter v earlier (take i nodes)

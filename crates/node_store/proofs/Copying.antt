@@ -3,7 +3,7 @@ use Rattle.std.proofs.Common.{◌≡◌, ℕ, zero, suc, ◌+◌, ◌-◌, ◌<�
 use Rattle.std.specs.Prelude.{slice_get, slice_index, Contains, nat_lt, nat_le, ◌==◌, ◌⊎◌}
 use Rattle.std.specs.List.{list_all}
 use Rattle.std.proofs.lemmas.Bool.{and_from, lt-ltb, cases_lt}
-use Rattle.std.proofs.lemmas.List.{get_or_append_left, get_or_push, get_or-map}
+use Rattle.std.proofs.lemmas.List.{get_or_append_left, get_or_push, get_or-map, take_more}
 use Rattle.std.proofs.lemmas.Option.{slice_get_within, get_or_from_slice_get, slice_get-get_or}
 use Rattle.std.proofs.lemmas.List.Sums.{sum_by-append, sum_by-take-le}
 use Rattle.std.proofs.Math.ListN.{length-map}
@@ -23,14 +23,10 @@ use Rattle.node_store.proofs.Marking.{the_at}
 pub before : (vars : ℕ) (nodes : List Node) → AreNodes vars nodes → AreBefore nodes
 before vars nodes are i node there = below-each i node.kids (fits-get vars nodes i node are.fit there).below
 
-take-more : (nodes : List Node) (i : ℕ) (node : Node) → slice_get nodes i ≡ Some node → take (i + 1) nodes ≡ take i nodes ++ node ∷ []
-take-more nodes i node e = (let next : i + 1 ≡ suc i = omega arith in ap (λ n. take n nodes) next) ∙ go nodes i e where
-  go : (nodes : List Node) (i : ℕ) → slice_get nodes i ≡ Some node → take (suc i) nodes ≡ take i nodes ++ node ∷ []
-  go [] i e = absurd (cc)
-  go (m ∷ nodes) zero e = let s : m ≡ node = cc in λ j. s j ∷ []
-  go (m ∷ nodes) (suc i) e = ap (λ ns. m ∷ ns) (go nodes i e)
+pub take-more : (nodes : List Node) (i : ℕ) (node : Node) → slice_get nodes i ≡ Some node → take (i + 1) nodes ≡ take i nodes ++ node ∷ []
+take-more nodes i node e = take_more nodes i node (slice_get_within nodes i node e) ∙ ap (λ n. take i nodes ++ n ∷ []) (get_or_from_slice_get nodes i node node e)
 
-edges-push : (nodes : List Node) (node : Node) → edges (nodes ++ node ∷ []) ≡ edges nodes + length node.kids
+pub edges-push : (nodes : List Node) (node : Node) → edges (nodes ++ node ∷ []) ≡ edges nodes + length node.kids
 edges-push nodes node =
     let one : edges (node ∷ []) ≡ length node.kids = omega arith in
     omega (arith, sum_by-append (λ (x : Node). length x.kids) nodes (node ∷ []), one)

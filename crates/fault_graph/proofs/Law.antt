@@ -4,6 +4,7 @@ use Rattle.std.specs.Prelude.{nat_le}
 use Rattle.std.specs.List.{filter}
 use Rattle.std.proofs.lemmas.Bool.{and_from, leb-true}
 use Rattle.std.proofs.lemmas.List.{ext_get_or}
+use Rattle.std.proofs.lemmas.Bool.Decides.{same_from_decides}
 use Rattle.ranking.specs.Cases.{agrees_at}
 use Rattle.ranking.specs.Ranking.{Test, cost, states, passing, is_at_most}
 use Rattle.ranking.proofs.Members.{bits_length, filter_same}
@@ -50,20 +51,17 @@ filter_twice {A} p q (x ∷ xs) = by_first (p x) (filter_twice p q xs) where
   by_first true e = ap (λ ys. cond (q x) (x ∷ ys) ys) e
   by_first false e = e
 
-same_tests : (x y : Bool) → (x ≡ true → y ≡ true) → (y ≡ true → x ≡ true) → x ≡ y
-same_tests true y h g = sym (h refl)
-same_tests false true h g = g refl
-same_tests false false h g = refl
-
 -- the diagnoses are the states that pass and cost no more than the least
 diagnoses-same : (costs : List ℕ) (n most : ℕ) (p q : Test) → ((h : List Bool) → length h ≡ n → p h ≡ true → cost costs h ≤ most → q h ≡ true) → ((h : List Bool) → length h ≡ n → q h ≡ true → cost costs h ≤ most → p h ≡ true)
     → filter (λ h. is_at_most (cost costs h) (Some most)) (passing n p) ≡ filter (λ h. is_at_most (cost costs h) (Some most)) (passing n q)
 diagnoses-same costs n most p q to from =
     filter_twice p (λ h. nat_le (cost costs h) most) (states n)
     ∙ filter_same (λ h. p h && nat_le (cost costs h) most) (λ h. q h && nat_le (cost costs h) most) (states n)
-    (λ h m. same_tests _ _
-    (λ e. and_from _ _ (to h (bits_length n h m) (and_left _ _ e) (leb-true _ _ (and_right (p h) _ e))) (and_right (p h) _ e))
-    (λ e. and_from _ _ (from h (bits_length n h m) (and_left _ _ e) (leb-true _ _ (and_right (q h) _ e))) (and_right (q h) _ e)))
+    (λ h m. same_from_decides {P = (q h && nat_le (cost costs h) most) ≡ true} _ _ (
+      (λ e. and_from _ _ (to h (bits_length n h m) (and_left _ _ e) (leb-true _ _ (and_right (p h) _ e))) (and_right (p h) _ e)),
+      (λ e. and_from _ _ (from h (bits_length n h m) (and_left _ _ e) (leb-true _ _ (and_right (q h) _ e))) (and_right (q h) _ e)),
+    )
+    ((λ e. e), (λ e. e)))
     ∙ sym (filter_twice q (λ h. nat_le (cost costs h) most) (states n))
 
 -- ---- the law

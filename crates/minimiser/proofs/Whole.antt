@@ -87,7 +87,7 @@ bit_in-bits_from a s (suc n) (suc i) h = bit_in-bits_from a (s + 1) n i (omega a
 abbrev pub AddHeld : ℕ → Option ℕ → Option ℕ
 AddHeld held c = option_map (λ n. held + n) c
 
-le_cond : (b : Bool) (n : ℕ) → cond b n 0 ≤ n
+pub le_cond : (b : Bool) (n : ℕ) → cond b n 0 ≤ n
 le_cond true n = omega arith
 le_cond false n = omega arith
 

@@ -21,7 +21,7 @@ branches clauses i list =
 
 -- ---- one more bit
 
-no_bits : (vs : List ℕ) (c : Clause) → is_left vs [] c ≡ true
+pub no_bits : (vs : List ℕ) (c : Clause) → is_left vs [] c ≡ true
 no_bits [] c = refl
 no_bits (v ∷ vs) c = refl
 

@@ -3,7 +3,7 @@ use Rattle.std.proofs.Common.{◌≡◌, ℕ, zero, suc, ◌+◌, ◌<◌, ◌�
 use Rattle.std.specs.Prelude.{slice_get, position}
 use Rattle.std.specs.List.{filter, flat_map, position_or_len, AllByRecursion}
 use Rattle.std.specs.Str.{bytes_eq}
-use Rattle.std.proofs.lemmas.Bool.{false≢true, not-true}
+use Rattle.std.proofs.lemmas.Bool.{false≢true, not-true, or_right}
 use Rattle.std.proofs.lemmas.List.{append_assoc, length-map, get_or-map, take-append-drop, take_more, take_all}
 use Rattle.std.proofs.lemmas.List.Concat.{flat_map-append}
 use Rattle.std.proofs.lemmas.List.Folds.{list_any-append}
@@ -103,10 +103,6 @@ leads-nowhere clauses i list bit dead =
 
 -- ---- what a fork says
 
-or_true : (a b : Bool) → b ≡ true → (a || b) ≡ true
-or_true true b e = refl
-or_true false b e = e
-
 -- The list that a bit leaves stands where the fork leads to.
 pub leads-some : (clauses : List Clause) (i : ℕ) (list : List Bool) (bit : Bool) (place : ℕ) → leads_to clauses i list bit ≡ Some place → slice_get (living clauses (i + 1)) place ≡ Some (branch clauses i list bit)
 leads-some clauses i list bit place e =
@@ -117,7 +113,7 @@ among-kept : (test : List Bool → Bool) (ls : List (List Bool)) (x : List Bool)
 among-kept test [] x passes e = e
 among-kept test (l ∷ ls) x passes e = by_same (same_list l x) refl e (among-kept test ls x passes) where
   kept : (t : Bool) → is_among (filter test ls) x ≡ true → is_among (cond t (l ∷ filter test ls) (filter test ls)) x ≡ true
-  kept true rest = or_true (same_list l x) (is_among (filter test ls) x) rest
+  kept true rest = or_right (same_list l x) (is_among (filter test ls) x) rest
   kept false rest = rest
 
   by_same : (t : Bool) → same_list l x ≡ t → (t || is_among ls x) ≡ true → (is_among ls x ≡ true → is_among (filter test ls) x ≡ true) → is_among (filter test (l ∷ ls)) x ≡ true
@@ -130,7 +126,7 @@ among-given f (k ∷ ls) l x zero e given =
     let same : k ≡ l = cc in
     list_any-append (is_list x) (f k) (flat_map f ls) ∙ ap (λ m. is_among (f m) x || is_among (flat_map f ls) x) same ∙ ap (λ t. t || is_among (flat_map f ls) x) given
 among-given f (k ∷ ls) l x (suc j) e given =
-    list_any-append (is_list x) (f k) (flat_map f ls) ∙ or_true (is_among (f k) x) (is_among (flat_map f ls) x) (among-given f ls l x j e given)
+    list_any-append (is_list x) (f k) (flat_map f ls) ∙ or_right (is_among (f k) x) (is_among (flat_map f ls) x) (among-given f ls l x j e given)
 
 -- Where it leads nowhere, what the bit leaves is dead.
 pub leads-none : (clauses : List Clause) (i : ℕ) (list : List Bool) (bit : Bool) (j : ℕ) → i < length (order clauses) → slice_get (living clauses i) j ≡ Some list → leads_to clauses i list bit ≡ None
@@ -141,7 +137,7 @@ leads-none clauses i list bit j low at none = by_test (is_dead clauses (i + 1) n
 
   both : (b : Bool) → is_among (branch clauses i list false ∷ branch clauses i list true ∷ []) (branch clauses i list b) ≡ true
   both false = ap (λ t. t || is_among (branch clauses i list true ∷ []) (branch clauses i list false)) (pointwise-refl (branch clauses i list false))
-  both true = (λ k. same_list (branch clauses i list false) (branch clauses i list true) || (pointwise-refl (branch clauses i list true) k || false)) ∙ or_true (same_list (branch clauses i list false) (branch clauses i list true)) true refl
+  both true = (λ k. same_list (branch clauses i list false) (branch clauses i list true) || (pointwise-refl (branch clauses i list true) k || false)) ∙ or_right (same_list (branch clauses i list false) (branch clauses i list true)) true refl
 
   there : is_dead clauses (i + 1) next ≡ false → is_among (living clauses (i + 1)) next ≡ true
   there alive =

@@ -1,13 +1,14 @@
 -- What is left of clauses, by the bit of the next variable.
 use Rattle.std.proofs.Common.{◌≡◌, ℕ, ◌+◌, ◌<◌, ◌≤◌, Bool, true, false, not, ◌&&◌, ◌||◌, List, [], ◌∷◌, map, length, refl, ap, sym, ◌∙◌, subst, arith}
 use Rattle.std.specs.Prelude.{◌==◌, nat_lt, slice_index}
-use Rattle.std.proofs.lemmas.Bool.{false≢true, eqb-true, eqb-false, lt-ltb, ltb-true, ltb-false}
+use Rattle.std.proofs.lemmas.Bool.{false≢true, eqb-true, eqb-false, lt-ltb, ltb-true, ltb-false, or_right}
 use Rattle.ranking.specs.Bits.{same_bit}
 use Rattle.ranking.specs.Assignments.{Assignment}
 use Rattle.clause_encoder.specs.Clauses.{Clause, var_of, is_positive, is_true_clause, all_hold}
 use Rattle.branch_states.specs.Branches.{order, place, is_true_by, has_true, is_left, left, is_covered, some_passes, is_dead, without, branch, IsLiving}
 use Rattle.dnnf_compiler.specs.inner.Meaning.{rest_holds, left_holds}
 use Rattle.branch_states.proofs.Holding.{nothing-left}
+use Rattle.branch_states.proofs.Branching.{no_bits}
 use Rattle.dnnf_compiler.proofs.Orders.{place_in_order, at_place}
 
 not_below : (a b : ℕ) → b ≤ a → nat_lt a b ≡ false
@@ -96,10 +97,6 @@ covered_rest vs i a (l ∷ clause) e = by (nat_lt (place vs (var_of l)) i) e (co
   by true f rest = rest f
   by false f rest = absurd (cc)
 
-or_true : (a b : Bool) → b ≡ true → (a || b) ≡ true
-or_true true b e = refl
-or_true false b e = e
-
 dead_passes : (vs : List ℕ) (i : ℕ) (a : Assignment) (clauses : List Clause) (list : List Bool) → some_passes (is_covered vs i) clauses list ≡ true → some_passes (λ c. not (rest_holds vs i a c)) clauses list ≡ true
 dead_passes vs i a [] list e = e
 dead_passes vs i a (c ∷ clauses) [] e = e
@@ -108,7 +105,7 @@ dead_passes vs i a (c ∷ clauses) (true ∷ list) e = by (is_covered vs i c) re
   by : (b : Bool) → is_covered vs i c ≡ b → (some_passes (is_covered vs i) clauses list ≡ true → some_passes (λ c. not (rest_holds vs i a c)) clauses list ≡ true)
       → (not (rest_holds vs i a c) || some_passes (λ c. not (rest_holds vs i a c)) clauses list) ≡ true
   by true f rest = ap (λ b. not b || some_passes (λ c. not (rest_holds vs i a c)) clauses list) (covered_rest vs i a c f)
-  by false f rest = or_true (not (rest_holds vs i a c)) (some_passes (λ c. not (rest_holds vs i a c)) clauses list) (rest (sym (ap (λ b. b || some_passes (is_covered vs i) clauses list) f) ∙ e))
+  by false f rest = or_right (not (rest_holds vs i a c)) (some_passes (λ c. not (rest_holds vs i a c)) clauses list) (rest (sym (ap (λ b. b || some_passes (is_covered vs i) clauses list) f) ∙ e))
 
 pub dead_fails : (clauses : List Clause) (i : ℕ) (a : Assignment) (list : List Bool) → is_dead clauses i list ≡ true → left_holds clauses i a list ≡ false
 dead_fails clauses i a list e = ap not (dead_passes (order clauses) i a clauses list e)
@@ -119,14 +116,10 @@ rest-none : (vs : List ℕ) (a : Assignment) (clause : Clause) → rest_holds vs
 rest-none vs a [] = refl
 rest-none vs a (l ∷ clause) = λ j. (not (not_below (place vs (var_of l)) 0 (omega arith) j) && same_bit (is_positive l) (a (var_of l))) || rest-none vs a clause j
 
-left-none : (vs : List ℕ) (c : Clause) → is_left vs [] c ≡ true
-left-none [] c = refl
-left-none (v ∷ vs) c = refl
-
 none-fails : (vs : List ℕ) (a : Assignment) (clauses : List Clause) → not (some_passes (λ c. not (rest_holds vs 0 a c)) clauses (map (is_left vs []) clauses)) ≡ all_hold a clauses
 none-fails vs a [] = refl
 none-fails vs a (c ∷ clauses) =
-    (λ j. not ((left-none vs c j && not (rest-none vs a c j)) || some_passes (λ c. not (rest_holds vs 0 a c)) clauses (map (is_left vs []) clauses)))
+    (λ j. not ((no_bits vs c j && not (rest-none vs a c j)) || some_passes (λ c. not (rest_holds vs 0 a c)) clauses (map (is_left vs []) clauses)))
     ∙ flip (is_true_clause a c) (some_passes (λ c. not (rest_holds vs 0 a c)) clauses (map (is_left vs []) clauses)) ∙ ap (λ b. is_true_clause a c && b) (none-fails vs a clauses) where
       flip : (x y : Bool) → not (not x || y) ≡ (x && not y)
       flip true y = refl

@@ -1,10 +1,11 @@
 -- The same clauses in another order.
-use Rattle.std.proofs.Common.{◌≡◌, ℕ, ◌<◌, ◌≤◌, Bool, true, false, List, [], map, length, get_or, take, refl, sym, ap, subst, ◌∙◌, arith, zero-add, IsPermutation, All, Result, Ok, Err, IfOk}
+use Rattle.std.proofs.Common.{◌≡◌, ℕ, ◌<◌, ◌≤◌, Bool, true, List, [], map, length, get_or, take, refl, sym, ap, subst, ◌∙◌, arith, zero-add, IsPermutation, All, Result, Ok, Err, IfOk}
 use Rattle.std.specs.List.{range_with_len, list_all}
 use Rattle.std.proofs.lemmas.List.{ext_get_or, take_all}
 use Rattle.std.proofs.lemmas.List.FromFn.{length-map-range_with_len, get_or-map-range_with_len, get_or-range_with_len, length-range_with_len}
 use Rattle.std.proofs.lemmas.List.Sums.{AllPass-from_list_all, list_all-from_AllPass}
 use Rattle.std.proofs.lemmas.List.Sorted.{IsPermutation-map, IsPermutation-refl, IsPermutation-sym, All-permutation, length_permutation}
+use Rattle.std.proofs.lemmas.Bool.Decides.{same_from_decides}
 use Rattle.clause_encoder.specs.Clauses.{Clause, ClauseList, is_clause, is_clause_list, is_true_clause}
 use Rattle.branch_states.proofs.Ordering.{clauses-valid}
 use Rattle.clause_order.specs.Orders.{IsReordered, IsNarrowed, SameTruth}
@@ -14,16 +15,14 @@ use Rattle.clause_order.specs.inner.Arranging.{IsOrder}
 list_all-reordered : {X : Type 0} (p : X → Bool) (xs ys : List X) → IsPermutation xs ys → list_all p xs ≡ true → list_all p ys ≡ true
 list_all-reordered p xs ys h all = list_all-from_AllPass p ys (All-permutation (λ x. p x ≡ true) xs ys h (AllPass-from_list_all p xs all))
 
-same_bool : (b c : Bool) → (b ≡ true → c ≡ true) → (c ≡ true → b ≡ true) → b ≡ c
-same_bool true c to back = sym (to refl)
-same_bool false true to back = back refl
-same_bool false false to back = refl
-
 -- in another order the same bits make all clauses true
 pub reordered-holds : (given found : ClauseList) → IsReordered given found → SameTruth given found
 reordered-holds given found h a =
-    same_bool _ _ (list_all-reordered (is_true_clause a) found.clauses given.clauses (IsPermutation-sym given.clauses found.clauses h.clauses))
-    (list_all-reordered (is_true_clause a) given.clauses found.clauses h.clauses)
+    same_from_decides {P = list_all (is_true_clause a) given.clauses ≡ true} _ _ (
+      list_all-reordered (is_true_clause a) found.clauses given.clauses (IsPermutation-sym given.clauses found.clauses h.clauses),
+      list_all-reordered (is_true_clause a) given.clauses found.clauses h.clauses,
+    )
+    ((λ e. e), (λ e. e))
 
 -- the given order is one
 pub narrowed-given : (cnf : ClauseList) → IsNarrowed cnf cnf

@@ -6,6 +6,7 @@ use Rattle.std.proofs.lemmas.Bool.{and_parts, leb-true}
 use Rattle.std.proofs.lemmas.List.{drop_more}
 use Rattle.std.proofs.lemmas.List.Folds.{list_any-append, list_all-map}
 use Rattle.indexmap.specs.IndexSet.{insert_key}
+use Rattle.std.proofs.Math.Bool.{or-false, or_assoc}
 use Rattle.text_rules.specs.Expected.{IsExpectedFault}
 use Rattle.text_rules.specs.Names.{Name, same_name, is_among, is_short_name, is_name_byte}
 use Rattle.text_rules.proofs.NameLemmas.{equal_if_same}
@@ -70,15 +71,7 @@ kept-insert ks k name = by (list_any (λ (j : Bor Name). same_name k.now j.now) 
 pub named_flip_flop : (statement : StatementRead) (output : Bor Name) (kind : NamedKind) (inputs : Inputs) (name : Name)
     → statement ≡ GateRead output kind inputs → kind ≡ KeepsItsValue → is_among (flip_flop (meaning statement)) name ≡ same_name name output.now
 named_flip_flop statement output kind inputs name is keeps =
-    ap (λ (s : StatementRead). is_among (flip_flop (meaning s)) name) (is ∙ ap (λ (k : NamedKind). GateRead output k inputs) keeps) ∙ or_false (same_name name output.now)
-  where
-    or_false : (b : Bool) → (b || false) ≡ b
-    or_false true = refl
-    or_false false = refl
-
-or_assoc : (a b c : Bool) → ((a || b) || c) ≡ (a || (b || c))
-or_assoc true b c = refl
-or_assoc false b c = refl
+    ap (λ (s : StatementRead). is_among (flip_flop (meaning s)) name) (is ∙ ap (λ (k : NamedKind). GateRead output k inputs) keeps) ∙ or-false (same_name name output.now)
 
 -- one statement more
 pub kept-more : (statements : List NumberedStatement) (i : ℕ) (s : NumberedStatement) (name : Name) (old new whole : Bool) → i < length statements → s ≡ get_or statements i s

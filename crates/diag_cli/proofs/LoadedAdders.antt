@@ -34,11 +34,8 @@ use Rattle.diag_cli.specs.inner.Serving.{IsServable}
 pub whole : {A : Type 0} (n : ℕ) (xs more : List A) → length xs ≡ n → take n (xs ++ more) ≡ xs
 whole n xs more long = ap (λ m. take m (xs ++ more)) (sym long) ∙ take-append_seam xs more
 
-named : (device : Device) → length (part_names device.parts) ≡ length device.parts
-named device = length-map device.parts (λ (part : Component). part.name)
-
 is_case : (device : Device) (places : ℕ) → IsCaseOf (device_system device) (adder_case device places)
-is_case device places = (case_seen device places, case_held device places ∙ sym (named device))
+is_case device places = (case_seen device places, case_held device places ∙ sym (length-map device.parts (λ (part : Component). part.name)))
 
 within_limit : {A : Type 0} (limit : ℕ) (xs : List A) → 0 < limit → length (take limit xs) - 1 < limit
 within_limit limit xs some = let long = length-take limit xs in grind (arith, long, some)
@@ -52,7 +49,7 @@ module _ (device : Device) (graph : Graph) (places : ℕ) (words costs : List �
   ds = all_diagnoses (device_system device) known
 
   states_are : models graph words (length costs) ≡ (device_system device).consistent known
-  states_are = ap₂ (λ ws n. models graph ws n) noted (many ∙ sym (named device)) ∙ same_consistent device graph is.meaning known (is_case device places)
+  states_are = ap₂ (λ ws n. models graph ws n) noted (many ∙ sym (length-map device.parts (λ (part : Component). part.name))) ∙ same_consistent device graph is.meaning known (is_case device places)
 
   least_is : least_under graph words costs ≡ least_cost (device_system device) known
   least_is = ap₂ least priced states_are

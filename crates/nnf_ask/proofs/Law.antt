@@ -1,5 +1,5 @@
 -- The graph of a device answers for it, whatever its variables are called.
-use Rattle.std.proofs.Common.{◌≡◌, ℕ, zero, suc, ◌+◌, ◌-◌, Bool, List, ◌∷◌, ◌++◌, map, length, replicate, refl, ap, ap₂, sym, subst, ◌∙◌, Option, None, arith, append-nil, length-append}
+use Rattle.std.proofs.Common.{◌≡◌, ℕ, ◌+◌, ◌-◌, Bool, List, ◌++◌, map, length, replicate, ap, ap₂, sym, subst, ◌∙◌, Option, None, arith, append-nil, length-append}
 use Rattle.std.specs.Prelude.{Ok}
 use Rattle.std.proofs.lemmas.List.{map-append, length-map, length-replicate}
 use Rattle.ranking.specs.Cases.{Case}
@@ -16,6 +16,7 @@ use Rattle.session_rules.specs.GraphSystems.{case_words}
 use Rattle.session_rules.specs.Items.{Whole}
 use Rattle.session_rules.specs.Spelling.{Spelled, IsWholeOf, IsGraphOf}
 use Rattle.session_rules.proofs.Meaning.{same_consistent}
+use Rattle.session_rules.proofs.CaseWords.{map-replicate}
 use Rattle.nnf_ask.specs.Asking.{asked_system}
 use Rattle.nnf_ask.specs.Alike.{case_among, AreAlike}
 use Rattle.nnf_ask.proofs.Naming.{length-variable_names}
@@ -25,11 +26,6 @@ pub graph_meant : (device : Device) (vars most : ℕ) (text : List ℕ) (graph :
 graph_meant device vars most text graph spelled read =
     let is : IsWholeOf device vars most (Ok graph) = subst (λ (p : Parsed). IsWholeOf device vars most p) read spelled.1 in
     is.3
-
--- of what is not seen the words say nothing
-unseen : (n : ℕ) → map word_of_known (replicate n None) ≡ replicate n 0
-unseen zero = refl
-unseen (suc n) = ap (λ ws. 0 ∷ ws) (unseen n)
 
 -- what a case says of the variables, it says among them
 same_words : (vars : ℕ) (known : Case) → case_words vars (case_among vars known) ≡ case_words vars known
@@ -42,7 +38,7 @@ same_words vars known =
     (ap (λ n. map word_of_known (known.seen ++ more) ++ replicate n 0) none
     ∙ append-nil (map word_of_known (known.seen ++ more))
     ∙ map-append word_of_known known.seen more
-    ∙ ap (λ ws. map word_of_known known.seen ++ ws) (unseen count))
+    ∙ ap (λ ws. map word_of_known known.seen ++ ws) (map-replicate count))
 
 module _ (device : Device) (graph : Graph) (is : IsGraphOf device graph) (known : Case) (case : IsCaseOf (device_system device) known) where
   named : length (part_names device.parts) ≡ length device.parts

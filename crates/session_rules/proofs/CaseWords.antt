@@ -20,7 +20,7 @@ set_behind (x ∷ xs) ys i y =
     let e : length (x ∷ xs) + i ≡ suc (length xs + i) = omega arith in
     ap (λ n. set (x ∷ (xs ++ ys)) n y) e ∙ ap (λ zs. x ∷ zs) (set_behind xs ys i y)
 
-map-replicate : (n : ℕ) → map word_of_known (replicate n None) ≡ replicate n 0
+pub map-replicate : (n : ℕ) → map word_of_known (replicate n None) ≡ replicate n 0
 map-replicate zero = refl
 map-replicate (suc n) = ap (λ ws. 0 ∷ ws) (map-replicate n)
 

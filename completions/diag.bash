@@ -50,11 +50,11 @@ _diag_forms() {
 }
 
 _diag() {
-  local word=${COMP_WORDS[COMP_CWORD]} form=${COMP_WORDS[1]-} name words ending forms='' place=0 endings='' options='' given
+  local word=${COMP_WORDS[COMP_CWORD]} form=${COMP_WORDS[1]-} name words ending taken forms='' place=0 endings='' options='' given
   COMPREPLY=()
-  while IFS='|' read -r name words ending given; do
+  while IFS='|' read -r name words ending taken; do
     forms+="$name "
-    if [ "$name" = "$form" ]; then place=$words endings=$ending options=$given; fi
+    if [ "$name" = "$form" ]; then place=$words endings=$ending options=$taken; fi
   done < <(_diag_forms)
   if [ "$COMP_CWORD" -eq 1 ]; then
     mapfile -t COMPREPLY < <(compgen -W "$forms" -- "$word")

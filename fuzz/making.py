@@ -9,7 +9,7 @@ from rules.clauses import clauses_of, sum_of, tidied
 from rules.devices import GATES, ODD_ONES
 from rules.graphs import BITS_LIMIT
 from rules.runs import FORMS, GRAPHS, LEVELS_LIMIT
-from rules.sessions import COMMANDS, COUNT, PART, PARTS, VALUES, WIRE
+from rules.sessions import COMMANDS, COUNT, PART, PARTS, READING, VALUES, WIRE
 from rules.texts import Refused
 
 NAMES = [b"a", b"b", b"c", b"a1", b"a-1", b"a.1", b"10", b"2", b"22", b"INPUT", b"and", b"AND", b"x[0]", b"~", b"!y", b"Z", b"z" * 64,
@@ -190,7 +190,7 @@ def arguments(r, takes, parts, wires):
     """What stands behind the name of a session."""
     part, wire = (r.choice(names) if names and not chance(r, 2) else b"nobody" for names in (parts, wires))
     if takes in VALUES:
-        return [(wire if takes.startswith(WIRE) else part) + b"=" + r.choice([*VALUES[takes]])]
+        return [(wire if takes == READING else part) + b"=" + r.choice([*VALUES[takes]])]
     if takes == COUNT:
         return [b"%d" % r.choice([1, 2, 3, 9, 1000000])]
     if takes == PARTS:
@@ -233,7 +233,8 @@ def levels_option(r, nodes):
 def options(r, form, sum, times=0, vars=0):
     """Options in any order, a few of them wrong."""
     # of a form that knows no times, or over a design, it is wrong whatever its number
-    found, takes = [frames_option(r, times)] if times else [], FORMS[form].options
+    takes = FORMS[form].options
+    found = [frames_option(r, times)] if times else []
     # over several times a budget is all that shows the sum
     if "--budget" in takes and chance(r, 60 if times else 30):
         found.append(["--budget", str(max(1, r.choice([sum - 1, sum - 1, sum, sum, sum, sum + 1, sum // 2, 8388608, 1])))])

@@ -7,7 +7,7 @@ use Rattle.ranking.specs.Cases.{agrees_at}
 use Rattle.ranking.specs.Bits.{same_bit}
 use Rattle.ranking.proofs.Bits.{not_left}
 use Rattle.ranking.proofs.Cases.{agrees_cond}
-use Rattle.graph_rules.specs.WordBits.{has_bit}
+use Rattle.graph_rules.specs.inner.WordBits.{has_bit}
 use Rattle.graph_rules.proofs.WordBits.{has_bit-zero, one_bit, has_bit-or}
 use Rattle.minimiser.specs.Costs.{known_at}
 use Rattle.level_lister.specs.declared.pairs.Pair.{Pair}

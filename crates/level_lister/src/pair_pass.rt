@@ -5,7 +5,7 @@ ghost use Rattle.ranking.specs.Bits.{same_bit};
 ghost use Rattle.ranking.specs.Cases.{agrees_at};
 ghost use Rattle.graph_rules.specs.declared.NodeKind.TheVariants.{And, Or};
 ghost use Rattle.graph_rules.specs.Graphs.{node_at};
-ghost use Rattle.graph_rules.specs.WordBits.{has_bit};
+ghost use Rattle.graph_rules.specs.inner.WordBits.{has_bit};
 ghost use Rattle.minimiser.specs.Costs.{known_at};
 ghost use Rattle.level_lister.specs.Passes.{group_count};
 ghost use Rattle.part_sets.specs.Numbers.{part_words, set_at};

@@ -1,4 +1,4 @@
--- Bits of words.
+-- Words joined one after the other, and the bit of a variable among some that rise.
 use Rattle.std.proofs.Common.{◌≡◌, ℕ, ◌+◌, ◌*◌, ◌%◌, ◌^◌, ◌<◌, ◌≤◌, Bool, true, false, not, ◌&&◌, ◌||◌, ◌==◌, List, [], ◌∷◌, ◌++◌, map, length, take, get_or, refl, sym, ap, ◌∙◌, arith}
 use Rattle.std.specs.Prelude.{bit_and, bit_or}
 use Rattle.std.specs.List.{list_any}
@@ -9,7 +9,7 @@ use Rattle.std.proofs.Common.{inl, inr}
 use Rattle.std.proofs.lemmas.List.{take_more, map-append, get_or_past}
 use Rattle.std.proofs.lemmas.List.Kept.{AllPairs-from_increasing}
 use Rattle.graph_rules.specs.Graphs.{at_most_one}
-use Rattle.graph_rules.specs.WordBits.{has_bit}
+use Rattle.graph_rules.specs.inner.WordBits.{has_bit}
 use Rattle.graph_rules.proofs.WordBits.{has_bit-or, has_bit-and, has_bit-zero, one_bit, joined_more}
 use Rattle.graph_rules.proofs.Kids.{any-push}
 use Rattle.nnf_text.specs.inner.Sharing.{has, IsJoined}
@@ -38,8 +38,6 @@ both_more column kids i any twice word lt is joined = record {
 } where
   longer : (b : ℕ) → map (has column b) (take (i + 1) kids) ≡ map (has column b) (take i kids) ++ has column b (get_or kids i 0) ∷ []
   longer b = ap (map (has column b)) (take_more kids i 0 lt) ∙ map-append (has column b) (take i kids) (get_or kids i 0 ∷ [])
-
--- ---- one variable
 
 -- ---- the bit of a variable among some that rise
 

@@ -11,7 +11,7 @@ use Rattle.std.proofs.lemmas.List.Folds.{find-append}
 use Rattle.graph_rules.specs.declared.NodeKind.{NodeKind}
 use Rattle.graph_rules.specs.Graphs.{Node, node_at, mention_by, mentions, nodes_fit}
 use Rattle.graph_rules.specs.GraphTexts.{shares}
-use Rattle.graph_rules.specs.WordBits.{has_bit}
+use Rattle.graph_rules.specs.inner.WordBits.{has_bit}
 use Rattle.graph_rules.proofs.NodeValues.{map-below, below-each, value_of-at}
 use Rattle.graph_rules.proofs.NodesFit.{fits-at, apart_at-below}
 use Rattle.nnf_text.specs.inner.Sharing.{has, IsWord, first_of, IsFirstOf, FirstOf, earlier}

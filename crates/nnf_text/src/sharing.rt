@@ -2,7 +2,7 @@ ghost use Rattle.std.specs.Prelude.{◌≡◌, ◌==◌, ◌≤◌, ◌<◌, ℕ
 ghost use Rattle.std.specs.List.{range_with_len};
 ghost use Rattle.std.specs.List.Sorted.{IsStrictlyIncreasing};
 ghost use Rattle.graph_rules.specs.Graphs.{kind_fits, nodes_fit};
-ghost use Rattle.graph_rules.specs.WordBits.{has_bit};
+ghost use Rattle.graph_rules.specs.inner.WordBits.{has_bit};
 ghost use Rattle.nnf_text.specs.inner.Sharing.{IsJoined, IsWord, AreVariables, AddsVariable, FirstOf, earlier};
 
 use graph_rules::NodeKind;

@@ -5,7 +5,7 @@ use Rattle.std.specs.List.{list_any}
 use Rattle.std.proofs.lemmas.Bool.{cases_lt, leb-true, le-leb, ltb-true, lt-ltb}
 use Rattle.std.proofs.lemmas.List.{take_more}
 use Rattle.std.proofs.lemmas.List.Folds.{list_any-append}
-use Rattle.graph_rules.specs.WordBits.{has_bit}
+use Rattle.graph_rules.specs.inner.WordBits.{has_bit}
 use Rattle.minimiser.specs.inner.Marked.{is_kid}
 use Rattle.probe_report.specs.inner.Outside.{lowered, IsLowered, is_left}
 use Rattle.probe_report.specs.inner.Leaving.{LowersBlock}

@@ -1,7 +1,7 @@
 ghost use Rattle.std.specs.Prelude.{◌≡◌, ◌≢◌, ℕ, ◌+◌, ◌*◌, ◌<◌, ◌≤◌, ◌==◌, length, All, false, map};
 ghost use Rattle.std.specs.List.{list_any};
 ghost use Rattle.graph_rules.specs.Graphs.{node_at, mention_by, mentions};
-ghost use Rattle.graph_rules.specs.WordBits.{has_bit};
+ghost use Rattle.graph_rules.specs.inner.WordBits.{has_bit};
 ghost use Rattle.probe_report.specs.inner.Outside.{mark_at};
 
 use graph_rules::NodeKind;

@@ -9,7 +9,7 @@ use Rattle.std.proofs.lemmas.List.FromFn.{get_or-range_with_len}
 use Rattle.diag_edge.specs.Adding.{Grown}
 use Rattle.text_rules.specs.Tokens.{spaced}
 use Rattle.graph_rules.specs.WrittenGraphs.{node_words}
-use Rattle.graph_rules.specs.WordBits.{has_bit}
+use Rattle.graph_rules.specs.inner.WordBits.{has_bit}
 use Rattle.graph_rules.proofs.WordBits.{has_bit-zero}
 use Rattle.nnf_text.proofs.LineTexts.{and-spaced}
 use Rattle.smooth_nnf.specs.Layouts.{filler, fillers}

@@ -14,7 +14,7 @@ use Rattle.graph_rules.specs.Graphs.{mentions}
 use Rattle.scratch_pool.proofs.Counted.{block-below}
 use Rattle.ranking.proofs.Members.{filter_same}
 use Rattle.ranking.proofs.Lists.{length-filter-le}
-use Rattle.graph_rules.specs.WordBits.{has_bit}
+use Rattle.graph_rules.specs.inner.WordBits.{has_bit}
 use Rattle.graph_rules.proofs.WordBits.{has_bit-and}
 use Rattle.part_sets.specs.Numbers.{part_words}
 use Rattle.smooth_nnf.specs.inner.Sets.{part_at}

@@ -5,7 +5,7 @@ ghost use Rattle.diag_edge.specs.Adding.{Adds};
 ghost use Rattle.diag_edge.specs.Edge.{HasCause};
 ghost use Rattle.text_rules.specs.Tokens.{spaced};
 ghost use Rattle.graph_rules.specs.WrittenGraphs.{node_words};
-ghost use Rattle.graph_rules.specs.WordBits.{has_bit};
+ghost use Rattle.graph_rules.specs.inner.WordBits.{has_bit};
 ghost use Rattle.smooth_nnf.specs.Layouts.{fillers};
 ghost use Rattle.part_sets.specs.Numbers.{part_words};
 ghost use Rattle.smooth_nnf.specs.inner.Sets.{part_at};

@@ -3,7 +3,7 @@ use Rattle.std.specs.Prelude.{◌≡◌, ℕ, ◌+◌, ◌-◌, ◌*◌, ◌/◌
 use Rattle.ranking.specs.Assignments.{Assignment}
 use Rattle.ranking.specs.Bits.{bit_in}
 use Rattle.graph_rules.specs.Graphs.{Graph, is_true, mentions}
-use Rattle.graph_rules.specs.WordBits.{has_bit}
+use Rattle.graph_rules.specs.inner.WordBits.{has_bit}
 use Rattle.level_lister.specs.declared.pairs.Pair.{Pair}
 use Rattle.level_lister.specs.declared.pairs.Groups.{Groups}
 pub use Rattle.level_lister.specs.Passes.{group_count}

@@ -6,7 +6,7 @@ use Rattle.graph_rules.specs.declared.NodeKind.{NodeKind}
 use Rattle.graph_rules.specs.declared.NodeKind.TheVariants.{Literal, And, Or}
 use Rattle.graph_rules.specs.Graphs.{Node, node_at, at_most_one, mention_by, apart_at}
 use Rattle.graph_rules.specs.GraphTexts.{shares}
-use Rattle.graph_rules.specs.WordBits.{has_bit}
+use Rattle.graph_rules.specs.inner.WordBits.{has_bit}
 
 -- the variable of a literal was added
 abbrev pub AddsVariable : List ℕ → NodeKind → List ℕ → Type 0

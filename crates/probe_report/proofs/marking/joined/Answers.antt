@@ -1,6 +1,6 @@
 use Rattle.std.proofs.Common.{◌∙◌, ap}
 use Rattle.std.specs.Prelude.{bit_or}
-use Rattle.graph_rules.specs.WordBits.{has_bit}
+use Rattle.graph_rules.specs.inner.WordBits.{has_bit}
 use Rattle.graph_rules.proofs.WordBits.{joined_more}
 use Rattle.probe_report.specs.inner.Outside.{mark_at}
 use Rattle.probe_report.proofs.marking.joined.Goals as goal

@@ -1,4 +1,4 @@
--- Bits of words.
+-- Whether words have bits.
 use Rattle.std.specs.Prelude.{ℕ, ◌==◌, Bool}
 use Rattle.std.specs.Int.{bit_at}
 

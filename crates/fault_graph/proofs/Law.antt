@@ -7,6 +7,7 @@ use Rattle.std.proofs.lemmas.List.{ext_get_or}
 use Rattle.std.proofs.lemmas.Bool.Decides.{same_from_decides}
 use Rattle.ranking.specs.Cases.{agrees_at}
 use Rattle.ranking.specs.Ranking.{Test, cost, states, passing, is_at_most}
+use Rattle.ranking.proofs.Lists.{filter-filter}
 use Rattle.ranking.proofs.Members.{bits_length, filter_same}
 use Rattle.graph_rules.specs.Graphs.{Graph, is_true, mentions, IsGraph}
 use Rattle.conditioner.specs.Models.{has_model, fits_words, models, least_under, diagnoses_under}
@@ -43,26 +44,18 @@ same_fault (Some false) w false false dear p q h g = refl
 
 -- ---- what passes two tests
 
-filter_twice : {A : Type 0} (p q : A → Bool) (xs : List A) → filter q (filter p xs) ≡ filter (λ x. p x && q x) xs
-filter_twice p q [] = refl
-filter_twice {A} p q (x ∷ xs) = by_first (p x) (filter_twice p q xs) where
-  by_first : (b : Bool) → filter q (filter p xs) ≡ filter (λ y. p y && q y) xs
-      → filter q (cond b (x ∷ filter p xs) (filter p xs)) ≡ cond (b && q x) (x ∷ filter (λ y. p y && q y) xs) (filter (λ y. p y && q y) xs)
-  by_first true e = ap (λ ys. cond (q x) (x ∷ ys) ys) e
-  by_first false e = e
-
 -- the diagnoses are the states that pass and cost no more than the least
 diagnoses-same : (costs : List ℕ) (n most : ℕ) (p q : Test) → ((h : List Bool) → length h ≡ n → p h ≡ true → cost costs h ≤ most → q h ≡ true) → ((h : List Bool) → length h ≡ n → q h ≡ true → cost costs h ≤ most → p h ≡ true)
     → filter (λ h. is_at_most (cost costs h) (Some most)) (passing n p) ≡ filter (λ h. is_at_most (cost costs h) (Some most)) (passing n q)
 diagnoses-same costs n most p q to from =
-    filter_twice p (λ h. nat_le (cost costs h) most) (states n)
+    filter-filter (λ h. nat_le (cost costs h) most) p (states n)
     ∙ filter_same (λ h. p h && nat_le (cost costs h) most) (λ h. q h && nat_le (cost costs h) most) (states n)
     (λ h m. same_from_decides {P = (q h && nat_le (cost costs h) most) ≡ true} _ _ (
       (λ e. and_from _ _ (to h (bits_length n h m) (and_left _ _ e) (leb-true _ _ (and_right (p h) _ e))) (and_right (p h) _ e)),
       (λ e. and_from _ _ (from h (bits_length n h m) (and_left _ _ e) (leb-true _ _ (and_right (q h) _ e))) (and_right (q h) _ e)),
     )
     ((λ e. e), (λ e. e)))
-    ∙ sym (filter_twice q (λ h. nat_le (cost costs h) most) (states n))
+    ∙ sym (filter-filter (λ h. nat_le (cost costs h) most) q (states n))
 
 -- ---- the law
 

@@ -8,6 +8,7 @@ use Rattle.std.proofs.lemmas.List.Folds.{list_any-append, list_all-append}
 use Rattle.std.proofs.lemmas.Option.{slice_get_within, slice_get-get_or, get_or_from_slice_get}
 use Rattle.text_rules.specs.Names.{Name, same_name, is_among}
 use Rattle.text_rules.proofs.PartLemmas.{passes_too}
+use Rattle.ranking.proofs.Lists.{slice_get-before}
 use Rattle.component_lang.proofs.NameLists.{same_name-sym, are_distinct-cons}
 use Rattle.component_lang.specs.declared.design.UsedKind.{UsedKind}
 use Rattle.component_lang.specs.declared.design.UsedKind.TheVariants.{Gate, Shape as OfShape, Block as OfBlock}
@@ -17,12 +18,6 @@ use Rattle.component_lang.specs.declared.design.Block.{Block}
 use Rattle.component_lang.specs.Designs.{is_plain_name, are_distinct, used_names, shape_takes, block_takes, takes_args, is_used, is_block, are_blocks}
 
 -- ---- more types, and more blocks above
-
-slice_get-more : {A : Type 0} (xs ys : List A) (i : ℕ) (x : A) → slice_get xs i ≡ Some x → slice_get (xs ++ ys) i ≡ Some x
-slice_get-more xs ys i x h =
-    let l = slice_get_within xs i x h in
-    let more : i < length (xs ++ ys) = omega (arith, length-append xs ys) in
-    slice_get-get_or (xs ++ ys) i x more ∙ ap Some (get_or_append_left xs ys x i l ∙ get_or_from_slice_get xs i x x h)
 
 shape_more : (o p : Option Shape) (args : ℕ) → ((shape : Shape) → o ≡ Some shape → p ≡ Some shape) → shape_takes o args ≡ true → shape_takes p args ≡ true
 shape_more None p args more h = cc
@@ -35,8 +30,8 @@ block_more (Some block) p args more h = ap (λ q. block_takes q args) (more bloc
 takes_more : (types types' : List Shape) (above above' : List Block) (kind : UsedKind) (args : ℕ)
     → takes_args types above kind args ≡ true → takes_args (types ++ types') (above ++ above') kind args ≡ true
 takes_more types types' above above' (Gate gate) args h = h
-takes_more types types' above above' (OfShape place) args h = shape_more (slice_get types place) (slice_get (types ++ types') place) args (λ s e. slice_get-more types types' place s e) h
-takes_more types types' above above' (OfBlock place) args h = block_more (slice_get above place) (slice_get (above ++ above') place) args (λ b e. slice_get-more above above' place b e) h
+takes_more types types' above above' (OfShape place) args h = shape_more (slice_get types place) (slice_get (types ++ types') place) args (λ s e. slice_get-before types types' place s e) h
+takes_more types types' above above' (OfBlock place) args h = block_more (slice_get above place) (slice_get (above ++ above') place) args (λ b e. slice_get-before above above' place b e) h
 
 -- ---- more wires
 

@@ -8,7 +8,7 @@ use Rattle.ranking.specs.Assignments.{Assignment}
 use Rattle.graph_rules.specs.declared.NodeKind.TheVariants.{And, Or}
 use Rattle.graph_rules.specs.Graphs.{Node, true_node, at_most_one, is_true, mentions}
 use Rattle.node_store.specs.Stores.{Stored, IsStore, Makes, Means, AddsAtMost, HasNoBareKid}
-use Rattle.node_store.proofs.Literals.{slice_get-before}
+use Rattle.ranking.proofs.Lists.{slice_get-before}
 use Rattle.branch_states.specs.declared.forks.Fork.{Fork}
 use Rattle.dnnf_compiler.specs.declared.maker.Maker.{Maker}
 use Rattle.dnnf_compiler.specs.inner.Joining.{Grows, AddsBoth}

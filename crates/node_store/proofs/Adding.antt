@@ -11,7 +11,7 @@ use Rattle.node_store.specs.declared.store.TheConstants.{MADE_LIMIT}
 use Rattle.node_store.specs.Stores.{Stored, IsStore, EachOnce, AddsAtMost, literal_place}
 use Rattle.graph_rules.proofs.NodeValues.{are_below-from}
 use Rattle.graph_rules.proofs.NodesFit.{AreNodes-push}
-use Rattle.node_store.proofs.Literals.{slice_get-before}
+use Rattle.ranking.proofs.Lists.{slice_get-before}
 
 pub IsStore-add : (old : Stored) (nodes : List Node) (node : Node) → IsStore old → AddsAtMost old.nodes node nodes → EachOnce nodes → node_fits old.vars (length old.nodes) node ≡ true
     → ((v : ℕ) → apart_at (mentions old.nodes v) node.what node.kids ≡ true) → old.made < MADE_LIMIT → length node.kids < CHILD_LIMIT

@@ -8,6 +8,7 @@ use Rattle.std.proofs.lemmas.Option.{slice_get_within, get_or_from_slice_get, sl
 use Rattle.std.proofs.lemmas.List.Sums.{sum_by-append, sum_by-take-le}
 use Rattle.std.proofs.Math.ListN.{length-map}
 use Rattle.ranking.specs.Bits.{bit_in}
+use Rattle.ranking.proofs.Lists.{slice_get-before, slice_get-last}
 use Rattle.graph_rules.specs.declared.TheConstants.{CHILD_LIMIT}
 use Rattle.graph_rules.specs.declared.NodeKind.{NodeKind}
 use Rattle.graph_rules.specs.declared.NodeKind.TheVariants.{Literal, And, Or}
@@ -40,16 +41,6 @@ copy-more nodes copies node k number is = record {
   truth = λ a. value_of-before (truth_by a) copies node number is.within ∙ is.truth a;
   variables = λ v. value_of-before (mention_by v) copies node number is.within ∙ is.variables v;
 }
-
--- one more node behind others
-at_front : (xs ys : List Node) (i : ℕ) (x : Node) → slice_get xs i ≡ Some x → slice_get (xs ++ ys) i ≡ Some x
-at_front [] ys i x e = absurd (let never : ⊥ = cc in never)
-at_front (y ∷ xs) ys zero x e = e
-at_front (y ∷ xs) ys (suc i) x e = at_front xs ys i x e
-
-at_end : (xs : List Node) (x : Node) → slice_get (xs ++ x ∷ []) (length xs) ≡ Some x
-at_end [] x = refl
-at_end (y ∷ xs) x = at_end xs x
 
 -- kids that come before a place have the same numbers
 map_same : (at : ℕ) (ks : List ℕ) (f g : ℕ → ℕ) → All (λ k. k < at) ks → ((k : ℕ) → k < at → f k ≡ g k) → map f ks ≡ map g ks
@@ -163,13 +154,13 @@ module _ (vars : ℕ) (nodes : List Node) (marks : List Bool) (copies : List Nod
           → slice_get (copies ++ new_node ∷ []) (slice_index (numbers ++ length copies ∷ []) k) ≡ Some (record { what = n.what; kids = map (slice_index (numbers ++ length copies ∷ [])) n.kids })
       copied k n m e (inl lt) =
           ap (slice_get (copies ++ new_node ∷ [])) (kept k lt)
-          ∙ at_front copies (new_node ∷ []) (slice_index numbers k) (record { what = n.what; kids = map (slice_index numbers) n.kids }) (is.copy k n lt m e)
+          ∙ slice_get-before copies (new_node ∷ []) (slice_index numbers k) (record { what = n.what; kids = map (slice_index numbers) n.kids }) (is.copy k n lt m e)
           ∙ (λ j. Some (record { what = n.what; kids = kept_kids k n (omega (arith, lt)) e j }))
       copied k n m e (inr same) =
           let one : Some node ≡ Some n = sym there ∙ (ap (slice_get nodes) (sym same) ∙ e) in
           let is_node : node ≡ n = cc in
           ap (slice_get (copies ++ new_node ∷ [])) (added k same)
-          ∙ at_end copies new_node
+          ∙ slice_get-last copies new_node
           ∙ (λ j. Some (record { what = node.what; kids = renumbered j }))
           ∙ ap (λ (x : Node). Some (record { what = x.what; kids = map (slice_index numbers) x.kids })) is_node
           ∙ (λ j. Some (record { what = n.what; kids = kept_kids k n (omega (arith, same)) e j }))

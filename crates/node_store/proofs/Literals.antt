@@ -8,6 +8,7 @@ use Rattle.graph_rules.specs.declared.NodeKind.TheVariants.{Literal, And, Or}
 use mir.Val.{bool_byte}
 use Rattle.ranking.specs.Bits.{same_bit}
 use Rattle.ranking.specs.Assignments.{Assignment}
+use Rattle.ranking.proofs.Lists.{slice_get-before}
 use Rattle.graph_rules.specs.Graphs.{Node, literal_node, truth_by, mention_by, is_true, mentions, AreNodes, node_fits}
 use Rattle.graph_rules.specs.GraphTexts.{edges}
 use Rattle.node_store.specs.declared.store.TheConstants.{VARIABLE_LIMIT}
@@ -15,11 +16,6 @@ use Rattle.node_store.specs.Stores.{Stored, IsStore, EachOnce, literals, literal
 use Rattle.node_store.specs.inner.Literals.{IsNew}
 use Rattle.graph_rules.proofs.NodeValues.{value_of-get}
 use Rattle.graph_rules.proofs.NodesFit.{fits-get, AreNodes-push}
-
-pub slice_get-before : (xs ys : List Node) (i : ℕ) (x : Node) → slice_get xs i ≡ Some x → slice_get (xs ++ ys) i ≡ Some x
-slice_get-before [] ys i x e = absurd (cc)
-slice_get-before (y ∷ xs) ys zero x e = e
-slice_get-before (y ∷ xs) ys (suc i) x e = slice_get-before xs ys i x e
 
 slice_get-behind : (xs ys : List Node) (i : ℕ) → slice_get (xs ++ ys) (length xs + i) ≡ slice_get ys i
 slice_get-behind [] ys i = ap (slice_get ys) (zero-add i)

@@ -1,15 +1,12 @@
 -- What a node means that a store made.
 use Rattle.std.proofs.Common.{◌≡◌, ℕ, List, [], ◌∷◌, ◌++◌, length, Some, refl, ap, sym, ◌∙◌, subst, inl, inr}
 use Rattle.std.specs.Prelude.{slice_get}
+use Rattle.ranking.proofs.Lists.{slice_get-last}
 use Rattle.graph_rules.specs.declared.NodeKind.{NodeKind}
 use Rattle.graph_rules.specs.Graphs.{Node, truth_by, mention_by, is_true, mentions, AreNodes}
 use Rattle.graph_rules.proofs.NodeValues.{value_of-get, value_of-last, value_of-before}
 use Rattle.graph_rules.proofs.NodesFit.{fits-get}
 use Rattle.node_store.specs.Stores.{EachOnce, AddsAtMost, Means}
-
-slice_get-last : (nodes : List Node) (node : Node) → slice_get (nodes ++ node ∷ []) (length nodes) ≡ Some node
-slice_get-last [] node = refl
-slice_get-last (m ∷ nodes) node = slice_get-last nodes node
 
 -- A node stands at its number, where the others stay.
 pub Means-from : (vars : ℕ) (old new : List Node) (kind : NodeKind) (kids : List ℕ) (number : ℕ) → AreNodes vars new → EachOnce new → slice_get new number ≡ Some (record { what = kind; kids = kids })

@@ -1,11 +1,11 @@
 -- Bits and lists of bits.
-use Rattle.std.proofs.Common.{◌≡◌, ℕ, suc, ◌+◌, ◌*◌, ◌/◌, ◌^◌, Bool, true, false, ◌&&◌, ◌||◌, List, [], ◌∷◌, ◌++◌, map, length, refl, sym, ◌∙◌, arith}
+use Rattle.std.proofs.Common.{◌≡◌, ℕ, zero, suc, ◌+◌, ◌*◌, ◌/◌, ◌^◌, ◌<◌, ◌≤◌, Bool, true, false, cond, not, ◌&&◌, ◌||◌, List, [], ◌∷◌, ◌++◌, map, length, take, get_or, refl, sym, ap, ◌∙◌, subst, arith}
 use Rattle.std.specs.List.{list_any}
 use Rattle.std.specs.Cmp.Lexicographic.{pointwise}
 use Rattle.std.proofs.lemmas.Bool.{false≢true, and_parts, and_from}
 use Rattle.std.proofs.lemmas.List.Folds.{list_any-append}
 use Rattle.std.proofs.lemmas.Grind.{pow_more}
-use Rattle.ranking.specs.Bits.{same_bit, number_of_bit, row_number, lists_of_bits}
+use Rattle.ranking.specs.Bits.{same_bit, bit_in, number_of_bit, row_number, lists_of_bits}
 use Rattle.ranking.proofs.Lists.{list_any-map}
 
 -- ---- one bit
@@ -31,6 +31,20 @@ pub not_left : (x y : Bool) → (x && y) ≡ false → y ≡ true → x ≡ fals
 not_left true y e f = sym f ∙ e
 not_left false y e f = refl
 
+-- two are alike only where a first one is
+pub and-not_alike : (p x y : Bool) → (p ≡ true → x ≡ y) → (p && not x) ≡ (p && not y)
+and-not_alike true x y h = ap not (h refl)
+and-not_alike false x y h = refl
+
+-- what counts where a bit is 0 counts not where it is 1
+pub cond-not : (b : Bool) (n : ℕ) → cond (not b) n 0 ≡ cond b 0 n
+cond-not true n = refl
+cond-not false n = refl
+
+-- the same bit counts no more
+pub cond-alike : (p q : Bool) (n : ℕ) → p ≡ q → cond q n 0 ≤ cond p n 0
+cond-alike p q n e = subst (λ x. cond x n 0 ≤ cond p n 0) e (omega arith)
+
 -- ---- a list of bits
 
 pub pointwise-refl : (bits : List Bool) → pointwise same_bit bits bits ≡ true
@@ -44,6 +58,13 @@ pointwise-equal (b ∷ bits) [] e = absurd (false≢true e)
 pointwise-equal (b ∷ bits) (c ∷ others) e =
     let parts = and_parts (same_bit b c) (pointwise same_bit bits others) e in
     λ i. same_bit-equal b c parts.0 i ∷ pointwise-equal bits others parts.1 i
+
+-- a bit of a list that is made of the first numbers of another
+pub bit_in-map : (f : ℕ → Bool) (xs : List ℕ) (n i : ℕ) → i < n → n ≤ length xs → bit_in (map f (take n xs)) i ≡ f (get_or xs i 0)
+bit_in-map f xs zero i lt h = absurd (omega arith)
+bit_in-map f [] (suc n) i lt h = absurd (omega arith)
+bit_in-map f (x ∷ xs) (suc n) zero lt h = refl
+bit_in-map f (x ∷ xs) (suc n) (suc i) lt h = bit_in-map f xs n i (omega arith) (omega arith)
 
 -- ---- a list of bits as a number
 

@@ -4,8 +4,8 @@ use Rattle.std.specs.Prelude.{◌⊎◌, ◌==◌, nat_le, nat_lt}
 use Rattle.std.specs.List.{list_any}
 use Rattle.std.proofs.lemmas.Bool.{cases_lt, leb-true, le-leb, ltb-true, lt-ltb}
 use Rattle.std.proofs.lemmas.List.{take_more}
-use Rattle.std.proofs.lemmas.List.Folds.{list_any-append}
 use Rattle.graph_rules.specs.inner.WordBits.{has_bit}
+use Rattle.graph_rules.proofs.Kids.{any-push}
 use Rattle.minimiser.specs.inner.Marked.{is_kid}
 use Rattle.probe_report.specs.inner.Outside.{lowered, IsLowered, is_left}
 use Rattle.probe_report.specs.inner.Leaving.{LowersBlock}
@@ -39,14 +39,8 @@ lowered-none a b e none = record { below = omega arith; low = λ x p. absurd (no
 
 -- ---- kids
 
-any-more : (bs : List ℕ) (f : ℕ → Bool) (x : ℕ) → list_any f (bs ++ x ∷ []) ≡ (list_any f bs || f x)
-any-more bs f x = list_any-append f bs (x ∷ []) ∙ ap (λ y. list_any f bs || y) (none_more (f x)) where
-  none_more : (y : Bool) → (y || false) ≡ y
-  none_more true = refl
-  none_more false = refl
-
 pub is_kid-more : (kids : List ℕ) (i j : ℕ) → i < length kids → is_kid (take (i + 1) kids) j ≡ (is_kid (take i kids) j || (get_or kids i 0 == j))
-is_kid-more kids i j h = ap (λ ks. is_kid ks j) (take_more kids i 0 h) ∙ any-more (take i kids) (λ k. k == j) (get_or kids i 0)
+is_kid-more kids i j h = ap (λ ks. is_kid ks j) (take_more kids i 0 h) ∙ any-push (λ k. k == j) (take i kids) (get_or kids i 0)
 
 -- ---- the wires that are left
 

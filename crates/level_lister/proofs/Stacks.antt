@@ -2,7 +2,7 @@
 use Rattle.std.proofs.Common.{◌≡◌, ℕ, ◌+◌, ◌*◌, ◌<◌, ◌≤◌, List, ◌++◌, length, ap, sym, ◌∙◌, subst, arith, ⊎_elim}
 use Rattle.std.proofs.lemmas.Bool.{cases_lt}
 use Rattle.part_sets.specs.Numbers.{set_at}
-use Rattle.part_sets.proofs.Kids.{room_for}
+use Rattle.scratch_pool.proofs.Counted.{block-below}
 use Rattle.part_sets.proofs.Stacks.{set_at-front, set_at-here}
 
 -- of which something holds at each place
@@ -11,18 +11,18 @@ module _ (Is : ℕ → List ℕ → Type 0) (size : ℕ) where
   pub sets_more : (front set back : List ℕ) (at : ℕ) → length front ≡ at * size → length set ≡ size → ((k : ℕ) → k < at → Is k (set_at front k size)) → Is at set
       → (k : ℕ) → k < at + 1 → Is k (set_at (front ++ (set ++ back)) k size)
   sets_more front set back at h l are is k lt = ⊎_elim
-      (λ (p : k < at). subst (Is k) (sym (set_at-front front (set ++ back) k size (omega (arith, h, room_for k at size p)))) (are k p))
+      (λ (p : k < at). subst (Is k) (sym (set_at-front front (set ++ back) k size (omega (arith, h, block-below k at size p)))) (are k p))
       (λ (p : at ≤ k). let same : k ≡ at = omega arith in
       subst (λ j. Is j (set_at (front ++ (set ++ back)) j size)) (sym same) (subst (Is at) (sym (set_at-here front set back at size h l)) is))
       (cases_lt k at)
 
   pub sets_before : (sets front back : List ℕ) (at : ℕ) → sets ≡ front ++ back → length front ≡ at * size → ((k : ℕ) → k < at → Is k (set_at sets k size)) → (k : ℕ) → k < at → Is k (set_at front k size)
   sets_before sets front back at e h are k lt =
-      subst (Is k) (ap (λ xs. set_at xs k size) e ∙ set_at-front front back k size (omega (arith, h, room_for k at size lt))) (are k lt)
+      subst (Is k) (ap (λ xs. set_at xs k size) e ∙ set_at-front front back k size (omega (arith, h, block-below k at size lt))) (are k lt)
 
   -- words may come behind them
   pub sets_front : (front back : List ℕ) (n : ℕ) → length front ≡ n * size → ((k : ℕ) → k < n → Is k (set_at front k size)) → (k : ℕ) → k < n → Is k (set_at (front ++ back) k size)
-  sets_front front back n h are k lt = subst (Is k) (sym (set_at-front front back k size (omega (arith, h, room_for k n size lt)))) (are k lt)
+  sets_front front back n h are k lt = subst (Is k) (sym (set_at-front front back k size (omega (arith, h, block-below k n size lt)))) (are k lt)
 
   -- and other words than before
   pub sets_stay : (sets front back other : List ℕ) (n : ℕ) → sets ≡ front ++ back → length front ≡ n * size → ((k : ℕ) → k < n → Is k (set_at sets k size)) → (k : ℕ) → k < n → Is k (set_at (front ++ other) k size)

@@ -15,7 +15,7 @@ use Rattle.level_lister.specs.inner.CostSets.{cost_among, Follows}
 use Rattle.level_lister.specs.inner.Pairs.{SpreadOf, IsSpread, Meets, AreCosts, HasFault, Tells}
 use Rattle.level_lister.proofs.Among.{among-same, among-none, among-apart, among-one}
 use Rattle.level_lister.proofs.Reaching.{usual, usual-follows, set_to, set_to-here, set_to-follows}
-use Rattle.part_sets.proofs.Kids.{room_for}
+use Rattle.scratch_pool.proofs.Counted.{block-below}
 
 -- ---- one word
 
@@ -29,7 +29,7 @@ times_sum : (step times rest : ℕ) → step * (times + rest) ≡ step * times +
 times_sum step times rest = grind arith
 
 pub step_below : (step m n : ℕ) → m < n → step * m + step ≤ step * n
-step_below step m n h = grind (arith, room_for m n step h)
+step_below step m n h = grind (arith, block-below m n step h)
 
 split : (step n g first times : ℕ) → g < step → first + step * times ≡ step * n + g → Split step n g first times
 split step n g first times lt e = ⊎_elim

@@ -12,7 +12,8 @@ use Rattle.graph_rules.proofs.Kids.{any-push}
 use Rattle.part_sets.specs.Numbers.{has_number, part_words, set_at}
 use Rattle.part_sets.specs.PartSets.{ArePartsOf, ArePartsBelow}
 use Rattle.part_sets.proofs.SetBits.{has-within, same_place}
-use Rattle.part_sets.proofs.Kids.{room_for, kid-below, mention-is}
+use Rattle.scratch_pool.proofs.Counted.{block-below}
+use Rattle.part_sets.proofs.Kids.{kid-below, mention-is}
 use Rattle.part_sets.proofs.Stacks.{set_at-front, set_at-here}
 
 -- ---- one number more
@@ -85,7 +86,7 @@ any_below graph parts at n sets (k ∷ kids) are below =
 
 module _ (graph : Graph) (at parts : ℕ) (kids : List ℕ) (ok : IsGraph graph) (inside : at < length graph.nodes) (are : kids ≡ (node_at graph.nodes at).kids) where
   pub kids_room : (sets : List ℕ) (size j : ℕ) → length sets ≡ at * size → j < length kids → get_or kids j 0 * size + size ≤ length sets
-  kids_room sets size j long lt = omega (arith, long, room_for (get_or kids j 0) at size (kid-below graph at kids ok inside are j lt))
+  kids_room sets size j long lt = omega (arith, long, block-below (get_or kids j 0) at size (kid-below graph at kids ok inside are j lt))
 
   pub joined_parts : (sets set : List ℕ) → length set ≡ part_words parts → ArePartsBelow graph parts sets at → ((v : ℕ) → mention_by v (node_at graph.nodes at).what (map (mentions graph.nodes v) kids) ≡ list_any (λ b. b) (map (mentions graph.nodes v) kids))
       → ((n : ℕ) → n < 32 * length set → has_number set n ≡ one_has sets (length set) n kids) → ArePartsOf parts (λ v. mentions graph.nodes v at) set
@@ -101,7 +102,7 @@ module _ (graph : Graph) (at parts : ℕ) (kids : List ℕ) (ok : IsGraph graph)
 pub below_more : (graph : Graph) (parts : ℕ) (front set back : List ℕ) (at : ℕ) → length front ≡ at * part_words parts → length set ≡ part_words parts → ArePartsBelow graph parts front at → ArePartsOf parts (λ v. mentions graph.nodes v at) set
     → ArePartsBelow graph parts (front ++ (set ++ back)) (at + 1)
 below_more graph parts front set back at h l are is k lt = ⊎_elim
-    (λ (p : k < at). subst (ArePartsOf parts (λ v. mentions graph.nodes v k)) (sym (set_at-front front (set ++ back) k (part_words parts) (omega (arith, h, room_for k at (part_words parts) p)))) (are k p))
+    (λ (p : k < at). subst (ArePartsOf parts (λ v. mentions graph.nodes v k)) (sym (set_at-front front (set ++ back) k (part_words parts) (omega (arith, h, block-below k at (part_words parts) p)))) (are k p))
     (λ (p : at ≤ k). let same : k ≡ at = omega arith in
     subst (λ j. ArePartsOf parts (λ v. mentions graph.nodes v j) (set_at (front ++ (set ++ back)) j (part_words parts))) (sym same)
     (subst (ArePartsOf parts (λ v. mentions graph.nodes v at)) (sym (set_at-here front set back at (part_words parts) h l)) is))
@@ -109,4 +110,4 @@ below_more graph parts front set back at h l are is k lt = ⊎_elim
 
 pub below_before : (graph : Graph) (parts : ℕ) (sets front back : List ℕ) (at : ℕ) → sets ≡ front ++ back → length front ≡ at * part_words parts → ArePartsBelow graph parts sets at → ArePartsBelow graph parts front at
 below_before graph parts sets front back at e h are k lt =
-    subst (ArePartsOf parts (λ v. mentions graph.nodes v k)) (ap (λ xs. set_at xs k (part_words parts)) e ∙ set_at-front front back k (part_words parts) (omega (arith, h, room_for k at (part_words parts) lt))) (are k lt)
+    subst (ArePartsOf parts (λ v. mentions graph.nodes v k)) (ap (λ xs. set_at xs k (part_words parts)) e ∙ set_at-front front back k (part_words parts) (omega (arith, h, block-below k at (part_words parts) lt))) (are k lt)

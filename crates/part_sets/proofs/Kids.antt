@@ -12,10 +12,6 @@ any_at f [] j lt e = absurd (omega arith)
 any_at f (k ∷ kids) zero lt e = or_left _ _ e
 any_at f (k ∷ kids) (suc j) lt e = or_right _ _ (any_at f kids j (omega arith) e)
 
--- the set of a node stands before those of later nodes
-pub room_for : (k n size : ℕ) → k < n → k * size + size ≤ n * size
-room_for k n size h = grind arith
-
 module _ (graph : Graph) (at : ℕ) (kids : List ℕ) (ok : IsGraph graph) (inside : at < length graph.nodes) (are : kids ≡ (node_at graph.nodes at).kids) where
   pub kid-below : (j : ℕ) → j < length kids → get_or kids j 0 < at
   kid-below j lt = subst (λ (ks : List ℕ). All (λ k. k < at) ks) (sym are) (below-each at (node_at graph.nodes at).kids (fits-at graph.vars graph.nodes at ok.nodes.fit inside).below) j 0 lt

@@ -9,13 +9,13 @@ use Rattle.scratch_pool.specs.Pools.{Blocks, IsOut, block_words, with_block}
 use Rattle.scratch_pool.proofs.Written.{Apart, written-apart}
 
 -- a block ends where a later one begins, or before
-pub block-below : (size a b : ℕ) → a < b → a * size + size ≤ b * size
-block-below size a b l = let h : (a + 1) * size ≤ b * size = mul-le-mul_right size (omega (arith, l)) in omega (arith, h)
+pub block-below : (a b size : ℕ) → a < b → a * size + size ≤ b * size
+block-below a b size l = let h : (a + 1) * size ≤ b * size = mul-le-mul_right size (omega (arith, l)) in omega (arith, h)
 
 -- two blocks are apart
 pub blocks-apart : (size a b : ℕ) → a ≢ b → Apart (a * size) size (b * size) size
 blocks-apart size a b ne =
-    ⊎_elim (λ l. inl (block-below size a b l)) (λ g. inr (block-below size b a (omega (arith, g, ne)))) (cases_lt a b)
+    ⊎_elim (λ l. inl (block-below a b size l)) (λ g. inr (block-below b a size (omega (arith, g, ne)))) (cases_lt a b)
 
 pub out_within : (out : List Bool) (n : ℕ) → get_or out n false ≡ true → n < length out
 out_within [] n e = absurd (let never : ⊥ = cc in never)
@@ -56,7 +56,7 @@ pub block-stays : (pool : Blocks) (a b : ℕ) → length pool.words ≡ length p
     → (new : List ℕ) → length new ≡ pool.size → block_words (with_block pool a new) b ≡ block_words pool b
 block-stays pool a b all out_a out_b ne new long =
     let size = pool.size in
-    let ends = block-below size a (length pool.out) (out_within pool.out a out_a) in
+    let ends = block-below a (length pool.out) size (out_within pool.out a out_a) in
     let fits : a * size + length new ≤ length pool.words = omega (arith, ends, all, long) in
     let other : a ≢ b = (λ e. ne (sym e)) in
     written-apart pool.words (a * size) new fits (b * size) size (subst (λ n. Apart (a * size) n (b * size) size) (sym long) (blocks-apart size a b other))

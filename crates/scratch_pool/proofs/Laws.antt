@@ -16,7 +16,7 @@ use Rattle.scratch_pool.proofs.Counted.{out_within, block-below, blocks-apart, b
 
 -- a block lies within the words of its pool
 block-fits : (pool : Blocks) → pools.IsSound pool → (number : ℕ) → number < length pool.out → number * pool.size + pool.size ≤ length pool.words
-block-fits pool sound number within = let ends = block-below pool.size number (length pool.out) within in omega (arith, ends, sound)
+block-fits pool sound number within = let ends = block-below number (length pool.out) pool.size within in omega (arith, ends, sound)
 
 -- it has the size of the pool's blocks
 pub length-block : (pool : Blocks) → pools.IsSound pool → (number : ℕ) → IsOut pool number → length (block_words pool number) ≡ pool.size

@@ -163,7 +163,7 @@ pub node_parts : (d : Drawing) → IsDrawing d → (node : ℕ) → node < lengt
     → length (set_parts 0 set) ≡ part_count d node
 node_parts d is node lt set at =
     let width : ℕ = part_words d.parts in
-    let room = block-below width node (length d.graph.nodes + 1) (omega arith) in
+    let room = block-below node (length d.graph.nodes + 1) width (omega arith) in
     let enough : width ≤ length (drop (node * width) d.sets) = omega (arith, length-drop (node * width) d.sets, is.below.long, room) in
     let long : length set ≡ width = ap length at ∙ length-take-le width (drop (node * width) d.sets) enough in
     let few : d.parts ≤ 32 * length set = omega (arith, long) in

@@ -1,7 +1,8 @@
 use Rattle.std.proofs.Common.{◌≡◌, length, get_or, sym, subst, arith}
 use Rattle.level_lister.specs.inner.NodeSets.{IsNodeSet, AreNodeSets}
 use Rattle.level_lister.specs.inner.FaultSets.{IsNodeFaults, AreNodeFaults}
-use Rattle.part_sets.proofs.Kids.{room_for, kid-below}
+use Rattle.scratch_pool.proofs.Counted.{block-below}
+use Rattle.part_sets.proofs.Kids.{kid-below}
 use Rattle.level_lister.proofs.Reaching.{empty_is}
 use Rattle.level_lister.proofs.Kids.{or_more, or_all}
 use Rattle.level_lister.proofs.FaultNodes.{set_full, fault_full, or_faults_none, or_faults_more, or_faults_all}
@@ -16,7 +17,7 @@ loop-kid-init c = record {
 pub set_at-requires : goal.set_at-requires
 set_at-requires c =
     let kids = c.kids-kid-items.result.now in
-    omega (arith, c.requires.sets, room_for (get_or kids c.loop-kid.kid-index 0) c.args.at (length c.args.set.now) (kid-below c.args.graph.now c.args.at kids c.vars-vars.ensures.valid c.requires.at c.kids-kid-items.ensures c.loop-kid.kid-index c.loop-kid-test.true))
+    omega (arith, c.requires.sets, block-below (get_or kids c.loop-kid.kid-index 0) c.args.at (length c.args.set.now) (kid-below c.args.graph.now c.args.at kids c.vars-vars.ensures.valid c.requires.at c.kids-kid-items.ensures c.loop-kid.kid-index c.loop-kid-test.true))
 
 pub loop-kid-preserved : goal.loop-kid-preserved
 loop-kid-preserved c =

@@ -2,13 +2,14 @@ use Rattle.std.proofs.Common.{◌≡◌, ◌+◌, ◌<◌, ◌≤◌, ℕ, false
 use Rattle.std.proofs.lemmas.Bool.{cases_lt, false≢true}
 use Rattle.graph_rules.specs.Graphs.{mentions}
 use Rattle.part_sets.specs.Numbers.{has_number, part_words, set_at}
-use Rattle.part_sets.proofs.Kids.{kid-below, kid-mentions, room_for}
+use Rattle.scratch_pool.proofs.Counted.{block-below}
+use Rattle.part_sets.proofs.Kids.{kid-below, kid-mentions}
 use Rattle.part_sets.specs.PartSets.{SameBelow}
 use Rattle.part_sets.proofs.Flags.{same_parts, none_lacking}
 use Rattle.part_sets.proofs.lacking.one_lacks.Goals as goal
 
 pub lacks-requires-clause-outer : goal.lacks-requires-clause-outer
-lacks-requires-clause-outer c = omega (arith, c.requires.below.long, room_for c.args.at (length c.args.graph.now.nodes + 1) (part_words c.args.parts) (omega (arith, c.requires.at)))
+lacks-requires-clause-outer c = omega (arith, c.requires.below.long, block-below c.args.at (length c.args.graph.now.nodes + 1) (part_words c.args.parts) (omega (arith, c.requires.at)))
 
 pub lacks-requires-clause-inner : goal.lacks-requires-clause-inner
 lacks-requires-clause-inner c =
@@ -16,7 +17,7 @@ lacks-requires-clause-inner c =
     omega (
       arith,
       c.requires.below.long,
-      room_for (get_or kids c.loop-kid.kid-index 0) (length c.args.graph.now.nodes + 1) (part_words c.args.parts)
+      block-below (get_or kids c.loop-kid.kid-index 0) (length c.args.graph.now.nodes + 1) (part_words c.args.parts)
           (omega (arith, c.requires.at, kid-below c.args.graph.now c.args.at kids c.vars-vars.ensures.valid c.requires.at c.kids-kid-items.ensures c.loop-kid.kid-index c.loop-kid-test.true)),
     )
 

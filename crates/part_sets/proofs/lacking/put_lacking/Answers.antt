@@ -3,7 +3,7 @@ use Rattle.std.proofs.Math.ListN.{length-set}
 use Rattle.std.proofs.lemmas.List.{get_or-set_same, get_or-set_other}
 use Rattle.graph_rules.specs.Graphs.{mentions}
 use Rattle.part_sets.specs.Numbers.{has_number, part_words, set_at}
-use Rattle.part_sets.proofs.Kids.{room_for}
+use Rattle.scratch_pool.proofs.Counted.{block-below}
 use Rattle.part_sets.proofs.Flags.{same_parts, none_lacking, flags_more}
 use Rattle.part_sets.proofs.lacking.put_lacking.Goals as goal
 
@@ -16,11 +16,11 @@ loop-at-preserved c = record {
 
 pub lacks-requires-clause-outer : goal.lacks-requires-clause-outer
 lacks-requires-clause-outer c =
-    omega (arith, c.requires.below.long, room_for (c.len-count.result - 1 + 1) (length c.args.graph.now.nodes + 1) (part_words c.args.parts) (omega (arith, c.len-count.ensures.len, c.len-count.ensures.valid.some)))
+    omega (arith, c.requires.below.long, block-below (c.len-count.result - 1 + 1) (length c.args.graph.now.nodes + 1) (part_words c.args.parts) (omega (arith, c.len-count.ensures.len, c.len-count.ensures.valid.some)))
 
 pub lacks-requires-clause-inner : goal.lacks-requires-clause-inner
 lacks-requires-clause-inner c =
-    omega (arith, c.requires.below.long, room_for (c.len-count.result - 1) (length c.args.graph.now.nodes + 1) (part_words c.args.parts) (omega (arith, c.len-count.ensures.len, c.len-count.ensures.valid.some)))
+    omega (arith, c.requires.below.long, block-below (c.len-count.result - 1) (length c.args.graph.now.nodes + 1) (part_words c.args.parts) (omega (arith, c.len-count.ensures.len, c.len-count.ensures.valid.some)))
 
 pub returns : goal.returns
 returns c =

@@ -1,7 +1,8 @@
 use Rattle.std.proofs.Common.{◌*◌, ◌<◌, length, get_or, sym, ◌∙◌, ap, subst, arith}
 use Rattle.graph_rules.specs.Graphs.{is_true, mentions}
 use Rattle.part_sets.specs.Numbers.{set_at}
-use Rattle.part_sets.proofs.Kids.{room_for, kid-below, kid-mentions}
+use Rattle.scratch_pool.proofs.Counted.{block-below}
+use Rattle.part_sets.proofs.Kids.{kid-below, kid-mentions}
 use Rattle.level_lister.specs.inner.Skips.{living}
 use Rattle.level_lister.specs.inner.NodeSets.{IsNodeSet}
 use Rattle.level_lister.specs.inner.FaultSets.{IsNodeFaults}
@@ -19,7 +20,7 @@ set_at-requires c =
     omega (
       arith,
       c.args.self.now.room,
-      room_for (get_or kids c.loop-kid.kid-index 0) (length graph.nodes) c.size-size.result (omega (arith, below, c.requires.at)),
+      block-below (get_or kids c.loop-kid.kid-index 0) (length graph.nodes) c.size-size.result (omega (arith, below, c.requires.at)),
       ap (λ n. length graph.nodes * n) c.size-size.ensures,
     )
 
@@ -28,7 +29,7 @@ set_at-requires-in-loop-kid c =
     let graph = c.args.self.now.graph.now in
     let kids = c.kids-kid-items.result.now in
     let below = kid-below graph c.args.at kids c.vars-vars.ensures.valid c.requires.at c.kids-kid-items.ensures c.loop-kid.kid-index c.loop-kid-test.true in
-    omega (arith, c.requires.sets, room_for (get_or kids c.loop-kid.kid-index 0) c.args.at c.size-size.result below, ap (λ n. c.args.at * n) c.size-size.ensures)
+    omega (arith, c.requires.sets, block-below (get_or kids c.loop-kid.kid-index 0) c.args.at c.size-size.result below, ap (λ n. c.args.at * n) c.size-size.ensures)
 
 pub widen_both-requires-clause-inner : goal.widen_both-requires-clause-inner
 widen_both-requires-clause-inner c =

@@ -4,7 +4,8 @@ use Rattle.graph_rules.specs.Graphs.{is_true, mentions}
 use Rattle.part_sets.specs.Numbers.{part_words}
 use Rattle.level_lister.specs.inner.Skips.{living}
 use Rattle.level_lister.specs.inner.Pairs.{TellsNode, group_count, group_in}
-use Rattle.part_sets.proofs.Kids.{kid-below, kid-mentions, room_for}
+use Rattle.scratch_pool.proofs.Counted.{block-below}
+use Rattle.part_sets.proofs.Kids.{kid-below, kid-mentions}
 use Rattle.level_lister.proofs.Telling.{tells_none}
 use Rattle.level_lister.proofs.PairNodes.{or_next, or_end}
 use Rattle.level_lister.proofs.search.Search.or_pair.Goals as goal
@@ -24,14 +25,14 @@ widened-requires-clause-inner c =
     omega (
       arith,
       c.args.self.now.for_graph.below.long,
-      room_for (get_or kids c.loop-kid.kid-index 0) (length c.args.self.now.graph.now.nodes + 1) size
+      block-below (get_or kids c.loop-kid.kid-index 0) (length c.args.self.now.graph.now.nodes + 1) size
           (omega (arith, c.requires.at, kid-below c.args.self.now.graph.now c.args.at kids c.vars-vars.ensures.valid c.requires.at c.kids-kid-items.ensures c.loop-kid.kid-index c.loop-kid-test.true)),
     )
 
 pub widened-requires-clause-outer : goal.widened-requires-clause-outer
 widened-requires-clause-outer c =
     let size = part_words (length c.args.self.now.levels.now.costs) in
-    omega (arith, c.args.self.now.for_graph.below.long, room_for c.args.at (length c.args.self.now.graph.now.nodes + 1) size (omega (arith, c.requires.at)))
+    omega (arith, c.args.self.now.for_graph.below.long, block-below c.args.at (length c.args.self.now.graph.now.nodes + 1) size (omega (arith, c.requires.at)))
 
 pub loop-kid-preserved : goal.loop-kid-preserved
 loop-kid-preserved c =

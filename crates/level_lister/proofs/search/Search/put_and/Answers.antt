@@ -2,7 +2,8 @@ use Rattle.std.proofs.Common.{◌≡◌, ◌*◌, List, ℕ, length, get_or, sym
 use Rattle.level_lister.specs.inner.CostSets.{AreSums}
 use Rattle.level_lister.specs.inner.NodeSets.{AreNodeSets, IsNodeSet}
 use Rattle.level_lister.proofs.Reaching.{zero_is}
-use Rattle.part_sets.proofs.Kids.{room_for, kid-below}
+use Rattle.scratch_pool.proofs.Counted.{block-below}
+use Rattle.part_sets.proofs.Kids.{kid-below}
 use Rattle.level_lister.proofs.Kids.{and_more, and_all}
 use Rattle.level_lister.proofs.search.Search.put_and.Goals as goal
 
@@ -13,7 +14,7 @@ pub set_at-requires : goal.set_at-requires
 set_at-requires c =
     let kids = c.kids-kid-items.result.now in
     let size = length c.args.set.now in
-    omega (arith, c.requires.sets, room_for (get_or kids c.loop-kid.kid-index 0) c.args.at size (kid-below c.args.self.now.graph.now c.args.at kids c.vars-vars.ensures.valid c.requires.at c.kids-kid-items.ensures c.loop-kid.kid-index c.loop-kid-test.true))
+    omega (arith, c.requires.sets, block-below (get_or kids c.loop-kid.kid-index 0) c.args.at size (kid-below c.args.self.now.graph.now c.args.at kids c.vars-vars.ensures.valid c.requires.at c.kids-kid-items.ensures c.loop-kid.kid-index c.loop-kid-test.true))
 
 pub loop-kid-preserved : goal.loop-kid-preserved
 loop-kid-preserved c words costs sets =

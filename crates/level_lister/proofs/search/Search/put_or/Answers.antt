@@ -5,7 +5,8 @@ use Rattle.level_lister.specs.inner.CostSets.{IsCostSet}
 use Rattle.part_sets.specs.Numbers.{part_words, set_at}
 use Rattle.part_sets.specs.PartSets.{ArePartsOf}
 use Rattle.level_lister.proofs.Reaching.{empty_is}
-use Rattle.part_sets.proofs.Kids.{room_for, kid-below, kid-mentions}
+use Rattle.scratch_pool.proofs.Counted.{block-below}
+use Rattle.part_sets.proofs.Kids.{kid-below, kid-mentions}
 use Rattle.level_lister.proofs.Kids.{or_more, or_all}
 use Rattle.level_lister.proofs.search.Search.put_or.Goals as goal
 
@@ -15,7 +16,7 @@ loop-kid-init c = empty_is c.args.words.now c.args.self.now.levels.now.costs _ c
 pub set_at-requires : goal.set_at-requires
 set_at-requires c =
     let kids = c.kids-kid-items.result.now in
-    omega (arith, c.requires.sets, room_for (get_or kids c.loop-kid.kid-index 0) c.args.at (length c.args.set.now) (kid-below c.args.self.now.graph.now c.args.at kids c.vars-vars.ensures.valid c.requires.at c.kids-kid-items.ensures c.loop-kid.kid-index c.loop-kid-test.true))
+    omega (arith, c.requires.sets, block-below (get_or kids c.loop-kid.kid-index 0) c.args.at (length c.args.set.now) (kid-below c.args.self.now.graph.now c.args.at kids c.vars-vars.ensures.valid c.requires.at c.kids-kid-items.ensures c.loop-kid.kid-index c.loop-kid-test.true))
 
 pub set_at-requires-in-loop-kid : goal.set_at-requires-in-loop-kid
 set_at-requires-in-loop-kid c =
@@ -27,7 +28,7 @@ set_at-requires-in-loop-kid c =
     let below = kid-below graph c.args.at kids c.vars-vars.ensures.valid c.requires.at c.kids-kid-items.ensures c.loop-kid.kid-index c.loop-kid-test.true in
     let long : length c.below-below.result.now ≡ (length graph.nodes + 1) * c.part_words-parts.result =
     ap length c.below-below.ensures ∙ c.args.self.now.for_graph.below.long ∙ ap (λ n. (length graph.nodes + 1) * n) (sym same) in
-    omega (arith, long, room_for (get_or kids c.loop-kid.kid-index 0) (length graph.nodes + 1) size (omega arith))
+    omega (arith, long, block-below (get_or kids c.loop-kid.kid-index 0) (length graph.nodes + 1) size (omega arith))
 
 pub loop-kid-preserved : goal.loop-kid-preserved
 loop-kid-preserved c =

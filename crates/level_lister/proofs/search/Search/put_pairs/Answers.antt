@@ -4,7 +4,7 @@ use Rattle.part_sets.specs.Numbers.{part_words, set_at}
 use Rattle.part_sets.specs.PartSets.{ArePartsOf}
 use Rattle.level_lister.specs.inner.Skips.{living}
 use Rattle.level_lister.specs.inner.Pairs.{TellsNode, pair_at}
-use Rattle.part_sets.proofs.Kids.{room_for}
+use Rattle.scratch_pool.proofs.Counted.{block-below}
 use Rattle.level_lister.proofs.PairNodes.{nodes_more, whole_full}
 use Rattle.level_lister.proofs.search.Search.put_pairs.Goals as goal
 
@@ -46,8 +46,8 @@ returns c =
 
 pub widened-requires-clause-inner : goal.widened-requires-clause-inner
 widened-requires-clause-inner c =
-    omega (arith, c.args.self.now.for_graph.below.long, room_for (c.len.result - 1) (length c.args.self.now.graph.now.nodes + 1) (part_words (length c.args.self.now.levels.now.costs)) (omega (arith, c.len.ensures.len, c.len.ensures.valid.some)))
+    omega (arith, c.args.self.now.for_graph.below.long, block-below (c.len.result - 1) (length c.args.self.now.graph.now.nodes + 1) (part_words (length c.args.self.now.levels.now.costs)) (omega (arith, c.len.ensures.len, c.len.ensures.valid.some)))
 
 pub widened-requires-clause-outer : goal.widened-requires-clause-outer
 widened-requires-clause-outer c =
-    omega (arith, c.args.self.now.for_graph.below.long, room_for (c.len.result - 1 + 1) (length c.args.self.now.graph.now.nodes + 1) (part_words (length c.args.self.now.levels.now.costs)) (omega (arith, c.len.ensures.len, c.len.ensures.valid.some)))
+    omega (arith, c.args.self.now.for_graph.below.long, block-below (c.len.result - 1 + 1) (length c.args.self.now.graph.now.nodes + 1) (part_words (length c.args.self.now.levels.now.costs)) (omega (arith, c.len.ensures.len, c.len.ensures.valid.some)))

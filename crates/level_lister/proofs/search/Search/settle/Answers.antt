@@ -5,7 +5,7 @@ use Rattle.diagnosis_lister.specs.inner.Working.{fixed_bits}
 use Rattle.diagnosis_lister.proofs.Faults.{faults-kept, faults-added}
 use Rattle.diagnosis_lister.proofs.Fixing.{FixesOk}
 use Rattle.level_lister.specs.inner.Pairs.{FaultIn, OkAmong}
-use Rattle.part_sets.proofs.Kids.{room_for}
+use Rattle.scratch_pool.proofs.Counted.{block-below}
 use Rattle.level_lister.proofs.Exact.{Refines-start, settle_end}
 use Rattle.level_lister.proofs.Grouping.{settle_ok, settle_found}
 use Rattle.level_lister.proofs.Skips.{enough_more}
@@ -45,7 +45,7 @@ loop-part-preserved g c =
         arith,
         c.in-Some.ensures.steps search h,
         c.loop-part.invariant.steps search h,
-        room_for (fault_count (fixed_bits (length costs) old)) (fault_count (fixed_bits (length costs) (set mid part 2))) search (omega (arith, kept, added)),
+        block-below (fault_count (fixed_bits (length costs) old)) (fault_count (fixed_bits (length costs) (set mid part 2))) search (omega (arith, kept, added)),
       );
       within = omega arith;
     }
@@ -75,7 +75,7 @@ returns-clause-steps g c search h =
       arith,
       c.in_default.ensures.steps search h,
       c.loop-part.invariant.steps search h,
-      room_for (fault_count (fixed_bits (length costs) old)) (fault_count (fixed_bits (length costs) new) + 1) search (omega (arith, kept)),
+      block-below (fault_count (fixed_bits (length costs) old)) (fault_count (fixed_bits (length costs) new) + 1) search (omega (arith, kept)),
     )
 
 pub first_faulty-requires-clause-enough : goal.first_faulty-requires-clause-enough

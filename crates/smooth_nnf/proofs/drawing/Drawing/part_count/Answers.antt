@@ -9,7 +9,7 @@ pub set_at-requires : goal.set_at-requires
 set_at-requires c =
     let d = c.args.self.now in
     let is : IsDrawing d = subst IsDrawing c.self.view_is c.self.invariant in
-    let room = block-below (part_words d.parts) c.args.node (length d.graph.nodes + 1) (omega (arith, c.requires)) in
+    let room = block-below c.args.node (length d.graph.nodes + 1) (part_words d.parts) (omega (arith, c.requires)) in
     let sets = c.below.ensures ∙ ap (λ (s : Drawing). s.sets) c.self.view_is in
     subst (λ w. c.args.node * w + w ≤ length c.below.result.now) (sym c.width.ensures) (omega (arith, ap length sets, is.below.long, room))
 

@@ -7,7 +7,7 @@ use Rattle.ranking.proofs.Bits.{not_left}
 use Rattle.ranking.proofs.Cases.{usual_bit, usual_bit-agrees, agrees_cond}
 use Rattle.ranking.proofs.Members.{AtMost}
 use Rattle.minimiser.proofs.Totals.{total-le, total-le-add, add-le-total, total-one, le-total}
-use Rattle.minimiser.proofs.Costs.{fault, fault_cond, usual_bit-fault, IsCost, Agrees, faults_in, all_faults, and_left, and_right, apart_sum, wider, wider_right}
+use Rattle.minimiser.proofs.Costs.{fault, fault_cond, cond-le, usual_bit-fault, IsCost, Agrees, faults_in, all_faults, and_left, and_right, apart_sum, wider, wider_right}
 
 fault_free : (k : Option Bool) (b : Bool) → fault k 0 b ≤ 0
 fault_free None true = omega arith
@@ -38,11 +38,9 @@ module _ (known : ℕ → Option Bool) (cost : ℕ → ℕ) (parts : ℕ) where
   pub StandsFor-same : {t s u w : Assignment → Bool} {m o : ℕ → Bool} {c d : ℕ} → ((a : Assignment) → s a ≡ t a) → ((v : ℕ) → o v ≡ m v) → c ≡ d → ((a : Assignment) → w a ≡ u a)
       → StandsFor t m c u → StandsFor s o d w
   StandsFor-same {m = m} {o = o} {c = c} p q e r is = record {
-    onto = λ a ag h few. r a ∙ is.onto a ag (sym (p a) ∙ h) (omega (arith, few, e, total-le (λ v. cond (m v) (fault (known v) (cost v) (a v)) 0) (λ v. cond (o v) (fault (known v) (cost v) (a v)) 0) (λ v. same_cond (o v) (m v) (fault (known v) (cost v) (a v)) (q v)) 1 parts));
+    onto = λ a ag h few. r a ∙ is.onto a ag (sym (p a) ∙ h) (omega (arith, few, e, total-le (λ v. cond (m v) (fault (known v) (cost v) (a v)) 0) (λ v. cond (o v) (fault (known v) (cost v) (a v)) 0) (λ v. cond-le (m v) (o v) (fault (known v) (cost v) (a v)) (λ h. q v ∙ h)) 1 parts));
     back = λ b ag h. let x = is.back b ag (sym (r b) ∙ h) in record { by = x.by; agrees = x.agrees; holds = p x.by ∙ x.holds; cheap = omega (arith, x.cheap, e); fewer = x.fewer };
-  } where
-    same_cond : (x y : Bool) (w : ℕ) → x ≡ y → cond y w 0 ≤ cond x w 0
-    same_cond x y w f = subst (λ z. cond z w 0 ≤ cond x w 0) f (omega arith)
+  }
 
   -- what is true at no cost is left out
   pub stands-free : (none : (v : ℕ) → ((1 ≤ v) → (v < 1 + parts) → ⊥) → cost v ≡ 0) (t : Assignment → Bool) (m : ℕ → Bool) → IsCost known cost parts t m (Some 0) → StandsFor t m 0 (λ a. true)

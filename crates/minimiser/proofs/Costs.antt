@@ -108,9 +108,6 @@ fits_known true false w n e = absurd (cc)
 fits_known false true w n e = absurd (cc)
 fits_known false false w n e = refl
 
-same_cond : (p q : Bool) (n : ℕ) → p ≡ q → cond q n 0 ≤ cond p n 0
-same_cond p q n e = subst (λ x. cond x n 0 ≤ cond p n 0) e (omega arith)
-
 pub cond-le : (x y : Bool) (n : ℕ) → (x ≡ true → y ≡ true) → cond x n 0 ≤ cond y n 0
 cond-le true true n h = omega arith
 cond-le true false n h = absurd (let no : false ≡ true = h refl in cc)
@@ -311,7 +308,7 @@ module _ (known : ℕ → Option Bool) (cost : ℕ → ℕ) (parts : ℕ) where
 
   pub IsCost-same : {t u : Assignment → Bool} {m o : ℕ → Bool} {c d : Option ℕ} → ((a : Assignment) → u a ≡ t a) → ((v : ℕ) → o v ≡ m v) → d ≡ c → IsCost t m c → IsCost u o d
   IsCost-same {m = m} {o = o} {c = c} {d = d} p q e is = record {
-    bound = λ a ag h. subst (λ x. AtMost x (faults_in o a)) (sym e) (AtMost-le c (faults_in m a) (faults_in o a) (is.bound a ag (sym (p a) ∙ h)) (total-le _ _ (λ v. same_cond (o v) (m v) _ (q v)) 1 parts));
+    bound = λ a ag h. subst (λ x. AtMost x (faults_in o a)) (sym e) (AtMost-le c (faults_in m a) (faults_in o a) (is.bound a ag (sym (p a) ∙ h)) (total-le _ _ (λ v. cond-le (m v) (o v) _ (λ h. q v ∙ h)) 1 parts));
     reached = λ n r. let s = is.reached n (sym e ∙ r) in record { by = s.by; agrees = s.agrees; holds = p s.by ∙ s.holds; cheap = s.cheap };
     local = λ a b h. p a ∙ is.local a b (λ v r. h v (q v ∙ r)) ∙ sym (p b);
   }

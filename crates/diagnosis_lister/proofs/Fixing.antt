@@ -6,6 +6,7 @@ use Rattle.std.proofs.lemmas.Bool.{cases_lt}
 use Rattle.std.proofs.lemmas.List.{length-take-le, get_or-set_same, get_or-set_other}
 use Rattle.ranking.specs.Bits.{bit_in}
 use Rattle.ranking.specs.Ranking.{is_before}
+use Rattle.ranking.proofs.Bits.{bit_in-map}
 use Rattle.graph_rules.specs.Graphs.{Graph}
 use Rattle.conditioner.specs.Words.{word_of}
 use Rattle.minimiser.specs.Suspects.{Passes, LeastState, Suspect, OkBelow}
@@ -98,12 +99,6 @@ module _ (graph : Graph) (costs : List ℕ) (within : length costs ≤ graph.var
             by_word zero e a b = absurd (s.front j g e)
             by_word (suc zero) e a b = Agree-bit true (bit_in h j) (subst (λ w. Agree w (bit_in h j)) e a) ∙ sym (Agree-bit true (bit_in k j) (subst (λ w. Agree w (bit_in k j)) e b))
             by_word (suc (suc n)) e a b = Agree-bit false (bit_in h j) (subst (λ w. Agree w (bit_in h j)) e a) ∙ sym (Agree-bit false (bit_in k j) (subst (λ w. Agree w (bit_in k j)) e b))
-
-  bit_in-map : (f : ℕ → Bool) (xs : List ℕ) (n i : ℕ) → i < n → n ≤ length xs → bit_in (map f (take n xs)) i ≡ f (get_or xs i 0)
-  bit_in-map f xs zero i lt h = absurd (omega arith)
-  bit_in-map f [] (suc n) i lt h = absurd (omega arith)
-  bit_in-map f (x ∷ xs) (suc n) zero lt h = refl
-  bit_in-map f (x ∷ xs) (suc n) (suc i) lt h = bit_in-map f xs n i (omega arith) (omega arith)
 
   -- where all parts are fixed, what is fixed is the one state that passes
   pub Settles-end : (start words : List ℕ) (most : ℕ) → length start ≡ graph.vars → ((k : ℕ) → k < length words → get_or words k 0 < 3) → Settles graph costs start words most (length costs) → IsFirst (Passes graph start costs most) (fixed_bits (length costs) words)

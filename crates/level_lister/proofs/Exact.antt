@@ -5,6 +5,7 @@ use Rattle.std.proofs.Math.ListN.{length-set, length-map}
 use Rattle.std.proofs.lemmas.List.{length-take-le, get_or-set_same, get_or-set_other}
 use Rattle.ranking.specs.Bits.{bit_in}
 use Rattle.ranking.specs.Ranking.{cost, is_before}
+use Rattle.ranking.proofs.Bits.{bit_in-map}
 use Rattle.graph_rules.specs.Graphs.{Graph}
 use Rattle.conditioner.specs.Words.{word_of}
 use Rattle.minimiser.proofs.Models.{same_or_not, Agree, Agree-bit, Agree-same, Refines, model-agrees, Passes-old, Passes-new}
@@ -109,12 +110,6 @@ module _ (graph : Graph) (costs : List ℕ) (within : length costs ≤ graph.var
         (λ j g. same_fixed (get_or old j 0) (bit_in h j) (bit_in k j) (s.front j g)
         (OfCost-agrees old h long' (set-old old part false long' lt free h is.meets) j (omega arith)) (OfCost-agrees old k long' p j (omega arith)))
         (set-bit old part false long' lt free h is.meets) q)
-
-  bit_in-map : (f : ℕ → Bool) (xs : List ℕ) (n i : ℕ) → i < n → n ≤ length xs → bit_in (map f (take n xs)) i ≡ f (get_or xs i 0)
-  bit_in-map f xs zero i lt h = absurd (omega arith)
-  bit_in-map f [] (suc n) i lt h = absurd (omega arith)
-  bit_in-map f (x ∷ xs) (suc n) zero lt h = refl
-  bit_in-map f (x ∷ xs) (suc n) (suc i) lt h = bit_in-map f xs n i (omega arith) (omega arith)
 
   -- where all parts are fixed, what is fixed is the one state that is left
   pub settle_end : (start words : List ℕ) → length start ≡ graph.vars → ((k : ℕ) → k < length words → get_or words k 0 < 3) → Settling graph costs c start words (length costs) → IsFirst (OfCost graph start costs c) (fixed_bits (length costs) words)

@@ -1,5 +1,5 @@
 -- Bits and lists of bits.
-use Rattle.std.proofs.Common.{◌≡◌, ℕ, zero, suc, ◌+◌, ◌*◌, ◌/◌, ◌^◌, ◌<◌, ◌≤◌, Bool, true, false, cond, not, ◌&&◌, ◌||◌, List, [], ◌∷◌, ◌++◌, map, length, take, get_or, refl, sym, ap, ◌∙◌, subst, arith}
+use Rattle.std.proofs.Common.{◌≡◌, ℕ, zero, suc, ◌+◌, ◌*◌, ◌/◌, ◌^◌, ◌<◌, ◌≤◌, Bool, true, false, cond, not, ◌&&◌, ◌||◌, List, [], ◌∷◌, ◌++◌, map, length, take, get_or, refl, sym, ap, ◌∙◌, arith}
 use Rattle.std.specs.List.{list_any}
 use Rattle.std.specs.Cmp.Lexicographic.{pointwise}
 use Rattle.std.proofs.lemmas.Bool.{false≢true, and_parts, and_from}
@@ -40,10 +40,6 @@ and-not_alike false x y h = refl
 pub cond-not : (b : Bool) (n : ℕ) → cond (not b) n 0 ≡ cond b 0 n
 cond-not true n = refl
 cond-not false n = refl
-
--- the same bit counts no more
-pub cond-alike : (p q : Bool) (n : ℕ) → p ≡ q → cond q n 0 ≤ cond p n 0
-cond-alike p q n e = subst (λ x. cond x n 0 ≤ cond p n 0) e (omega arith)
 
 -- ---- a list of bits
 

@@ -6,7 +6,7 @@ use Rattle.std.proofs.lemmas.List.{length-drop, length-take}
 use Rattle.ranking.specs.Ranking.{cost, least_of, is_at_most, is_before, rest, states}
 use Rattle.graph_rules.specs.Graphs.{Graph}
 use Rattle.conditioner.specs.Models.{has_model, fits_words, models, least_under, diagnoses_under}
-use Rattle.ranking.proofs.Members.{In, In-filter, In-filtered, least-from}
+use Rattle.ranking.proofs.Members.{In, In-at, In-filter, In-filtered, least-from}
 use Rattle.diagnosis_lister.specs.declared.listing.Step.{Step}
 use Rattle.diagnosis_lister.specs.declared.listing.Step.TheVariants.{Found, End, Inconsistent}
 use Rattle.diagnosis_lister.specs.Listing.{step_of}
@@ -29,17 +29,12 @@ keeps_all : {A : Type 0} (p : A → Bool) (xs : List A) → ((y : A) → In y xs
 keeps_all p [] all = refl
 keeps_all p (x ∷ xs) all = rw (all x (inl refl)) (ap (λ ys. x ∷ ys) (keeps_all p xs (λ y m. all y (inr m))))
 
-at_in : {A : Type 0} (xs : List A) (k : ℕ) (d : A) → k < length xs → In (get_or xs k d) xs
-at_in [] k d below = absurd (omega (arith, below))
-at_in (x ∷ xs) zero d below = inl refl
-at_in (x ∷ xs) (suc k) d below = inr (at_in xs k d (omega (arith, below)))
-
 rest-at : (ds : List (List Bool)) (k : ℕ) (d : List Bool) → Sorted ds → k < length ds → filter (is_before (get_or ds k d)) ds ≡ drop (suc k) ds
 rest-at [] k d sorted below = absurd (omega (arith, below))
 rest-at (x ∷ xs) zero d sorted below = rw (not_before_itself x) (keeps_all (is_before x) xs sorted.0)
 rest-at (x ∷ xs) (suc k) d sorted below =
     let shorter : k < length xs = omega (arith, below) in
-    rw (not_after x (get_or xs k d) (sorted.0 (get_or xs k d) (at_in xs k d shorter))) (rest-at xs k d sorted.1 shorter)
+    rw (not_after x (get_or xs k d) (sorted.0 (get_or xs k d) (In-at xs k d shorter))) (rest-at xs k d sorted.1 shorter)
 
 drop_first : {A : Type 0} (n : ℕ) (xs : List A) (d e : A) → n < length xs → get_or (drop n xs) 0 d ≡ get_or xs n e
 drop_first n [] d e below = absurd (omega (arith, below))
@@ -111,7 +106,7 @@ module _ (graph : Graph) (words costs : List ℕ) where
 
     some_model : 0 < length ms
     some_model =
-        let m = at_in ds (count - 1) [] (omega (arith, some, there)) in
+        let m = In-at ds (count - 1) [] (omega (arith, some, there)) in
         some_in (get_or ds (count - 1) []) ms (In-filter (λ h. is_at_most (cost costs h) (least_under graph words costs)) (get_or ds (count - 1) []) ms m).0
 
     -- there is no further one

@@ -4,7 +4,7 @@ use Rattle.std.specs.Prelude.{IsSomeAnd}
 use Rattle.std.proofs.lemmas.Bool.{cases_lt}
 use Rattle.std.proofs.lemmas.List.{get_or_past}
 use Rattle.std.proofs.lemmas.Option.{slice_get-get_or, same_Some}
-use Rattle.ranking.proofs.Members.{In}
+use Rattle.ranking.proofs.Members.{In-at}
 use Rattle.graph_rules.specs.declared.NodeKind.{NodeKind}
 use Rattle.graph_rules.specs.declared.NodeKind.TheVariants.{Literal, And, Or}
 use Rattle.graph_rules.specs.Graphs.{Graph, true_node, node_at, IsGraph}
@@ -35,11 +35,6 @@ says words costs var c positive e dear = by_word (get_or words (var - 1) 0) refl
   by_word (suc (suc n)) z true q = absurd (cc)
   by_word (suc (suc n)) z false q = absurd (let free : 0 ≡ c = same_Some 0 c q in omega arith)
 
-member : (xs : List ℕ) (k d : ℕ) → k < length xs → In (get_or xs k d) xs
-member [] k d h = absurd (omega arith)
-member (x ∷ xs) zero d h = inl refl
-member (x ∷ xs) (suc k) d h = inr (member xs k d (omega arith))
-
 module _ (graph small : Graph) (words costs : List ℕ) (ok : IsGraph graph) (sound : IsGraph small) where
   cost-is : (c p : ℕ) → IsFrom graph words costs small.nodes c p → least_at small words costs p ≡ Some c
   cost-is c p is = place-cost graph small words costs ok sound is.node p c is.is is.place.stands
@@ -52,7 +47,7 @@ module _ (graph small : Graph) (words costs : List ℕ) (ok : IsGraph graph) (so
     joins = joins;
     cheap = λ p h o k d lt.
         let q = get_or (node_at small.nodes p).kids k d in
-        let x = from.ors p q h o (member (node_at small.nodes p).kids k d lt) in
+        let x = from.ors p q h o (In-at (node_at small.nodes p).kids k d lt) in
         cost-is x.0 q x.2 ∙ sym (cost-is x.0 p x.1);
     faulty = λ p h.
         let x = from.each p h in

@@ -4,7 +4,7 @@ use Rattle.std.specs.Prelude.{◌⊎◌, ◌==◌, nat_le}
 use Rattle.std.proofs.lemmas.Bool.{and_parts, and_from, or_cases, or_left, or_right, eqb-true, ne_eqb, le-leb, leb-true, false≢true}
 use Rattle.ranking.specs.Assignments.{Assignment}
 use Rattle.ranking.specs.Cases.{agrees_at}
-use Rattle.ranking.proofs.Bits.{not_left}
+use Rattle.ranking.proofs.Bits.{not_left, and-not_alike, cond-not}
 use Rattle.ranking.proofs.Cases.{agrees_cond}
 use Rattle.conditioner.specs.Words.{known_of}
 use Rattle.minimiser.specs.Costs.{known_at}
@@ -15,10 +15,6 @@ use Rattle.level_lister.specs.inner.Pairs.{Meets}
 use Rattle.level_lister.specs.inner.FaultSets.{AreCostsOf}
 use Rattle.level_lister.proofs.Among.{among-same, among-apart, among-one}
 use Rattle.level_lister.proofs.Reaching.{set_to, set_to-here, set_to-other, set_to-follows}
-
-same_where : (p x y : Bool) → (p ≡ true → x ≡ y) → (p && not x) ≡ (p && not y)
-same_where true x y h = ap not (h refl)
-same_where false x y h = refl
 
 module _ (words costs : List ℕ) where
   -- the costs of a test
@@ -80,7 +76,7 @@ module _ (words costs : List ℕ) where
           follows = λ v. agrees_cond (known_at words v) (some v) _ _ (r.follows v) (s.follows v);
           holds = (local_p mixed r.by on_left r.holds, local_q mixed s.by on_right s.holds);
           cost_is = among-apart some more mixed 1 costs apart
-              ∙ (λ i. among-same some some mixed r.by 1 costs (λ v p q. same_where (some v) (mixed v) (r.by v) (on_left v)) i + among-same more more mixed s.by 1 costs (λ v p q. same_where (more v) (mixed v) (s.by v) (on_right v)) i)
+              ∙ (λ i. among-same some some mixed r.by 1 costs (λ v p q. and-not_alike (some v) (mixed v) (r.by v) (on_left v)) i + among-same more more mixed s.by 1 costs (λ v p q. and-not_alike (more v) (mixed v) (s.by v) (on_right v)) i)
               ∙ (λ i. r.cost_is i + s.cost_is i) ∙ e;
         }
 
@@ -113,12 +109,9 @@ module _ (words costs : List ℕ) where
           follows = set_to-follows words costs (p + 1) bit r.by r.follows (subst (λ k. agrees_at (known_of (get_or words k 0)) bit ≡ true) (sym place) ag);
           holds = (local by' r.by kept r.holds, set_to-here words costs (p + 1) bit r.by);
           cost_is = total by'
-              ∙ (λ i. among-same some some by' r.by 1 costs (λ v l m. same_where (some v) (by' v) (r.by v) (kept v)) i + cond (not (set_to-here words costs (p + 1) bit r.by i)) (get_or costs p 0) 0)
-              ∙ (λ i. r.cost_is i + not_cond bit (get_or costs p 0) i) ∙ e;
-        } where
-          not_cond : (b : Bool) (m : ℕ) → cond (not b) m 0 ≡ cond b 0 m
-          not_cond true m = refl
-          not_cond false m = refl
+              ∙ (λ i. among-same some some by' r.by 1 costs (λ v l m. and-not_alike (some v) (by' v) (r.by v) (kept v)) i + cond (not (set_to-here words costs (p + 1) bit r.by i)) (get_or costs p 0) 0)
+              ∙ (λ i. r.cost_is i + cond-not bit (get_or costs p 0) i) ∙ e;
+        }
 
     agrees_at-place : (a : Assignment) (bit : Bool) → Follows words a → a (p + 1) ≡ bit → agrees_at (known_of (get_or words p 0)) bit ≡ true
     agrees_at-place a bit f e = subst (λ k. agrees_at (known_of (get_or words k 0)) bit ≡ true) place (subst (λ b. agrees_at (known_at words (p + 1)) b ≡ true) e (f (p + 1)))

@@ -5,7 +5,7 @@ use Rattle.std.proofs.lemmas.Bool.{eqb-true, eq-eqb, false≢true}
 use Rattle.ranking.specs.Bits.{same_bit}
 use Rattle.ranking.specs.Cases.{agrees_at}
 use Rattle.ranking.specs.Assignments.{Assignment}
-use Rattle.ranking.proofs.Bits.{same_bit-refl}
+use Rattle.ranking.proofs.Bits.{same_bit-refl, cond-not}
 use Rattle.ranking.proofs.Cases.{usual_bit, usual_bit-agrees}
 use Rattle.conditioner.specs.declared.leaves.Leaf.TheVariants.{False}
 use Rattle.conditioner.specs.Words.{leaf_of}
@@ -129,9 +129,5 @@ module _ (words costs : List ℕ) where
     at_place zero h = absurd (omega arith)
     at_place (suc i) h = ap (λ k. get_or costs k 0) (omega arith)
 
-    not_cond : (b : Bool) (c : ℕ) → cond (not b) c 0 ≡ cond b 0 c
-    not_cond true c = refl
-    not_cond false c = refl
-
     own_cost : (a : Assignment) → a var ≡ positive → cost_among (λ v. var == v) a 1 costs ≡ cond positive 0 (part_cost costs var)
-    own_cost a e = among-one var a 1 costs low ∙ (λ i. cond (not (e i)) (at_place var low i) 0) ∙ not_cond positive (part_cost costs var)
+    own_cost a e = among-one var a 1 costs low ∙ (λ i. cond (not (e i)) (at_place var low i) 0) ∙ cond-not positive (part_cost costs var)

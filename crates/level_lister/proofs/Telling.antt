@@ -5,7 +5,7 @@ use Rattle.std.proofs.lemmas.Bool.{cases_lt, and_parts, and_from, or_cases, or_l
 use Rattle.ranking.specs.Assignments.{Assignment}
 use Rattle.ranking.specs.Cases.{agrees_at}
 use Rattle.ranking.specs.Bits.{same_bit}
-use Rattle.ranking.proofs.Bits.{not_left}
+use Rattle.ranking.proofs.Bits.{not_left, and-not_alike}
 use Rattle.ranking.proofs.Cases.{agrees_cond}
 use Rattle.graph_rules.specs.inner.WordBits.{has_bit}
 use Rattle.graph_rules.proofs.WordBits.{has_bit-zero, one_bit, has_bit-or}
@@ -94,12 +94,9 @@ module _ (words costs : List ℕ) (top step first : ℕ) where
           follows = λ v. agrees_cond (known_at words v) (some v) _ _ (r.follows v) (s.follows v);
           holds = (local_p mixed r.by on_left r.holds, local_q mixed s.by on_right s.holds);
           cost_is = among-apart some more mixed 1 costs apart
-              ∙ (λ i. among-same some some mixed r.by 1 costs (λ v p q. same_where (some v) (mixed v) (r.by v) (on_left v)) i + among-same more more mixed s.by 1 costs (λ v p q. same_where (more v) (mixed v) (s.by v) (on_right v)) i)
+              ∙ (λ i. among-same some some mixed r.by 1 costs (λ v p q. and-not_alike (some v) (mixed v) (r.by v) (on_left v)) i + among-same more more mixed s.by 1 costs (λ v p q. and-not_alike (more v) (mixed v) (s.by v) (on_right v)) i)
               ∙ (λ i. r.cost_is i + s.cost_is i) ∙ e;
-        } where
-          same_where : (p x y : Bool) → (p ≡ true → x ≡ y) → (p && not x) ≡ (p && not y)
-          same_where true x y h = ap not (h refl)
-          same_where false x y h = refl
+        }
 
     by_parts : (n : ℕ) → n ≤ top → SpreadOf left right step (top + 1) (step * n + first) → Meets words costs (λ v. some v || more v) (λ a. P a × Q a) n
     by_parts n le s =

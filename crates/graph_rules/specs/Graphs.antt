@@ -25,6 +25,10 @@ literal_node var positive = record { what = Literal positive var; kids = [] }
 abbrev pub true_node : Node
 true_node = record { what = And; kids = [] }
 
+-- an or without kids is never true
+abbrev pub false_node : Node
+false_node = record { what = Or; kids = [] }
+
 -- the node of a number, and a true one past the end
 abbrev pub node_at : List Node → ℕ → Node
 node_at nodes number = slice_index_or nodes number true_node

@@ -5,12 +5,12 @@ use Rattle.std.proofs.lemmas.Bool.{ne_eqb, eq-eqb, and_parts, and_from, or_cases
 use Rattle.ranking.specs.Assignments.{Assignment}
 use Rattle.graph_rules.specs.declared.NodeKind.{NodeKind}
 use Rattle.graph_rules.specs.declared.NodeKind.TheVariants.{Literal, And, Or}
-use Rattle.graph_rules.specs.Graphs.{Graph, Node, node_at, truth_by, is_true, IsGraph}
+use Rattle.graph_rules.specs.Graphs.{Graph, Node, false_node, node_at, truth_by, is_true, IsGraph}
 use Rattle.graph_rules.proofs.NodeValues.{are_below, value_of-at}
 use Rattle.graph_rules.proofs.NodesFit.{fits-at}
 use Rattle.minimiser.proofs.Models.{same_or_not}
 use Rattle.part_sets.proofs.Kids.{kid-below}
-use Rattle.level_lister.specs.inner.Skips.{false_node, living}
+use Rattle.level_lister.specs.inner.Skips.{living}
 
 length-living : (nodes : List Node) (skips : List ℕ) → length (living nodes skips) ≡ length nodes
 length-living [] skips = refl

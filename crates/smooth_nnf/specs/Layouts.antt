@@ -4,12 +4,9 @@ use Rattle.std.specs.List.{filter, flat_map, enumerate_from, range_with_len}
 use Rattle.ranking.specs.Values.{values}
 use Rattle.graph_rules.specs.declared.NodeKind.{NodeKind}
 use Rattle.graph_rules.specs.declared.NodeKind.TheVariants.{Literal, And, Or}
-use Rattle.graph_rules.specs.Graphs.{Node, Graph, literal_node, mentions}
+use Rattle.graph_rules.specs.Graphs.{Node, Graph, literal_node, false_node, mentions}
 use Rattle.graph_rules.specs.WrittenGraphs.{graph_text}
 use Rattle.minimiser.specs.Costs.{cost_at, part_cost, known_at, node_cost}
-
-abbrev pub false_node : Node
-false_node = record { what = Or; kids = [] }
 
 abbrev pub and_over : List ℕ → Node
 and_over kids = record { what = And; kids = kids }

@@ -3,12 +3,8 @@ use Rattle.std.specs.Prelude.{◌≡◌, ℕ, ◌+◌, ◌-◌, ◌<◌, ◌≤�
 use Rattle.ranking.specs.Assignments.{Assignment}
 use Rattle.graph_rules.specs.declared.NodeKind.{NodeKind}
 use Rattle.graph_rules.specs.declared.NodeKind.TheVariants.{Literal, And, Or}
-use Rattle.graph_rules.specs.Graphs.{Graph, Node, node_at, is_true}
+use Rattle.graph_rules.specs.Graphs.{Graph, Node, false_node, node_at, is_true}
 use Rattle.level_lister.specs.inner.CostSets.{Follows, cost_among}
-
--- an or without kids is never true
-abbrev pub false_node : Node
-false_node = record { what = Or; kids = [] }
 
 -- the nodes, of which those that are skipped are never true
 abbrev pub living : List Node → List ℕ → List Node

@@ -96,10 +96,3 @@ module _ (least : List (Option ℕ)) where
     lines_to-le least node (cost_at least number),
     sum_by-cons (λ (n : Node). length n.kids) node nodes,
   )
-
-pub take-written : (xs : List ℕ) (i v : ℕ) → i < length xs → take (i + 1) (set xs i v) ≡ take i xs ++ v ∷ []
-take-written xs i v h = let e : i + 1 ≡ suc i = omega arith in ap (λ n. take n (set xs i v)) e ∙ go xs i h where
-  go : (xs : List ℕ) (i : ℕ) → i < length xs → take (suc i) (set xs i v) ≡ take i xs ++ v ∷ []
-  go [] i h = absurd (omega arith)
-  go (x ∷ xs) zero h = refl
-  go (x ∷ xs) (suc i) h = λ j. x ∷ go xs i (omega arith) j

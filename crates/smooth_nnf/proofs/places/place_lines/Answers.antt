@@ -1,5 +1,5 @@
 use Rattle.std.proofs.Common.{◌≡◌, ◌+◌, ◌*◌, ◌^◌, ◌<◌, [], ◌∷◌, ◌++◌, map, length, get_or, sym, ◌∙◌, subst, arith}
-use Rattle.std.proofs.lemmas.List.{length-set}
+use Rattle.std.proofs.lemmas.List.{length-set, take_more_set}
 use Rattle.graph_rules.specs.Graphs.{node_at}
 use Rattle.graph_rules.proofs.NodeValues.{below-each}
 use Rattle.graph_rules.proofs.NodesFit.{fits-at}
@@ -7,7 +7,7 @@ use Rattle.minimiser.specs.Stored.{cost_in}
 use Rattle.minimiser.specs.Costs.{cost_at}
 use Rattle.minimiser.proofs.Sums.{cost_at-map}
 use Rattle.smooth_nnf.specs.Layouts.{lines_to}
-use Rattle.smooth_nnf.proofs.LinePlaces.{own_lines-more, lines_after-more, lines_after-le, take-written}
+use Rattle.smooth_nnf.proofs.LinePlaces.{own_lines-more, lines_after-more, lines_after-le}
 use Rattle.smooth_nnf.proofs.places.place_lines.Goals as goal
 
 before : (c : goal.After-lines_to-line) → c.lines_to-line.result ≡ lines_to (map cost_in c.args.values.now) (node_at c.args.graph.now.nodes c.loop-at.at) (cost_at (map cost_in c.args.values.now) c.loop-at.at)
@@ -47,7 +47,7 @@ loop-at-preserved c =
     let value = c.loop-at.line + c.lines_to-line.result in
     record {
       long = length-set c.loop-at.lines at value ∙ c.loop-at.invariant.long;
-      places = take-written c.loop-at.lines at value (omega (arith, lt, c.loop-at.invariant.long, c.requires.room))
+      places = take_more_set c.loop-at.lines at value (omega (arith, lt, c.loop-at.invariant.long, c.requires.room))
           ∙ (λ i. c.loop-at.invariant.places i ++ (c.loop-at.invariant.line i + before c i) ∷ [])
           ∙ sym (own_lines-more least (2 * c.args.parts) graph.nodes at lt);
       line = (λ i. c.loop-at.invariant.line i + before c i + 1) ∙ sym (lines_after-more least (2 * c.args.parts) graph.nodes at lt);

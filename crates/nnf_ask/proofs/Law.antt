@@ -16,7 +16,7 @@ use Rattle.session_rules.specs.GraphSystems.{case_words}
 use Rattle.session_rules.specs.Items.{Whole}
 use Rattle.session_rules.specs.Spelling.{Spelled, IsWholeOf, IsGraphOf}
 use Rattle.session_rules.proofs.Meaning.{same_consistent}
-use Rattle.session_rules.proofs.CaseWords.{map-replicate}
+use Rattle.session_rules.proofs.CaseWords.{unseen-words}
 use Rattle.nnf_ask.specs.Asking.{asked_system}
 use Rattle.nnf_ask.specs.Alike.{case_among, AreAlike}
 use Rattle.nnf_ask.proofs.Naming.{length-variable_names}
@@ -38,7 +38,7 @@ same_words vars known =
     (ap (λ n. map word_of_known (known.seen ++ more) ++ replicate n 0) none
     ∙ append-nil (map word_of_known (known.seen ++ more))
     ∙ map-append word_of_known known.seen more
-    ∙ ap (λ ws. map word_of_known known.seen ++ ws) (map-replicate count))
+    ∙ ap (λ ws. map word_of_known known.seen ++ ws) (unseen-words count))
 
 module _ (device : Device) (graph : Graph) (is : IsGraphOf device graph) (known : Case) (case : IsCaseOf (device_system device) known) where
   named : length (part_names device.parts) ≡ length device.parts

@@ -1,5 +1,5 @@
 -- Bytes of a script that are taken piece by piece.
-use Rattle.std.proofs.Common.{◌≡◌, ◌≢◌, ◌<◌, ◌≤◌, ◌+◌, get_or, length, drop, Result, Ok, Err, OnErr, arith, ℕ, List, [], ◌∷◌, ◌++◌, take, Option, None, Some, refl, sym, ◌∙◌, ap, ap₂, subst, append-nil, true, false, if◌then◌else◌, ◌==◌, length-take, lit<}
+use Rattle.std.proofs.Common.{◌≡◌, ◌≢◌, ◌<◌, ◌≤◌, ◌+◌, get_or, length, drop, Result, Ok, Err, OnErr, arith, ℕ, List, [], ◌∷◌, ◌++◌, take, Option, None, Some, refl, sym, ◌∙◌, ap, ap₂, subst, append-nil, true, false, if◌then◌else◌, ◌==◌}
 use Rattle.std.specs.Prelude.{⊤}
 use Rattle.std.proofs.lemmas.Grind.{common_steps}
 use Rattle.std.proofs.lemmas.List.{take_more}

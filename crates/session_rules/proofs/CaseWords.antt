@@ -20,9 +20,10 @@ set_behind (x ∷ xs) ys i y =
     let e : length (x ∷ xs) + i ≡ suc (length xs + i) = omega arith in
     ap (λ n. set (x ∷ (xs ++ ys)) n y) e ∙ ap (λ zs. x ∷ zs) (set_behind xs ys i y)
 
-pub map-replicate : (n : ℕ) → map word_of_known (replicate n None) ≡ replicate n 0
-map-replicate zero = refl
-map-replicate (suc n) = ap (λ ws. 0 ∷ ws) (map-replicate n)
+-- the words of what nothing is said of are 0
+pub unseen-words : (n : ℕ) → map word_of_known (replicate n None) ≡ replicate n 0
+unseen-words zero = refl
+unseen-words (suc n) = ap (λ ws. 0 ∷ ws) (unseen-words n)
 
 small_word : (k : Option Bool) → word_of_known k < 3
 small_word None = omega arith
@@ -65,7 +66,7 @@ module _ (vars : ℕ) where
   words-new parts wires room =
       let n : ℕ = vars - (parts + wires) in
       ap₂ (λ a b. map word_of_known (replicate parts None) ++ (map word_of_known (replicate wires None) ++ inner a b)) (length-replicate {A = Option Bool} parts None) (length-replicate {A = Option Bool} wires None)
-      ∙ (ap₂ (λ xs ys. xs ++ (ys ++ replicate n 0)) (map-replicate parts) (map-replicate wires)
+      ∙ (ap₂ (λ xs ys. xs ++ (ys ++ replicate n 0)) (unseen-words parts) (unseen-words wires)
       ∙ (ap (λ ws. replicate parts 0 ++ ws) (replicate-append-replicate wires n 0)
       ∙ (replicate-append-replicate parts (wires + n) 0
       ∙ ap (λ m. replicate m 0) (omega (arith, room)))))

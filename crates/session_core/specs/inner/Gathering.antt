@@ -19,6 +19,7 @@ rest_from line (byte ∷ bytes) = if byte == 10 then rest_from [] bytes else res
 unfoldable pub kept : List ℕ → List ℕ
 kept line = take (LINE_LIMIT + 1) line
 
+-- a line is answered as what of it is kept
 pub record IsCut (one : Table → List ℕ → List Step) : Type 0 where
   pub same : (table : Table) (line : List ℕ) → one table (kept line) ≡ one table line
 

@@ -10,12 +10,12 @@ use Rattle.std.proofs.Math.Bool.{or-false, or_assoc}
 use Rattle.text_rules.specs.Expected.{IsExpectedFault}
 use Rattle.text_rules.specs.Names.{Name, same_name, is_among, is_short_name, is_name_byte}
 use Rattle.text_rules.proofs.NameLemmas.{equal_if_same}
+use Rattle.ranking.proofs.Members.{In-at}
 use Rattle.device_model.specs.declared.component.Component.{Component}
 use Rattle.device_model.specs.Order.{sorted_distinct}
 use Rattle.device_model.specs.Devices.{Device, part_names}
 use Rattle.device_model.specs.Building.{joined}
 use Rattle.device_model.proofs.Making.{component_name, list_all-among, list_all-sorted_distinct}
-use Rattle.device_model.proofs.Tables.{among_get_or}
 use Rattle.device_model.proofs.Sorting.{itself}
 use Rattle.bench_reader.specs.declared.kinds.FlipFlops.{FlipFlops}
 use Rattle.bench_reader.specs.declared.kinds.FlipFlops.TheVariants.{Taken}
@@ -156,9 +156,9 @@ short_device statements h =
     let each : list_all (λ (p : Component). is_short_name p.name) parts ≡ true = sym (list_all-map is_short_name component_name parts) ∙ names in
     record {
       parts = λ k d l. is_few (get_or (sorted_distinct component_name parts) k d).name
-          (list_all-among (λ (p : Component). is_short_name p.name) (sorted_distinct component_name parts) (list_all-sorted_distinct component_name (λ (p : Component). is_short_name p.name) parts each) (get_or (sorted_distinct component_name parts) k d) (among_get_or (sorted_distinct component_name parts) k d l));
+          (list_all-among (λ (p : Component). is_short_name p.name) (sorted_distinct component_name parts) (list_all-sorted_distinct component_name (λ (p : Component). is_short_name p.name) parts each) (get_or (sorted_distinct component_name parts) k d) (In-at (sorted_distinct component_name parts) k d l));
       wires = λ k d l. is_few (get_or wires k d)
-          (list_all-among is_short_name wires (list_all-sorted_distinct itself is_short_name (flat_map driven statements) named) (get_or wires k d) (among_get_or wires k d l));
+          (list_all-among is_short_name wires (list_all-sorted_distinct itself is_short_name (flat_map driven statements) named) (get_or wires k d) (In-at wires k d l));
     }
 
 -- the names of what a netlist gives are those of a file

@@ -9,6 +9,7 @@ use Rattle.std.proofs.lemmas.List.Folds.{list_all-append}
 use Rattle.text_rules.specs.Expected.{IsExpectedFault}
 use Rattle.text_rules.specs.Names.{Name, is_short_name, is_among}
 use Rattle.text_rules.specs.TextLines.{all_lines}
+use Rattle.ranking.proofs.Members.{In}
 use Rattle.device_model.specs.declared.component.Component.{Component}
 use Rattle.device_model.specs.declared.limits.TheConstants.{PART_LIMIT, WIRE_LIMIT}
 use Rattle.device_model.specs.declared.building.BuildError.{BuildError}
@@ -18,7 +19,7 @@ use Rattle.device_model.specs.Order.{placed, sorted_distinct}
 use Rattle.device_model.specs.Devices.{Device}
 use Rattle.device_model.specs.Building.{joined, reason, repeated, built, device_over}
 use Rattle.device_model.proofs.Naming.{same, below, above, compared}
-use Rattle.device_model.proofs.Ordered.{Among, among_sorted_distinct, placed-below, placed-above}
+use Rattle.device_model.proofs.Ordered.{among_sorted_distinct, placed-below, placed-above}
 use Rattle.device_model.proofs.Sorting.{itself}
 use Rattle.device_model.proofs.Repeats.{is_among-among, among_from_test}
 use Rattle.device_model.proofs.Making.{list_all-among, list_all-from_among, component_name}
@@ -44,7 +45,7 @@ use Rattle.device_model.proofs.CallerLemmas.{only_memory as only_memory_of}
 
 -- ---- names that differ are as many in order
 
-length-placed_new : (x : Name) (ys : List Name) → (Among x ys → ⊥) → length (placed itself x ys) ≡ suc (length ys)
+length-placed_new : (x : Name) (ys : List Name) → (In x ys → ⊥) → length (placed itself x ys) ≡ suc (length ys)
 length-placed_new x [] h = refl
 length-placed_new x (y ∷ ys) h = elim (compared x y) [
   | same e ↦ absurd (h (inl e))

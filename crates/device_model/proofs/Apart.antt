@@ -1,32 +1,19 @@
--- Names of which no two are the same, and members of lists that are made of others.
-use Rattle.std.proofs.Common.{◌≡◌, ◌⊎◌, inl, inr, Bool, true, false, List, [], ◌∷◌, ◌++◌, map, refl, sym, ap, subst, ◌∙◌}
+-- Names of which no two are the same.
+use Rattle.std.proofs.Common.{◌≡◌, inl, inr, Bool, true, false, List, [], ◌∷◌, ◌++◌, map, refl, sym, ap, subst, ◌∙◌}
 use Rattle.std.specs.Prelude.{if◌then◌else◌}
 use Rattle.text_rules.specs.Names.{Name, is_among}
+use Rattle.ranking.proofs.Members.{In, In-append, from_map}
 use Rattle.device_model.specs.Building.{repeated}
 use Rattle.device_model.proofs.Naming.{Below-irreflexive}
-use Rattle.device_model.proofs.Ordered.{Among, Rises, Below-among}
+use Rattle.device_model.proofs.Ordered.{Rises, Below-among}
 use Rattle.device_model.proofs.Sorting.{itself}
 use Rattle.device_model.proofs.Repeats.{among_from_test}
 
--- ---- members
-
-pub among_parts : {A : Type 0} (x : A) (xs ys : List A) → Among x (xs ++ ys) → Among x xs ⊎ Among x ys
-among_parts x [] ys m = inr m
-among_parts x (z ∷ xs) ys (inl e) = inl (inl e)
-among_parts x (z ∷ xs) ys (inr m) = elim (among_parts x xs ys m) [ inl a ↦ inl (inr a) | inr a ↦ inr a ]
-
-pub among_made : (make : Name → Name) (ns : List Name) (m : Name) → Among m (map make ns) → (n : Name) × (m ≡ make n) × Among n ns
-among_made make [] m h = absurd h
-among_made make (n ∷ ns) m (inl e) = (n, e, inl refl)
-among_made make (n ∷ ns) m (inr h) = let r = among_made make ns m h in (r.0, r.1, inr r.2)
-
--- ---- names that differ
-
 abbrev pub Different : List Name → Type 0
 Different [] = Unit {0}
-Different (n ∷ ns) = (Among n ns → ⊥) × Different ns
+Different (n ∷ ns) = (In n ns → ⊥) × Different ns
 
-not_among : (n : Name) (ns : List Name) → (Among n ns → ⊥) → is_among ns n ≡ false
+not_among : (n : Name) (ns : List Name) → (In n ns → ⊥) → is_among ns n ≡ false
 not_among n ns h = by (is_among ns n) refl
   where
     by : (b : Bool) → is_among ns n ≡ b → is_among ns n ≡ false
@@ -41,10 +28,10 @@ pub Different-rising : (ns : List Name) → Rises itself ns → Different ns
 Different-rising [] h = tt
 Different-rising (n ∷ ns) h = ((λ m. Below-irreflexive n (Below-among itself n ns n h.0 m)), Different-rising ns h.1)
 
-pub Different-append : (xs ys : List Name) → Different xs → Different ys → ((n : Name) → Among n xs → Among n ys → ⊥) → Different (xs ++ ys)
+pub Different-append : (xs ys : List Name) → Different xs → Different ys → ((n : Name) → In n xs → In n ys → ⊥) → Different (xs ++ ys)
 Different-append [] ys h g apart = g
 Different-append (x ∷ xs) ys h g apart = (
-  (λ m. elim (among_parts x xs ys m) [ inl a ↦ h.0 a | inr a ↦ apart x (inl refl) a ]),
+  (λ m. elim (In-append x xs ys m) [ inl a ↦ h.0 a | inr a ↦ apart x (inl refl) a ]),
   Different-append xs ys h.1 g (λ n a b. apart n (inr a) b),
 )
 
@@ -56,6 +43,6 @@ Different-right (x ∷ xs) ys h = Different-right xs ys h.1
 pub Different-made : (make : Name → Name) → ((m n : Name) → make m ≡ make n → m ≡ n) → (ns : List Name) → Different ns → Different (map make ns)
 Different-made make tells [] h = tt
 Different-made make tells (n ∷ ns) h = (
-  (λ m. let r = among_made make ns (make n) m in h.0 (subst (λ (k : Name). Among k ns) (sym (tells n r.0 r.1)) r.2)),
+  (λ m. let r = from_map make (make n) ns m in h.0 (subst (λ (k : Name). In k ns) (sym (tells n r.item r.gives)) r.is_in)),
   Different-made make tells ns h.1,
 )

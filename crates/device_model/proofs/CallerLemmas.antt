@@ -3,6 +3,7 @@ use Rattle.std.proofs.Common.{◌≡◌, ℕ, ◌<◌, true, List, [], length, g
 use Rattle.std.proofs.lemmas.List.Sums.{passes_at_first}
 use Rattle.text_rules.specs.Expected.{IsExpectedFault}
 use Rattle.text_rules.specs.Names.{Name, same_name, is_among, names_rise}
+use Rattle.ranking.proofs.Members.{In}
 use Rattle.device_model.specs.declared.component.Component.{Component}
 use Rattle.device_model.specs.declared.building.BuildError.{BuildError}
 use Rattle.device_model.specs.declared.building.BuildError.TheVariants.{TooMany, TwoParts, TwoWires, Arity, NoWire, Memory}
@@ -10,7 +11,7 @@ use Rattle.device_model.specs.TruthTable.{TruthTable}
 use Rattle.device_model.specs.Order.{sorted_distinct}
 use Rattle.device_model.specs.Devices.{Device, IsDevice}
 use Rattle.device_model.specs.Building.{place_in, device_of, built, reason}
-use Rattle.device_model.proofs.Ordered.{Among, Rises-sorted_distinct, among_sorted_distinct, sorted_distinct-has, sorted_distinct-is}
+use Rattle.device_model.proofs.Ordered.{Rises-sorted_distinct, among_sorted_distinct, sorted_distinct-has, sorted_distinct-is}
 use Rattle.device_model.proofs.Sorting.{itself, Rises-from_names_rise}
 use Rattle.device_model.proofs.Repeats.{is_among-among, among_from_test, count}
 use Rattle.device_model.proofs.Making.{position_or_len-among}
@@ -18,17 +19,17 @@ use Rattle.device_model.proofs.Placing.{place_in-rising}
 use Rattle.text_rules.proofs.NameLemmas.{equal_if_same}
 
 -- names in order are the names of the list
-pub Among-sorted_distinct : (names : List Name) (n : Name) → Among n names → Among n (sorted_distinct itself names)
-Among-sorted_distinct names n m = let r = sorted_distinct-has itself names n m in subst (λ (k : Name). Among k (sorted_distinct itself names)) r.2 r.1
+pub In-sorted_distinct : (names : List Name) (n : Name) → In n names → In n (sorted_distinct itself names)
+In-sorted_distinct names n m = let r = sorted_distinct-has itself names n m in subst (λ (k : Name). In k (sorted_distinct itself names)) r.2 r.1
 
-pub Among-from_sorted_distinct : (names : List Name) (n : Name) → Among n (sorted_distinct itself names) → Among n names
-Among-from_sorted_distinct names n m = among_sorted_distinct itself names n m
+pub In-from_sorted_distinct : (names : List Name) (n : Name) → In n (sorted_distinct itself names) → In n names
+In-from_sorted_distinct names n m = among_sorted_distinct itself names n m
 
 -- the order depends on which names there are, and not on how often or in which order they stand
-pub sorted_distinct-same_names : (xs ys : List Name) → ((n : Name) → Among n xs → Among n ys) → ((n : Name) → Among n ys → Among n xs) → sorted_distinct itself xs ≡ sorted_distinct itself ys
+pub sorted_distinct-same_names : (xs ys : List Name) → ((n : Name) → In n xs → In n ys) → ((n : Name) → In n ys → In n xs) → sorted_distinct itself xs ≡ sorted_distinct itself ys
 sorted_distinct-same_names xs ys to back =
     sorted_distinct-is itself xs (sorted_distinct itself ys) (Rises-sorted_distinct itself ys)
-    (λ n m. Among-sorted_distinct ys n (to n m)) (λ n m. back n (Among-from_sorted_distinct ys n m))
+    (λ n m. In-sorted_distinct ys n (to n m)) (λ n m. back n (In-from_sorted_distinct ys n m))
 
 -- the same, by the test
 pub sorted_distinct-same_tests : (xs ys : List Name) → ((n : Name) → is_among xs n ≡ is_among ys n) → sorted_distinct itself xs ≡ sorted_distinct itself ys
@@ -44,7 +45,7 @@ pub place_in-names_rise : (names : List Name) (k : ℕ) → names_rise names ≡
 place_in-names_rise names k h l = place_in-rising names k (Rises-from_names_rise names h) l
 
 -- a name of the list stands at its place
-pub get_or-place_in : (names : List Name) (n : Name) → Among n names → get_or names (place_in names n) [] ≡ n
+pub get_or-place_in : (names : List Name) (n : Name) → In n names → get_or names (place_in names n) [] ≡ n
 get_or-place_in names n m =
     sym (equal_if_same n (get_or names (place_in names n) []) (passes_at_first (same_name n) names [] (position_or_len-among names n m)))
 

@@ -4,12 +4,12 @@ use Rattle.std.specs.Prelude.{slice_get, slice_index}
 use Rattle.std.proofs.lemmas.Bool.{false≢true}
 use Rattle.std.proofs.lemmas.List.{get_or-map}
 use Rattle.std.proofs.lemmas.Option.{slice_get_cases, slice_get_read}
+use Rattle.ranking.proofs.Members.{In-at}
 use Rattle.device_model.specs.declared.component.Kind.TheVariants.{Table}
 use Rattle.device_model.specs.declared.component.Component.{Component}
 use Rattle.device_model.specs.TruthTable.{TruthTable}
 use Rattle.device_model.specs.Devices.{Device, IsDevice, rows_take, takes_ports, has_arity, kind_cost, table_cost, part_costs}
 use Rattle.device_model.proofs.Making.{list_all-among}
-use Rattle.device_model.proofs.Tables.{among_get_or}
 
 table_there : (tables : List TruthTable) (t ports : ℕ) → rows_take (slice_get tables t) ports ≡ true → t < length tables
 table_there tables t ports h = elim (slice_get_cases tables t).1 [
@@ -27,7 +27,7 @@ module _ (device : Device) (place : ℕ) (part : Component) (within : place < le
   pub has_table : (t : ℕ) → IsDevice device → part.kind ≡ Table t → t < length device.tables
   has_table t valid e =
       let arity = ap (has_arity device.tables) is
-      ∙ list_all-among (has_arity device.tables) device.parts valid.arities (get_or device.parts place part) (among_get_or device.parts place part within) in
+      ∙ list_all-among (has_arity device.tables) device.parts valid.arities (get_or device.parts place part) (In-at device.parts place part within) in
       table_there device.tables t (length part.ports) (subst (λ kind. takes_ports device.tables kind (length part.ports) ≡ true) e arity)
 
   -- and such a part costs what its table says

@@ -6,25 +6,25 @@ use Rattle.std.proofs.lemmas.Bool.{ltb-false, ltb-true, lt-ltb, and_parts, and_f
 use Rattle.std.proofs.lemmas.List.{length-map}
 use Rattle.std.proofs.lemmas.List.Sums.{fails_before_first}
 use Rattle.text_rules.specs.Names.{Name, same_name}
+use Rattle.ranking.proofs.Members.{In, In-at}
 use Rattle.device_model.specs.declared.component.Component.{Component}
 use Rattle.device_model.specs.TruthTable.{TruthTable}
 use Rattle.device_model.specs.Order.{placed, sorted_distinct}
 use Rattle.device_model.specs.Devices.{IsDevice, part_names, takes_ports, has_arity, has_wires}
 use Rattle.device_model.specs.Building.{place_in, renumbered, device_of}
 use Rattle.device_model.proofs.Naming.{same, below, above, compared}
-use Rattle.device_model.proofs.Ordered.{Among, Rises-sorted_distinct, among_sorted_distinct, sorted_distinct-has, placed-same, placed-below, placed-above}
+use Rattle.device_model.proofs.Ordered.{Rises-sorted_distinct, among_sorted_distinct, sorted_distinct-has, placed-same, placed-below, placed-above}
 use Rattle.device_model.proofs.Sorting.{itself, Contains-from_among, Rises-map, names_rise-Rises}
-use Rattle.device_model.proofs.Tables.{among_get_or}
 use Rattle.text_rules.proofs.NameLemmas.{same_if_equal}
 
 -- ---- tests of each item
 
-pub list_all-among : {A : Type 0} (p : A → Bool) (xs : List A) → list_all p xs ≡ true → (x : A) → Among x xs → p x ≡ true
+pub list_all-among : {A : Type 0} (p : A → Bool) (xs : List A) → list_all p xs ≡ true → (x : A) → In x xs → p x ≡ true
 list_all-among p [] h x m = absurd m
 list_all-among p (y ∷ ys) h x (inl e) = ap p e ∙ (and_parts (p y) (list_all p ys) h).0
 list_all-among p (y ∷ ys) h x (inr m) = list_all-among p ys (and_parts (p y) (list_all p ys) h).1 x m
 
-pub list_all-from_among : {A : Type 0} (p : A → Bool) (xs : List A) → ((x : A) → Among x xs → p x ≡ true) → list_all p xs ≡ true
+pub list_all-from_among : {A : Type 0} (p : A → Bool) (xs : List A) → ((x : A) → In x xs → p x ≡ true) → list_all p xs ≡ true
 list_all-from_among p [] h = refl
 list_all-from_among p (x ∷ xs) h = and_from (p x) (list_all p xs) (h x (inl refl)) (list_all-from_among p xs (λ y m. h y (inr m)))
 
@@ -36,7 +36,7 @@ not_false : (b : Bool) → not b ≡ false → b ≡ true
 not_false true h = refl
 not_false false h = cc
 
-among_place : {A : Type 0} (xs : List A) (x : A) → Among x xs → (k : ℕ) × (k < length xs) × (get_or xs k x ≡ x)
+among_place : {A : Type 0} (xs : List A) (x : A) → In x xs → (k : ℕ) × (k < length xs) × (get_or xs k x ≡ x)
 among_place xs x m = Contains-from_among xs x m
 
 -- where no item fails a test, each passes
@@ -82,7 +82,7 @@ module _ {A : Type 0} (name : A → Name) where
 
 -- ---- places of names
 
-pub position_or_len-among : (ns : List Name) (n : Name) → Among n ns → position_or_len (same_name n) ns < length ns
+pub position_or_len-among : (ns : List Name) (n : Name) → In n ns → position_or_len (same_name n) ns < length ns
 position_or_len-among [] n m = absurd m
 position_or_len-among (x ∷ ns) n (inl e) = rw (same_if_equal n x e) (omega arith)
 position_or_len-among (x ∷ ns) n (inr m) = by (same_name n x) (position_or_len-among ns n m)
@@ -94,8 +94,8 @@ position_or_len-among (x ∷ ns) n (inr m) = by (same_name n x) (position_or_len
 -- each port of a part that has its wires is the place of a wire
 place_in-fits : (wires : List Name) (port : ℕ) → port < length wires → place_in (sorted_distinct itself wires) (get_or wires port []) < length (sorted_distinct itself wires)
 place_in-fits wires port l =
-    let r = sorted_distinct-has itself wires (get_or wires port []) (among_get_or wires port [] l) in
-    position_or_len-among (sorted_distinct itself wires) (get_or wires port []) (subst (λ (n : Name). Among n (sorted_distinct itself wires)) r.2 r.1)
+    let r = sorted_distinct-has itself wires (get_or wires port []) (In-at wires port [] l) in
+    position_or_len-among (sorted_distinct itself wires) (get_or wires port []) (subst (λ (n : Name). In n (sorted_distinct itself wires)) r.2 r.1)
 
 test_less : (a b : ℕ) → nat_lt a b ≡ true → a < b
 test_less a b h = ltb-true a b h

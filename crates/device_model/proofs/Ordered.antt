@@ -1,13 +1,10 @@
 -- Lists of items by rising name, and that `sorted_distinct` makes the only one that has the same items.
 use Rattle.std.proofs.Common.{◌≡◌, ◌⊎◌, inl, inr, List, [], ◌∷◌, refl, sym, ap, subst, ◌∙◌}
 use Rattle.text_rules.specs.Names.{Name}
+use Rattle.ranking.proofs.Members.{In}
 use Rattle.device_model.specs.Order.{placed, sorted_distinct}
 use Rattle.device_model.proofs.Naming.{Below, Below-trans, Below-irreflexive, Below-asymmetric, same, below, above, compared, same_name-below, same_name-above, name_below-Below, name_below-above}
 use Rattle.text_rules.proofs.NameLemmas.{same_if_equal}
-
-abbrev pub Among : {A : Type 0} → A → List A → Type 0
-Among x [] = ⊥
-Among x (y ∷ ys) = (x ≡ y) ⊎ Among x ys
 
 module _ {A : Type 0} (name : A → Name) where
   -- the name stands before each item's
@@ -20,7 +17,7 @@ module _ {A : Type 0} (name : A → Name) where
   Rises [] = Unit {0}
   Rises (x ∷ xs) = BelowAll (name x) xs × Rises xs
 
-  pub Below-among : (n : Name) (ys : List A) (y : A) → BelowAll n ys → Among y ys → Below n (name y)
+  pub Below-among : (n : Name) (ys : List A) (y : A) → BelowAll n ys → In y ys → Below n (name y)
   Below-among n [] y h m = absurd m
   Below-among n (x ∷ xs) y h (inl e) = subst (λ (z : A). Below n (name z)) (sym e) h.0
   Below-among n (x ∷ xs) y h (inr m) = Below-among n xs y h.1 m
@@ -58,28 +55,28 @@ module _ {A : Type 0} (name : A → Name) where
   Rises-sorted_distinct [] = tt
   Rises-sorted_distinct (x ∷ xs) = Rises-placed x (sorted_distinct name xs) (Rises-sorted_distinct xs)
 
-  among_placed : (x : A) (ys : List A) (z : A) → Among z (placed name x ys) → (z ≡ x) ⊎ Among z ys
+  among_placed : (x : A) (ys : List A) (z : A) → In z (placed name x ys) → (z ≡ x) ⊎ In z ys
   among_placed x [] z m = m
   among_placed x (y ∷ ys) z m = elim (compared (name x) (name y)) [
-    | same e ↦ inr (subst (Among z) (placed-same x y ys e) m)
-    | below l ↦ subst (Among z) (placed-below x y ys l) m
-    | above l ↦ elim (subst (Among z) (placed-above x y ys l) m) [
+    | same e ↦ inr (subst (In z) (placed-same x y ys e) m)
+    | below l ↦ subst (In z) (placed-below x y ys l) m
+    | above l ↦ elim (subst (In z) (placed-above x y ys l) m) [
       | inl e ↦ inr (inl e)
       | inr n ↦ elim (among_placed x ys z n) [ inl e ↦ inl e | inr k ↦ inr (inr k) ]
     ]
   ]
 
-  placed-keeps : (x : A) (ys : List A) (z : A) → Among z ys → Among z (placed name x ys)
+  placed-keeps : (x : A) (ys : List A) (z : A) → In z ys → In z (placed name x ys)
   placed-keeps x [] z m = absurd m
   placed-keeps x (y ∷ ys) z m = elim (compared (name x) (name y)) [
-    | same e ↦ subst (Among z) (sym (placed-same x y ys e)) m
-    | below l ↦ subst (Among z) (sym (placed-below x y ys l)) (inr m)
-    | above l ↦ subst (Among z) (sym (placed-above x y ys l)) (elim m [ inl e ↦ inl e | inr n ↦ inr (placed-keeps x ys z n) ])
+    | same e ↦ subst (In z) (sym (placed-same x y ys e)) m
+    | below l ↦ subst (In z) (sym (placed-below x y ys l)) (inr m)
+    | above l ↦ subst (In z) (sym (placed-above x y ys l)) (elim m [ inl e ↦ inl e | inr n ↦ inr (placed-keeps x ys z n) ])
   ]
 
   -- an item of the list that has the name
   abbrev Named : Name → List A → Type 0
-  Named n ys = (z : A) × Among z ys × (name z ≡ n)
+  Named n ys = (z : A) × In z ys × (name z ≡ n)
 
   placed-has : (x : A) (ys : List A) → Named (name x) (placed name x ys)
   placed-has x [] = (x, inl refl, refl)
@@ -90,24 +87,24 @@ module _ {A : Type 0} (name : A → Name) where
   ]
 
   -- what stands in order was there
-  pub among_sorted_distinct : (xs : List A) (z : A) → Among z (sorted_distinct name xs) → Among z xs
+  pub among_sorted_distinct : (xs : List A) (z : A) → In z (sorted_distinct name xs) → In z xs
   among_sorted_distinct [] z m = m
   among_sorted_distinct (x ∷ xs) z m = elim (among_placed x (sorted_distinct name xs) z m) [ inl e ↦ inl e | inr n ↦ inr (among_sorted_distinct xs z n) ]
 
   -- and each name of what was there stands in order
-  pub sorted_distinct-has : (xs : List A) (x : A) → Among x xs → Named (name x) (sorted_distinct name xs)
+  pub sorted_distinct-has : (xs : List A) (x : A) → In x xs → Named (name x) (sorted_distinct name xs)
   sorted_distinct-has [] x m = absurd m
   sorted_distinct-has (y ∷ ys) x (inl e) = subst (λ (z : A). Named (name z) (sorted_distinct name (y ∷ ys))) (sym e) (placed-has y (sorted_distinct name ys))
   sorted_distinct-has (y ∷ ys) x (inr m) = let r = sorted_distinct-has ys x m in (r.0, placed-keeps y (sorted_distinct name ys) r.0 r.1, r.2)
 
   -- items of one name are the same
   abbrev pub NamesTell : List A → Type 0
-  NamesTell xs = (x y : A) → Among x xs → Among y xs → name x ≡ name y → x ≡ y
+  NamesTell xs = (x y : A) → In x xs → In y xs → name x ≡ name y → x ≡ y
 
-  pub sorted_distinct-keeps : (xs : List A) → NamesTell xs → (x : A) → Among x xs → Among x (sorted_distinct name xs)
+  pub sorted_distinct-keeps : (xs : List A) → NamesTell xs → (x : A) → In x xs → In x (sorted_distinct name xs)
   sorted_distinct-keeps xs tell x m =
       let r = sorted_distinct-has xs x m in
-      subst (λ (z : A). Among z (sorted_distinct name xs)) (tell r.0 x (among_sorted_distinct xs r.0 r.1) m r.2) r.1
+      subst (λ (z : A). In z (sorted_distinct name xs)) (tell r.0 x (among_sorted_distinct xs r.0 r.1) m r.2) r.1
 
   pub NamesTell-rising : (ys : List A) → Rises ys → NamesTell ys
   NamesTell-rising [] r x y m n e = absurd m
@@ -117,7 +114,7 @@ module _ {A : Type 0} (name : A → Name) where
   NamesTell-rising (z ∷ zs) r x y (inr m) (inr n) same' = NamesTell-rising zs r.1 x y m n same'
 
   abbrev pub Within : List A → List A → Type 0
-  Within xs ys = (z : A) → Among z xs → Among z ys
+  Within xs ys = (z : A) → In z xs → In z ys
 
   -- the heads of two rising lists of the same items are the same
   same_heads : (x : A) (xs : List A) (y : A) (ys : List A) → Rises (x ∷ xs) → Rises (y ∷ ys) → Within (x ∷ xs) (y ∷ ys) → Within (y ∷ ys) (x ∷ xs) → x ≡ y

@@ -8,6 +8,7 @@ use Rattle.std.proofs.lemmas.Bool.{ltb-true}
 use Rattle.std.proofs.lemmas.List.{get_or-map, length-map}
 use Rattle.std.proofs.lemmas.List.Sorted.{length_permutation, IsPermutation-sym}
 use Rattle.text_rules.specs.Names.{Name, same_name}
+use Rattle.ranking.proofs.Members.{In, In-at}
 use Rattle.device_model.specs.declared.component.Component.{Component}
 use Rattle.device_model.specs.Order.{sorted_distinct}
 use Rattle.device_model.specs.TruthTable.{TruthTable}
@@ -15,20 +16,19 @@ use Rattle.device_model.specs.Devices.{Device, has_wires}
 use Rattle.device_model.specs.Building.{place_in, renumbered, device_of}
 use Rattle.device_model.specs.inner.Sorting.{numbered_from, with_places}
 use Rattle.device_model.proofs.Naming.{Below, Below-irreflexive, same_name-above}
-use Rattle.device_model.proofs.Ordered.{Among, Below-among, Rises, Rises-sorted_distinct}
+use Rattle.device_model.proofs.Ordered.{Below-among, Rises, Rises-sorted_distinct}
 use Rattle.device_model.proofs.Sorting.{itself, Contains-from_among, among_permutation, Rises-unmap}
-use Rattle.device_model.proofs.Tables.{among_get_or}
 use Rattle.device_model.proofs.Making.{list_all-among, component_name, sorted_distinct-map, list_all-sorted_distinct}
 use Rattle.text_rules.proofs.NameLemmas.{same_if_equal}
 
 -- a numbered name stands at its number
-numbered-tells : (p : ℕ) (ns : List Name) (w : Name × ℕ) → Among w (numbered_from p ns) → (i : ℕ) × (i < length ns) × (w.1 ≡ p + i) × (w.0 ≡ get_or ns i [])
+numbered-tells : (p : ℕ) (ns : List Name) (w : Name × ℕ) → In w (numbered_from p ns) → (i : ℕ) × (i < length ns) × (w.1 ≡ p + i) × (w.0 ≡ get_or ns i [])
 numbered-tells p [] w m = absurd m
 numbered-tells p (n ∷ ns) w (inl e) = (0, omega arith, (let f = ap (λ (v : Name × ℕ). v.1) e in omega arith), ap (λ (v : Name × ℕ). v.0) e)
 numbered-tells p (n ∷ ns) w (inr m) = let r = numbered-tells (p + 1) ns w m in (suc r.0, omega (arith, r.1), omega (arith, r.2), r.3)
 
 -- and each name is numbered
-numbered-has : (p : ℕ) (ns : List Name) (i q : ℕ) → i < length ns → q ≡ p + i → Among (get_or ns i [], q) (numbered_from p ns)
+numbered-has : (p : ℕ) (ns : List Name) (i q : ℕ) → i < length ns → q ≡ p + i → In (get_or ns i [], q) (numbered_from p ns)
 numbered-has p [] i q l e = absurd (omega arith)
 numbered-has p (n ∷ ns) zero q l e = let f : q ≡ p = omega arith in inl (ap (λ (k : ℕ). (n, k)) f)
 numbered-has p (n ∷ ns) (suc i) q l e = inr (numbered-has (p + 1) ns i q (omega arith) (omega arith))
@@ -40,7 +40,7 @@ length-numbered_from p (n ∷ ns) = ap suc (length-numbered_from (p + 1) ns)
 Rises-get_or : {A : Type 0} (name : A → Name) (xs : List A) (i j : ℕ) (d : A) → Rises name xs → i < j → j < length xs → Below (name (get_or xs i d)) (name (get_or xs j d))
 Rises-get_or name [] i j d h l k = absurd (omega arith)
 Rises-get_or name (x ∷ xs) i zero d h l k = absurd (omega arith)
-Rises-get_or name (x ∷ xs) zero (suc j) d h l k = Below-among name (name x) xs (get_or xs j d) h.0 (among_get_or xs j d (omega arith))
+Rises-get_or name (x ∷ xs) zero (suc j) d h l k = Below-among name (name x) xs (get_or xs j d) h.0 (In-at xs j d (omega arith))
 Rises-get_or name (x ∷ xs) (suc i) (suc j) d h l k = Rises-get_or name xs i j d h.1 (omega arith) (omega arith)
 
 -- a name of a rising list has no earlier place
@@ -49,7 +49,7 @@ place_in-rising [] k h l = absurd (omega arith)
 place_in-rising (n ∷ ns) zero h l = rw (same_if_equal n n refl) refl
 place_in-rising (n ∷ ns) (suc k) h l =
     let m = get_or ns k [] in
-    let other = same_name-above m n (Below-among itself n ns m h.0 (among_get_or ns k [] (omega arith))) in
+    let other = same_name-above m n (Below-among itself n ns m h.0 (In-at ns k [] (omega arith))) in
     let rest = place_in-rising ns k h.1 (omega arith) in
     rw (other, rest) (omega arith)
 
@@ -64,21 +64,21 @@ module _ (wires : List Name) (ss : List (Name × ℕ)) (moved : IsPermutation (n
   rising : Rises wire_name ss
   rising = Rises-unmap wire_name ss (subst (Rises itself) (sym named) (Rises-sorted_distinct itself wires))
 
-  tells : (w : Name × ℕ) → Among w ss → (w.1 < length wires) × (w.0 ≡ get_or wires w.1 [])
+  tells : (w : Name × ℕ) → In w ss → (w.1 < length wires) × (w.0 ≡ get_or wires w.1 [])
   tells w m =
       let r = numbered-tells 0 wires w (among_permutation ss (numbered_from 0 wires) (IsPermutation-sym (numbered_from 0 wires) ss moved) w m) in
       let e : r.0 ≡ w.1 = omega (arith, r.2) in
       (omega (arith, r.1), r.3 ∙ ap (λ (k : ℕ). get_or wires k []) e)
 
   pub positions_fit : All (λ w. w.1 < length ss) ss
-  positions_fit k d l = omega (arith, (tells (get_or ss k d) (among_get_or ss k d l)).0, length-wires)
+  positions_fit k d l = omega (arith, (tells (get_or ss k d) (In-at ss k d l)).0, length-wires)
 
   pub positions_differ : AllPairs (λ v w. v.1 ≢ w.1) ss
   positions_differ i j d l k e =
       let a = get_or ss i d in
       let b = get_or ss j d in
-      let x = tells a (among_get_or ss i d (omega arith)) in
-      let y = tells b (among_get_or ss j d k) in
+      let x = tells a (In-at ss i d (omega arith)) in
+      let y = tells b (In-at ss j d k) in
       let same_names : a.0 ≡ b.0 = x.1 ∙ ap (λ (p : ℕ). get_or wires p []) e ∙ sym y.1 in
       Below-irreflexive b.0 (subst (λ (n : Name). Below n b.0) same_names (Rises-get_or wire_name ss i j d rising l k))
 
@@ -98,7 +98,7 @@ module _ (wires : List Name) (ss : List (Name × ℕ)) (moved : IsPermutation (n
         ∙ ap (λ (n : Name). position_or_len (same_name n) (map wire_name ss)) name_there
         ∙ ap (λ (ns : List Name). position_or_len (same_name name) ns) named
 
-    ports_placed : (ports : List ℕ) → ((p : ℕ) → Among p ports → p < length wires)
+    ports_placed : (ports : List ℕ) → ((p : ℕ) → In p ports → p < length wires)
         → map (slice_index places) ports ≡ map (λ port. place_in (sorted_distinct itself wires) (get_or wires port [])) ports
     ports_placed [] h = refl
     ports_placed (p ∷ ps) h =
@@ -111,7 +111,7 @@ module _ (wires : List Name) (ss : List (Name × ℕ)) (moved : IsPermutation (n
         ap (λ (ports : List ℕ). record part { ports = ports })
         (ports_placed part.ports (λ p m. ltb-true p (length wires) (list_all-among (λ port. nat_lt port (length wires)) part.ports h p m)))
 
-    parts_placed : (parts : List Component) → ((p : Component) → Among p parts → has_wires (length wires) p ≡ true) → map (with_places places) parts ≡ map (renumbered wires) parts
+    parts_placed : (parts : List Component) → ((p : Component) → In p parts → has_wires (length wires) p ≡ true) → map (with_places places) parts ≡ map (renumbered wires) parts
     parts_placed [] h = refl
     parts_placed (p ∷ ps) h =
         let first = part_placed p (h p (inl refl)) in
@@ -131,9 +131,9 @@ pub ports_fit : (parts : List Component) (n m : ℕ) → m ≡ n → list_all (h
 ports_fit parts n m e h k d l i f b =
     let p = get_or (sorted_distinct component_name parts) k d in
     let joined = list_all-sorted_distinct component_name (has_wires n) parts h in
-    let one = list_all-among (has_wires n) (sorted_distinct component_name parts) joined p (among_get_or (sorted_distinct component_name parts) k d l) in
+    let one = list_all-among (has_wires n) (sorted_distinct component_name parts) joined p (In-at (sorted_distinct component_name parts) k d l) in
     let port = get_or p.ports i f in
-    omega (arith, ltb-true port n (list_all-among (λ q. nat_lt q n) p.ports one port (among_get_or p.ports i f b)))
+    omega (arith, ltb-true port n (list_all-among (λ q. nat_lt q n) p.ports one port (In-at p.ports i f b)))
 
 -- what is left of a list that was written back over its first items
 pub written_back : {A : Type 0} (n : ℕ) (xs zs : List A) → n ≡ length xs → take n (xs ++ zs) ≡ xs

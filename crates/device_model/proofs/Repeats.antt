@@ -6,12 +6,13 @@ use Rattle.std.specs.List.Sorted.{IsPermutation}
 use Rattle.std.proofs.lemmas.List.Sorted.{sum_by-IsPermutation}
 use Rattle.std.proofs.lemmas.List.Sums.{sum_by-cons}
 use Rattle.text_rules.specs.Names.{Name, same_name, is_among}
+use Rattle.ranking.proofs.Members.{In}
 use Rattle.device_model.specs.declared.building.BuildError.{BuildError}
 use Rattle.device_model.specs.Order.{sorted_distinct}
 use Rattle.device_model.specs.Devices.{Device}
 use Rattle.device_model.specs.Building.{repeated, unless_name}
 use Rattle.device_model.proofs.Naming.{Below, Below-trans, Below-irreflexive, same, below, above, compared, same_name-other}
-use Rattle.device_model.proofs.Ordered.{Among, BelowAll, Below-among, Rises, Rises-sorted_distinct, among_sorted_distinct, sorted_distinct-has}
+use Rattle.device_model.proofs.Ordered.{BelowAll, Below-among, Rises, Rises-sorted_distinct, among_sorted_distinct, sorted_distinct-has}
 use Rattle.device_model.proofs.Sorting.{itself, AtMost, AtMostAll, AtMost-among, Ascends}
 use Rattle.text_rules.proofs.NameLemmas.{same_if_equal, equal_if_same}
 
@@ -45,7 +46,7 @@ same_or_other m n = elim (compared m n) [
   | above l ↦ inr (λ e. Below-irreflexive n (subst (λ (k : Name). Below n k) e l))
 ]
 
-pub count-among : (m : Name) (ns : List Name) → Among m ns → 1 ≤ count m ns
+pub count-among : (m : Name) (ns : List Name) → In m ns → 1 ≤ count m ns
 count-among m [] h = absurd h
 count-among m (n ∷ ns) (inl e) = omega (arith, count-same m n ns e)
 count-among m (n ∷ ns) (inr h) = elim (same_or_other m n) [
@@ -53,7 +54,7 @@ count-among m (n ∷ ns) (inr h) = elim (same_or_other m n) [
   | inr o ↦ omega (arith, count-other m n ns o, count-among m ns h)
 ]
 
-pub among_from_count : (m : Name) (ns : List Name) → 1 ≤ count m ns → Among m ns
+pub among_from_count : (m : Name) (ns : List Name) → 1 ≤ count m ns → In m ns
 among_from_count m [] h = absurd (omega arith)
 among_from_count m (n ∷ ns) h = elim (same_or_other m n) [
   | inl e ↦ inl e
@@ -61,7 +62,7 @@ among_from_count m (n ∷ ns) h = elim (same_or_other m n) [
 ]
 
 -- the test of `is_among` and the fact
-pub is_among-among : (n : Name) (ns : List Name) → Among n ns → is_among ns n ≡ true
+pub is_among-among : (n : Name) (ns : List Name) → In n ns → is_among ns n ≡ true
 is_among-among n [] h = absurd h
 is_among-among n (m ∷ ms) (inl e) = rw (same_if_equal n m e) refl
 is_among-among n (m ∷ ms) (inr h) = elim (same_or_other n m) [
@@ -73,43 +74,43 @@ either_true : (a b : Bool) → (a || b) ≡ true → (a ≡ true) ⊎ (b ≡ tru
 either_true true b h = inl refl
 either_true false b h = inr h
 
-pub among_from_test : (n : Name) (ns : List Name) → is_among ns n ≡ true → Among n ns
+pub among_from_test : (n : Name) (ns : List Name) → is_among ns n ≡ true → In n ns
 among_from_test n [] h = cc
 among_from_test n (m ∷ ms) h = elim (either_true (same_name n m) (is_among ms n) h) [
   | inl e ↦ inl (equal_if_same n m e)
   | inr e ↦ inr (among_from_test n ms e)
 ]
 
-in_repeated : (n : Name) (ns : List Name) (b : Bool) → is_among ns n ≡ b → (m : Name) → Among m (repeated (n ∷ ns)) → ((m ≡ n) × Among n ns) ⊎ Among m (repeated ns)
-in_repeated n ns true e m h = elim (subst (λ (c : Bool). Among m (if c then n ∷ repeated ns else repeated ns)) e h) [
+in_repeated : (n : Name) (ns : List Name) (b : Bool) → is_among ns n ≡ b → (m : Name) → In m (repeated (n ∷ ns)) → ((m ≡ n) × In n ns) ⊎ In m (repeated ns)
+in_repeated n ns true e m h = elim (subst (λ (c : Bool). In m (if c then n ∷ repeated ns else repeated ns)) e h) [
   | inl g ↦ inl (g, among_from_test n ns e)
   | inr k ↦ inr k
 ]
-in_repeated n ns false e m h = inr (subst (λ (c : Bool). Among m (if c then n ∷ repeated ns else repeated ns)) e h)
+in_repeated n ns false e m h = inr (subst (λ (c : Bool). In m (if c then n ∷ repeated ns else repeated ns)) e h)
 
 -- a repeated name stands twice
-pub twice_from_repeated : (ns : List Name) (m : Name) → Among m (repeated ns) → 2 ≤ count m ns
+pub twice_from_repeated : (ns : List Name) (m : Name) → In m (repeated ns) → 2 ≤ count m ns
 twice_from_repeated [] m h = absurd h
 twice_from_repeated (n ∷ ns) m h = elim (in_repeated n ns (is_among ns n) refl m h) [
-  | inl g ↦ omega (arith, count-same m n ns g.0, count-among m ns (subst (λ (k : Name). Among k ns) (sym g.0) g.1))
+  | inl g ↦ omega (arith, count-same m n ns g.0, count-among m ns (subst (λ (k : Name). In k ns) (sym g.0) g.1))
   | inr k ↦ elim (same_or_other m n) [
     | inl e ↦ omega (arith, count-same m n ns e, twice_from_repeated ns m k)
     | inr o ↦ omega (arith, count-other m n ns o, twice_from_repeated ns m k)
   ]
 ]
 
-repeated-more : (n : Name) (ns : List Name) (b : Bool) → is_among ns n ≡ b → (m : Name) → Among m (repeated ns) → Among m (repeated (n ∷ ns))
-repeated-more n ns true e m h = subst (λ (c : Bool). Among m (if c then n ∷ repeated ns else repeated ns)) (sym e) (inr h)
-repeated-more n ns false e m h = subst (λ (c : Bool). Among m (if c then n ∷ repeated ns else repeated ns)) (sym e) h
+repeated-more : (n : Name) (ns : List Name) (b : Bool) → is_among ns n ≡ b → (m : Name) → In m (repeated ns) → In m (repeated (n ∷ ns))
+repeated-more n ns true e m h = subst (λ (c : Bool). In m (if c then n ∷ repeated ns else repeated ns)) (sym e) (inr h)
+repeated-more n ns false e m h = subst (λ (c : Bool). In m (if c then n ∷ repeated ns else repeated ns)) (sym e) h
 
-repeated-first : (n : Name) (ns : List Name) → Among n ns → Among n (repeated (n ∷ ns))
-repeated-first n ns h = subst (λ (c : Bool). Among n (if c then n ∷ repeated ns else repeated ns)) (sym (is_among-among n ns h)) (inl refl)
+repeated-first : (n : Name) (ns : List Name) → In n ns → In n (repeated (n ∷ ns))
+repeated-first n ns h = subst (λ (c : Bool). In n (if c then n ∷ repeated ns else repeated ns)) (sym (is_among-among n ns h)) (inl refl)
 
 -- and a name that stands twice is repeated
-pub repeated_from_twice : (ns : List Name) (m : Name) → 2 ≤ count m ns → Among m (repeated ns)
+pub repeated_from_twice : (ns : List Name) (m : Name) → 2 ≤ count m ns → In m (repeated ns)
 repeated_from_twice [] m h = absurd (omega arith)
 repeated_from_twice (n ∷ ns) m h = elim (same_or_other m n) [
-  | inl e ↦ subst (λ (k : Name). Among k (repeated (n ∷ ns))) (sym e) (repeated-first n ns (subst (λ (k : Name). Among k ns) e (among_from_count m ns (omega (arith, count-same m n ns e)))))
+  | inl e ↦ subst (λ (k : Name). In k (repeated (n ∷ ns))) (sym e) (repeated-first n ns (subst (λ (k : Name). In k ns) e (among_from_count m ns (omega (arith, count-same m n ns e)))))
   | inr o ↦ repeated-more n ns (is_among ns n) refl m (repeated_from_twice ns m (omega (arith, count-other m n ns o)))
 ]
 
@@ -177,7 +178,7 @@ once_in_rising (n ∷ ns) h m = elim (same_or_other m n) [
     alone e zero g = omega (arith, count-same m n ns e)
     alone e (suc c) g = absurd (Below-irreflexive n (subst (Below n) e (Below-among itself n ns m h.0 (among_from_count m ns (omega arith)))))
 
-pub none_among : {A : Type 0} (xs : List A) → ((x : A) → Among x xs → ⊥) → xs ≡ []
+pub none_among : {A : Type 0} (xs : List A) → ((x : A) → In x xs → ⊥) → xs ≡ []
 none_among [] h = refl
 none_among (x ∷ xs) h = absurd (h x (inl refl))
 
@@ -186,16 +187,16 @@ pub repeated-rising : (xs ys : List Name) → IsPermutation xs ys → Rises itse
 repeated-rising xs ys p h = none_among (repeated xs) (λ m k. omega (arith, twice_from_repeated xs m k, count-permutation m xs ys p, once_in_rising ys h m))
 
 -- the first name in order is the least
-sorted_distinct-first : (ns : List Name) (n : Name) → Among n ns → ((m : Name) → Among m ns → AtMost n m) → (rest : List Name) × (sorted_distinct itself ns ≡ n ∷ rest)
+sorted_distinct-first : (ns : List Name) (n : Name) → In n ns → ((m : Name) → In m ns → AtMost n m) → (rest : List Name) × (sorted_distinct itself ns ≡ n ∷ rest)
 sorted_distinct-first ns n there least = by (sorted_distinct itself ns) refl
   where
     by : (os : List Name) → sorted_distinct itself ns ≡ os → (rest : List Name) × (sorted_distinct itself ns ≡ n ∷ rest)
-    by [] e = let r = sorted_distinct-has itself ns n there in absurd (subst (Among r.0) e r.1)
+    by [] e = let r = sorted_distinct-has itself ns n there in absurd (subst (In r.0) e r.1)
     by (o ∷ os) e =
         let r = sorted_distinct-has itself ns n there in
         let up : Rises itself (o ∷ os) = subst (Rises itself) e (Rises-sorted_distinct itself ns) in
-        let from : AtMost n o = least o (among_sorted_distinct itself ns o (subst (Among o) (sym e) (inl refl))) in
-        let to : Among n (o ∷ os) = subst (λ (k : Name). Among k (o ∷ os)) r.2 (subst (Among r.0) e r.1) in (
+        let from : AtMost n o = least o (among_sorted_distinct itself ns o (subst (In o) (sym e) (inl refl))) in
+        let to : In n (o ∷ os) = subst (λ (k : Name). In k (o ∷ os)) r.2 (subst (In r.0) e r.1) in (
           os,
           elim to [
             | inl g ↦ e ∙ ap (λ (k : Name). k ∷ os) (sym g)

@@ -3,24 +3,25 @@ use Rattle.std.proofs.Common.{◌≡◌, ℕ, zero, suc, ◌+◌, ◌<◌, ◌�
 use Rattle.std.specs.List.Sorted.{IsPermutation}
 use Rattle.std.proofs.lemmas.List.Sorted.{Contains-permutation}
 use Rattle.text_rules.specs.Names.{Name, name_below, names_rise}
+use Rattle.ranking.proofs.Members.{In}
 use Rattle.device_model.proofs.Naming.{Below, Below-trans, same, below, above, compared, name_below-Below, Below-from_test}
-use Rattle.device_model.proofs.Ordered.{Among, BelowAll, BelowAll-trans, Rises}
+use Rattle.device_model.proofs.Ordered.{BelowAll, BelowAll-trans, Rises}
 use Rattle.std.proofs.lemmas.Bool.{and_parts}
 
-pub Contains-from_among : {A : Type 0} (xs : List A) (x : A) → Among x xs → Contains xs x
+pub Contains-from_among : {A : Type 0} (xs : List A) (x : A) → In x xs → Contains xs x
 Contains-from_among [] x m = absurd m
 Contains-from_among (y ∷ ys) x (inl e) = (0, omega arith, sym e)
 Contains-from_among (y ∷ ys) x (inr m) = let r = Contains-from_among ys x m in (suc r.0, omega (arith, r.1), r.2)
 
-pub among_from_Contains : {A : Type 0} (xs : List A) (x : A) → Contains xs x → Among x xs
+pub among_from_Contains : {A : Type 0} (xs : List A) (x : A) → Contains xs x → In x xs
 among_from_Contains xs x h = by xs h.0 h.1 h.2
   where
-    by : (ys : List _) (k : ℕ) → k < length ys → get_or ys k x ≡ x → Among x ys
+    by : (ys : List _) (k : ℕ) → k < length ys → get_or ys k x ≡ x → In x ys
     by [] k l e = absurd (omega arith)
     by (y ∷ ys) zero l e = inl (sym e)
     by (y ∷ ys) (suc k) l e = inr (by ys k (omega arith) e)
 
-pub among_permutation : {A : Type 0} (xs ys : List A) → IsPermutation xs ys → (x : A) → Among x xs → Among x ys
+pub among_permutation : {A : Type 0} (xs ys : List A) → IsPermutation xs ys → (x : A) → In x xs → In x ys
 among_permutation xs ys h x m = among_from_Contains ys x (Contains-permutation xs ys x h (Contains-from_among xs x m))
 
 -- a name stands before another or is the same
@@ -49,7 +50,7 @@ module _ {A : Type 0} (name : A → Name) where
   Ascends [] = Unit {0}
   Ascends (x ∷ xs) = AtMostAll (name x) xs × Ascends xs
 
-  pub AtMost-among : (n : Name) (ys : List A) (y : A) → AtMostAll n ys → Among y ys → AtMost n (name y)
+  pub AtMost-among : (n : Name) (ys : List A) (y : A) → AtMostAll n ys → In y ys → AtMost n (name y)
   AtMost-among n [] y h m = absurd m
   AtMost-among n (x ∷ xs) y h (inl e) = subst (λ (z : A). AtMost n (name z)) (sym e) h.0
   AtMost-among n (x ∷ xs) y h (inr m) = AtMost-among n xs y h.1 m

@@ -1,19 +1,15 @@
 -- The tables of names of a device: their keys are the names, and a look-up gives a name's place.
-use Rattle.std.proofs.Common.{◌≡◌, ℕ, zero, suc, ◌+◌, ◌<◌, inl, inr, Bool, false, cond, not, nat_lt, List, [], ◌∷◌, ◌++◌, map, length, get_or, take, Some, None, refl, sym, ap, ◌∙◌, arith}
+use Rattle.std.proofs.Common.{◌≡◌, ℕ, zero, suc, ◌+◌, ◌<◌, Bool, false, cond, not, nat_lt, List, [], ◌∷◌, ◌++◌, map, length, get_or, take, Some, None, refl, sym, ap, ◌∙◌, arith}
 use Rattle.std.specs.Prelude.{if◌then◌else◌, position}
 use Rattle.std.specs.List.{list_any, position_or_len}
 use Rattle.std.proofs.lemmas.List.{length-map, get_or-map, take-map, take_more}
 use Rattle.text_rules.specs.Names.{Name, same_name, is_among}
 use Rattle.indexmap.specs.IndexSet.{insert_key}
 use Rattle.device_model.proofs.Naming.{same_name-above}
-use Rattle.device_model.proofs.Ordered.{Among, Rises, Below-among}
+use Rattle.device_model.proofs.Ordered.{Rises, Below-among}
 use Rattle.device_model.proofs.Sorting.{itself}
 use Rattle.ranking.proofs.Lists.{list_any-map}
-
-pub among_get_or : {A : Type 0} (xs : List A) (i : ℕ) (d : A) → i < length xs → Among (get_or xs i d) xs
-among_get_or [] i d l = absurd (omega arith)
-among_get_or (x ∷ xs) zero d l = inl refl
-among_get_or (x ∷ xs) (suc i) d l = inr (among_get_or xs i d (omega arith))
+use Rattle.ranking.proofs.Members.{In-at}
 
 -- a name is not among those before it
 pub is_among-front : (ns : List Name) (i : ℕ) → Rises itself ns → i < length ns → is_among (take i ns) (get_or ns i []) ≡ false
@@ -21,7 +17,7 @@ is_among-front [] i h l = absurd (omega arith)
 is_among-front (n ∷ ns) zero h l = refl
 is_among-front (n ∷ ns) (suc i) h l =
     let m = get_or ns i [] in
-    let above = Below-among itself n ns m h.0 (among_get_or ns i [] (omega arith)) in
+    let above = Below-among itself n ns m h.0 (In-at ns i [] (omega arith)) in
     rw (same_name-above m n above) (is_among-front ns i h.1 (omega arith))
 
 take-next : (ns : List Name) (i : ℕ) → i < length ns → take (i + 1) ns ≡ take i ns ++ get_or ns i [] ∷ []

@@ -6,7 +6,7 @@ use Rattle.std.proofs.lemmas.Bool.{true≢false}
 use Rattle.std.proofs.lemmas.List.{append_assoc, take-append-drop}
 use Rattle.text_rules.specs.Names.{Name}
 use Rattle.ranking.specs.Values.{values}
-use Rattle.device_model.proofs.Ordered.{Among}
+use Rattle.ranking.proofs.Members.{In, In-append, from_map}
 use Rattle.device_model.proofs.Making.{list_all-among}
 use Rattle.component_lang.specs.declared.design.UsedKind.{UsedKind}
 use Rattle.component_lang.specs.declared.design.UsedKind.TheVariants.{Gate, Shape as OfShape, Block as OfBlock}
@@ -16,7 +16,7 @@ use Rattle.component_lang.specs.declared.design.Block.{Block}
 use Rattle.component_lang.specs.Designs.{is_plain_name, is_used, are_blocks}
 use Rattle.flattener.specs.Flat.{below}
 use Rattle.flattener.proofs.Naming.{Plain, Plain-from_test, head_of, head_of-dotless, head_of-below, dot-below, Different-from_test, Different-below, Different-headed}
-use Rattle.device_model.proofs.Apart.{among_parts, among_made, Different, Different-append, Different-right}
+use Rattle.device_model.proofs.Apart.{Different, Different-append, Different-right}
 use Rattle.flattener.proofs.Relative.{Which, Parts, Wires, Instances, Inner, no_names, kind_names, names_used, names_in, GoodUsed-from_test, GoodBlock, GoodBlock-from_test}
 use Rattle.flattener.proofs.Values.{values-hold}
 
@@ -24,22 +24,22 @@ pub record Differ (inner : Inner) : Type 0 where
   pub parts : Different (inner Parts)
   pub wires : Different (inner Wires)
 
-among_one : (n m : Name) → Among n (m ∷ []) → n ≡ m
+among_one : (n m : Name) → In n (m ∷ []) → n ≡ m
 among_one n m (inl e) = e
 among_one n m (inr k) = absurd k
 
 module _ (inners : List Inner) (h : (j : ℕ) → Differ (get_or inners j no_names)) where
   -- the paths in a part of a block begin with its name
-  headed : (which : Which) (name : Name) (kind : UsedKind) → Plain name → (n : Name) → Among n (kind_names inners name kind which) → head_of n ≡ name
+  headed : (which : Which) (name : Name) (kind : UsedKind) → Plain name → (n : Name) → In n (kind_names inners name kind which) → head_of n ≡ name
   headed which name kind p n m = by which kind m
     where
-      alone : (k : Name) → Among k (name ∷ []) → head_of k ≡ name
+      alone : (k : Name) → In k (name ∷ []) → head_of k ≡ name
       alone k a = ap head_of (among_one k name a) ∙ head_of-dotless name p.dotless
 
-      inside : (ns : List Name) → Among n (map (below name) ns) → head_of n ≡ name
-      inside ns a = let r = among_made (below name) ns n a in ap head_of r.1 ∙ head_of-below name r.0 p
+      inside : (ns : List Name) → In n (map (below name) ns) → head_of n ≡ name
+      inside ns a = let r = from_map (below name) n ns a in ap head_of r.gives ∙ head_of-below name r.item p
 
-      by : (w : Which) (k : UsedKind) → Among n (kind_names inners name k w) → head_of n ≡ name
+      by : (w : Which) (k : UsedKind) → In n (kind_names inners name k w) → head_of n ≡ name
       by Parts (Gate g) a = alone n a
       by Wires (Gate g) a = absurd a
       by Instances (Gate g) a = absurd a
@@ -61,21 +61,21 @@ module _ (inners : List Inner) (h : (j : ℕ) → Differ (get_or inners j no_nam
   wires-differ name (OfShape t) = tt
   wires-differ name (OfBlock b) = Different-below name (get_or inners b no_names Wires) (h b).wires
 
-  dotted : (name : Name) (kind : UsedKind) → Plain name → (n : Name) → Among n (kind_names inners name kind Wires) → list_any (λ b. b == 46) n ≡ true
+  dotted : (name : Name) (kind : UsedKind) → Plain name → (n : Name) → In n (kind_names inners name kind Wires) → list_any (λ b. b == 46) n ≡ true
   dotted name (Gate g) p n a = absurd a
   dotted name (OfShape t) p n a = absurd a
   dotted name (OfBlock b) p n a =
-      let r = among_made (below name) (get_or inners b no_names Wires) n a in ap (list_any (λ b. b == 46)) r.1 ∙ dot-below name r.0 p.some
+      let r = from_map (below name) n (get_or inners b no_names Wires) a in ap (list_any (λ b. b == 46)) r.gives ∙ dot-below name r.item p.some
 
-  all-dotted : (us : List Used) → ((u : Used) → Among u us → Plain u.name) → (n : Name) → Among n (flat_map (λ u. names_used inners u Wires) us) → list_any (λ b. b == 46) n ≡ true
+  all-dotted : (us : List Used) → ((u : Used) → In u us → Plain u.name) → (n : Name) → In n (flat_map (λ u. names_used inners u Wires) us) → list_any (λ b. b == 46) n ≡ true
   all-dotted [] p n a = absurd a
-  all-dotted (u ∷ us) p n a = elim (among_parts n (names_used inners u Wires) (flat_map (λ u. names_used inners u Wires) us) a) [
+  all-dotted (u ∷ us) p n a = elim (In-append n (names_used inners u Wires) (flat_map (λ u. names_used inners u Wires) us) a) [
     | inl m ↦ dotted u.name u.kind (p u (inl refl)) n m
     | inr m ↦ all-dotted us (λ v k. p v (inr k)) n m
   ]
 
   module _ (types : List Shape) (above : List Block) (block : Block) (good : GoodBlock types above block) where
-    plain : (u : Used) → Among u block.parts → Plain u.name
+    plain : (u : Used) → In u block.parts → Plain u.name
     plain u m = (GoodUsed-from_test types above (length block.wires) u (list_all-among (is_used types above (length block.wires)) block.parts good.used u m)).plain
 
     inside-parts : Different (flat_map (λ u. names_used inners u Parts) block.parts)

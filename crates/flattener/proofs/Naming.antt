@@ -6,9 +6,9 @@ use Rattle.std.proofs.lemmas.Bool.{leb-true, and_parts, or_parts, or_right, not-
 use Rattle.std.proofs.lemmas.List.{append_assoc, append_cancel_left}
 use Rattle.std.proofs.lemmas.List.Folds.{list_any-append}
 use Rattle.text_rules.specs.Names.{Name, is_among, is_short_name, is_name_byte}
-use Rattle.device_model.proofs.Ordered.{Among}
+use Rattle.ranking.proofs.Members.{In, In-append}
 use Rattle.device_model.proofs.Repeats.{is_among-among}
-use Rattle.device_model.proofs.Apart.{among_parts, Different, Different-append, Different-made}
+use Rattle.device_model.proofs.Apart.{Different, Different-append, Different-made}
 use Rattle.component_lang.specs.Designs.{is_plain_name, are_distinct}
 use Rattle.component_lang.proofs.NameLists.{are_distinct-cons}
 use Rattle.flattener.specs.Flat.{below}
@@ -103,20 +103,20 @@ Different-below path ns h = Different-made (below path) (below-same path) ns h
 -- names whose heads tell which of several lists they stand in
 module _ {A : Type 0} (name : A → Name) (g : A → List Name) where
   abbrev pub Headed : A → Type 0
-  Headed u = (n : Name) → Among n (g u) → head_of n ≡ name u
+  Headed u = (n : Name) → In n (g u) → head_of n ≡ name u
 
-  pub among_headed : (us : List A) → ((u : A) → Among u us → Headed u) → (n : Name) → Among n (flat_map g us) → Among (head_of n) (map name us)
+  pub among_headed : (us : List A) → ((u : A) → In u us → Headed u) → (n : Name) → In n (flat_map g us) → In (head_of n) (map name us)
   among_headed [] h n m = absurd m
-  among_headed (u ∷ us) h n m = elim (among_parts n (g u) (flat_map g us) m) [
+  among_headed (u ∷ us) h n m = elim (In-append n (g u) (flat_map g us) m) [
     | inl a ↦ inl (h u (inl refl) n a)
     | inr a ↦ inr (among_headed us (λ v b. h v (inr b)) n a)
   ]
 
-  pub Different-headed : (us : List A) → ((u : A) → Among u us → Headed u) → ((u : A) → Among u us → Different (g u)) → Different (map name us) → Different (flat_map g us)
+  pub Different-headed : (us : List A) → ((u : A) → In u us → Headed u) → ((u : A) → In u us → Different (g u)) → Different (map name us) → Different (flat_map g us)
   Different-headed [] h d e = tt
   Different-headed (u ∷ us) h d e =
       Different-append (g u) (flat_map g us) (d u (inl refl)) (Different-headed us (λ v b. h v (inr b)) (λ v b. d v (inr b)) e.1)
-      (λ n a b. e.0 (subst (λ (k : Name). Among k (map name us)) (h u (inl refl) n a) (among_headed us (λ v c. h v (inr c)) n b)))
+      (λ n a b. e.0 (subst (λ (k : Name). In k (map name us)) (h u (inl refl) n a) (among_headed us (λ v c. h v (inr c)) n b)))
 
 -- ---- the longest of some names
 

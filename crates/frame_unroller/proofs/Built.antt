@@ -8,6 +8,7 @@ use Rattle.std.proofs.lemmas.Bool.{and_from}
 use Rattle.std.proofs.lemmas.Simd.{map-map}
 use Rattle.text_rules.specs.Expected.{IsExpectedFault}
 use Rattle.text_rules.specs.Names.{Name}
+use Rattle.ranking.proofs.Members.{In}
 use Rattle.device_model.specs.declared.component.Component.{Component}
 use Rattle.device_model.specs.declared.limits.TheConstants.{PART_LIMIT, WIRE_LIMIT}
 use Rattle.device_model.specs.declared.building.BuildError.{BuildError}
@@ -16,7 +17,7 @@ use Rattle.device_model.specs.TruthTable.{TruthTable}
 use Rattle.device_model.specs.Order.{sorted_distinct}
 use Rattle.device_model.specs.Devices.{Device, IsDevice, part_names, takes_ports, has_arity, has_wires}
 use Rattle.device_model.specs.Building.{NamedPart, joined, reason, repeated, built, device_over}
-use Rattle.device_model.proofs.Ordered.{Among, Rises, sorted_distinct-is}
+use Rattle.device_model.proofs.Ordered.{Rises, sorted_distinct-is}
 use Rattle.device_model.proofs.Sorting.{Rises-from_names_rise, Rises-unmap, Rises-map}
 use Rattle.device_model.proofs.Apart.{repeated-Different, Different-rising}
 use Rattle.device_model.proofs.Making.{component_name, list_all-among, list_all-from_among}
@@ -32,7 +33,7 @@ use Rattle.frame_unroller.proofs.Order.{Rises-made}
 use Rattle.frame_unroller.proofs.Wires.{wires_differ, positions-named, positions-within}
 use Rattle.frame_unroller.proofs.Copies.{copy_name, times_in_order, IsCopy, are_copies}
 
-map-same : {A B : Type 0} (f g : A → B) (xs : List A) → ((x : A) → Among x xs → f x ≡ g x) → map f xs ≡ map g xs
+map-same : {A B : Type 0} (f g : A → B) (xs : List A) → ((x : A) → In x xs → f x ≡ g x) → map f xs ≡ map g xs
 map-same f g [] h = refl
 map-same f g (x ∷ xs) h = λ i. h x (inl refl) i ∷ map-same f g xs (λ y m. h y (inr m)) i
 
@@ -87,7 +88,7 @@ module _ (seq : Sequential) (frames : ℕ) (valid : IsDevice seq.device) where
 
   -- ---- all copies
 
-  each : (c : Copy) → Among c cs → IsCopy seq frames c
+  each : (c : Copy) → In c cs → IsCopy seq frames c
   each c m = are_copies seq frames c m
 
   names_are : part_names (map (given_copy (length names)) cs) ≡ map copy_name cs

@@ -4,9 +4,10 @@ use Rattle.std.specs.Prelude.{nat_lt, if◌then◌else◌}
 use Rattle.std.specs.List.{flat_map, enumerate_from, range_with_len}
 use Rattle.std.proofs.lemmas.Bool.{ltb-true}
 use Rattle.text_rules.specs.Names.{Name}
+use Rattle.ranking.proofs.Members.{In}
 use Rattle.device_model.specs.declared.component.Component.{Component}
 use Rattle.device_model.proofs.Naming.{Below}
-use Rattle.device_model.proofs.Ordered.{Among, Rises, Below-among}
+use Rattle.device_model.proofs.Ordered.{Rises, Below-among}
 use Rattle.device_model.proofs.Making.{component_name}
 use Rattle.bench_reader.specs.declared.sequential.Sequential.{Sequential}
 use Rattle.frame_unroller.specs.Times.{copy_at}
@@ -35,7 +36,7 @@ module _ (seq : Sequential) where
       by true = omega arith
       by false = omega arith
 
-  pub is_copy : (t : ℕ) (p : ℕ × Component) (c : Copy) → Among c (copies_of seq t p) → IsCopyOf t p c
+  pub is_copy : (t : ℕ) (p : ℕ × Component) (c : Copy) → In c (copies_of seq t p) → IsCopyOf t p c
   is_copy t p c m = by (nat_lt 0 before) refl m
     where
       before : ℕ
@@ -44,7 +45,7 @@ module _ (seq : Sequential) where
       made : Copy
       made = record { place = p.0; part = p.1; before = before; now = t }
 
-      by : (b : Bool) → nat_lt 0 before ≡ b → Among c (if b then made ∷ [] else []) → IsCopyOf t p c
+      by : (b : Bool) → nat_lt 0 before ≡ b → In c (if b then made ∷ [] else []) → IsCopyOf t p c
       by false e n = absurd n
       by true e (inr n) = absurd n
       by true e (inl is) =
@@ -84,11 +85,11 @@ module _ (seq : Sequential) where
   pub record IsCopyFor (t : ℕ) (c : Copy) : Type 0 where
     pub now : c.now ≡ t
     pub within : c.place < length seq.device.parts
-    pub there : Among c.part seq.device.parts
+    pub there : In c.part seq.device.parts
     pub some : 1 ≤ c.before
     pub order : c.before ≤ t
 
-  pub is_copy_for : (t : ℕ) (c : Copy) → Among c (copies_for seq t) → IsCopyFor t c
+  pub is_copy_for : (t : ℕ) (c : Copy) → In c (copies_for seq t) → IsCopyFor t c
   is_copy_for t c m =
       let r = among-flat_map (copies_of seq t) (enumerate_from 0 seq.device.parts) c m in
       let is = is_copy t r.0 c r.2 in
@@ -96,7 +97,7 @@ module _ (seq : Sequential) where
       record {
         now = is.now;
         within = omega (arith, is.place, at.1);
-        there = subst (λ (p : Component). Among p seq.device.parts) (sym is.part) at.2;
+        there = subst (λ (p : Component). In p seq.device.parts) (sym is.part) at.2;
         some = is.some;
         order = is.order;
       }
@@ -119,12 +120,12 @@ module _ (seq : Sequential) where
   -- what any copy is
   pub record IsCopy (frames : ℕ) (c : Copy) : Type 0 where
     pub within : c.place < length seq.device.parts
-    pub there : Among c.part seq.device.parts
+    pub there : In c.part seq.device.parts
     pub some : 1 ≤ c.before
     pub order : c.before ≤ c.now
     pub few : c.now ≤ frames
 
-  pub are_copies : (frames : ℕ) (c : Copy) → Among c (copies seq frames) → IsCopy frames c
+  pub are_copies : (frames : ℕ) (c : Copy) → In c (copies seq frames) → IsCopy frames c
   are_copies frames c m =
       let r = among-flat_map (copies_for seq) (range_with_len 1 frames) c m in
       let is = is_copy_for r.0 c r.2 in

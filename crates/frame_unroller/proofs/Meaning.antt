@@ -11,13 +11,12 @@ use Rattle.std.proofs.lemmas.Simd.{map-map}
 use Rattle.text_rules.specs.Names.{Name}
 use Rattle.ranking.specs.Bits.{bit_in, lists_of_bits}
 use Rattle.ranking.specs.Assignments.{Assignment, assignment}
+use Rattle.ranking.proofs.Members.{In, In-at}
 use Rattle.device_model.specs.declared.component.Component.{Component}
 use Rattle.device_model.specs.TruthTable.{TruthTable}
 use Rattle.device_model.specs.Devices.{IsDevice, has_wires, allows, part_allows, parts_fit, fits}
 use Rattle.device_model.specs.Building.{place_in, joined}
-use Rattle.device_model.proofs.Ordered.{Among}
 use Rattle.device_model.proofs.Making.{list_all-among, list_all-from_among}
-use Rattle.device_model.proofs.Tables.{among_get_or}
 use Rattle.bench_reader.specs.declared.sequential.Sequential.{Sequential}
 use Rattle.clause_encoder.specs.Clauses.{ClauseList, all_hold, is_clause}
 use Rattle.clause_encoder.specs.Encoding.{Describes, DescribesBy}
@@ -62,7 +61,7 @@ module _ (seq : Sequential) (frames : ℕ) (valid : IsDevice seq.device) (state 
       let here = get_or-map (λ (wire : Name). bit_in bits (place_in (frame_wires seq frames) (wire_at t wire))) names p [] false (ltb-true p (length names) two.0) in
       λ i. sym here i ∷ row_at t ports two.1 i
 
-  module _ (place : ℕ) (part : Component) (there : Among part seq.device.parts) where
+  module _ (place : ℕ) (part : Component) (there : In part seq.device.parts) where
     abbrev copy : ℕ → ℕ → Copy
     copy before now = record { place = place; part = part; before = before; now = now }
 
@@ -115,7 +114,7 @@ module _ (seq : Sequential) (frames : ℕ) (valid : IsDevice seq.device) (state 
 
 module _ (state rest : List Bool) (places : List ℕ) (vars : ℕ) (owned : list_all (λ place. nat_lt place (length state)) places ≡ true) (room : length places ≤ vars) where
   owner : (k : ℕ) → k < length places → get_or places k 0 < length state
-  owner k lt = ltb-true (get_or places k 0) (length state) (list_all-among (λ place. nat_lt place (length state)) places owned (get_or places k 0) (among_get_or places k 0 lt))
+  owner k lt = ltb-true (get_or places k 0) (length state) (list_all-among (λ place. nat_lt place (length state)) places owned (get_or places k 0) (In-at places k 0 lt))
 
   -- the bits of the variables are those of the ones that stand for them
   pub same_bits : (v : ℕ) → 1 ≤ v → v ≤ vars → assignment (state ++ rest) (variable_for (shared_variables (length state) places vars) v) ≡ assignment (map (bit_in state) places ++ rest) v
@@ -155,7 +154,7 @@ owners-within seq frames =
 pub owner-at : (seq : Sequential) (frames k d : ℕ) → k < length (owners seq frames) → get_or (owners seq frames) k d < length seq.device.parts
 owner-at seq frames k d lt =
     ltb-true (get_or (owners seq frames) k d) (length seq.device.parts)
-    (list_all-among (λ place. nat_lt place (length seq.device.parts)) (owners seq frames) (owners-within seq frames) (get_or (owners seq frames) k d) (among_get_or (owners seq frames) k d lt))
+    (list_all-among (λ place. nat_lt place (length seq.device.parts)) (owners seq frames) (owners-within seq frames) (get_or (owners seq frames) k d) (In-at (owners seq frames) k d lt))
 
 module _ (seq : Sequential) (frames : ℕ) (valid : IsDevice seq.device) (list : ClauseList) (each : list_all (is_clause list.vars) list.clauses ≡ true)
     (describes : Describes list (frame_device seq frames)) (room : length (copies seq frames) ≤ list.vars) where

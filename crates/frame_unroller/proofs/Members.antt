@@ -5,24 +5,23 @@ use Rattle.std.specs.List.{list_all, flat_map, enumerate_from, range_with_len}
 use Rattle.std.proofs.lemmas.Bool.{and_parts}
 use Rattle.std.proofs.lemmas.List.{length-append, take-append-drop, get_or_append_left, get_or-append-add}
 use Rattle.std.proofs.lemmas.List.Folds.{list_all-append}
-use Rattle.device_model.proofs.Ordered.{Among}
-use Rattle.device_model.proofs.Apart.{among_parts}
+use Rattle.ranking.proofs.Members.{In, In-append}
 
 -- ---- members
 
-pub among-flat_map : {A B : Type 0} (f : A → List B) (xs : List A) (y : B) → Among y (flat_map f xs) → (x : A) × Among x xs × Among y (f x)
+pub among-flat_map : {A B : Type 0} (f : A → List B) (xs : List A) (y : B) → In y (flat_map f xs) → (x : A) × In x xs × In y (f x)
 among-flat_map f [] y m = absurd m
-among-flat_map f (x ∷ xs) y m = elim (among_parts y (f x) (flat_map f xs) m) [
+among-flat_map f (x ∷ xs) y m = elim (In-append y (f x) (flat_map f xs) m) [
   | inl a ↦ (x, inl refl, a)
   | inr a ↦ let r = among-flat_map f xs y a in (r.0, inr r.1, r.2)
 ]
 
-pub among-range : (a n t : ℕ) → Among t (range_with_len a n) → (a ≤ t) × (t < a + n)
+pub among-range : (a n t : ℕ) → In t (range_with_len a n) → (a ≤ t) × (t < a + n)
 among-range a zero t m = absurd m
 among-range a (suc n) t (inl e) = (omega (arith, e), omega (arith, e))
 among-range a (suc n) t (inr m) = let r = among-range (a + 1) n t m in (omega (arith, r.0), omega (arith, r.1))
 
-pub among-enumerate : {A : Type 0} (a : ℕ) (xs : List A) (e : ℕ × A) → Among e (enumerate_from a xs) → (a ≤ e.0) × (e.0 < a + length xs) × Among e.1 xs
+pub among-enumerate : {A : Type 0} (a : ℕ) (xs : List A) (e : ℕ × A) → In e (enumerate_from a xs) → (a ≤ e.0) × (e.0 < a + length xs) × In e.1 xs
 among-enumerate a [] e m = absurd m
 among-enumerate a (x ∷ xs) e (inl is) =
     let at : e.0 ≡ a = ap (λ (p : ℕ × _). p.0) is in
@@ -35,7 +34,7 @@ pub list_all-flat_map : {A B : Type 0} (p : B → Bool) (f : A → List B) (xs :
 list_all-flat_map p f [] = refl
 list_all-flat_map p f (x ∷ xs) = list_all-append p (f x) (flat_map f xs) ∙ ap (λ b. list_all p (f x) && b) (list_all-flat_map p f xs)
 
-pub list_all-same : {A : Type 0} (p q : A → Bool) (xs : List A) → ((x : A) → Among x xs → p x ≡ q x) → list_all p xs ≡ list_all q xs
+pub list_all-same : {A : Type 0} (p q : A → Bool) (xs : List A) → ((x : A) → In x xs → p x ≡ q x) → list_all p xs ≡ list_all q xs
 list_all-same p q [] h = refl
 list_all-same p q (x ∷ xs) h = λ i. h x (inl refl) i && list_all-same p q xs (λ y m. h y (inr m)) i
 

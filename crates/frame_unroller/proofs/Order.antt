@@ -4,9 +4,10 @@ use Rattle.std.specs.Ordering.{nat_cmp}
 use Rattle.std.specs.declared.cmp.Ordering.TheVariants.{Less}
 use Rattle.std.specs.Cmp.Lexicographic.{slice_cmp}
 use Rattle.text_rules.specs.Names.{Name}
+use Rattle.ranking.proofs.Members.{In}
 use Rattle.device_model.proofs.DigitOrder.{first_same, next_digit}
 use Rattle.device_model.proofs.Naming.{Below}
-use Rattle.device_model.proofs.Ordered.{Among, BelowAll, Rises}
+use Rattle.device_model.proofs.Ordered.{BelowAll, Rises}
 use Rattle.frame_unroller.specs.Times.{four_digits, copy_at}
 
 -- ---- digits
@@ -65,11 +66,11 @@ module _ {A : Type 0} (name : A → Name) where
   BelowAll-append n [] ys h g = g
   BelowAll-append n (x ∷ xs) ys h g = (h.0, BelowAll-append n xs ys h.1 g)
 
-  BelowAll-from : (n : Name) (ys : List A) → ((y : A) → Among y ys → Below n (name y)) → BelowAll name n ys
+  BelowAll-from : (n : Name) (ys : List A) → ((y : A) → In y ys → Below n (name y)) → BelowAll name n ys
   BelowAll-from n [] h = tt
   BelowAll-from n (y ∷ ys) h = (h y (inl refl), BelowAll-from n ys (λ z m. h z (inr m)))
 
-  pub Rises-append : (xs ys : List A) → Rises name xs → Rises name ys → ((x y : A) → Among x xs → Among y ys → Below (name x) (name y)) → Rises name (xs ++ ys)
+  pub Rises-append : (xs ys : List A) → Rises name xs → Rises name ys → ((x y : A) → In x xs → In y ys → Below (name x) (name y)) → Rises name (xs ++ ys)
   Rises-append [] ys h g apart = g
   Rises-append (x ∷ xs) ys h g apart = (
     BelowAll-append (name x) xs ys h.0 (BelowAll-from (name x) ys (λ y m. apart x y (inl refl) m)),

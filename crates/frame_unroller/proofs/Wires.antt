@@ -5,10 +5,11 @@ use Rattle.std.specs.List.{list_all, flat_map, range_with_len}
 use Rattle.std.proofs.lemmas.Bool.{and_parts, and_from, ltb-true, lt-ltb}
 use Rattle.std.proofs.lemmas.List.{length-append, length-map, get_or-map, drop_at, append_cancel_right}
 use Rattle.text_rules.specs.Names.{Name}
+use Rattle.ranking.proofs.Members.{from_map}
 use Rattle.device_model.proofs.Naming.{Below, Below-irreflexive}
 use Rattle.device_model.proofs.Ordered.{Rises}
 use Rattle.device_model.proofs.Sorting.{itself}
-use Rattle.device_model.proofs.Apart.{Different, Different-rising, Different-append, Different-made, among_made}
+use Rattle.device_model.proofs.Apart.{Different, Different-rising, Different-append, Different-made}
 use Rattle.device_model.proofs.Joining.{wire_at as name_at}
 use Rattle.frame_unroller.specs.Times.{four_digits, wire_at}
 use Rattle.frame_unroller.specs.Unrolling.{wires_at}
@@ -44,11 +45,11 @@ module _ (wires : List Name) where
       Different-append (map (wire_at a) wires) (flat_map (λ t. map (wire_at t) wires) (range_with_len (a + 1) n))
       (Different-made (wire_at a) (tells_wire a) wires (Different-rising wires rise)) (wires_differ (a + 1) n rise)
       (λ m first later.
-      let r = among_made (wire_at a) wires m first in
+      let r = from_map (wire_at a) m wires first in
       let s = among-flat_map (λ t. map (wire_at t) wires) (range_with_len (a + 1) n) m later in
-      let u = among_made (wire_at s.0) wires m s.2 in
+      let u = from_map (wire_at s.0) m wires s.2 in
       times_differ a s.0 (omega (arith, (among-range (a + 1) n s.0 s.1).0))
-      (sym (ap last_five r.1 ∙ tells_time a r.0) ∙ ap last_five u.1 ∙ tells_time s.0 u.0))
+      (sym (ap last_five r.gives ∙ tells_time a r.item) ∙ ap last_five u.gives ∙ tells_time s.0 u.item))
 
   -- ---- places
 

@@ -83,9 +83,9 @@ among-push : (vs : List ℕ) (v w : ℕ) → among (vs ++ v ∷ []) w ≡ (among
 among-push [] v w = or-false (v == w)
 among-push (u ∷ vs) v w = ap (λ b. (u == w) || b) (among-push vs v w) ∙ sym (or_assoc (u == w) (among vs w) (v == w))
 
-or_none : (x y : Bool) → y ≡ false → (x || y) ≡ x
-or_none true y e = refl
-or_none false y e = e
+-- another variable is among them as it was
+among-push_other : (vs : List ℕ) (v w : ℕ) → (v ≡ w → ⊥) → among (vs ++ v ∷ []) w ≡ among vs w
+among-push_other vs v w other = among-push vs v w ∙ ap (λ b. among vs w || b) (ne_eqb v w other) ∙ or-false (among vs w)
 
 -- ---- the index of places
 
@@ -124,7 +124,7 @@ IsIndex-push vs places v n h few above below e len = record {
         ap (λ j. get_or (set places (v - 1) n) j 0) here ∙ get_or-set_same places (v - 1) n 0 (omega arith) ∙ len
         ∙ sym (ap (place (vs ++ v ∷ [])) at ∙ place-new vs v new)
     | inr other ↦
-        let old : among vs (k + 1) ≡ true = sym (among-push vs v (k + 1) ∙ or_none (among vs (k + 1)) (v == k + 1) (ne_eqb v (k + 1) (λ s. other (omega arith)))) ∙ there in
+        let old : among vs (k + 1) ≡ true = sym (among-push_other vs v (k + 1) (λ s. other (omega arith))) ∙ there in
         get_or-set_other places (v - 1) k n 0 other ∙ h.met k (omega (arith, length-set places (v - 1) n)) old ∙ sym (place-push vs (k + 1) v old)
   ];
   unmet = λ k low none. elim (cases_eq k (v - 1)) [
@@ -133,7 +133,7 @@ IsIndex-push vs places v n h few above below e len = record {
         absurd (false≢true (sym none ∙ among-push vs v (k + 1) ∙ or_right (among vs (k + 1)) (v == k + 1) (eq-eqb v (k + 1) at)))
     | inr other ↦
         get_or-set_other places (v - 1) k n 0 other
-        ∙ h.unmet k (omega (arith, length-set places (v - 1) n)) (sym (among-push vs v (k + 1) ∙ or_none (among vs (k + 1)) (v == k + 1) (ne_eqb v (k + 1) (λ s. other (omega arith)))) ∙ none)
+        ∙ h.unmet k (omega (arith, length-set places (v - 1) n)) (sym (among-push_other vs v (k + 1) (λ s. other (omega arith))) ∙ none)
   ];
 } where
   new : among vs v ≡ false

@@ -24,9 +24,6 @@ is_among-front (n ∷ ns) (suc i) h l =
     let above = Below-among itself n ns m h.0 (among_get_or ns i [] (omega arith)) in
     rw (same_name-above m n above) (is_among-front ns i h.1 (omega arith))
 
-take-next : (ns : List Name) (i : ℕ) → i < length ns → take (i + 1) ns ≡ take i ns ++ get_or ns i [] ∷ []
-take-next ns i l = take_more ns i [] l
-
 module _ {K : Type 0} (bytes : K → Name) where
   map-push : (ks : List K) (k : K) → map bytes (ks ++ k ∷ []) ≡ map bytes ks ++ bytes k ∷ []
   map-push [] k = refl
@@ -38,7 +35,7 @@ module _ {K : Type 0} (bytes : K → Name) where
   keys_more ns ks i k h l is before =
       let absent : list_any (λ b. same_name (bytes k) (bytes b)) ks ≡ false =
       sym (list_any-map (same_name (bytes k)) bytes ks) ∙ ap (list_any (same_name (bytes k))) before ∙ ap (λ n. list_any (same_name n) (take i ns)) is ∙ is_among-front ns i h l in
-      ap (λ b. map bytes (if b then ks else ks ++ k ∷ [])) absent ∙ map-push ks k ∙ ap (λ ms. ms ++ bytes k ∷ []) before ∙ ap (λ n. take i ns ++ n ∷ []) is ∙ sym (take-next ns i l)
+      ap (λ b. map bytes (if b then ks else ks ++ k ∷ [])) absent ∙ map-push ks k ∙ ap (λ ms. ms ++ bytes k ∷ []) before ∙ ap (λ n. take i ns ++ n ∷ []) is ∙ sym (take_more ns i [] l)
 
   pub position_or_len-map : (p : Name → Bool) (ks : List K) → position_or_len (λ k. p (bytes k)) ks ≡ position_or_len p (map bytes ks)
   position_or_len-map p [] = refl

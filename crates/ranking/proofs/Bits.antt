@@ -1,5 +1,5 @@
 -- Bits and lists of bits.
-use Rattle.std.proofs.Common.{◌≡◌, ℕ, suc, ◌+◌, ◌*◌, ◌/◌, ◌^◌, Bool, true, false, ◌&&◌, ◌||◌, List, [], ◌∷◌, ◌++◌, map, length, refl, sym, ◌∙◌, arith}
+use Rattle.std.proofs.Common.{◌≡◌, ℕ, suc, ◌+◌, ◌*◌, ◌/◌, ◌^◌, ◌<◌, Bool, true, false, ◌&&◌, ◌||◌, List, [], ◌∷◌, ◌++◌, map, length, refl, sym, ◌∙◌, arith}
 use Rattle.std.specs.List.{list_any}
 use Rattle.std.specs.Cmp.Lexicographic.{pointwise}
 use Rattle.std.proofs.lemmas.Bool.{false≢true, and_parts, and_from}
@@ -46,6 +46,10 @@ pointwise-equal (b ∷ bits) (c ∷ others) e =
     λ i. same_bit-equal b c parts.0 i ∷ pointwise-equal bits others parts.1 i
 
 -- ---- a list of bits as a number
+
+-- half of a number has one bit less
+pub half-below : (r n : ℕ) → r < 2 ^ suc n → r / 2 < 2 ^ n
+half-below r n h = omega arith
 
 pub row_number-half : (b : Bool) (n : ℕ) → (number_of_bit b + 2 * n) / 2 ≡ n
 row_number-half true n = omega arith

@@ -4,6 +4,7 @@ use Rattle.std.specs.Prelude.{◌&&◌, ◌||◌, position, nat_lt, if◌then◌
 use Rattle.std.specs.List.{list_any, list_all, position_or_len}
 use Rattle.std.proofs.lemmas.Bool.{lt-ltb}
 use Rattle.std.proofs.lemmas.Bool.Decides.{nat_tests, same_from_decides}
+use Rattle.std.proofs.lemmas.Option.{cond_some}
 use Rattle.std.proofs.lemmas.List.{map-append}
 use Rattle.std.proofs.Math.Bool.{and-false, and_assoc}
 use Rattle.std.proofs.lemmas.List.Folds.{list_any-append}
@@ -14,6 +15,7 @@ use Rattle.device_model.specs.Building.{place_in}
 use Rattle.component_lang.specs.declared.fault.LangFault.{LangFault}
 use Rattle.component_lang.specs.declared.fault.LangFault.TheVariants.{Name as NoName, Twice}
 use Rattle.device_model.specs.Building.{repeated}
+use Rattle.device_model.proofs.Making.{none_given}
 use Rattle.ranking.proofs.Lists.{list_any-map}
 use Rattle.component_lang.specs.Designs.{is_plain_name, is_empty, are_distinct}
 use Rattle.component_lang.specs.DesignLines.{are_new, places_in}
@@ -172,10 +174,6 @@ abbrev pub more_places : Bool → List ℕ → List Name → List Name → Resul
 more_places known done wires names =
     if list_all is_plain_name names then Ok (if known && list_all (is_among wires) names then Some (done ++ map (place_in wires) names) else None) else Err NoName
 
-within_some : (b : Bool) (n p : ℕ) → cond b (Some n) None ≡ Some p → (b ≡ true) × (n ≡ p)
-within_some true n p e = (refl, cc)
-within_some false n p e = cc
-
 pub among_position : (p : Name → Bool) (ns : List Name) → list_any p ns ≡ nat_lt (position_or_len p ns) (length ns)
 among_position p [] = refl
 among_position p (n ∷ ns) = by (p n) (among_position p ns)
@@ -187,15 +185,11 @@ among_position p (n ∷ ns) = by (p n) (among_position p ns)
 
 place_found : (wires : List Name) (n : Name) (place : ℕ) → position (same_name n) wires ≡ Some place → (is_among wires n ≡ true) × (place_in wires n ≡ place)
 place_found wires n place h =
-    let two = within_some (nat_lt (place_in wires n) (length wires)) (place_in wires n) place h in
+    let two = cond_some (nat_lt (place_in wires n) (length wires)) (place_in wires n) place h in
     (among_position (same_name n) wires ∙ two.0, two.1)
 
 place_missing : (wires : List Name) (n : Name) → position (same_name n) wires ≡ None → is_among wires n ≡ false
-place_missing wires n h = among_position (same_name n) wires ∙ by (nat_lt (place_in wires n) (length wires)) (place_in wires n) h
-  where
-    by : (b : Bool) (k : ℕ) → cond b (Some k) None ≡ None → b ≡ false
-    by true k e = cc
-    by false k e = refl
+place_missing wires n h = among_position (same_name n) wires ∙ none_given (nat_lt (place_in wires n) (length wires)) (place_in wires n) h
 
 pub more_places-known : (known : Bool) (done : List ℕ) (wires : List Name) (n : Name) (names : List Name) (place : ℕ) → is_plain_name n ≡ true → position (same_name n) wires ≡ Some place
     → more_places known done wires (n ∷ names) ≡ more_places known (done ++ place ∷ []) wires names

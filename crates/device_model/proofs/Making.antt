@@ -29,7 +29,7 @@ pub list_all-from_among : {A : Type 0} (p : A → Bool) (xs : List A) → ((x : 
 list_all-from_among p [] h = refl
 list_all-from_among p (x ∷ xs) h = and_from (p x) (list_all p xs) (h x (inl refl)) (list_all-from_among p xs (λ y m. h y (inr m)))
 
-none_given : (b : Bool) (i : ℕ) → cond b (Some i) None ≡ None → b ≡ false
+pub none_given : (b : Bool) (i : ℕ) → cond b (Some i) None ≡ None → b ≡ false
 none_given true i h = cc
 none_given false i h = refl
 

@@ -3,8 +3,9 @@ use Rattle.std.proofs.Common.{◌≡◌, ℕ, zero, suc, ◌+◌, ◌-◌, ◌<�
 use Rattle.std.specs.Prelude.{◌==◌, nat_lt, nat_le, count_by}
 use Rattle.std.specs.List.{list_any, list_all, filter, flat_map}
 use Rattle.std.proofs.Math.Bool.{or-false, or_assoc}
-use Rattle.std.proofs.lemmas.Bool.{false≢true, and_parts, or_cases, or_left, or_right, cases_Bool, cases_eq, eq-eqb, ne_eqb, eqb-true, ltb-true, leb-true}
+use Rattle.std.proofs.lemmas.Bool.{false≢true, and_parts, or_left, or_right, cases_Bool, cases_eq, eq-eqb, ne_eqb, eqb-true, ltb-true, leb-true}
 use Rattle.std.proofs.lemmas.List.{append-nil, length-append, length-set, get_or-set_same, get_or-set_other}
+use Rattle.std.proofs.lemmas.List.Folds.{list_any-append}
 use Rattle.std.proofs.lemmas.List.Elements.{filter-append}
 use Rattle.std.proofs.lemmas.List.Sums.{sum_by-set}
 use Rattle.clause_encoder.specs.Clauses.{Clause, ClauseList, var_of, vars_rise, is_clause, is_clause_list}
@@ -155,22 +156,6 @@ met-again old vs v there e = e ∙ sym (append-nil (first_met same_variable vs))
 
 -- ---- the literals of a clause list
 
-pub any-at : {X : Type 0} (p : X → Bool) (xs : List X) (k : ℕ) (d : X) → p (get_or xs k d) ≡ true → k < length xs → list_any p xs ≡ true
-any-at p [] k d e h = absurd (omega arith)
-any-at p (x ∷ xs) zero d e h = or_left (p x) (list_any p xs) e
-any-at p (x ∷ xs) (suc k) d e h = or_right (p x) (list_any p xs) (any-at p xs k d e (omega arith))
-
-any-front : {X : Type 0} (p : X → Bool) (xs ys : List X) → list_any p xs ≡ true → list_any p (xs ++ ys) ≡ true
-any-front p [] ys e = absurd (false≢true e)
-any-front p (x ∷ xs) ys e = elim (or_cases (p x) (list_any p xs) e) [
-  | inl here ↦ or_left (p x) (list_any p (xs ++ ys)) here
-  | inr rest ↦ or_right (p x) (list_any p (xs ++ ys)) (any-front p xs ys rest)
-]
-
-any-back : {X : Type 0} (p : X → Bool) (xs ys : List X) → list_any p ys ≡ true → list_any p (xs ++ ys) ≡ true
-any-back p [] ys e = e
-any-back p (x ∷ xs) ys e = or_right (p x) (list_any p (xs ++ ys)) (any-back p xs ys e)
-
 has-var : (c : Clause) (j : ℕ) (l : ℤ) → j < length c → among (map var_of c) (var_of (get_or c j l)) ≡ true
 has-var [] j l h = absurd (omega arith)
 has-var (k ∷ c) zero l h = or_left (var_of k == var_of k) (among (map var_of c) (var_of k)) (eq-eqb (var_of k) (var_of k) refl)
@@ -178,8 +163,12 @@ has-var (k ∷ c) (suc j) l h = or_right (var_of k == var_of (get_or c j l)) (am
 
 pub has-variable : (cs : List Clause) (k : ℕ) (d : Clause) (j : ℕ) (l : ℤ) → k < length cs → j < length (get_or cs k d) → among (flat_map (map var_of) cs) (var_of (get_or (get_or cs k d) j l)) ≡ true
 has-variable [] k d j l h i = absurd (omega arith)
-has-variable (c ∷ cs) zero d j l h i = any-front (λ u. u == var_of (get_or c j l)) (map var_of c) (flat_map (map var_of) cs) (has-var c j l i)
-has-variable (c ∷ cs) (suc k) d j l h i = any-back (λ u. u == var_of (get_or (get_or cs k d) j l)) (map var_of c) (flat_map (map var_of) cs) (has-variable cs k d j l (omega arith) i)
+has-variable (c ∷ cs) zero d j l h i =
+    let v = var_of (get_or c j l) in
+    list_any-append (same_variable v) (map var_of c) (flat_map (map var_of) cs) ∙ or_left (among (map var_of c) v) (among (flat_map (map var_of) cs) v) (has-var c j l i)
+has-variable (c ∷ cs) (suc k) d j l h i =
+    let v = var_of (get_or (get_or cs k d) j l) in
+    list_any-append (same_variable v) (map var_of c) (flat_map (map var_of) cs) ∙ or_right (among (map var_of c) v) (among (flat_map (map var_of) cs) v) (has-variable cs k d j l (omega arith) i)
 
 rise-above : (below : ℕ) (c : Clause) (j : ℕ) (l : ℤ) → vars_rise below c ≡ true → j < length c → below < var_of (get_or c j l)
 rise-above below [] j l e h = absurd (omega arith)

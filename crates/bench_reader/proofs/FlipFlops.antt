@@ -41,9 +41,6 @@ use Rattle.text_rules.specs.TextLines.{all_lines}
 
 -- ---- a set of names
 
-same_key : Bor Name → Bor Name → Bool
-same_key a b = same_name a.now b.now
-
 pub kept-insert : (ks : List (Bor Name)) (k : Bor Name) (name : Name)
     → list_any (λ (j : Bor Name). same_name name j.now) (insert_key (λ (a b : Bor Name). same_name a.now b.now) ks k)
     ≡ (list_any (λ (j : Bor Name). same_name name j.now) ks || same_name name k.now)
@@ -55,18 +52,14 @@ kept-insert ks k name = by (list_any (λ (j : Bor Name). same_name k.now j.now) 
     there : (b c : Bool) → b ≡ true → (c ≡ true → b ≡ true)
     there b c e _ = e
 
-    or_true : (b : Bool) → b ≡ (b || false)
-    or_true true = refl
-    or_true false = refl
-
     by : (b : Bool) → list_any (λ (j : Bor Name). same_name k.now j.now) ks ≡ b → (c : Bool) → same_name name k.now ≡ c
         → list_any test (if b then ks else ks ++ k ∷ []) ≡ (list_any test ks || c)
     by true e true f =
         let same = equal_if_same name k.now f in
         let found : list_any test ks ≡ true = ap (λ (n : Name). list_any (λ (j : Bor Name). same_name n j.now) ks) same ∙ e in
         rw found refl
-    by true e false f = or_true (list_any test ks)
-    by false e c f = list_any-append test ks (k ∷ []) ∙ ap (λ b. list_any test ks || (b || false)) f ∙ ap (λ b. list_any test ks || b) (sym (or_true c))
+    by true e false f = sym (or-false (list_any test ks))
+    by false e c f = list_any-append test ks (k ∷ []) ∙ ap (λ b. list_any test ks || (b || false)) f ∙ ap (λ b. list_any test ks || b) (or-false c)
 
 pub named_flip_flop : (statement : StatementRead) (output : Bor Name) (kind : NamedKind) (inputs : Inputs) (name : Name)
     → statement ≡ GateRead output kind inputs → kind ≡ KeepsItsValue → is_among (flip_flop (meaning statement)) name ≡ same_name name output.now

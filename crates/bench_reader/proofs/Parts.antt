@@ -21,7 +21,7 @@ use Rattle.bench_reader.specs.declared.kinds.NamedKind.{NamedKind}
 use Rattle.bench_reader.specs.declared.kinds.NamedKind.TheVariants.{Combinational, Sequential, Unknown}
 use Rattle.bench_reader.specs.declared.fault.BenchFault.{BenchFault}
 use Rattle.bench_reader.specs.declared.fault.BenchFault.TheVariants.{Name as NoName, Inputs as WrongInputs}
-use Rattle.bench_reader.specs.Statements.{Statement, Input, Output, Gate, part_kind, kind_fault}
+use Rattle.bench_reader.specs.Statements.{Statement, Input, Output, Gate, part_gate, kind_fault}
 use Rattle.bench_reader.specs.Signals.{driven_by_gate, used}
 use Rattle.bench_reader.specs.Netlists.{part_over, part_of}
 use Rattle.bench_reader.specs.inner.Steps.{is_faultless}
@@ -31,7 +31,7 @@ use Rattle.bench_reader.specs.inner.Steps.{is_faultless}
 pub record IsFaultlessGate (output : Name) (kind : NamedKind) (inputs : List Name) : Type 0 where
   pub named : is_short_name output ≡ true
   pub gate : GateKind
-  pub meant : part_kind kind ≡ Some gate
+  pub meant : part_gate kind ≡ Some gate
   pub taken : takes gate (length inputs) ≡ true
 
 no_fault : (b : Bool) (fault : Option BenchFault) → is_none (if b then fault else Some NoName) ≡ true → (b ≡ true) × (is_none fault ≡ true)

@@ -14,7 +14,7 @@ use Rattle.bench_reader.specs.declared.kinds.FlipFlops.TheVariants.{Refused}
 use Rattle.bench_reader.specs.declared.fault.BenchFault.{BenchFault}
 use Rattle.bench_reader.specs.declared.fault.BenchFault.TheVariants.{DrivenTwice, Undriven, TooMany}
 use Rattle.bench_reader.specs.Faults.{Fault, fault_at, unless_fault}
-use Rattle.bench_reader.specs.Statements.{Statement, Gate, part_kind, reading}
+use Rattle.bench_reader.specs.Statements.{Statement, Gate, part_gate, reading}
 use Rattle.bench_reader.specs.Signals.{driven_by_gate, driven, driven_twice, undriven}
 
 -- the wires at its ports are its inputs and then its output
@@ -23,7 +23,7 @@ part_over output inputs gate = record { name = output; kind = OfGate gate; wires
 
 -- the part of a gate or of a flip-flop
 abbrev pub part_of : Statement → List NamedPart
-part_of (Gate output kind inputs) = option_to_list (option_map (part_over output inputs) (part_kind kind))
+part_of (Gate output kind inputs) = option_to_list (option_map (part_over output inputs) (part_gate kind))
 part_of statement = []
 
 -- a part for each gate, and a wire for each driven signal

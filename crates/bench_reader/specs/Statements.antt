@@ -80,10 +80,10 @@ statement_of tokens = None
 -- ---- faults
 
 -- the gate that a part is: a flip-flop is a buffer
-abbrev pub part_kind : NamedKind → Option GateKind
-part_kind (Combinational gate) = Some gate
-part_kind Sequential = Some Buff
-part_kind Unknown = None
+abbrev pub part_gate : NamedKind → Option GateKind
+part_gate (Combinational gate) = Some gate
+part_gate Sequential = Some Buff
+part_gate Unknown = None
 
 -- a kind that is not known, or a number of inputs that it does not take
 abbrev pub inputs_fault : ℕ → Option GateKind → Option BenchFault
@@ -93,7 +93,7 @@ inputs_fault inputs (Some gate) = if takes gate inputs then None else Some Wrong
 -- A flip-flop that is refused is told whatever its inputs; one that is taken has those of a buffer.
 abbrev pub kind_fault : FlipFlops → ℕ → NamedKind → Option BenchFault
 kind_fault Refused inputs Sequential = Some KeepsItsValue
-kind_fault flip_flops inputs kind = inputs_fault inputs (part_kind kind)
+kind_fault flip_flops inputs kind = inputs_fault inputs (part_gate kind)
 
 -- A signal that is no name is told before the kind, and a kind that is not known before its inputs.
 abbrev pub statement_fault : FlipFlops → Statement → Option BenchFault

@@ -64,7 +64,7 @@ fn part_of(
     else {
         return Ok(None);
     };
-    let Some(gate) = kind.part_kind() else {
+    let Some(gate) = kind.part_gate() else {
         return Ok(None);
     };
     let name = Name::new(alloc, output)?;

@@ -2,7 +2,7 @@ ghost use Rattle.std.specs.Prelude.{◌≡◌, true};
 ghost use Rattle.std.specs.List.{list_all};
 ghost use Rattle.text_rules.specs.Names.{same_name};
 ghost use Rattle.device_model.specs.Gates.{gate_named};
-ghost use Rattle.bench_reader.specs.Statements.{capitals, kind_named, part_kind};
+ghost use Rattle.bench_reader.specs.Statements.{capitals, kind_named, part_gate};
 ghost use Rattle.bench_reader.specs.inner.Lines.{is_capital};
 
 use device_model::Gate;
@@ -28,8 +28,8 @@ pub enum NamedKind {
 
 impl NamedKind {
     /// The gate that the part is: a flip-flop is a buffer.
-    pub fn part_kind(self) -> Option<Gate>
-        ensures { result ≡ part_kind self }
+    pub fn part_gate(self) -> Option<Gate>
+        ensures { result ≡ part_gate self }
     {
         match self {
             NamedKind::Combinational(gate) => Some(gate),

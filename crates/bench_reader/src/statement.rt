@@ -196,7 +196,7 @@ fn kind_fault(flip_flops: FlipFlops, kind: NamedKind, inputs: usize) -> Option<B
     if let (FlipFlops::Refused, NamedKind::Sequential) = (flip_flops, kind) {
         return Some(BenchFault::Sequential);
     }
-    match kind.part_kind() {
+    match kind.part_gate() {
         None => Some(BenchFault::Kind),
         Some(gate) => (!gate.takes(inputs)).then_some(BenchFault::Inputs),
     }

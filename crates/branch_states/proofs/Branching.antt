@@ -175,11 +175,11 @@ words-same (suc n) xs ys h few e =
     let back = words-same n (drop 64 xs) (drop 64 ys) (length-drop 64 xs ∙ ap (λ k. k - 64) h ∙ sym (length-drop 64 ys)) (omega (arith, length-drop 64 xs)) others in
     sym (take-append-drop 64 xs) ∙ (λ i. front i ++ back i) ∙ take-append-drop 64 ys
 
-pub length-bits_of : (test : Clause → Bool) (cs : List Clause) (list : List Bool) → length list ≡ length cs → length (bits_of test cs list) ≡ length (filter test cs)
+pub length-bits_of : {X : Type 0} (test : X → Bool) (xs : List X) (list : List Bool) → length list ≡ length xs → length (bits_of test xs list) ≡ length (filter test xs)
 length-bits_of test [] list h = refl
-length-bits_of test (c ∷ cs) [] h = absurd (omega arith)
-length-bits_of test (c ∷ cs) (b ∷ list) h = by_test (test c) (length-bits_of test cs list (omega arith)) where
-  by_test : (t : Bool) → length (bits_of test cs list) ≡ length (filter test cs) → length (cond t (b ∷ bits_of test cs list) (bits_of test cs list)) ≡ length (cond t (c ∷ filter test cs) (filter test cs))
+length-bits_of test (x ∷ xs) [] h = absurd (omega arith)
+length-bits_of test (x ∷ xs) (b ∷ list) h = by_test (test x) (length-bits_of test xs list (omega arith)) where
+  by_test : (t : Bool) → length (bits_of test xs list) ≡ length (filter test xs) → length (cond t (b ∷ bits_of test xs list) (bits_of test xs list)) ≡ length (cond t (x ∷ filter test xs) (filter test xs))
   by_test true e = ap suc e
   by_test false e = e
 

@@ -11,6 +11,7 @@ use Rattle.std.proofs.Math.Nat.{div-lt_iff_lt-mul}
 use Rattle.std.proofs.lemmas.List.Concat.{flat_map-append}
 use Rattle.std.proofs.lemmas.List.Sums.{sum_by-append}
 use Rattle.ranking.proofs.Bits.{pointwise-refl, pointwise-equal}
+use Rattle.ranking.proofs.Lists.{AllByRecursion-append, range_more}
 use Rattle.indexmap.specs.IndexSet.{insert_key}
 use Rattle.clause_encoder.specs.Clauses.{Clause, ClauseList, var_of, is_clause, is_clause_list}
 use Rattle.branch_states.specs.Branches.{order, place, left, is_touched, is_covered, is_open, some_passes, is_dead, same_list, different, living, size, bits_of, words_of, state_of, weight, sum_of, branch, IsLiving}
@@ -58,10 +59,6 @@ seen-test : (clauses : List Clause) (i : ℕ) (x : List Bool) (ds : List (List B
 seen-test clauses i x [] h k = refl
 seen-test clauses i x (d ∷ ds) h k = λ j. same-test clauses i x d h k.0 j || seen-test clauses i x ds h k.1 j
 
-each-push : {X : Type 0} (P : X → Type 0) (xs : List X) (x : X) → AllByRecursion P xs → P x → AllByRecursion P (xs ++ x ∷ [])
-each-push P [] x h p = (p, tt)
-each-push P (y ∷ xs) x h p = (h.0, each-push P xs x h.1 p)
-
 pub found-more : (clauses : List Clause) (i : ℕ) (states : List (List ℕ)) (ls : List (List Bool)) (x : List Bool) → AreFound clauses i states ls → IsLiving clauses i x
     → AreFound clauses i (insert_key bytes_eq states (state_of clauses i x)) (ls ++ x ∷ [])
 found-more clauses i states ls x f h = record {
@@ -71,7 +68,7 @@ found-more clauses i states ls x f h = record {
       (seen-test clauses i x (different ls) h (each-different (IsLiving clauses i) ls f.living) ∙ among-different ls x)
       ∙ by_test (is_among ls x)
       ∙ ap (map (state_of clauses i)) (sym (different-append ls (x ∷ [])));
-  living = each-push (IsLiving clauses i) ls x f.living h;
+  living = AllByRecursion-append (IsLiving clauses i) ls (x ∷ []) f.living (h, tt);
 } where
   by_test : (t : Bool) → (if t then map (state_of clauses i) (different ls) else map (state_of clauses i) (different ls) ++ state_of clauses i x ∷ [])
       ≡ map (state_of clauses i) (different ls ++ cond (not t) (x ∷ []) [])
@@ -209,15 +206,12 @@ first-weight cnf e = λ j. length (first-living cnf e j) * first-size cnf.clause
 
 -- ---- the sum
 
-pub range-more : (a n : ℕ) → range_with_len a (suc n) ≡ range_with_len a n ++ (a + n) ∷ []
-range-more a zero = ap (λ k. k ∷ []) (omega arith)
-range-more a (suc n) = ap (λ ks. a ∷ ks) (range-more (a + 1) n ∙ ap (λ k. range_with_len (a + 1) n ++ k ∷ []) (omega arith))
-
 pub sum-more : (clauses : List Clause) (n : ℕ) → sum_to clauses (suc n) ≡ sum_to clauses n + weight clauses n
 sum-more clauses n =
     let at : 0 + n ≡ n = omega arith in
     let one : 0 + weight clauses (0 + n) ≡ weight clauses (0 + n) = omega arith in
-    ap (sum_by (weight clauses)) (range-more 0 n) ∙ sum_by-append (weight clauses) (range_with_len 0 n) ((0 + n) ∷ []) ∙ ap (λ k. sum_to clauses n + k) (one ∙ ap (weight clauses) at)
+    let next : suc n ≡ n + 1 = omega arith in
+    ap (sum_to clauses) next ∙ ap (sum_by (weight clauses)) (range_more 0 n) ∙ sum_by-append (weight clauses) (range_with_len 0 n) ((0 + n) ∷ []) ∙ ap (λ k. sum_to clauses n + k) (one ∙ ap (weight clauses) at)
 
 pub sum-fewer : (clauses : List Clause) (n more : ℕ) → sum_to clauses n ≤ sum_to clauses (n + more)
 sum-fewer clauses n zero = let e : n + 0 ≡ n = omega arith in omega (arith, ap (sum_to clauses) e)

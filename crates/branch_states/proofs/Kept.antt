@@ -1,8 +1,10 @@
 -- How different states are kept.
-use Rattle.std.proofs.Common.{◌≡◌, ℕ, zero, suc, ◌+◌, ◌<◌, Bool, true, false, not, ◌||◌, ◌&&◌, cond, List, [], ◌∷◌, ◌++◌, map, length, take, drop, Some, get_or, refl, ap, sym, ◌∙◌, arith}
+use Rattle.std.proofs.Common.{◌≡◌, ℕ, zero, suc, ◌+◌, ◌<◌, Bool, true, false, not, ◌||◌, cond, List, [], ◌∷◌, ◌++◌, map, length, take, drop, Some, get_or, refl, ap, sym, ◌∙◌, arith}
 use Rattle.std.specs.Prelude.{nat_eq, slice_get, if◌then◌else◌}
 use Rattle.std.specs.List.{list_any, position_or_len, IsDistinct}
+use Rattle.std.proofs.lemmas.Bool.{or_from}
 use Rattle.std.proofs.lemmas.Bool.Decides.{nat_tests}
+use Rattle.std.proofs.Math.Bool.{and-true}
 use Rattle.std.proofs.lemmas.List.{map-append, take_more}
 use Rattle.std.proofs.lemmas.Map.Keys.{apart_from_distinct}
 use Rattle.std.specs.Cmp.Lexicographic.{pointwise}
@@ -19,10 +21,7 @@ abbrev pub same_items : SmallVec ℕ → SmallVec ℕ → Bool
 same_items s t = pointwise nat_eq s.items t.items
 
 pub one_word : (v w : ℕ) → nat_eq v w ≡ pointwise nat_eq (single v) (single w)
-one_word v w = by (nat_eq v w) where
-  by : (b : Bool) → b ≡ (b && true)
-  by true = refl
-  by false = refl
+one_word v w = sym (and-true (nat_eq v w))
 
 -- ---- a set of what has states
 
@@ -52,9 +51,7 @@ not_before : (ws : List ℕ) (w i : ℕ) → ((j : ℕ) → j < i → nat_eq (ge
 not_before ws w zero apart = refl
 not_before [] w (suc i) apart = refl
 not_before (v ∷ ws) w (suc i) apart =
-    or_none (nat_eq w v) (list_any (nat_eq w) (take i ws)) (grind (arith, nat_tests, apart 0 (omega arith))) (not_before ws w i (λ j lt. apart (suc j) (omega arith))) where
-      or_none : (a b : Bool) → a ≡ false → b ≡ false → (a || b) ≡ false
-      or_none a b p q = λ j. p j || q j
+    or_from (nat_eq w v) (list_any (nat_eq w) (take i ws)) (grind (arith, nat_tests, apart 0 (omega arith))) (not_before ws w i (λ j lt. apart (suc j) (omega arith)))
 
 -- a word that comes later in a set is added
 pub add_kept : (ws : List ℕ) (i : ℕ) → IsDistinct nat_eq ws → i < length ws

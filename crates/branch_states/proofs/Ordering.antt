@@ -3,8 +3,9 @@ use Rattle.std.proofs.Common.{◌≡◌, ℕ, zero, suc, ◌+◌, ◌-◌, ◌<�
 use Rattle.std.specs.Prelude.{◌==◌, nat_lt, nat_le, count_by}
 use Rattle.std.specs.List.{list_any, list_all, filter, flat_map}
 use Rattle.std.proofs.Math.Bool.{or-false, or_assoc}
-use Rattle.std.proofs.lemmas.Bool.{false≢true, and_parts, or_cases, or_left, or_right, cases_Bool, cases_eq, eq-eqb, ne_eqb, eqb-true, ltb-true, leb-true}
+use Rattle.std.proofs.lemmas.Bool.{false≢true, and_parts, or_left, or_right, cases_Bool, cases_eq, eq-eqb, ne_eqb, eqb-true, ltb-true, leb-true}
 use Rattle.std.proofs.lemmas.List.{append-nil, length-append, length-set, get_or-set_same, get_or-set_other}
+use Rattle.std.proofs.lemmas.List.Folds.{list_any-append}
 use Rattle.std.proofs.lemmas.List.Elements.{filter-append}
 use Rattle.std.proofs.lemmas.List.Sums.{sum_by-set}
 use Rattle.clause_encoder.specs.Clauses.{Clause, ClauseList, var_of, vars_rise, is_clause, is_clause_list}
@@ -83,9 +84,9 @@ among-push : (vs : List ℕ) (v w : ℕ) → among (vs ++ v ∷ []) w ≡ (among
 among-push [] v w = or-false (v == w)
 among-push (u ∷ vs) v w = ap (λ b. (u == w) || b) (among-push vs v w) ∙ sym (or_assoc (u == w) (among vs w) (v == w))
 
-or_none : (x y : Bool) → y ≡ false → (x || y) ≡ x
-or_none true y e = refl
-or_none false y e = e
+-- another variable is among them as it was
+among-push_other : (vs : List ℕ) (v w : ℕ) → (v ≡ w → ⊥) → among (vs ++ v ∷ []) w ≡ among vs w
+among-push_other vs v w other = among-push vs v w ∙ ap (λ b. among vs w || b) (ne_eqb v w other) ∙ or-false (among vs w)
 
 -- ---- the index of places
 
@@ -124,7 +125,7 @@ IsIndex-push vs places v n h few above below e len = record {
         ap (λ j. get_or (set places (v - 1) n) j 0) here ∙ get_or-set_same places (v - 1) n 0 (omega arith) ∙ len
         ∙ sym (ap (place (vs ++ v ∷ [])) at ∙ place-new vs v new)
     | inr other ↦
-        let old : among vs (k + 1) ≡ true = sym (among-push vs v (k + 1) ∙ or_none (among vs (k + 1)) (v == k + 1) (ne_eqb v (k + 1) (λ s. other (omega arith)))) ∙ there in
+        let old : among vs (k + 1) ≡ true = sym (among-push_other vs v (k + 1) (λ s. other (omega arith))) ∙ there in
         get_or-set_other places (v - 1) k n 0 other ∙ h.met k (omega (arith, length-set places (v - 1) n)) old ∙ sym (place-push vs (k + 1) v old)
   ];
   unmet = λ k low none. elim (cases_eq k (v - 1)) [
@@ -133,7 +134,7 @@ IsIndex-push vs places v n h few above below e len = record {
         absurd (false≢true (sym none ∙ among-push vs v (k + 1) ∙ or_right (among vs (k + 1)) (v == k + 1) (eq-eqb v (k + 1) at)))
     | inr other ↦
         get_or-set_other places (v - 1) k n 0 other
-        ∙ h.unmet k (omega (arith, length-set places (v - 1) n)) (sym (among-push vs v (k + 1) ∙ or_none (among vs (k + 1)) (v == k + 1) (ne_eqb v (k + 1) (λ s. other (omega arith)))) ∙ none)
+        ∙ h.unmet k (omega (arith, length-set places (v - 1) n)) (sym (among-push_other vs v (k + 1) (λ s. other (omega arith))) ∙ none)
   ];
 } where
   new : among vs v ≡ false
@@ -155,22 +156,6 @@ met-again old vs v there e = e ∙ sym (append-nil (first_met same_variable vs))
 
 -- ---- the literals of a clause list
 
-pub any-at : {X : Type 0} (p : X → Bool) (xs : List X) (k : ℕ) (d : X) → p (get_or xs k d) ≡ true → k < length xs → list_any p xs ≡ true
-any-at p [] k d e h = absurd (omega arith)
-any-at p (x ∷ xs) zero d e h = or_left (p x) (list_any p xs) e
-any-at p (x ∷ xs) (suc k) d e h = or_right (p x) (list_any p xs) (any-at p xs k d e (omega arith))
-
-any-front : {X : Type 0} (p : X → Bool) (xs ys : List X) → list_any p xs ≡ true → list_any p (xs ++ ys) ≡ true
-any-front p [] ys e = absurd (false≢true e)
-any-front p (x ∷ xs) ys e = elim (or_cases (p x) (list_any p xs) e) [
-  | inl here ↦ or_left (p x) (list_any p (xs ++ ys)) here
-  | inr rest ↦ or_right (p x) (list_any p (xs ++ ys)) (any-front p xs ys rest)
-]
-
-any-back : {X : Type 0} (p : X → Bool) (xs ys : List X) → list_any p ys ≡ true → list_any p (xs ++ ys) ≡ true
-any-back p [] ys e = e
-any-back p (x ∷ xs) ys e = or_right (p x) (list_any p (xs ++ ys)) (any-back p xs ys e)
-
 has-var : (c : Clause) (j : ℕ) (l : ℤ) → j < length c → among (map var_of c) (var_of (get_or c j l)) ≡ true
 has-var [] j l h = absurd (omega arith)
 has-var (k ∷ c) zero l h = or_left (var_of k == var_of k) (among (map var_of c) (var_of k)) (eq-eqb (var_of k) (var_of k) refl)
@@ -178,8 +163,12 @@ has-var (k ∷ c) (suc j) l h = or_right (var_of k == var_of (get_or c j l)) (am
 
 pub has-variable : (cs : List Clause) (k : ℕ) (d : Clause) (j : ℕ) (l : ℤ) → k < length cs → j < length (get_or cs k d) → among (flat_map (map var_of) cs) (var_of (get_or (get_or cs k d) j l)) ≡ true
 has-variable [] k d j l h i = absurd (omega arith)
-has-variable (c ∷ cs) zero d j l h i = any-front (λ u. u == var_of (get_or c j l)) (map var_of c) (flat_map (map var_of) cs) (has-var c j l i)
-has-variable (c ∷ cs) (suc k) d j l h i = any-back (λ u. u == var_of (get_or (get_or cs k d) j l)) (map var_of c) (flat_map (map var_of) cs) (has-variable cs k d j l (omega arith) i)
+has-variable (c ∷ cs) zero d j l h i =
+    let v = var_of (get_or c j l) in
+    list_any-append (same_variable v) (map var_of c) (flat_map (map var_of) cs) ∙ or_left (among (map var_of c) v) (among (flat_map (map var_of) cs) v) (has-var c j l i)
+has-variable (c ∷ cs) (suc k) d j l h i =
+    let v = var_of (get_or (get_or cs k d) j l) in
+    list_any-append (same_variable v) (map var_of c) (flat_map (map var_of) cs) ∙ or_right (among (map var_of c) v) (among (flat_map (map var_of) cs) v) (has-variable cs k d j l (omega arith) i)
 
 rise-above : (below : ℕ) (c : Clause) (j : ℕ) (l : ℤ) → vars_rise below c ≡ true → j < length c → below < var_of (get_or c j l)
 rise-above below [] j l e h = absurd (omega arith)

@@ -6,6 +6,7 @@ use Rattle.std.specs.List.{list_any}
 use Rattle.std.proofs.Math.Bool.{and-false}
 use Rattle.std.proofs.lemmas.Bool.{false≢true, and_parts, or_parts, or_from, and_left, and_from, not-true, cases_lt, cases_eq, cases_Bool, le-ltb, lt-ltb, le-leb, lt-leb, eqb-true, eqb-false, eq-eqb, ne_eqb, false_from_ne_true}
 use Rattle.std.proofs.lemmas.List.{append-nil, take_more, take_all, length-append, same_from_push, get_or-set_same, get_or-set_other}
+use Rattle.std.proofs.lemmas.List.Folds.{list_any_at, list_any-append}
 use Rattle.std.proofs.lemmas.List.Elements.{All-head, All-tail}
 use Rattle.ranking.specs.Bits.{same_bit}
 use Rattle.clause_encoder.specs.Clauses.{Clause, var_of, is_positive}
@@ -16,7 +17,7 @@ use Rattle.branch_states.specs.declared.walk.Entry.{Entry}
 use Rattle.branch_states.specs.declared.walk.Event.{Event}
 use Rattle.branch_states.specs.declared.walk.Span.{Span}
 use Rattle.branch_states.proofs.Places.{place-at}
-use Rattle.branch_states.proofs.Ordering.{any-at, one_more}
+use Rattle.branch_states.proofs.Ordering.{one_more}
 use Rattle.branch_states.proofs.Spanning.{walked-span}
 use Rattle.branch_states.proofs.Walking.{true_at-entry, spread-event}
 use Rattle.ranking.proofs.Lists.{list_all-at}
@@ -84,7 +85,7 @@ entry-plain vs places i c once h w none =
 pub walked-place : (vs : List ℕ) (c : Clause) (k : ℕ) (l : ℤ) → k < length c → is_walked vs (place vs (var_of (get_or c k l))) c ≡ true
 walked-place vs c k l h =
     let p : ℕ = place vs (var_of (get_or c k l)) in
-    and_from (is_touched vs (p + 1) c) (not (is_covered vs p c)) (any-at (λ m. nat_lt (place vs (var_of m)) (p + 1)) c k l (lt-ltb p (p + 1) (omega arith)) h)
+    and_from (is_touched vs (p + 1) c) (not (is_covered vs p c)) (list_any_at (λ m. nat_lt (place vs (var_of m)) (p + 1)) c k l h (lt-ltb p (p + 1) (omega arith)))
     (ap not (false_from_ne_true (is_covered vs p c) (λ e. false≢true (sym (le-ltb p p (omega arith)) ∙ list_all-at (λ m. nat_lt (place vs (var_of m)) p) c k l e h))))
 
 plain-false : (b : Bool) → true_at plain b ≡ false
@@ -98,7 +99,7 @@ changes vs c k l h low e =
     let p : ℕ = place vs (var_of (get_or c k l)) in
     let here : is_true_by (get_or vs p 0) (is_positive m) m ≡ true =
     and_from (var_of m == get_or vs p 0) (same_bit (is_positive m) (is_positive m)) (eq-eqb (var_of m) (get_or vs p 0) (sym (place-get vs (var_of m) low))) (same_bit-refl (is_positive m)) in
-    false≢true (sym (ap (λ x. true_at x (is_positive m)) e ∙ plain-false (is_positive m)) ∙ true_at-entry vs p (is_positive m) c ∙ any-at (is_true_by (get_or vs p 0) (is_positive m)) c k l here h)
+    false≢true (sym (ap (λ x. true_at x (is_positive m)) e ∙ plain-false (is_positive m)) ∙ true_at-entry vs p (is_positive m) c ∙ list_any_at (is_true_by (get_or vs p 0) (is_positive m)) c k l h here)
 
 -- ---- level by level
 
@@ -123,9 +124,8 @@ turning-first vs c span before after long few s in' out i h = elim (cases_lt i s
         ∙ and-false (nat_lt (first_place vs c) (i + 1))
   ]
 
-any-push : {X : Type 0} (p : X → Bool) (xs : List X) (x : X) → list_any p xs ≡ false → p x ≡ false → list_any p (xs ++ x ∷ []) ≡ false
-any-push p [] x e f = or_from (p x) false f refl
-any-push p (y ∷ xs) x e f = let parts = or_parts (p y) (list_any p xs) e in or_from (p y) (list_any p (xs ++ x ∷ [])) parts.0 (any-push p xs x parts.1 f)
+none-push : {X : Type 0} (p : X → Bool) (xs : List X) (x : X) → list_any p xs ≡ false → p x ≡ false → list_any p (xs ++ x ∷ []) ≡ false
+none-push p xs x e f = list_any-append p xs (x ∷ []) ∙ or_from (list_any p xs) (p x || false) e (or_from (p x) false f refl)
 
 pub turning-more : (vs : List ℕ) (c : Clause) (k : ℕ) (l : ℤ) (before after more : List (List Entry)) (entry : Entry)
     → k < length c → place vs (var_of (get_or c k l)) < length after → length before ≡ length after → entry ≡ entry_of vs (place vs (var_of (get_or c k l))) c → AreTurning vs c k before after
@@ -163,7 +163,7 @@ turning-more vs c k l before after more entry h low same e a turned = subst (Are
         (
           get_or-set_other after p i walk [] other ∙ ((a i within).within w).1.0,
           elim ((a i within).within w).1.1 [
-            | inl still ↦ inl (still.0, ap (has_place vs i) (take_more c k l h) ∙ any-push (λ m. place vs (var_of m) == i) (take k c) (get_or c k l) still.1 (ne_eqb p i (λ d. other (sym d))))
+            | inl still ↦ inl (still.0, ap (has_place vs i) (take_more c k l h) ∙ none-push (λ m. place vs (var_of m) == i) (take k c) (get_or c k l) still.1 (ne_eqb p i (λ d. other (sym d))))
             | inr told ↦ inr told
           ],
         ),

@@ -1,7 +1,6 @@
 -- A walk over what happens to clauses, one after the other.
 use Rattle.std.proofs.Common.{◌-◌, inl, inr, ◌≡◌, ℕ, suc, ◌+◌, ◌<◌, ◌≤◌, Bool, true, false, not, ◌&&◌, ◌||◌, cond, List, [], ◌∷◌, ◌++◌, map, length, take, drop, get_or, replicate, zero, All, subst, refl, ap, sym, ◌∙◌, arith}
 use mir.Val.{bool_byte}
-use Rattle.std.proofs.lemmas.List.Filters.{length-filter_both}
 use Rattle.std.specs.Prelude.{nat_lt, if◌then◌else◌}
 use Rattle.std.specs.List.{filter}
 use Rattle.std.proofs.Math.Bool.{or-false, or_assoc}
@@ -9,6 +8,7 @@ use Rattle.std.proofs.lemmas.Bool.{false≢true, or_parts, or_from, and_parts, a
 use Rattle.std.proofs.lemmas.List.{append-nil, append_assoc, get_or-drop, length-append, length-map, length-drop, replicate_more, take_more, take_all, drop_more, take-append-drop, length-take-le, map-append, take-append-le, drop-append-le, drop_at}
 use Rattle.std.proofs.lemmas.List.Elements.{filter-append, All-head, All-tail, All-push}
 use Rattle.ranking.specs.Bits.{bit_in}
+use Rattle.ranking.proofs.Lists.{length-filter-le}
 use Rattle.clause_encoder.specs.Clauses.{Clause, ClauseList, var_of}
 use Rattle.branch_states.specs.Branches.{order, is_dead, branch, IsLiving, place, has_true, is_touched, is_covered, is_open, some_passes, bits_of, words_of, without}
 use Rattle.branch_states.specs.inner.Steps.{is_walked, entry_of, walk_of, true_at, was_open, goes_on, still_left, plain, spread, row_walk, IsRow, IsPut, IsKept}
@@ -16,7 +16,7 @@ use Rattle.branch_states.specs.declared.walk.Entry.{Entry}
 use Rattle.branch_states.specs.declared.walk.Event.{Event}
 use Rattle.branch_states.specs.declared.walk.Row.{Row}
 use Rattle.branch_states.proofs.Places.{covered-more, untouched-less}
-use Rattle.branch_states.proofs.Branching.{Known, known}
+use Rattle.branch_states.proofs.Branching.{Known, known, length-bits_of}
 
 -- ---- one entry more
 
@@ -61,14 +61,6 @@ some_passes-push test [] x (y ∷ list) b h = absurd (omega arith)
 some_passes-push test (z ∷ xs) x [] b h = absurd (omega arith)
 some_passes-push test (z ∷ xs) x (y ∷ list) b h = ap (λ t. (y && test z) || t) (some_passes-push test xs x list b (omega arith))
     ∙ sym (or_assoc (y && test z) (some_passes test xs list) (b && test x))
-
-pub length-bits_of : {X : Type 0} (test : X → Bool) (xs : List X) (list : List Bool) → length list ≡ length xs → length (bits_of test xs list) ≡ length (filter test xs)
-length-bits_of test [] list h = refl
-length-bits_of test (x ∷ xs) [] h = absurd (omega arith)
-length-bits_of test (x ∷ xs) (b ∷ list) h = by_test (test x) (length-bits_of test xs list (omega arith)) where
-  by_test : (t : Bool) → length (bits_of test xs list) ≡ length (filter test xs) → length (cond t (b ∷ bits_of test xs list) (bits_of test xs list)) ≡ length (cond t (x ∷ filter test xs) (filter test xs))
-  by_test true e = ap suc e
-  by_test false e = e
 
 -- what is dead at the front is dead
 pub dead-front : (bit : Bool) (es fs : List Entry) (bits : List Bool) → some_passes (λ e. e.ends) es (still_left bit es bits) ≡ true
@@ -360,9 +352,6 @@ pub rest-room : (p : Entry → Bool) (es : List Event) (rest k : ℕ) → p plai
     → length (filter p (spread (take k es) 0)) + rest ≡ length (filter p (spread es rest))
 rest-room p es rest k h end = sym (count-run p (spread (take k es) 0) rest h) ∙ ap (λ ws. length (filter p ws)) (sym (spread-all es rest k end))
 
-pub count-few : (p : Entry → Bool) (ws : List Entry) → length (filter p ws) ≤ length ws
-count-few p ws = omega (arith, length-filter_both p (λ e. not (p e)) (λ _. refl) ws)
-
 -- ---- a walk over clauses
 
 covered-untouched : (vs : List ℕ) (i k : ℕ) (c : Clause) → is_covered vs k c ≡ true → is_touched vs k c ≡ false → is_covered vs i c ≡ true
@@ -481,7 +470,7 @@ pub kept-open : (cnf : ClauseList) (level : ℕ) (variables : List ℕ) (walks :
 kept-open cnf level variables walks kept i h = ap (λ w. length (filter was_open w)) (kept-walk cnf level variables walks kept i h) ∙ length-open (order cnf.clauses) i cnf.clauses
 
 pub walk-few : (vs : List ℕ) (cs : List Clause) (i : ℕ) → length (walk_of vs cs i) ≤ length cs
-walk-few vs cs i = omega (arith, length-map (filter (is_walked vs i) cs) (entry_of vs i), length-filter_both (is_walked vs i) (λ c. not (is_walked vs i c)) (λ _. refl) cs)
+walk-few vs cs i = omega (arith, length-map (filter (is_walked vs i) cs) (entry_of vs i), length-filter-le (is_walked vs i) cs)
 
 pub kept-few : (cnf : ClauseList) (level : ℕ) (variables : List ℕ) (walks : List (List Entry)) → IsKept cnf level variables walks → (i : ℕ) → i ≤ length variables → length (get_or walks i []) ≤ 262144
 kept-few cnf level variables walks kept i h = omega (arith, ap length (kept-walk cnf level variables walks kept i h), walk-few (order cnf.clauses) cnf.clauses i, kept.most)

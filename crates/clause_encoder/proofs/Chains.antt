@@ -2,6 +2,7 @@
 use Rattle.std.proofs.Common.{◌≡◌, ℕ, zero, suc, ◌+◌, ◌-◌, ◌%◌, ◌<◌, ◌≤◌, Bool, true, false, not, ◌&&◌, ◌||◌, cond, count_by, List, [], ◌∷◌, ◌++◌, map, length, take, drop, get_or, refl, ap, sym, ◌∙◌, arith}
 use Rattle.std.specs.Prelude.{◌==◌, Option, Some, None, slice_get, if◌then◌else◌}
 use Rattle.std.specs.List.{list_all, list_any}
+use Rattle.std.proofs.Math.Bool.{and_assoc, or_assoc}
 use Rattle.std.proofs.lemmas.Bool.{ltb-true, false≢true}
 use Rattle.std.proofs.lemmas.List.{length-map, map-append, take-map, drop-map, get_or-map, take_all, take_more, length-take-le, length-drop}
 use Rattle.std.proofs.lemmas.List.Folds.{list_all-append}
@@ -20,7 +21,7 @@ use Rattle.clause_encoder.specs.Encoding.{gate_clauses, and_step, xor_step, step
 use Rattle.clause_encoder.proofs.Literals.{lit-literal}
 use Rattle.clause_encoder.proofs.RowBits.{AllPositive, count-cons}
 use Rattle.clause_encoder.proofs.Meaning.{gate-holds, table-holds, takes-some, gate_allows-says, AllPositive-take, AllPositive-at}
-use Rattle.clause_encoder.proofs.Settled.{has_bits, Settles, and_assoc}
+use Rattle.clause_encoder.proofs.Settled.{has_bits, Settles}
 
 -- ---- one step
 
@@ -93,12 +94,8 @@ odd-two b c rest = ap (λ n. n % 2 == 1) (count-cons (not (same_bit b c)) rest)
       by_bits false true n = omega arith
       by_bits false false n = omega arith
 
-or_assoc : (b c d : Bool) → ((b || c) || d) ≡ (b || (c || d))
-or_assoc true c d = refl
-or_assoc false c d = refl
-
 step-stands : (reduction : Reduction) (b c : Bool) (rest : List Bool) → reduced reduction (step_value reduction b c ∷ rest) ≡ reduced reduction (b ∷ c ∷ rest)
-step-stands AllOnes b c rest = sym (and_assoc b c (list_all (λ b. b) rest))
+step-stands AllOnes b c rest = and_assoc b c (list_all (λ b. b) rest)
 step-stands AnyOne b c rest = or_assoc b c (list_any (λ b. b) rest)
 step-stands OddOnes b c rest = odd-two b c rest
 
@@ -139,9 +136,9 @@ module _ (a : Assignment) (gate : Gate) (h last y : ℕ) (hh : 1 ≤ h) (hl : 1 
       ∙ (λ i. step-holds a z before x hz hb hs.0 (gate_row gate).reduction i && chain-settles xs (z + 1) z (omega arith) hz hs.1 i)
       ∙ settled (step_value (gate_row gate).reduction (a before) (a x)) (a z)
       (λ b. has_bits a (z + 1) (chain_bits (gate_row gate).reduction b (map a xs)) && output_is a h y (gate_value gate (chain_end (gate_row gate).reduction b (map a xs) ∷ a last ∷ [])))
-      ∙ and_assoc (same_bit (step_value (gate_row gate).reduction (a before) (a x)) (a z))
+      ∙ sym (and_assoc (same_bit (step_value (gate_row gate).reduction (a before) (a x)) (a z))
       (has_bits a (z + 1) (chain_bits (gate_row gate).reduction (step_value (gate_row gate).reduction (a before) (a x)) (map a xs)))
-      (output_is a h y (gate_value gate (chain_end (gate_row gate).reduction (step_value (gate_row gate).reduction (a before) (a x)) (map a xs) ∷ a last ∷ [])))
+      (output_is a h y (gate_value gate (chain_end (gate_row gate).reduction (step_value (gate_row gate).reduction (a before) (a x)) (map a xs) ∷ a last ∷ []))))
 
 -- the end of the chain and the last input give what all inputs give
 chain_end-reduced : (reduction : Reduction) (bits : List Bool) (b c : Bool)

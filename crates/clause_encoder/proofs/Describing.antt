@@ -7,6 +7,7 @@ use Rattle.std.proofs.lemmas.List.{length-append, length-map}
 use Rattle.std.proofs.lemmas.List.{get_or_append_left, get_or-append_right}
 use Rattle.ranking.specs.Bits.{bit_in, lists_of_bits}
 use Rattle.ranking.specs.Assignments.{Assignment, assignment}
+use Rattle.ranking.proofs.Members.{any_same}
 use Rattle.device_model.specs.declared.component.Component.{Component}
 use Rattle.device_model.specs.Devices.{Device, IsDevice, allows, parts_fit, fits, takes_ports, has_arity, has_wires}
 use Rattle.clause_encoder.specs.Clauses.{Clause, all_hold, is_clause}
@@ -14,7 +15,7 @@ use Rattle.clause_encoder.specs.Encoding.{inner_count, raw_clauses, wire_variabl
 use Rattle.clause_encoder.proofs.Literals.{AllIn, AllRaw, AllRaw-append, all_hold-tidy, are_clauses-tidy}
 use Rattle.clause_encoder.proofs.Mentioning.{Of, OfEach, Variables, Of-raw}
 use Rattle.clause_encoder.proofs.RowBits.{AllPositive}
-use Rattle.clause_encoder.proofs.Settled.{has_bits, Settles, Settles-append, any-same, some-hold}
+use Rattle.clause_encoder.proofs.Settled.{has_bits, Settles, Settles-append, some-hold}
 use Rattle.clause_encoder.proofs.Chains.{inner_bits, length-inner_bits, raw-settles}
 
 -- ---- raw clauses have literals, of variables that are there
@@ -147,8 +148,8 @@ front-bit front inner v some most = get_or_append_left front inner false (v - 1)
 pub describes : (device : Device) → IsDevice device → Describes (clause_list device) device
 describes device d state wires long wide =
     (λ i. list_any (λ inner. all_hold (assignment (front ++ inner)) (tidy (all_clauses device))) (lists_of_bits (counted i)))
-    ∙ any-same (λ inner. all_hold (assignment (front ++ inner)) (tidy (all_clauses device))) (λ inner. all_hold (assignment (front ++ inner)) (all_clauses device)) (lists_of_bits (length bits))
-    (λ inner. all_hold-tidy (assignment (front ++ inner)) vars (all_clauses device) (AllRaw-device device d))
+    ∙ any_same (λ inner. all_hold (assignment (front ++ inner)) (tidy (all_clauses device))) (λ inner. all_hold (assignment (front ++ inner)) (all_clauses device)) (lists_of_bits (length bits))
+    (λ inner _. all_hold-tidy (assignment (front ++ inner)) vars (all_clauses device) (AllRaw-device device d))
     ∙ some-hold (all_clauses device) bits front (fits device state wires) settles where
       front : List Bool
       front = state ++ wires

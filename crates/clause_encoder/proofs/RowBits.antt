@@ -15,7 +15,7 @@ use Rattle.ranking.specs.Assignments.{Assignment}
 use Rattle.device_model.specs.Devices.{is_set}
 use Rattle.clause_encoder.specs.Encoding.{row_bits, rows_of, blocking_literals}
 use Rattle.clause_encoder.proofs.Literals.{lit, lit-literal}
-use Rattle.ranking.proofs.Bits.{row_number-half}
+use Rattle.ranking.proofs.Bits.{half-below, row_number-half}
 use Rattle.std.proofs.Math.Bool.{and-true}
 
 -- each variable is above 0
@@ -37,9 +37,6 @@ row_bits-cons r v vs = λ i. is_set r 0 ∷ sets-more r 0 (length vs) i
 
 pub is_set-zero : (r : ℕ) → is_set r 0 ≡ (r % 2 == 1)
 is_set-zero r = ap (λ b. b == 1) (bit_at_lowest r)
-
-half-below : (r n : ℕ) → r < 2 ^ suc n → r / 2 < 2 ^ n
-half-below r n h = omega arith
 
 bit-of : (b : Bool) (n : ℕ) → is_set (number_of_bit b + 2 * n) 0 ≡ b
 bit-of true n = is_set-zero (1 + 2 * n) ∙ grind (arith, nat_tests)

@@ -8,7 +8,8 @@ use Rattle.ranking.specs.Bits.{bit_in, same_bit, lists_of_bits}
 use Rattle.ranking.specs.Assignments.{Assignment, assignment}
 use Rattle.clause_encoder.specs.Clauses.{Clause, is_true_clause, all_hold}
 use Rattle.ranking.proofs.Lists.{list_any-map}
-use Rattle.std.proofs.Math.Bool.{or-false}
+use Rattle.ranking.proofs.Members.{any_same}
+use Rattle.std.proofs.Math.Bool.{and_assoc, or-false}
 
 -- the variables from one on have these bits
 abbrev pub has_bits : Assignment → ℕ → List Bool → Bool
@@ -18,10 +19,6 @@ has_bits a z (b ∷ bits) = same_bit b (a z) && has_bits a (z + 1) bits
 -- The clauses settle the bits of the variables from z on, and leave a condition on others.
 abbrev pub Settles : Assignment → ℕ → List Clause → List Bool → Bool → Type 0
 Settles a z clauses bits rest = all_hold a clauses ≡ (has_bits a z bits && rest)
-
-pub and_assoc : (b c d : Bool) → (b && (c && d)) ≡ ((b && c) && d)
-and_assoc true c d = refl
-and_assoc false c d = refl
 
 and_swap_inner : (b c d e : Bool) → ((b && c) && (d && e)) ≡ ((b && d) && (c && e))
 and_swap_inner true true d e = refl
@@ -35,7 +32,7 @@ has_bits-append a z [] more = ap (λ v. has_bits a v more) (at z) where
   at z = omega arith
 has_bits-append a z (b ∷ bits) more =
     ap (λ t. same_bit b (a z) && t) (has_bits-append a (z + 1) bits more ∙ ap (λ v. has_bits a (z + 1) bits && has_bits a v more) (at z (length bits)))
-    ∙ and_assoc (same_bit b (a z)) (has_bits a (z + 1) bits) (has_bits a (z + suc (length bits)) more) where
+    ∙ sym (and_assoc (same_bit b (a z)) (has_bits a (z + 1) bits) (has_bits a (z + suc (length bits)) more)) where
       at : (z n : ℕ) → z + 1 + n ≡ z + suc n
       at z n = omega arith
 
@@ -50,10 +47,6 @@ Settles-append a z y cs ds bits more rest others at first second =
     ∙ ap (λ b. b && (rest && others)) (sym (has_bits-append a z bits more))
 
 -- ---- some bits of the inner variables
-
-pub any-same : {A : Type 0} (p q : A → Bool) (xs : List A) → ((x : A) → p x ≡ q x) → list_any p xs ≡ list_any q xs
-any-same p q [] h = refl
-any-same p q (x ∷ xs) h = λ i. h x i || any-same p q xs h i
 
 none : {A : Type 0} (xs : List A) → list_any (λ x. false) xs ≡ false
 none [] = refl
@@ -104,7 +97,7 @@ some-settled (b ∷ bits) front rest =
       by_bit false c h = none tails
 
       half : ((c : Bool) → list_any (λ inner. below c inner && rest) tails ≡ rest) → (c : Bool) → list_any (λ inner. test (c ∷ inner)) tails ≡ (same_bit b c && rest)
-      half shorter c = any-same (λ inner. test (c ∷ inner)) (λ inner. (same_bit b c && below c inner) && rest) tails (λ inner. ap (λ t. t && rest) (front-bits front c inner bits b))
+      half shorter c = any_same (λ inner. test (c ∷ inner)) (λ inner. (same_bit b c && below c inner) && rest) tails (λ inner _. ap (λ t. t && rest) (front-bits front c inner bits b))
           ∙ by_bit (same_bit b c) c (shorter c)
 
 -- What clauses settle, some bits of their inner variables give.
@@ -112,5 +105,5 @@ pub some-hold : (clauses : List Clause) (bits front : List Bool) (rest : Bool)
     → ((inner : List Bool) → Settles (assignment (front ++ inner)) (length front + 1) clauses bits rest)
     → list_any (λ inner. all_hold (assignment (front ++ inner)) clauses) (lists_of_bits (length bits)) ≡ rest
 some-hold clauses bits front rest h =
-    any-same (λ inner. all_hold (assignment (front ++ inner)) clauses) (λ inner. has_bits (assignment (front ++ inner)) (length front + 1) bits && rest) (lists_of_bits (length bits)) h
+    any_same (λ inner. all_hold (assignment (front ++ inner)) clauses) (λ inner. has_bits (assignment (front ++ inner)) (length front + 1) bits && rest) (lists_of_bits (length bits)) (λ inner _. h inner)
     ∙ some-settled bits front rest

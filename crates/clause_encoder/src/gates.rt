@@ -1,7 +1,7 @@
-ghost use Rattle.std.specs.Prelude.{◌≡◌, ◌<◌, ◌≤◌, ◌+◌, ◌-◌, ◌^◌, ◌%◌, ◌==◌, ◌++◌, ◌∷◌, pos, true, map, length, count_ones, All, OnOk, IfOk, if◌then◌else◌};
+ghost use Rattle.std.specs.Prelude.{◌≡◌, ◌<◌, ◌≤◌, ◌+◌, ◌-◌, ◌%◌, ◌==◌, ◌++◌, ◌∷◌, pos, true, map, length, count_ones, All, OnOk, IfOk, if◌then◌else◌};
 ghost use Rattle.ranking.specs.Bits.{same_bit};
 ghost use Rattle.device_model.specs.Devices.{takes_ports};
-ghost use Rattle.device_model.specs.Gates.{gate_row, takes};
+ghost use Rattle.device_model.specs.Gates.{takes};
 ghost use Rattle.clause_encoder.specs.Clauses.{literal};
 ghost use Rattle.clause_encoder.specs.Encoding.{tidy, and_clauses, parity_clauses, row_bits, blocking_literals, blocked_rows, table_clauses, gate_clauses, and_step, xor_step, step_clauses, wide_clauses, is_wide, any_gate_clauses, inner_count, raw_clauses};
 

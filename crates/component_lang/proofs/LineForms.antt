@@ -11,12 +11,12 @@ use Rattle.component_lang.specs.declared.design.UsedKind.{UsedKind}
 use Rattle.component_lang.specs.declared.design.Used.{Used}
 use Rattle.component_lang.specs.declared.design.Block.{Block}
 use Rattle.component_lang.specs.declared.fault.LangFault.{LangFault}
-use Rattle.component_lang.specs.declared.fault.LangFault.TheVariants.{Name as NoName, Twice, Ports}
+use Rattle.component_lang.specs.declared.fault.LangFault.TheVariants.{Twice, Ports}
 use Rattle.component_lang.specs.Designs.{is_plain_name, used_names, takes_args}
 use Rattle.component_lang.specs.Kinds.{OpenType, Reader, InType, InBlock, kind_named}
 use Rattle.component_lang.specs.DesignLines.{at, is_new, type_line, block_line, ok_line, bad_line, cost_line, are_new, wire_line, places_in, part_of, with_part, part_line, outside, in_type, in_block}
 use Rattle.component_lang.specs.inner.Words.{new_ports, places_among}
-use Rattle.component_lang.proofs.NameLists.{more_names, places_among-ok}
+use Rattle.component_lang.proofs.NameLists.{if_plain, if_new, more_names, places_among-ok}
 
 -- ---- words
 
@@ -26,12 +26,6 @@ no_more None left after steps h = steps.0
 no_more (Some t) left after steps h = cc
 
 -- ---- types
-
-abbrev if_plain : {A : Type 0} → Bool → Result A LangFault → Result A LangFault
-if_plain p r = if p then r else Err NoName
-
-abbrev if_new : {A : Type 0} → Bool → Result A LangFault → Result A LangFault
-if_new n r = if n then r else Err Twice
 
 abbrev pub type_begun : Reader → Name → ℕ → Reader
 type_begun reader name n = at reader (InType (record { name = name; ports = n; ok = 0; bad = None; cost = None }))

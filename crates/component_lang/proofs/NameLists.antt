@@ -4,6 +4,7 @@ use Rattle.std.specs.Prelude.{◌&&◌, ◌||◌, position, nat_lt, if◌then◌
 use Rattle.std.specs.List.{list_any, list_all, position_or_len}
 use Rattle.std.proofs.lemmas.Bool.{lt-ltb}
 use Rattle.std.proofs.lemmas.Bool.Decides.{nat_tests, same_from_decides}
+use Rattle.std.proofs.lemmas.Option.{cond_some}
 use Rattle.std.proofs.lemmas.List.{map-append}
 use Rattle.std.proofs.Math.Bool.{and-false, and_assoc}
 use Rattle.std.proofs.lemmas.List.Folds.{list_any-append}
@@ -14,6 +15,7 @@ use Rattle.device_model.specs.Building.{place_in}
 use Rattle.component_lang.specs.declared.fault.LangFault.{LangFault}
 use Rattle.component_lang.specs.declared.fault.LangFault.TheVariants.{Name as NoName, Twice}
 use Rattle.device_model.specs.Building.{repeated}
+use Rattle.device_model.proofs.Making.{none_given}
 use Rattle.ranking.proofs.Lists.{list_any-map}
 use Rattle.component_lang.specs.Designs.{is_plain_name, is_empty, are_distinct}
 use Rattle.component_lang.specs.DesignLines.{are_new, places_in}
@@ -83,11 +85,11 @@ are_new-first above n names =
         rest (is_among names n) (are_distinct names) (list_any (is_among above) names)
         ∙ ap (λ b. are_distinct names && not b) (sym (any_after above n names))
 
-abbrev if_plain : {A : Type 0} → Bool → Result A LangFault → Result A LangFault
+abbrev pub if_plain : {A : Type 0} → Bool → Result A LangFault → Result A LangFault
 if_plain p r = if p then r else Err NoName
 
-abbrev if_new : {A : Type 0} → Bool → A → Result A LangFault
-if_new b x = if b then Ok x else Err Twice
+abbrev pub if_new : {A : Type 0} → Bool → Result A LangFault → Result A LangFault
+if_new n r = if n then r else Err Twice
 
 pub with_name-plain : (above : List Name) (n : Name) → is_plain_name n ≡ true → with_name above n ≡ Ok (insert_key same_name above n, not (is_among above n))
 with_name-plain above n h = ap (λ p. if_plain p (Ok one)) h
@@ -107,7 +109,7 @@ more_names-first new above n names added is_new h = by (is_plain_name n) h
     one : Name → List Name × Bool
     one m = (insert_key same_name above m, not (is_among above m))
 
-    twice : (b : Bool) (xs ys : List Name) → (b ≡ true → xs ≡ ys) → if_new b xs ≡ if_new b ys
+    twice : (b : Bool) (xs ys : List Name) → (b ≡ true → xs ≡ ys) → if_new b (Ok xs) ≡ if_new b (Ok ys)
     twice true xs ys g = ap (λ zs. Ok zs) (g refl)
     twice false xs ys g = refl
 
@@ -117,15 +119,15 @@ more_names-first new above n names added is_new h = by (is_plain_name n) h
     kept false b e w g = cc
 
     by : (p : Bool) → if_plain p (Ok (one n)) ≡ Ok (added, is_new)
-        → if_plain (p && list_all is_plain_name names) (if_new (new && are_new above (n ∷ names)) (above ++ n ∷ names)) ≡ more_names (new && is_new) added names
+        → if_plain (p && list_all is_plain_name names) (if_new (new && are_new above (n ∷ names)) (Ok (above ++ n ∷ names))) ≡ more_names (new && is_new) added names
     by true g =
         let both : one n ≡ (added, is_new) = cc in
         let a : insert_key same_name above n ≡ added = ap (λ (p : List Name × Bool). p.0) both in
         let b : not (is_among above n) ≡ is_new = ap (λ (p : List Name × Bool). p.1) both in
-        ap (λ t. if_plain (list_all is_plain_name names) (if_new (new && t) (above ++ n ∷ names))) (are_new-first above n names)
+        ap (λ t. if_plain (list_all is_plain_name names) (if_new (new && t) (Ok (above ++ n ∷ names)))) (are_new-first above n names)
         ∙ ap (if_plain (list_all is_plain_name names)) (twice (new && (not (is_among above n) && are_new (insert_key same_name above n) names)) (above ++ n ∷ names) (insert_key same_name above n ++ names)
         (kept new (is_among above n) refl (are_new (insert_key same_name above n) names)))
-        ∙ ap (λ t. if_plain (list_all is_plain_name names) (if_new t (insert_key same_name above n ++ names))) (sym (and_assoc new (not (is_among above n)) (are_new (insert_key same_name above n) names)))
+        ∙ ap (λ t. if_plain (list_all is_plain_name names) (if_new t (Ok (insert_key same_name above n ++ names)))) (sym (and_assoc new (not (is_among above n)) (are_new (insert_key same_name above n) names)))
         ∙ ap (λ (xs : List Name). more_names (new && not (is_among above n)) xs names) a
         ∙ ap (λ (t : Bool). more_names (new && t) added names) b
     by false g = cc
@@ -135,7 +137,7 @@ pub more_names-fault : (new : Bool) (above names : List Name) (what : LangFault)
 more_names-fault true above names what h = h
 more_names-fault false above names what h = by (list_all is_plain_name names) (are_new above names) h
   where
-    by : (p b : Bool) → if_plain p (if_new b (above ++ names)) ≡ Err what → if_plain p (if_new false (above ++ names)) ≡ Err what
+    by : (p b : Bool) → if_plain p (if_new b (Ok (above ++ names))) ≡ Err what → if_plain p (if_new false (Ok (above ++ names))) ≡ Err what
     by true true g = cc
     by true false g = g
     by false b g = g
@@ -143,7 +145,7 @@ more_names-fault false above names what h = by (list_all is_plain_name names) (a
 pub more_names-length : (new : Bool) (above names added : List Name) → more_names new above names ≡ Ok added → length added ≡ length above + length names
 more_names-length new above names added h = by (list_all is_plain_name names) (new && are_new above names) h
   where
-    by : (p b : Bool) → if_plain p (if_new b (above ++ names)) ≡ Ok added → length added ≡ length above + length names
+    by : (p b : Bool) → if_plain p (if_new b (Ok (above ++ names))) ≡ Ok added → length added ≡ length above + length names
     by true true g = let same : above ++ names ≡ added = cc in sym (ap length same) ∙ length-append above names
     by true false g = cc
     by false b g = cc
@@ -172,10 +174,6 @@ abbrev pub more_places : Bool → List ℕ → List Name → List Name → Resul
 more_places known done wires names =
     if list_all is_plain_name names then Ok (if known && list_all (is_among wires) names then Some (done ++ map (place_in wires) names) else None) else Err NoName
 
-within_some : (b : Bool) (n p : ℕ) → cond b (Some n) None ≡ Some p → (b ≡ true) × (n ≡ p)
-within_some true n p e = (refl, cc)
-within_some false n p e = cc
-
 pub among_position : (p : Name → Bool) (ns : List Name) → list_any p ns ≡ nat_lt (position_or_len p ns) (length ns)
 among_position p [] = refl
 among_position p (n ∷ ns) = by (p n) (among_position p ns)
@@ -187,15 +185,11 @@ among_position p (n ∷ ns) = by (p n) (among_position p ns)
 
 place_found : (wires : List Name) (n : Name) (place : ℕ) → position (same_name n) wires ≡ Some place → (is_among wires n ≡ true) × (place_in wires n ≡ place)
 place_found wires n place h =
-    let two = within_some (nat_lt (place_in wires n) (length wires)) (place_in wires n) place h in
+    let two = cond_some (nat_lt (place_in wires n) (length wires)) (place_in wires n) place h in
     (among_position (same_name n) wires ∙ two.0, two.1)
 
 place_missing : (wires : List Name) (n : Name) → position (same_name n) wires ≡ None → is_among wires n ≡ false
-place_missing wires n h = among_position (same_name n) wires ∙ by (nat_lt (place_in wires n) (length wires)) (place_in wires n) h
-  where
-    by : (b : Bool) (k : ℕ) → cond b (Some k) None ≡ None → b ≡ false
-    by true k e = cc
-    by false k e = refl
+place_missing wires n h = among_position (same_name n) wires ∙ none_given (nat_lt (place_in wires n) (length wires)) (place_in wires n) h
 
 pub more_places-known : (known : Bool) (done : List ℕ) (wires : List Name) (n : Name) (names : List Name) (place : ℕ) → is_plain_name n ≡ true → position (same_name n) wires ≡ Some place
     → more_places known done wires (n ∷ names) ≡ more_places known (done ++ place ∷ []) wires names

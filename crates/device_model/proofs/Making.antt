@@ -2,9 +2,10 @@
 use Rattle.std.proofs.Common.{◌≡◌, ℕ, ◌+◌, ◌<◌, ◌≤◌, inl, inr, Bool, true, false, cond, not, nat_lt, List, [], ◌∷◌, map, length, get_or, Some, None, refl, sym, ap, subst, ◌∙◌, arith}
 use Rattle.std.specs.Prelude.{position}
 use Rattle.std.specs.List.{list_all, position_or_len}
-use Rattle.std.proofs.lemmas.Bool.{ltb-false, ltb-true, lt-ltb, and_parts, and_from}
+use Rattle.std.proofs.lemmas.Bool.{not-false, ltb-false, ltb-true, lt-ltb, and_parts, and_from}
 use Rattle.std.proofs.lemmas.List.{length-map}
 use Rattle.std.proofs.lemmas.List.Sums.{fails_before_first}
+use Rattle.std.proofs.lemmas.List.Folds.{list_all-map}
 use Rattle.text_rules.specs.Names.{Name, same_name}
 use Rattle.ranking.proofs.Members.{In, In-at}
 use Rattle.device_model.specs.declared.component.Component.{Component}
@@ -28,13 +29,9 @@ pub list_all-from_among : {A : Type 0} (p : A → Bool) (xs : List A) → ((x : 
 list_all-from_among p [] h = refl
 list_all-from_among p (x ∷ xs) h = and_from (p x) (list_all p xs) (h x (inl refl)) (list_all-from_among p xs (λ y m. h y (inr m)))
 
-none_given : (b : Bool) (i : ℕ) → cond b (Some i) None ≡ None → b ≡ false
+pub none_given : (b : Bool) (i : ℕ) → cond b (Some i) None ≡ None → b ≡ false
 none_given true i h = cc
 none_given false i h = refl
-
-not_false : (b : Bool) → not b ≡ false → b ≡ true
-not_false true h = refl
-not_false false h = cc
 
 among_place : {A : Type 0} (xs : List A) (x : A) → In x xs → (k : ℕ) × (k < length xs) × (get_or xs k x ≡ x)
 among_place xs x m = Contains-from_among xs x m
@@ -46,7 +43,7 @@ list_all-from_position p xs h =
     let past : length xs ≤ first = ltb-false first (length xs) (none_given (nat_lt first (length xs)) first h) in
     list_all-from_among p xs (λ x m.
     let k = among_place xs x m in
-    ap p (sym k.2) ∙ not_false (p (get_or xs k.0 x)) (fails_before_first (λ x. not (p x)) xs k.0 x (omega (arith, k.1))))
+    ap p (sym k.2) ∙ not-false (p (get_or xs k.0 x)) (fails_before_first (λ x. not (p x)) xs k.0 x (omega (arith, k.1))))
 
 -- ---- lengths and maps of lists in order
 
@@ -116,10 +113,6 @@ renumbered-has_wires wires part h = over part.ports h
 renumbered-has_arity : (tables : List TruthTable) (wires : List Name) (part : Component) → has_arity tables (renumbered wires part) ≡ has_arity tables part
 renumbered-has_arity tables wires part = ap (takes_ports tables part.kind) (length-map part.ports (λ port. place_in (sorted_distinct itself wires) (get_or wires port [])))
 
-list_all-mapped : {A B : Type 0} (p : B → Bool) (f : A → B) (xs : List A) → list_all (λ x. p (f x)) xs ≡ true → list_all p (map f xs) ≡ true
-list_all-mapped p f [] h = refl
-list_all-mapped p f (x ∷ xs) h = let two = and_parts (p (f x)) (list_all (λ y. p (f y)) xs) h in and_from _ _ two.0 (list_all-mapped p f xs two.1)
-
 abbrev pub component_name : Component → Name
 component_name part = part.name
 
@@ -131,10 +124,10 @@ IsDevice-device_of parts wires tables few_parts few_wires arities joined =
     record {
       parts_rise = names_rise-Rises (part_names (sorted_distinct component_name made)) (Rises-map component_name (sorted_distinct component_name made) (Rises-sorted_distinct component_name made));
       wires_rise = names_rise-Rises (sorted_distinct itself wires) (Rises-sorted_distinct itself wires);
-      arities = list_all-sorted_distinct component_name (has_arity tables) made (list_all-mapped (has_arity tables) (renumbered wires) parts
-          (list_all-from_among _ parts (λ p m. renumbered-has_arity tables wires p ∙ list_all-among (has_arity tables) parts arities p m)));
-      joined = list_all-sorted_distinct component_name (has_wires (length (sorted_distinct itself wires))) made (list_all-mapped _ (renumbered wires) parts
-          (list_all-from_among _ parts (λ p m. renumbered-has_wires wires p (list_all-among (has_wires (length wires)) parts joined p m))));
+      arities = list_all-sorted_distinct component_name (has_arity tables) made (list_all-map (has_arity tables) (renumbered wires) parts
+          ∙ (list_all-from_among _ parts (λ p m. renumbered-has_arity tables wires p ∙ list_all-among (has_arity tables) parts arities p m)));
+      joined = list_all-sorted_distinct component_name (has_wires (length (sorted_distinct itself wires))) made (list_all-map (has_wires (length (sorted_distinct itself wires))) (renumbered wires) parts
+          ∙ (list_all-from_among _ parts (λ p m. renumbered-has_wires wires p (list_all-among (has_wires (length wires)) parts joined p m))));
       few_parts = omega (arith, length-sorted_distinct component_name made, length-map parts (renumbered wires));
       few_wires = omega (arith, length-sorted_distinct itself wires);
     }

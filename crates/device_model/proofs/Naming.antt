@@ -1,9 +1,10 @@
 -- The order of names.
-use Rattle.std.proofs.Common.{◌≡◌, Bool, true, false, refl, sym, ap, subst, ◌∙◌}
+use Rattle.std.proofs.Common.{◌≡◌, true, false, refl, sym, ap, subst, ◌∙◌}
 use Rattle.std.specs.Ordering.{nat_cmp, is_lt, is_eq, ordering_reverse}
 use Rattle.std.specs.declared.cmp.Ordering.{Ordering}
 use Rattle.std.specs.declared.cmp.Ordering.TheVariants.{Less, Equal, Greater}
 use Rattle.std.specs.Cmp.Lexicographic.{slice_cmp}
+use Rattle.std.proofs.lemmas.Bool.{false_from_ne_true}
 use Rattle.std.proofs.lemmas.Cmp.{nat_list_cmp_total, tied_itself}
 use Rattle.std.proofs.lemmas.Map.Text.{is_eq-slice_cmp}
 use Rattle.std.proofs.lemmas.Slice.Eq.{bytes_eq-Decides}
@@ -51,12 +52,8 @@ name_below-Below a b h = ap is_lt h
 pub name_below-above : (a b : Name) → Below b a → name_below a b ≡ false
 name_below-above a b h = ap is_lt (nat_list_cmp_total.antisymm a b ∙ ap ordering_reverse h)
 
-not_true : (b : Bool) → (b ≡ true → ⊥) → b ≡ false
-not_true true h = absurd (h refl)
-not_true false h = refl
-
 pub same_name-other : (a b : Name) → (a ≡ b → ⊥) → same_name a b ≡ false
-same_name-other a b h = not_true (same_name a b) (λ e. h (equal_if_same a b e))
+same_name-other a b h = false_from_ne_true (same_name a b) (λ e. h (equal_if_same a b e))
 
 pub same_name-below : (a b : Name) → Below a b → same_name a b ≡ false
 same_name-below a b h = same_name-other a b (λ e. Below-irreflexive b (let P : Name → Type 0 = λ n. Below n b in subst P e h))

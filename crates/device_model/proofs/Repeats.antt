@@ -1,8 +1,9 @@
 -- The names that stand twice in a list, and the least of them.
 use Rattle.std.proofs.Common.{◌≡◌, ℕ, zero, suc, ◌+◌, ◌<◌, ◌≤◌, ◌⊎◌, inl, inr, Bool, true, false, List, [], ◌∷◌, length, get_or, Result, Err, refl, sym, ap, subst, ◌∙◌, arith}
-use Rattle.std.specs.Prelude.{if◌then◌else◌, ◌||◌}
+use Rattle.std.specs.Prelude.{if◌then◌else◌}
 use Rattle.std.specs.List.{sum_by}
 use Rattle.std.specs.List.Sorted.{IsPermutation}
+use Rattle.std.proofs.lemmas.Bool.{or_cases}
 use Rattle.std.proofs.lemmas.List.Sorted.{sum_by-IsPermutation}
 use Rattle.std.proofs.lemmas.List.Sums.{sum_by-cons}
 use Rattle.text_rules.specs.Names.{Name, same_name, is_among}
@@ -70,13 +71,9 @@ is_among-among n (m ∷ ms) (inr h) = elim (same_or_other n m) [
   | inr o ↦ rw (same_name-other n m o) (is_among-among n ms h)
 ]
 
-either_true : (a b : Bool) → (a || b) ≡ true → (a ≡ true) ⊎ (b ≡ true)
-either_true true b h = inl refl
-either_true false b h = inr h
-
 pub among_from_test : (n : Name) (ns : List Name) → is_among ns n ≡ true → In n ns
 among_from_test n [] h = cc
-among_from_test n (m ∷ ms) h = elim (either_true (same_name n m) (is_among ms n) h) [
+among_from_test n (m ∷ ms) h = elim (or_cases (same_name n m) (is_among ms n) h) [
   | inl e ↦ inl (equal_if_same n m e)
   | inr e ↦ inr (among_from_test n ms e)
 ]

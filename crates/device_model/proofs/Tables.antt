@@ -2,7 +2,7 @@
 use Rattle.std.proofs.Common.{◌≡◌, ℕ, zero, suc, ◌+◌, ◌<◌, Bool, false, cond, not, nat_lt, List, [], ◌∷◌, ◌++◌, map, length, get_or, take, Some, None, refl, sym, ap, ◌∙◌, arith}
 use Rattle.std.specs.Prelude.{if◌then◌else◌, position}
 use Rattle.std.specs.List.{list_any, position_or_len}
-use Rattle.std.proofs.lemmas.List.{length-map, get_or-map, take-map, take_more}
+use Rattle.std.proofs.lemmas.List.{length-map, get_or-map, take-map, take_more, map_push}
 use Rattle.text_rules.specs.Names.{Name, same_name, is_among}
 use Rattle.indexmap.specs.IndexSet.{insert_key}
 use Rattle.device_model.proofs.Naming.{same_name-above}
@@ -20,21 +20,14 @@ is_among-front (n ∷ ns) (suc i) h l =
     let above = Below-among itself n ns m h.0 (In-at ns i [] (omega arith)) in
     rw (same_name-above m n above) (is_among-front ns i h.1 (omega arith))
 
-take-next : (ns : List Name) (i : ℕ) → i < length ns → take (i + 1) ns ≡ take i ns ++ get_or ns i [] ∷ []
-take-next ns i l = take_more ns i [] l
-
 module _ {K : Type 0} (bytes : K → Name) where
-  map-push : (ks : List K) (k : K) → map bytes (ks ++ k ∷ []) ≡ map bytes ks ++ bytes k ∷ []
-  map-push [] k = refl
-  map-push (x ∷ ks) k = ap (λ ns. bytes x ∷ ns) (map-push ks k)
-
   -- one more name in a table
   pub keys_more : (ns : List Name) (ks : List K) (i : ℕ) (k : K) → Rises itself ns → i < length ns → bytes k ≡ get_or ns i [] → map bytes ks ≡ take i ns
       → map bytes (insert_key (λ a b. same_name (bytes a) (bytes b)) ks k) ≡ take (i + 1) ns
   keys_more ns ks i k h l is before =
       let absent : list_any (λ b. same_name (bytes k) (bytes b)) ks ≡ false =
       sym (list_any-map (same_name (bytes k)) bytes ks) ∙ ap (list_any (same_name (bytes k))) before ∙ ap (λ n. list_any (same_name n) (take i ns)) is ∙ is_among-front ns i h l in
-      ap (λ b. map bytes (if b then ks else ks ++ k ∷ [])) absent ∙ map-push ks k ∙ ap (λ ms. ms ++ bytes k ∷ []) before ∙ ap (λ n. take i ns ++ n ∷ []) is ∙ sym (take-next ns i l)
+      ap (λ b. map bytes (if b then ks else ks ++ k ∷ [])) absent ∙ map_push bytes ks k ∙ ap (λ ms. ms ++ bytes k ∷ []) before ∙ ap (λ n. take i ns ++ n ∷ []) is ∙ sym (take_more ns i [] l)
 
   pub position_or_len-map : (p : Name → Bool) (ks : List K) → position_or_len (λ k. p (bytes k)) ks ≡ position_or_len p (map bytes ks)
   position_or_len-map p [] = refl

@@ -4,7 +4,7 @@ ghost use Rattle.device_model.specs.Gates.{gate_row, gate_named, takes};
 use crate::limits::INPUT_LIMIT;
 use std::marker::Model;
 
-/// What a gate computes of its inputs, by the standard words.
+/// A gate, by what it computes of its inputs.
 #[derive(Clone, Copy, Debug, PartialEq, Eq)]
 pub enum Gate {
     And,
@@ -101,7 +101,7 @@ impl Gate {
         self.row().positive
     }
 
-    /// Whether a gate takes so many inputs: 1 to 64, but just 1 of an inverter or a buffer.
+    /// Whether a gate takes so many inputs.
     pub fn takes(self, inputs: usize) -> bool
         ensures { result ≡ takes self inputs }
     {

@@ -24,7 +24,7 @@ use Rattle.device_model.specs.Building.{NamedPart, joined}
 use Rattle.device_model.proofs.Making.{component_name, list_all-sorted_distinct}
 use Rattle.bench_reader.specs.declared.kinds.FlipFlops.TheVariants.{Refused}
 use Rattle.bench_reader.specs.Faults.{Fault, unless_fault}
-use Rattle.bench_reader.specs.Statements.{Statement, Input, Output, Gate, part_kind}
+use Rattle.bench_reader.specs.Statements.{Statement, Input, Output, Gate, part_gate}
 use Rattle.bench_reader.specs.Netlists.{part_over, part_of, device_of, fault_in, statement_in, faults_together, readings, netlist}
 use Rattle.bench_reader.proofs.Lines.{said}
 use Rattle.adder_load.specs.Adders.{adder_text}
@@ -50,7 +50,7 @@ of_kind output inputs (Some gate) = refl
 of_statement : (s : Statement) → list_all named_gate (part_of s) ≡ true
 of_statement (Input signal) = refl
 of_statement (Output signal) = refl
-of_statement (Gate output kind inputs) = of_kind output inputs (part_kind kind)
+of_statement (Gate output kind inputs) = of_kind output inputs (part_gate kind)
 
 of_statements : (statements : List Statement) → list_all named_gate (flat_map part_of statements) ≡ true
 of_statements [] = refl

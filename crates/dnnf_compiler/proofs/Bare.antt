@@ -1,6 +1,7 @@
 -- No constant is a child.
 use Rattle.std.proofs.Common.{◌≡◌, ◌≢◌, ℕ, zero, suc, ◌+◌, ◌<◌, Bool, true, false, ◌||◌, List, [], ◌∷◌, ◌++◌, map, length, Option, Some, None, All, refl, ap, sym, ◌∙◌, subst, arith, inl, inr, append_assoc}
 use Rattle.std.specs.Prelude.{slice_get, IfSome, Contains, ◌==◌, ◌⊎◌}
+use Rattle.std.proofs.Math.Bool.{or-false}
 use Rattle.std.proofs.lemmas.Bool.{eqb-true}
 use Rattle.std.proofs.lemmas.Option.{slice_get_within}
 use Rattle.graph_rules.specs.declared.NodeKind.{NodeKind}
@@ -114,10 +115,6 @@ first_bare vars nodes mid new a b is one e two f = λ parent child n kid there h
 
 -- ---- one of two
 
-or_false : (b : Bool) → (b || false) ≡ b
-or_false true = refl
-or_false false = refl
-
 module _ (m : Maker) (s : Stored) (first second node : ℕ) (is : IsMaker m) where
   abbrev either : Node
   either = record { what = Or; kids = first ∷ second ∷ [] }
@@ -132,7 +129,7 @@ module _ (m : Maker) (s : Stored) (first second node : ℕ) (is : IsMaker m) whe
         (bare_push m.store.vars m.store.nodes s.nodes either is.store.nodes makes.nodes is.bare (two_plain IsChild first second one two))
         (grows_by m.store.nodes s.nodes Or (first ∷ second ∷ []) node makes.nodes means) makes.vars (omega (arith, makes.made)) (omega (arith, makes.handed));
     within = slice_get_within s.nodes node either makes.there;
-    truth = λ a. means.truth a ∙ ap (λ b. is_true m.store.nodes first a || b) (or_false (is_true m.store.nodes second a));
+    truth = λ a. means.truth a ∙ ap (λ b. is_true m.store.nodes first a || b) (or-false (is_true m.store.nodes second a));
     variables = λ v no_first no_second. means.variables v ∙ (λ j. no_first j || (no_second j || false));
   }
 

@@ -1,6 +1,7 @@
 -- What is left of clauses, by the bit of the next variable.
 use Rattle.std.proofs.Common.{◌≡◌, ℕ, ◌+◌, ◌<◌, ◌≤◌, Bool, true, false, not, ◌&&◌, ◌||◌, List, [], ◌∷◌, map, length, refl, ap, sym, ◌∙◌, subst, arith}
 use Rattle.std.specs.Prelude.{◌==◌, nat_lt, slice_index}
+use Rattle.std.proofs.Math.Bool.{or-false, or-true}
 use Rattle.std.proofs.lemmas.Bool.{false≢true, eqb-true, eqb-false, lt-ltb, ltb-true, ltb-false, or_right}
 use Rattle.ranking.specs.Bits.{same_bit}
 use Rattle.ranking.specs.Assignments.{Assignment}
@@ -35,10 +36,7 @@ literal-next vs i v a u positive at = by (u == v) refl (nat_lt (place vs u) i) r
   by true e false f =
       let s : u ≡ v = eqb-true u v e in
       let below : place vs u < i + 1 = omega (arith, at.has, ap (place vs) s) in
-      (λ j. same_bit positive (a (s j))) ∙ sym (or_false (same_bit positive (a v))) ∙ (λ j. same_bit positive (a v) || (not (sym (lt-ltb (place vs u) (i + 1) below) j) && same_bit positive (a u))) where
-        or_false : (x : Bool) → (x || false) ≡ x
-        or_false true = refl
-        or_false false = refl
+      (λ j. same_bit positive (a (s j))) ∙ sym (or-false (same_bit positive (a v))) ∙ (λ j. same_bit positive (a v) || (not (sym (lt-ltb (place vs u) (i + 1) below) j) && same_bit positive (a u)))
   by false e true f =
       let g : place vs u < i = ltb-true _ _ f in
       (λ j. not (sym (lt-ltb (place vs u) (i + 1) (omega arith)) j) && same_bit positive (a u))
@@ -52,15 +50,8 @@ literal-next vs i v a u positive at = by (u == v) refl (nat_lt (place vs u) i) r
 
 join_or : (l t n h r : Bool) → l ≡ (t || n) → h ≡ (h || false) → (l || (h || r)) ≡ ((t || h) || (n || r))
 join_or l true n h r e f = ap (λ b. b || (h || r)) e
-join_or l false n true r e f = ap (λ b. b || true) e ∙ (always n) where
-  always : (b : Bool) → (b || true) ≡ true
-  always true = refl
-  always false = refl
+join_or l false n true r e f = ap (λ b. b || true) e ∙ or-true n
 join_or l false n false r e f = ap (λ b. b || r) e
-
-or_nothing : (b : Bool) → b ≡ (b || false)
-or_nothing true = refl
-or_nothing false = refl
 
 -- a clause holds by the next variable, or by the rest
 clause-next : (vs : List ℕ) (i v : ℕ) (a : Assignment) (clause : Clause) → IsAt vs i v → rest_holds vs i a clause ≡ (has_true v (a v) clause || rest_holds vs (i + 1) a clause)
@@ -68,7 +59,7 @@ clause-next vs i v a [] at = refl
 clause-next vs i v a (l ∷ clause) at =
     ap (λ b. (not (nat_lt (place vs (var_of l)) i) && same_bit (is_positive l) (a (var_of l))) || b) (clause-next vs i v a clause at)
     ∙ join_or (not (nat_lt (place vs (var_of l)) i) && same_bit (is_positive l) (a (var_of l))) (is_true_by v (a v) l) (not (nat_lt (place vs (var_of l)) (i + 1)) && same_bit (is_positive l) (a (var_of l)))
-    (has_true v (a v) clause) (rest_holds vs (i + 1) a clause) (literal-next vs i v a (var_of l) (is_positive l) at) (or_nothing (has_true v (a v) clause))
+    (has_true v (a v) clause) (rest_holds vs (i + 1) a clause) (literal-next vs i v a (var_of l) (is_positive l) at) (sym (or-false (has_true v (a v) clause)))
 
 one_clause : (b t r r' : Bool) → r ≡ (t || r') → (b && not r) ≡ ((b && not t) && not r')
 one_clause true true r r' e = ap not e

@@ -1,5 +1,6 @@
 -- What stays while nodes come.
-use Rattle.std.proofs.Common.{◌≡◌, ℕ, zero, suc, ◌<◌, Bool, true, false, ◌&&◌, ◌||◌, List, [], ◌∷◌, length, All, refl, ap, ◌∙◌, arith, inl, inr, length-append}
+use Rattle.std.proofs.Common.{ℕ, zero, suc, ◌<◌, Bool, false, ◌&&◌, ◌||◌, List, [], ◌∷◌, length, All, refl, ap, ◌∙◌, arith, inl, inr, length-append}
+use Rattle.std.proofs.Math.Bool.{and-true}
 use Rattle.std.proofs.lemmas.Option.{slice_get_within}
 use Rattle.graph_rules.specs.declared.NodeKind.TheVariants.{And}
 use Rattle.graph_rules.specs.declared.NodeKind.{NodeKind}
@@ -33,13 +34,10 @@ pub made_both : (old new : Stored) (literal node both : ℕ) → Makes old new A
 made_both old new literal node both makes means = record {
   grows = grows_by old.nodes new.nodes And (literal ∷ node ∷ []) both makes.nodes means;
   within = slice_get_within new.nodes both (record { what = And; kids = literal ∷ node ∷ [] }) makes.there;
-  truth = λ a. means.truth a ∙ ap (λ b. is_true old.nodes literal a && b) (and_true (is_true old.nodes node a));
+  truth = λ a. means.truth a ∙ ap (λ b. is_true old.nodes literal a && b) (and-true (is_true old.nodes node a));
   variables = λ v lit no. means.variables v ∙ (λ j. lit j || (no j || false));
   names = λ v lit. means.variables v ∙ ap (λ b. b || (mentions old.nodes v node || false)) lit;
-} where
-  and_true : (b : Bool) → (b && true) ≡ b
-  and_true true = refl
-  and_true false = refl
+}
 
 pub two_in : (nodes : List Node) (a b : ℕ) → a < length nodes → b < length nodes → All (λ k. k < length nodes) (a ∷ b ∷ [])
 two_in nodes a b h k zero d lt = h

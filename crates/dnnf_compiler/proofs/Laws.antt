@@ -7,7 +7,7 @@ use Rattle.graph_rules.specs.Graphs.{Graph, holds}
 use Rattle.device_model.specs.Devices.{Device, fits}
 use Rattle.clause_encoder.specs.Clauses.{ClauseList, all_hold}
 use Rattle.clause_encoder.specs.Encoding.{encoded, DescribesBy, Describes}
-use Rattle.clause_encoder.proofs.Settled.{any-same}
+use Rattle.ranking.proofs.Members.{any_same}
 use Rattle.clause_encoder.proofs.Sizes.{encoded-is}
 use Rattle.dnnf_compiler.specs.Compiled.{SaysAll}
 use Rattle.graph_rules.specs.GraphsOver.{IsGraphOver}
@@ -18,8 +18,8 @@ pub graph_over : (parts wires : ℕ) (fits_by : List Bool → List Bool → Bool
 graph_over parts wires fits_by cnf graph enough describes vars says = record {
   room = omega (arith, vars, enough);
   meaning = λ state bits states all.
-      any-same (λ inner. holds graph (state ++ bits ++ inner)) (λ inner. all_hold (assignment (state ++ bits ++ inner)) cnf.clauses)
-      (lists_of_bits (graph.vars - (length state + length bits))) (λ inner. says (assignment (state ++ bits ++ inner)))
+      any_same (λ inner. holds graph (state ++ bits ++ inner)) (λ inner. all_hold (assignment (state ++ bits ++ inner)) cnf.clauses)
+      (lists_of_bits (graph.vars - (length state + length bits))) (λ inner _. says (assignment (state ++ bits ++ inner)))
       ∙ (λ j. list_any (λ inner. all_hold (assignment (state ++ bits ++ inner)) cnf.clauses) (lists_of_bits (vars j - (states j + all j))))
       ∙ describes state bits states all;
 }

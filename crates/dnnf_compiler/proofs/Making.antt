@@ -2,6 +2,7 @@
 use Rattle.std.proofs.Common.{◌≡◌, ℕ, zero, suc, ◌+◌, ◌<◌, ◌≤◌, Bool, true, false, ◌&&◌, ◌||◌, List, [], ◌∷◌, ◌++◌, length, Some, None, Option, refl, ap, sym, ◌∙◌, subst, arith, inl, inr}
 use Rattle.std.specs.Prelude.{slice_get, slice_index, IfSome, ◌==◌, ◌⊎◌}
 use Rattle.std.proofs.lemmas.Option.{slice_get_within}
+use Rattle.std.proofs.Math.Bool.{or-false}
 use Rattle.std.proofs.lemmas.Bool.{eqb-true, eq-eqb}
 use Rattle.ranking.specs.Bits.{same_bit}
 use Rattle.ranking.specs.Assignments.{Assignment}
@@ -92,10 +93,6 @@ node_in nodes var below (Some place) free h = (free place (slice_index below pla
 
 -- ---- one bit
 
-or_nothing : (b : Bool) → b ≡ (b || false)
-or_nothing true = refl
-or_nothing false = refl
-
 pub eqb-same : (n : ℕ) → (n == n) ≡ true
 eqb-same n = eq-eqb n n refl
 
@@ -131,7 +128,7 @@ both_apart nodes var below place literal free low lit v = by (var == v) refl whe
 
 either : (x : Bool) (may : Bool → Bool) → ((same_bit false x && may false) || (same_bit true x && may true)) ≡ may x
 either true may = refl
-either false may = sym (or_nothing (may false))
+either false may = or-false (may false)
 
 pub make_one : (old mid most new : Maker) (var : ℕ) (below : List ℕ) (fork : Fork) (first second : Option ℕ) (node : ℕ) → AreFree old.store.nodes var below → IfSome fork.one (λ place. place < length below)
     → IsBranch old mid var false below fork.zero first → IsBranch mid most var true below fork.one second → IsJoin most new first second node → IsMade old new var below fork node

@@ -10,10 +10,11 @@ use Rattle.std.proofs.lemmas.Option.{slice_get-map, slice_get_within, slice_get-
 use Rattle.graph_rules.specs.Graphs.{Node}
 use Rattle.ranking.specs.Assignments.{Assignment}
 use Rattle.clause_encoder.specs.Clauses.{Clause, ClauseList, is_clause_list}
+use Rattle.ranking.proofs.Lists.{range_more}
 use Rattle.branch_states.specs.Branches.{order, place, branch, left, living, size, weight, sum_of}
 use Rattle.branch_states.specs.declared.forks.Fork.{Fork}
 use Rattle.branch_states.specs.Forks.{leads_to, fork_of, forks_of, sum_to}
-use Rattle.branch_states.proofs.Counting.{range-more, sum-more, sum-fewer, first-living, living-there}
+use Rattle.branch_states.proofs.Counting.{sum-more, sum-fewer, first-living, living-there}
 use Rattle.branch_states.proofs.Laws.{leads-some, leads-none}
 use Rattle.dnnf_compiler.specs.declared.maker.Maker.{Maker}
 use Rattle.dnnf_compiler.specs.inner.Joining.{IsConstant}
@@ -120,10 +121,8 @@ sum_below clauses = sum-fewer clauses (length (order clauses)) 1
 -- the forks of one level more
 pub forks_more : (clauses : List Clause) (k : ℕ) → map (forks_of clauses) (range_with_len 0 (k + 1)) ≡ map (forks_of clauses) (range_with_len 0 k) ++ forks_of clauses k ∷ []
 forks_more clauses k =
-    let next : k + 1 ≡ suc k = omega arith in
     let at : 0 + k ≡ k = omega arith in
-    ap (λ n. map (forks_of clauses) (range_with_len 0 n)) next
-    ∙ ap (map (forks_of clauses)) (range-more 0 k)
+    ap (map (forks_of clauses)) (range_more 0 k)
     ∙ map-append (forks_of clauses) (range_with_len 0 k) ((0 + k) ∷ [])
     ∙ ap (λ n. map (forks_of clauses) (range_with_len 0 k) ++ forks_of clauses n ∷ []) at
 

@@ -1,6 +1,7 @@
 -- A set to which one part after the other is added that is free.
 use Rattle.std.proofs.Common.{◌≡◌, ℕ, ◌+◌, ◌-◌, ◌*◌, ◌<◌, ◌≤◌, Bool, true, false, not, ◌&&◌, ◌||◌, List, length, get_or, refl, ap, sym, ◌∙◌, subst, arith, inl, inr, ⊎_elim}
 use Rattle.std.specs.Prelude.{◌⊎◌, ◌==◌, nat_le}
+use Rattle.std.proofs.Math.Bool.{and-true, and-false, or-false}
 use Rattle.std.proofs.lemmas.Bool.{cases_lt, and_parts, and_from, or_cases, or_left, or_right, leb-true, le-leb, lt-leb, lt-ltb, eqb-true, eq-eqb, ne_eqb, not-true}
 use Rattle.ranking.specs.Assignments.{Assignment}
 use Rattle.part_sets.specs.Numbers.{has_number}
@@ -25,11 +26,7 @@ module _ (parts : ℕ) (some more : ℕ → Bool) (within : (v : ℕ) → some v
     (wider : (x y : ℕ → Bool) → ((v : ℕ) → x v ≡ true → y v ≡ true) → ((v : ℕ) → 1 ≤ v → v < 1 + parts → x v ≡ y v) → Is x → Is y) where
   pub start_none : Is some → Is (grown some more 0)
   start_none is = wider some (grown some more 0) (λ v e. or_left _ _ e)
-      (λ v l m. sym (none (some v) (more v) (nat_le v 0) (lt-leb v 0 l))) is where
-        none : (x y z : Bool) → z ≡ false → (x || (y && z)) ≡ x
-        none true y z e = refl
-        none false true z e = e
-        none false false z e = refl
+      (λ v l m. sym (ap (λ b. some v || (more v && b)) (lt-leb v 0 l) ∙ ap (λ b. some v || b) (and-false (more v)) ∙ or-false (some v))) is
 
   -- all of them
   pub end_all : (n : ℕ) → parts ≤ n → Is (grown some more n) → Is more
@@ -87,25 +84,20 @@ module _ (parts : ℕ) (some more : ℕ → Bool) (within : (v : ℕ) → some v
           at_part : (v : ℕ) → more (p + 1) ≡ true → p + 1 ≡ v → (more v && nat_le v (p + 1)) ≡ true
           at_part v m e = and_from (more v) (nat_le v (p + 1)) (ap more (sym e) ∙ m) (le-leb v (p + 1) (omega arith))
 
-          or-false : (x y : Bool) → y ≡ false → (x || y) ≡ x
-          or-false true y e = refl
-          or-false false y e = e
-
-          or-true : (x y : Bool) → y ≡ true → (x || y) ≡ true
-          or-true true y e = refl
-          or-true false y e = e
+          other : (v : ℕ) → (p + 1 ≡ v → ⊥) → (grown some more p v || (p + 1 == v)) ≡ grown some more p v
+          other v d = ap (λ b. grown some more p v || b) (ne_eqb (p + 1) v d) ∙ or-false (grown some more p v)
 
           by_place : (v : ℕ) → more (p + 1) ≡ true → (v < p + 1) ⊎ (p + 1 ≤ v) → (p + 1 < v) ⊎ (v ≤ p + 1) → (grown some more p v || (p + 1 == v)) ≡ grown some more (p + 1) v
           by_place v m (inl a) b =
-              or-false (grown some more p v) (p + 1 == v) (ne_eqb (p + 1) v (λ e. absurd (omega arith)))
+              other v (λ e. omega arith)
               ∙ ap (λ b. some v || (more v && b)) (le-leb v p (omega arith) ∙ sym (le-leb v (p + 1) (omega arith)))
           by_place v m (inr a) (inl b) =
-              or-false (grown some more p v) (p + 1 == v) (ne_eqb (p + 1) v (λ e. absurd (omega arith)))
+              other v (λ e. omega arith)
               ∙ ap (λ b. some v || (more v && b)) (lt-leb v p (omega arith) ∙ sym (lt-leb v (p + 1) b))
           by_place v m (inr a) (inr b) =
               let same : p + 1 ≡ v = omega arith in
-              or-true (grown some more p v) (p + 1 == v) (eq-eqb (p + 1) v same)
-              ∙ sym (or-true (some v) (more v && nat_le v (p + 1)) (at_part v m same))
+              or_right (grown some more p v) (p + 1 == v) (eq-eqb (p + 1) v same)
+              ∙ sym (or_right (some v) (more v && nat_le v (p + 1)) (at_part v m same))
 
 -- sets of costs
 module _ (words costs : List ℕ) (test : Assignment → Bool) (some more : ℕ → Bool) (within : (v : ℕ) → some v ≡ true → more v ≡ true) where
@@ -154,19 +146,12 @@ module _ (words costs : List ℕ) (top step : ℕ) (group : ℕ → ℕ → Bool
     -- the part does not stand among those before it
     pub pair_apart : (p : ℕ) (pair : Pair) → p < length costs → is_missing outer inner p ≡ true → (v : ℕ) → (grown some more p v && (p + 1 == v)) ≡ false
     pair_apart p pair lt miss v = by_test (p + 1 == v) refl where
-      none : (b : Bool) → (b && false) ≡ false
-      none true = refl
-      none false = refl
-
       by_test : (b : Bool) → (p + 1 == v) ≡ b → (grown some more p v && b) ≡ false
       by_test true e = ap (λ w. grown some more p w && true) (sym (eqb-true (p + 1) v e)) ∙ ap (λ b. b && true) (not_yet (length costs) some more within (Told pair) (pair_wider pair) outer inner on_inner on_outer p lt miss)
-      by_test false e = none (grown some more p v)
+      by_test false e = and-false (grown some more p v)
 
     pub pair_more : (p : ℕ) (pair : Pair) → p < length costs → is_missing outer inner p ≡ true → Tells words costs top step group (λ a. test a && true) (λ v. grown some more p v || (p + 1 == v)) pair
         → Tells words costs top step group test (grown some more (p + 1)) pair
     pair_more p pair lt miss is =
         next_more (length costs) some more within (Told pair) (pair_wider pair) outer inner on_inner on_outer p lt miss
-        (tells_same words costs top step group (λ a. test a && true) test _ _ pair on_parts (λ a. both (test a)) (λ v e. e) (λ v l m. refl) is) where
-          both : (b : Bool) → (b && true) ≡ b
-          both true = refl
-          both false = refl
+        (tells_same words costs top step group (λ a. test a && true) test _ _ pair on_parts (λ a. and-true (test a)) (λ v e. e) (λ v l m. refl) is)

@@ -3,6 +3,7 @@ use Rattle.std.proofs.Common.{◌≡◌, ℕ, suc, ◌+◌, ◌*◌, ◌/◌, �
 use Rattle.std.specs.Prelude.{◌==◌, nat_lt}
 use Rattle.std.specs.List.{list_any}
 use Rattle.std.specs.Int.{bit_at}
+use Rattle.std.proofs.Math.Bool.{and-false, or-false}
 use Rattle.std.proofs.lemmas.Bool.{cases_lt, cases_eq, lt-ltb, le-ltb, eq-eqb, ne_eqb}
 use Rattle.std.proofs.lemmas.List.{take_more, get_or-set_same, get_or-set_other}
 use Rattle.graph_rules.specs.declared.NodeKind.TheVariants.{Literal}
@@ -20,10 +21,6 @@ use Rattle.part_sets.proofs.Stacks.{set_at-front, set_at-here}
 
 pub added_one : (xs : List ℕ) (number n : ℕ) → number / 32 < length xs → has_number (set xs (number / 32) (bit_or (get_or xs (number / 32) 0) (1 * 2 ^ (number % 32) % 4294967296))) n ≡ (has_number xs n || (n == number))
 added_one xs number n h = ⊎_elim (λ e. here e) (λ ne. there ne) (cases_eq (n / 32) (number / 32)) where
-  or-none : (x y : Bool) → y ≡ false → (x || y) ≡ x
-  or-none true y e = refl
-  or-none false y e = e
-
   here : n / 32 ≡ number / 32 → has_number (set xs (number / 32) (bit_or (get_or xs (number / 32) 0) (1 * 2 ^ (number % 32) % 4294967296))) n ≡ (has_number xs n || (n == number))
   here e =
       let at : get_or (set xs (number / 32) (bit_or (get_or xs (number / 32) 0) (1 * 2 ^ (number % 32) % 4294967296))) (n / 32) 0 ≡ bit_or (get_or xs (n / 32) 0) (1 * 2 ^ (number % 32) % 4294967296) =
@@ -34,7 +31,7 @@ added_one xs number n h = ⊎_elim (λ e. here e) (λ ne. there ne) (cases_eq (n
 
   there : (n / 32 ≡ number / 32 → ⊥) → has_number (set xs (number / 32) (bit_or (get_or xs (number / 32) 0) (1 * 2 ^ (number % 32) % 4294967296))) n ≡ (has_number xs n || (n == number))
   there ne = ap (λ w. bit_at w (n % 32) == 1) (get_or-set_other xs (number / 32) (n / 32) _ 0 ne)
-      ∙ sym (or-none (has_number xs n) (n == number) (ne_eqb n number (λ q. ne (ap (λ m. m / 32) q))))
+      ∙ sym (ap (λ b. has_number xs n || b) (ne_eqb n number (λ q. ne (ap (λ m. m / 32) q))) ∙ or-false (has_number xs n))
 
 pub every_more : (xs new : List ℕ) (number : ℕ) → ((n : ℕ) → has_number xs n ≡ nat_lt n number) → ((n : ℕ) → has_number new n ≡ (has_number xs n || (n == number))) → (n : ℕ) → has_number new n ≡ nat_lt n (number + 1)
 every_more xs new number are added n = added n ∙ ap (λ b. b || (n == number)) (are n) ∙ ⊎_elim
@@ -73,10 +70,7 @@ parts_from parts set some long are n = ⊎_elim (λ p. are n p) (λ p. past part
 -- what is below one of the kids
 any_below : (graph : Graph) (parts at n : ℕ) (sets kids : List ℕ) → ArePartsBelow graph parts sets at → ((j : ℕ) → j < length kids → get_or kids j 0 < at)
     → one_has sets (part_words parts) n kids ≡ (nat_lt n parts && list_any (λ b. b) (map (mentions graph.nodes (n + 1)) kids))
-any_below graph parts at n sets [] are below = none (nat_lt n parts) where
-  none : (x : Bool) → false ≡ (x && false)
-  none true = refl
-  none false = refl
+any_below graph parts at n sets [] are below = sym (and-false (nat_lt n parts))
 any_below graph parts at n sets (k ∷ kids) are below =
     (λ i. are k (below 0 (omega arith)) n i || any_below graph parts at n sets kids are (λ j lt. below (suc j) (omega arith)) i)
     ∙ both (nat_lt n parts) (mentions graph.nodes (n + 1) k) (list_any (λ b. b) (map (mentions graph.nodes (n + 1)) kids)) where

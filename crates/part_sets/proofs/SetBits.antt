@@ -1,7 +1,8 @@
 -- The bits of words, and the numbers in sets.
-use Rattle.std.proofs.Common.{◌≡◌, ℕ, ◌+◌, ◌*◌, ◌/◌, ◌%◌, ◌^◌, ◌<◌, ◌≤◌, Bool, true, false, ◌&&◌, ◌||◌, List, length, get_or, set, refl, ap, sym, ◌∙◌, arith, ⊎_elim, bit_or}
+use Rattle.std.proofs.Common.{◌≡◌, ℕ, ◌+◌, ◌*◌, ◌/◌, ◌%◌, ◌^◌, ◌<◌, ◌≤◌, Bool, true, false, ◌&&◌, ◌||◌, List, length, get_or, set, ap, sym, ◌∙◌, arith, ⊎_elim, bit_or}
 use Rattle.std.specs.Prelude.{◌==◌, nat_lt}
 use Rattle.std.specs.Int.{bit_at}
+use Rattle.std.proofs.Math.Bool.{or-false}
 use Rattle.std.proofs.lemmas.Nat.Bits.{bit_at-zero}
 use Rattle.std.proofs.lemmas.Bool.{cases_eq, cases_lt, lt-ltb, le-ltb, eq-eqb, ne_eqb, false≢true}
 use Rattle.std.proofs.lemmas.List.{get_or-set_same, get_or-set_other, get_or_past}
@@ -44,10 +45,7 @@ abbrev pub AreAdded : List ℕ → (ℕ → Bool) → ℕ → List ℕ → Type 
 AreAdded old f i new = (n : ℕ) → has_number new n ≡ (has_number old n || (nat_lt (n / 32) i && f n))
 
 pub added_none : (old : List ℕ) (f : ℕ → Bool) → AreAdded old f 0 old
-added_none old f n = sym (or-none (has_number old n) (ap (λ b. b && f n) (le-ltb (n / 32) 0 (omega arith)))) where
-  or-none : (x : Bool) {y : Bool} → y ≡ false → (x || y) ≡ x
-  or-none true e = refl
-  or-none false e = e
+added_none old f n = sym (ap (λ b. has_number old n || (b && f n)) (le-ltb (n / 32) 0 (omega arith)) ∙ or-false (has_number old n))
 
 pub added_more : (old xs : List ℕ) (f : ℕ → Bool) (i word : ℕ) → i < length xs → AreAdded old f i xs → ((n : ℕ) → n / 32 ≡ i → (bit_at word (n % 32) == 1) ≡ f n)
     → AreAdded old f (i + 1) (set xs i (bit_or (get_or xs i 0) word))
@@ -59,13 +57,10 @@ added_more old xs f i word h are is n = ⊎_elim (λ e. here e) (λ ne. there ne
   here e =
       let at : get_or (set xs i (bit_or (get_or xs i 0) word)) (n / 32) 0 ≡ bit_or (get_or xs (n / 32) 0) word =
       ap (λ k. get_or (set xs i (bit_or (get_or xs i 0) word)) k 0) e ∙ get_or-set_same xs i _ 0 h ∙ ap (λ k. bit_or (get_or xs k 0) word) (sym e) in
-      let was : has_number xs n ≡ has_number old n = are n ∙ or-none (has_number old n) (ap (λ b. b && f n) (le-ltb (n / 32) i (omega arith))) in
+      let was : has_number xs n ≡ has_number old n = are n ∙ ap (λ b. has_number old n || (b && f n)) (le-ltb (n / 32) i (omega arith)) ∙ or-false (has_number old n) in
       ap (λ w. bit_at w (n % 32) == 1) at ∙ has_bit-or (get_or xs (n / 32) 0) word (n % 32)
       ∙ (λ j. was j || is n e j)
-      ∙ ap (λ b. has_number old n || (b && f n)) (sym (lt-ltb (n / 32) (i + 1) (omega arith))) where
-        or-none : (x : Bool) {y : Bool} → y ≡ false → (x || y) ≡ x
-        or-none true e = refl
-        or-none false e = e
+      ∙ ap (λ b. has_number old n || (b && f n)) (sym (lt-ltb (n / 32) (i + 1) (omega arith)))
 
   there : (n / 32 ≡ i → ⊥) → has_number (set xs i (bit_or (get_or xs i 0) word)) n ≡ (has_number old n || (nat_lt (n / 32) (i + 1) && f n))
   there ne = ap (λ w. bit_at w (n % 32) == 1) (get_or-set_other xs i (n / 32) _ 0 ne) ∙ are n

@@ -64,6 +64,10 @@ bit_in-map f (x ∷ xs) (suc n) (suc i) lt h = bit_in-map f xs n i (omega arith)
 
 -- ---- a list of bits as a number
 
+-- half of a number has one bit less
+pub half-below : (r n : ℕ) → r < 2 ^ suc n → r / 2 < 2 ^ n
+half-below r n h = omega arith
+
 pub row_number-half : (b : Bool) (n : ℕ) → (number_of_bit b + 2 * n) / 2 ≡ n
 row_number-half true n = omega arith
 row_number-half false n = omega arith

@@ -12,6 +12,7 @@ use Rattle.std.proofs.lemmas.List.Elements.{filter-append}
 use lib.Count.{ones_step}
 use Rattle.graph_rules.specs.Graphs.{mentions}
 use Rattle.scratch_pool.proofs.Counted.{block-below}
+use Rattle.ranking.proofs.Bits.{half-below}
 use Rattle.ranking.proofs.Members.{filter_same}
 use Rattle.ranking.proofs.Lists.{length-filter-le}
 use Rattle.graph_rules.specs.inner.WordBits.{has_bit}
@@ -58,11 +59,9 @@ ones-from (suc d) n s h =
     let here : s - s ≡ 0 = omega arith in
     let bit : has_bit n (s - s) ≡ (n % 2 == 1) = ap (has_bit n) here ∙ ap (λ k. k == 1) (bit_at_lowest n) in
     let rest : List ℕ = filter (λ p. has_bit n (p - s)) (range_with_len (s + 1) d) in
-    let half : n / 2 < 2 ^ d = half_below n d h in
+    let half : n / 2 < 2 ^ d = half-below n d h in
     ones_step n ∙ ap (λ k. n % 2 + k) (ones-from d (n / 2) (s + 1) half ∙ ap length (filter-later n s d))
-    ∙ sym (low-bit n rest s) ∙ ap (λ b. length (cond b (s ∷ rest) rest)) (sym bit) where
-      half_below : (n d : ℕ) → n < 2 ^ suc d → n / 2 < 2 ^ d
-      half_below n d h = let e : 2 ^ suc d ≡ 2 * 2 ^ d = grind arith in omega arith
+    ∙ sym (low-bit n rest s) ∙ ap (λ b. length (cond b (s ∷ rest) rest)) (sym bit)
 
 pub ones-parts : (word bits : ℕ) → bits < 2 ^ 32 → count_ones bits ≡ length (word_parts word bits)
 ones-parts word bits h = ones-from 32 bits (32 * word + 1) h

@@ -4,7 +4,8 @@ use Rattle.branch_states.specs.declared.walk.Entry.{Entry}
 use Rattle.branch_states.specs.declared.walk.Event.{Event}
 use Rattle.branch_states.specs.Branches.{words_of, bits_of, some_passes}
 use Rattle.branch_states.specs.inner.Steps.{was_open, goes_on, still_left, plain, spread}
-use Rattle.branch_states.proofs.Walking.{Gone, gone-run, gone-on, gone-off, gone-dead, spread-at, spread-more, spread-all, run-room, event-room, rest-room, count-few, byte-few}
+use Rattle.ranking.proofs.Lists.{length-filter-le}
+use Rattle.branch_states.proofs.Walking.{Gone, gone-run, gone-on, gone-off, gone-dead, spread-at, spread-more, spread-all, run-room, event-room, rest-room, byte-few}
 use Rattle.branch_states.proofs.walk.walk_on.Goals as goal
 use Rattle.branch_states.proofs.walk.walk_on.Goals.{then-not-entry, else-not-entry+else-left, After-copy_bits, After-copy_bits-2}
 
@@ -27,8 +28,8 @@ copy_bits-requires c =
     let k = c.loop-event.event-index in
     let read = run-room was_open es c.args.rest k default refl c.loop-event-test.true in
     let written = run-room goes_on es c.args.rest k default refl c.loop-event-test.true in
-    let few_read = count-few was_open (spread es c.args.rest) in
-    let few_written = count-few goes_on (spread es c.args.rest) in
+    let few_read = length-filter-le was_open (spread es c.args.rest) in
+    let few_written = length-filter-le goes_on (spread es c.args.rest) in
     let same : length c.loop-event.next ≡ length c.args.next.now = omega arith in
     record {
       from = omega (arith, c.loop-event.invariant.reads);
@@ -81,16 +82,16 @@ loop-event-preserved c =
 -- ---- the sums fit
 
 pub overflow_add-read : goal.overflow_add-read
-overflow_add-read c = omega (arith, c.loop-event.invariant.reads, run-room was_open c.args.events.now c.args.rest c.loop-event.event-index default refl c.loop-event-test.true, count-few was_open (spread c.args.events.now c.args.rest), c.requires.few)
+overflow_add-read c = omega (arith, c.loop-event.invariant.reads, run-room was_open c.args.events.now c.args.rest c.loop-event.event-index default refl c.loop-event-test.true, length-filter-le was_open (spread c.args.events.now c.args.rest), c.requires.few)
 
 pub overflow_add-written : goal.overflow_add-written
-overflow_add-written c = omega (arith, c.loop-event.invariant.writes, run-room goes_on c.args.events.now c.args.rest c.loop-event.event-index default refl c.loop-event-test.true, count-few goes_on (spread c.args.events.now c.args.rest), c.requires.few)
+overflow_add-written c = omega (arith, c.loop-event.invariant.writes, run-room goes_on c.args.events.now c.args.rest c.loop-event.event-index default refl c.loop-event-test.true, length-filter-le goes_on (spread c.args.events.now c.args.rest), c.requires.few)
 
 pub overflow_add-read-in-loop-event : goal.overflow_add-read-in-loop-event
-overflow_add-read-in-loop-event c = omega (arith, c.loop-event.invariant.reads, c.from-read.ensures, byte-few (not (get_or c.args.events.now c.loop-event.event-index default).entry.is_new), run-room was_open c.args.events.now c.args.rest c.loop-event.event-index default refl c.loop-event-test.true, count-few was_open (spread c.args.events.now c.args.rest), c.requires.few)
+overflow_add-read-in-loop-event c = omega (arith, c.loop-event.invariant.reads, c.from-read.ensures, byte-few (not (get_or c.args.events.now c.loop-event.event-index default).entry.is_new), run-room was_open c.args.events.now c.args.rest c.loop-event.event-index default refl c.loop-event-test.true, length-filter-le was_open (spread c.args.events.now c.args.rest), c.requires.few)
 
 pub overflow_add-written-then-not-entry : goal.overflow_add-written-then-not-entry
-overflow_add-written-then-not-entry c = omega (arith, c.loop-event.invariant.writes, run-room goes_on c.args.events.now c.args.rest c.loop-event.event-index default refl c.loop-event-test.true, count-few goes_on (spread c.args.events.now c.args.rest), c.requires.few)
+overflow_add-written-then-not-entry c = omega (arith, c.loop-event.invariant.writes, run-room goes_on c.args.events.now c.args.rest c.loop-event.event-index default refl c.loop-event-test.true, length-filter-le goes_on (spread c.args.events.now c.args.rest), c.requires.few)
 
 -- ---- behind the last event
 
@@ -100,8 +101,8 @@ copy_bits-requires-2 c =
     let k = c.loop-event.event-index in
     let read = rest-room was_open es c.args.rest k refl c.loop-event-test.false in
     let written = rest-room goes_on es c.args.rest k refl c.loop-event-test.false in
-    let few_read = count-few was_open (spread es c.args.rest) in
-    let few_written = count-few goes_on (spread es c.args.rest) in
+    let few_read = length-filter-le was_open (spread es c.args.rest) in
+    let few_written = length-filter-le goes_on (spread es c.args.rest) in
     let same : length c.loop-event.next ≡ length c.args.next.now = omega arith in
     record {
       from = omega (arith, c.loop-event.invariant.reads);

@@ -1,7 +1,8 @@
 use Rattle.std.proofs.Common.{◌≤◌, ◌/◌, ◌+◌, [], length, get_or, ap, ◌∙◌, arith}
 use Rattle.branch_states.specs.Branches.{order, size, Standing}
 use Rattle.branch_states.specs.inner.Steps.{was_open}
-use Rattle.branch_states.proofs.Walking.{kept-open, kept-few, count-few}
+use Rattle.ranking.proofs.Lists.{length-filter-le}
+use Rattle.branch_states.proofs.Walking.{kept-open, kept-few}
 use Rattle.branch_states.proofs.branches.Branches.after.Goals as goal
 use Rattle.branch_states.proofs.branches.Branches.after.Goals.{After-self}
 
@@ -18,7 +19,7 @@ words_for-requires c =
     omega (
       arith,
       c.opened.ensures,
-      count-few was_open (get_or b.walks (b.level + 1) []),
+      length-filter-le was_open (get_or b.walks (b.level + 1) []),
       kept-few b.cnf.now b.level b.variables.items b.walks c.self.invariant (b.level + 1) (low (goal.at.words_for-requires c).After-self),
     )
 

@@ -1,7 +1,8 @@
 use Rattle.std.proofs.Common.{◌/◌, ◌+◌, [], get_or, ap, ◌∙◌, arith}
 use Rattle.branch_states.specs.Branches.{size}
 use Rattle.branch_states.specs.inner.Steps.{was_open}
-use Rattle.branch_states.proofs.Walking.{kept-open, kept-few, count-few}
+use Rattle.ranking.proofs.Lists.{length-filter-le}
+use Rattle.branch_states.proofs.Walking.{kept-open, kept-few}
 use Rattle.branch_states.proofs.branches.Branches.words.Goals as goal
 
 pub words_for-requires : goal.words_for-requires
@@ -10,7 +11,7 @@ words_for-requires c =
     omega (
       arith,
       c.opened.ensures,
-      count-few was_open (get_or b.walks b.level []),
+      length-filter-le was_open (get_or b.walks b.level []),
       kept-few b.cnf.now b.level b.variables.items b.walks c.self.invariant b.level c.self.invariant.within,
     )
 

@@ -5,7 +5,7 @@ use Rattle.text_rules.specs.declared.text_lines.TheConstants.{TEXT_LIMIT}
 use Rattle.text_rules.specs.Tokens.{spaced}
 use Rattle.graph_rules.specs.declared.TheConstants.{BITS_LIMIT}
 use Rattle.graph_rules.specs.Graphs.{Graph}
-use Rattle.graph_rules.specs.GraphTexts.{Refusal, NoHeader, AtLine, Counts, TooLarge, Shared, edges, verdict}
+use Rattle.graph_rules.specs.GraphTexts.{Refusal, NoHeader, AtLine, Counts, TooLarge, Shared, edges, read_graph}
 use Rattle.device_files.specs.declared.status.Status.TheVariants.{Done, Refused}
 use Rattle.device_files.specs.Output.{Output, says, told_or_refused}
 use Rattle.device_files.specs.declared.graph_fault.GraphFault.{GraphFault}
@@ -28,7 +28,7 @@ graph_fault_line (Shared node variable) = text_fault_line faults.Shared (codes "
 
 -- the graph of a file, which may be too long, or the output that refuses it
 abbrev pub graph_in : List ℕ → Result Graph Output
-graph_in file = if nat_le (length file) TEXT_LIMIT then or_line graph_fault_line (verdict file) else Err (says long_file_line Refused)
+graph_in file = if nat_le (length file) TEXT_LIMIT then or_line graph_fault_line (read_graph file) else Err (says long_file_line Refused)
 
 -- the line that tells a decomposable graph: how many nodes, children and variables it has
 abbrev pub decomposable_line : Graph → List ℕ

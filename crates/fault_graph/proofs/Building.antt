@@ -28,7 +28,7 @@ use Rattle.minimiser.proofs.Derivations.{is_cost, mention-at, costs-at, below, a
 use Rattle.minimiser.proofs.Sweeping.{node_least, sum-kid, kid-in, kid-out, kid_before, value-is, root-low, cost_in-is}
 use Rattle.fault_graph.specs.Small.{HasParent, Joins}
 use Rattle.fault_graph.specs.inner.Marks.{HasMarkedParent, AreMarks}
-use Rattle.fault_graph.specs.inner.Rows.{keeps, row_of, Adds, root_node}
+use Rattle.fault_graph.specs.inner.Rows.{keeps, kept_kids, Adds, root_node}
 use Rattle.fault_graph.proofs.Standing.{StandsFor, StandsFor-same}
 use Rattle.fault_graph.proofs.Kin.{KidsStand, node-stands, narrower-any, narrower-apart}
 use Rattle.fault_graph.proofs.Placing.{faults_in-all}
@@ -38,7 +38,7 @@ use Rattle.fault_graph.proofs.Roots.{IsWhole, whole}
 
 -- ---- lists
 
-row-le : (values places : List ℕ) (cost : ℕ) (kids : List ℕ) → length (row_of values places cost kids) ≤ length kids
+row-le : (values places : List ℕ) (cost : ℕ) (kids : List ℕ) → length (kept_kids values places cost kids) ≤ length kids
 row-le values places cost kids = omega (arith, length-map (filter (keeps values cost) kids) (λ k. get_or places k 0), length-filter-le (keeps values cost) kids)
 
 empty : (xs : List ℕ) → length xs ≤ 0 → xs ≡ []
@@ -69,12 +69,12 @@ row-below keep place own (j ∷ kids) h = by_first (keep j) refl (row-below keep
   by_first true k more = and_from _ _ (lt-ltb (place j) own (h j (inl refl) k)) more
   by_first false k more = more
 
-row-kind : (vars : ℕ) (values places : List ℕ) (cost : ℕ) (what : NodeKind) (kids : List ℕ) → kind_fits vars what kids ≡ true → kind_fits vars what (row_of values places cost kids) ≡ true
+row-kind : (vars : ℕ) (values places : List ℕ) (cost : ℕ) (what : NodeKind) (kids : List ℕ) → kind_fits vars what kids ≡ true → kind_fits vars what (kept_kids values places cost kids) ≡ true
 row-kind vars values places cost (Literal positive var) kids fit =
     let alone : kids ≡ [] = (literal vars var positive kids fit).alone in
-    subst (λ ks. kind_fits vars (Literal positive var) (row_of values places cost ks) ≡ true) (sym alone) (subst (λ ks. kind_fits vars (Literal positive var) ks ≡ true) alone fit)
-row-kind vars values places cost And kids fit = lt-ltb (length (row_of values places cost kids)) 4294967296 (omega (arith, row-le values places cost kids, ltb-true (length kids) 4294967296 fit))
-row-kind vars values places cost Or kids fit = lt-ltb (length (row_of values places cost kids)) 4294967296 (omega (arith, row-le values places cost kids, ltb-true (length kids) 4294967296 fit))
+    subst (λ ks. kind_fits vars (Literal positive var) (kept_kids values places cost ks) ≡ true) (sym alone) (subst (λ ks. kind_fits vars (Literal positive var) ks ≡ true) alone fit)
+row-kind vars values places cost And kids fit = lt-ltb (length (kept_kids values places cost kids)) 4294967296 (omega (arith, row-le values places cost kids, ltb-true (length kids) 4294967296 fit))
+row-kind vars values places cost Or kids fit = lt-ltb (length (kept_kids values places cost kids)) 4294967296 (omega (arith, row-le values places cost kids, ltb-true (length kids) 4294967296 fit))
 
 keeps-out : (values : List ℕ) (cost j : ℕ) → keeps values cost j ≡ true → (0 < get_or values j 0) × (get_or values j 0 ≤ cost)
 keeps-out values cost j e = (ltb-true 0 (get_or values j 0) (and_left _ _ e), leb-true _ _ (and_right (nat_lt 0 (get_or values j 0)) _ e))
@@ -170,7 +170,7 @@ module _ (graph : Graph) (words costs : List ℕ) (ok : IsGraph graph) (long : l
     place j = get_or places j 0
 
     abbrev row : List ℕ
-    row = row_of values places c kids
+    row = kept_kids values places c kids
 
     node-mark : get_or marks at 0 ≡ 1
     node-mark = sym (is.ahead at (omega arith)) ∙ mark
@@ -249,7 +249,7 @@ module _ (graph : Graph) (words costs : List ℕ) (ok : IsGraph graph) (long : l
       no-literal : (var : ℕ) (positive : Bool) → slice_get graph.nodes at ≡ Some (record { what = Literal positive var; kids = kids }) → ⊥
       no-literal var positive f =
           let alone : kids ≡ [] = (literal graph.vars var positive kids (fits-get graph.vars graph.nodes at _ ok.nodes.fit f).kind).alone in
-          absurd (let none : [] ≡ p ∷ [] = sym (ap (row_of values places c) alone) ∙ one in cc)
+          absurd (let none : [] ≡ p ∷ [] = sym (ap (kept_kids values places c) alone) ∙ one in cc)
 
       truth-one : (a : Assignment) (what : NodeKind) → slice_get graph.nodes at ≡ Some (record { what = what; kids = kids }) → truth_by a what (map (λ q. is_true nodes q a) (p ∷ [])) ≡ is_true nodes p a
       truth-one a (Literal positive var) f = absurd (no-literal var positive f)

@@ -3,7 +3,7 @@ ghost use Rattle.graph_rules.specs.Graphs.{node_at, IsGraph};
 ghost use Rattle.conditioner.specs.Models.{least_under, total_cost};
 ghost use Rattle.fault_graph.specs.Distilled.{IsDistilled};
 ghost use Rattle.fault_graph.specs.Small.{IsSmall};
-ghost use Rattle.fault_graph.specs.inner.Rows.{row_of, kept_node, Adds, root_node};
+ghost use Rattle.fault_graph.specs.inner.Rows.{kept_kids, kept_node, Adds, root_node};
 
 use crate::marking::mark;
 use graph_rules::NodeKind;
@@ -116,7 +116,7 @@ fn gather(
 ) -> Result<(), AllocError>
     requires kids { All (λ k. k < length values.now) kids.now }
     requires room { length places.now ≡ length values.now }
-    ensures { OnOk result (row.new.items ≡ row_of values.now places.now cost kids.now) }
+    ensures { OnOk result (row.new.items ≡ kept_kids values.now places.now cost kids.now) }
 {
     row.clear();
     for k in kids {

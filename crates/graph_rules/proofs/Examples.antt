@@ -4,7 +4,7 @@ use Rattle.std.specs.Prelude.{codes, Ok, Err}
 use Rattle.std.specs.Fmt.{digits}
 use Rattle.graph_rules.specs.declared.NodeKind.TheVariants.{Literal, And, Or}
 use Rattle.graph_rules.specs.Graphs.{Graph, literal_node, true_node, holds, mentions, apart_at, node_fits, nodes_fit}
-use Rattle.graph_rules.specs.GraphTexts.{parsed, verdict, NoHeader, WrongLine, WrongChild, WrongVariable, AtLine, Counts, TooLarge, Shared}
+use Rattle.graph_rules.specs.GraphTexts.{parsed, read_graph, NoHeader, WrongLine, WrongChild, WrongVariable, AtLine, Counts, TooLarge, Shared}
 use Rattle.graph_rules.specs.WrittenGraphs.{graph_text}
 
 abbrev text : List (List ℕ) → List ℕ
@@ -74,82 +74,82 @@ over_more_variables = refl
 
 -- ---- verdicts
 
-shared : verdict (text (map codes ("nnf 3 2 1" ∷ "L 1" ∷ "L -1" ∷ "A 2 0 1" ∷ []))) ≡ Err (Shared 2 1)
+shared : read_graph (text (map codes ("nnf 3 2 1" ∷ "L 1" ∷ "L -1" ∷ "A 2 0 1" ∷ []))) ≡ Err (Shared 2 1)
 shared = refl
 
-a_kid_named_twice : verdict (text (map codes ("nnf 2 2 1" ∷ "L 1" ∷ "A 2 0 0" ∷ []))) ≡ Err (Shared 1 1)
+a_kid_named_twice : read_graph (text (map codes ("nnf 2 2 1" ∷ "L 1" ∷ "A 2 0 0" ∷ []))) ≡ Err (Shared 1 1)
 a_kid_named_twice = refl
 
-too_large : verdict (text (map codes ("nnf 1 0 2147483649" ∷ "A 0" ∷ []))) ≡ Err (TooLarge 2147483649)
+too_large : read_graph (text (map codes ("nnf 1 0 2147483649" ∷ "A 0" ∷ []))) ≡ Err (TooLarge 2147483649)
 too_large = refl
 
-accepted : verdict (text (map codes ("nnf 3 2 1" ∷ "L 1" ∷ "L -1" ∷ "O 1 2 0 1" ∷ []))) ≡ Ok (either)
+accepted : read_graph (text (map codes ("nnf 3 2 1" ∷ "L 1" ∷ "L -1" ∷ "O 1 2 0 1" ∷ []))) ≡ Ok (either)
 accepted = refl
 
 -- ---- refused texts
 
-blank_lines_alone : verdict (text (map codes ("" ∷ " " ∷ []))) ≡ Err NoHeader
+blank_lines_alone : read_graph (text (map codes ("" ∷ " " ∷ []))) ≡ Err NoHeader
 blank_lines_alone = refl
 
-no_nodes_said : verdict (text (map codes ("nnf 0 0 1" ∷ []))) ≡ Err NoHeader
+no_nodes_said : read_graph (text (map codes ("nnf 0 0 1" ∷ []))) ≡ Err NoHeader
 no_nodes_said = refl
 
 -- blank lines are counted
-line_behind_blank_ones : verdict (text (map codes ("" ∷ "nnf 1 0 1" ∷ " " ∷ "" ∷ "L 1 1" ∷ []))) ≡ Err (AtLine 5 WrongLine)
+line_behind_blank_ones : read_graph (text (map codes ("" ∷ "nnf 1 0 1" ∷ " " ∷ "" ∷ "L 1 1" ∷ []))) ≡ Err (AtLine 5 WrongLine)
 line_behind_blank_ones = refl
 
 -- the form is told before a child
-form_before_child : verdict (text (map codes ("nnf 1 0 1" ∷ "A 3 7" ∷ []))) ≡ Err (AtLine 2 WrongLine)
+form_before_child : read_graph (text (map codes ("nnf 1 0 1" ∷ "A 3 7" ∷ []))) ≡ Err (AtLine 2 WrongLine)
 form_before_child = refl
 
-own_child : verdict (text (map codes ("nnf 1 1 1" ∷ "A 1 0" ∷ []))) ≡ Err (AtLine 2 WrongChild)
+own_child : read_graph (text (map codes ("nnf 1 1 1" ∷ "A 1 0" ∷ []))) ≡ Err (AtLine 2 WrongChild)
 own_child = refl
 
-variable_0 : verdict (text (map codes ("nnf 1 0 1" ∷ "L -0" ∷ []))) ≡ Err (AtLine 2 WrongVariable)
+variable_0 : read_graph (text (map codes ("nnf 1 0 1" ∷ "L -0" ∷ []))) ≡ Err (AtLine 2 WrongVariable)
 variable_0 = refl
 
 -- the first line with a fault, and lines before counts
-first_fault : verdict (text (map codes ("nnf 9 9 1" ∷ "L 2" ∷ "X" ∷ []))) ≡ Err (AtLine 2 WrongVariable)
+first_fault : read_graph (text (map codes ("nnf 9 9 1" ∷ "L 2" ∷ "X" ∷ []))) ≡ Err (AtLine 2 WrongVariable)
 first_fault = refl
 
-far_fewer_nodes : verdict (text (map codes ("nnf 4294967295 0 1" ∷ "L 1" ∷ []))) ≡ Err (Counts 4294967295 1)
+far_fewer_nodes : read_graph (text (map codes ("nnf 4294967295 0 1" ∷ "L 1" ∷ []))) ≡ Err (Counts 4294967295 1)
 far_fewer_nodes = refl
 
 -- nodes are counted before edges
-fewer_edges : verdict (text (map codes ("nnf 2 2 1" ∷ "L 1" ∷ "A 1 0" ∷ []))) ≡ Err (Counts 2 1)
+fewer_edges : read_graph (text (map codes ("nnf 2 2 1" ∷ "L 1" ∷ "A 1 0" ∷ []))) ≡ Err (Counts 2 1)
 fewer_edges = refl
 
-most_variables : verdict (text (map codes ("nnf 1 0 4294967295" ∷ "A 0" ∷ []))) ≡ Err (TooLarge 4294967295)
+most_variables : read_graph (text (map codes ("nnf 1 0 4294967295" ∷ "A 0" ∷ []))) ≡ Err (TooLarge 4294967295)
 most_variables = refl
 
 -- a false node without variables
-accepted_false : verdict (text (map codes ("nnf 1 0 0" ∷ "O 0 0" ∷ []))) ≡ Ok (record { nodes = record { what = Or; kids = [] } ∷ []; vars = 0 })
+accepted_false : read_graph (text (map codes ("nnf 1 0 0" ∷ "O 0 0" ∷ []))) ≡ Ok (record { nodes = record { what = Or; kids = [] } ∷ []; vars = 0 })
 accepted_false = refl
 
 -- zeros before a number, and what stands behind O
-accepted_spellings : verdict (text (map codes ("nnf 02 0000000000000000001 01" ∷ "L 0000000001" ∷ "O 4294967295 1 00" ∷ [])))
+accepted_spellings : read_graph (text (map codes ("nnf 02 0000000000000000001 01" ∷ "L 0000000001" ∷ "O 4294967295 1 00" ∷ [])))
     ≡ Ok (record { nodes = literal_node 1 true ∷ record { what = Or; kids = 0 ∷ [] } ∷ []; vars = 1 })
 accepted_spellings = refl
 
 -- ---- numbers past their widths
 
-eleven_digits : verdict (text (map codes ("nnf 1 0 1" ∷ "L 00000000001" ∷ []))) ≡ Err (AtLine 2 WrongLine)
+eleven_digits : read_graph (text (map codes ("nnf 1 0 1" ∷ "L 00000000001" ∷ []))) ≡ Err (AtLine 2 WrongLine)
 eleven_digits = refl
 
-variable_past_32_bits : verdict (text (map codes ("nnf 1 0 1" ∷ "L -4294967296" ∷ []))) ≡ Err (AtLine 2 WrongLine)
+variable_past_32_bits : read_graph (text (map codes ("nnf 1 0 1" ∷ "L -4294967296" ∷ []))) ≡ Err (AtLine 2 WrongLine)
 variable_past_32_bits = refl
 
-greatest_variable : verdict (text (map codes ("nnf 1 0 1" ∷ "L 4294967295" ∷ []))) ≡ Err (AtLine 2 WrongVariable)
+greatest_variable : read_graph (text (map codes ("nnf 1 0 1" ∷ "L 4294967295" ∷ []))) ≡ Err (AtLine 2 WrongVariable)
 greatest_variable = refl
 
-two_signs : verdict (text (map codes ("nnf 1 0 1" ∷ "L --1" ∷ []))) ≡ Err (AtLine 2 WrongLine)
+two_signs : read_graph (text (map codes ("nnf 1 0 1" ∷ "L --1" ∷ []))) ≡ Err (AtLine 2 WrongLine)
 two_signs = refl
 
-edges_past_64_bits : verdict (text (map codes ("nnf 1 18446744073709551616 1" ∷ "A 0" ∷ []))) ≡ Err NoHeader
+edges_past_64_bits : read_graph (text (map codes ("nnf 1 18446744073709551616 1" ∷ "A 0" ∷ []))) ≡ Err NoHeader
 edges_past_64_bits = refl
 
-most_edges : verdict (text (map codes ("nnf 1 18446744073709551615 1" ∷ "A 0" ∷ []))) ≡ Err (Counts 18446744073709551615 0)
+most_edges : read_graph (text (map codes ("nnf 1 18446744073709551615 1" ∷ "A 0" ∷ []))) ≡ Err (Counts 18446744073709551615 0)
 most_edges = refl
 
-five_words_of_a_header : verdict (text (map codes ("nnf 1 0 1 0" ∷ "A 0" ∷ []))) ≡ Err NoHeader
+five_words_of_a_header : read_graph (text (map codes ("nnf 1 0 1 0" ∷ "A 0" ∷ []))) ≡ Err NoHeader
 five_words_of_a_header = refl

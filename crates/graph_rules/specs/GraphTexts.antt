@@ -176,5 +176,5 @@ checked_if (Err refusal) = Err refusal
 checked_if (Ok graph) = checked graph
 
 -- the graph of a text, or the first reason why it gives none or its graph is not decomposable
-abbrev pub verdict : List ℕ → Parsed
-verdict text = checked_if (parsed text)
+abbrev pub read_graph : List ℕ → Parsed
+read_graph text = checked_if (parsed text)

@@ -1,4 +1,4 @@
--- The first shared variable is the one of the verdict.
+-- The first shared variable is the one that is told.
 use Rattle.std.proofs.Common.{◌≡◌, ℕ, zero, suc, ◌+◌, ◌*◌, ◌<◌, ◌≤◌, Bool, true, false, List, [], ◌∷◌, length, Option, Some, None, Ok, Err, refl, sym, ap, ◌∙◌, subst, arith, inl, inr}
 use Rattle.std.specs.Prelude.{◌⊎◌}
 use Rattle.std.specs.List.{find, filter_map, cons_option, enumerate_from, range_with_len, AllByRecursion}

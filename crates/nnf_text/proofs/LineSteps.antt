@@ -6,7 +6,7 @@ use Rattle.std.proofs.lemmas.Bool.{cond-true, cond-false, not_from_false}
 use Rattle.std.proofs.lemmas.List.{length-append}
 use Rattle.text_rules.specs.Tokens.{words}
 use Rattle.graph_rules.specs.Graphs.{Node, Graph}
-use Rattle.graph_rules.specs.GraphTexts.{Header, node_of, node_fault, variable_fits, has_words, node_at_line, line_fault, fault_at, edges, differs, LineFault, WrongLine, WrongChild, Refusal, AtLine, Parsed, read_unless, parsed_below, parsed, checked_if, verdict}
+use Rattle.graph_rules.specs.GraphTexts.{Header, node_of, node_fault, variable_fits, has_words, node_at_line, line_fault, fault_at, edges, differs, LineFault, WrongLine, WrongChild, Refusal, AtLine, Parsed, read_unless, parsed_below, parsed, checked_if, read_graph}
 use Rattle.text_rules.specs.Expected.{IsExpectedFault}
 use Rattle.nnf_text.specs.inner.Reading.{filled_from, nodes_behind, if_counted}
 use Rattle.nnf_text.proofs.Options.{none≢some}
@@ -118,8 +118,8 @@ module _ (text : List ℕ) (header : Header) (lines : List (ℕ × List (List �
   grouped = below ∙ ap (read_unless (with_nodes all_nodes)) (append_assoc all_faults (differs header.nodes (length all_nodes)) (differs header.edges (edges all_nodes)))
 
   -- the refusal of a line is that of the text
-  pub verdict-line : (fault : Option Refusal) → IsExpectedFault fault (nodes_behind header.vars [] lines) → IsExpectedFault fault (verdict text)
-  verdict-line fault h = refused-too fault (nodes_behind header.vars [] lines) (verdict text) (λ r f. ap checked_if (grouped ∙ unless-refused (with_nodes all_nodes) all_faults (counts all_nodes) r f)) h
+  pub read-line : (fault : Option Refusal) → IsExpectedFault fault (nodes_behind header.vars [] lines) → IsExpectedFault fault (read_graph text)
+  read-line fault h = refused-too fault (nodes_behind header.vars [] lines) (read_graph text) (λ r f. ap checked_if (grouped ∙ unless-refused (with_nodes all_nodes) all_faults (counts all_nodes) r f)) h
 
   module _ (nodes : List Node) (read : nodes_behind header.vars [] lines ≡ Ok (with_nodes nodes)) where
     parsed-counted : parsed text ≡ if_counted header nodes
@@ -130,8 +130,8 @@ module _ (text : List ℕ) (header : Header) (lines : List (ℕ × List (List �
         same (f ∷ faults) h = let no : ⊥ = cc in absurd no
 
     -- and so is that of a count
-    pub verdict-counts : (fault : Option Refusal) → IsExpectedFault fault (if_counted header nodes) → IsExpectedFault fault (verdict text)
-    verdict-counts fault h = refused-too fault (if_counted header nodes) (verdict text) (λ r f. ap checked_if (parsed-counted ∙ f)) h
+    pub read-counts : (fault : Option Refusal) → IsExpectedFault fault (if_counted header nodes) → IsExpectedFault fault (read_graph text)
+    read-counts fault h = refused-too fault (if_counted header nodes) (read_graph text) (λ r f. ap checked_if (parsed-counted ∙ f)) h
 
     pub parsed-is : if_counted header nodes ≡ Ok (with_nodes nodes) → parsed text ≡ Ok (with_nodes nodes)
     parsed-is right = parsed-counted ∙ right

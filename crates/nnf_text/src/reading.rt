@@ -1,7 +1,7 @@
 ghost use Rattle.std.specs.Prelude.{◌≡◌, ◌≢◌, ◌≤◌, ◌+◌, [], length, Some, Ok, Err, IfOk, IfSome, MatchOption, MatchResult};
 ghost use Rattle.text_rules.specs.Expected.{Fulfils};
 ghost use Rattle.text_rules.specs.TextLines.{all_lines};
-ghost use Rattle.graph_rules.specs.GraphTexts.{NoHeader, parsed_below, parsed_lines, verdict};
+ghost use Rattle.graph_rules.specs.GraphTexts.{NoHeader, parsed_below, parsed_lines, read_graph};
 ghost use Rattle.nnf_text.specs.Refusals.{told};
 ghost use Rattle.nnf_text.specs.inner.Reading.{said_by, filled_from, nodes_behind, if_counted};
 
@@ -75,7 +75,7 @@ fn check_count(said: u64, found: u64) -> Result<(), NnfError>
 /// reason why the text gives no graph, or why its graph is not decomposable.
 pub fn read_nnf(alloc: Global, text: &[u8]) -> Result<(Graph, u32), NnfError>
     requires { length text.now ≤ TEXT_LIMIT }
-    ensures read { Fulfils (λ read. read.0) told (verdict text.now) result }
+    ensures read { Fulfils (λ read. read.0) told (read_graph text.now) result }
     ensures vars { IfOk result (λ read. read.1 ≡ read.0.vars) }
     ensures few { IfOk result (λ read. length read.0.nodes ≤ length text.now) }
 {

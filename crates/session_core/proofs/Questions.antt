@@ -9,8 +9,8 @@ use Rattle.ranking.specs.Cases.{Case}
 use Rattle.ranking.specs.Ranking.{cost, least, least_with, least_of, diagnoses}
 use Rattle.ranking.specs.Systems.{System}
 use Rattle.probe_report.specs.declared.verdicts.Blame.{Blame}
-use Rattle.probe_report.specs.Verdicts.{verdict as verdict_on}
-use Rattle.session_rules.specs.Replies.{inconsistent, seen_at, probe_line, probe_lines, verdict, blame_lines, if_any}
+use Rattle.probe_report.specs.Verdicts.{verdict}
+use Rattle.session_rules.specs.Replies.{inconsistent, seen_at, probe_line, probe_lines, blame_word, blame_lines, if_any}
 use Rattle.session_core.specs.inner.Texts.{blame_text}
 use Rattle.session_core.specs.inner.Telling.{unseen_line, verdict_lines}
 use Rattle.session_core.proofs.Minimum.{no_diagnosis, some_diagnosis}
@@ -88,7 +88,7 @@ if_diagnosis-some costs s hs lines e = if_any-nonempty s (diagnoses costs hs) li
 
 -- ---- blame
 
-same_word : (b : Bool) (faulty : List Bool) → blame_text (verdict_on (b ∷ faulty)) ≡ verdict (b ∷ faulty)
+same_word : (b : Bool) (faulty : List Bool) → blame_text (verdict (b ∷ faulty)) ≡ blame_word (b ∷ faulty)
 same_word b faulty = by (list_all (λ x. x) (b ∷ faulty)) (list_any (λ x. x) (b ∷ faulty))
   where
     by : (all any : Bool) → blame_text (if all then Blame.Always else if any then Blame.Sometimes else Blame.Never) ≡ (if all then codes "always" else if any then codes "sometimes" else codes "never")
@@ -96,25 +96,25 @@ same_word b faulty = by (list_all (λ x. x) (b ∷ faulty)) (list_any (λ x. x) 
     by false true = refl
     by false false = refl
 
-verdict_word : (ds : List (List Bool)) (part : ℕ) → ds ≢ [] → blame_text (verdict_on (map (λ (state : List Bool). not (bit_in state part)) ds)) ≡ verdict (map (λ (state : List Bool). not (bit_in state part)) ds)
+verdict_word : (ds : List (List Bool)) (part : ℕ) → ds ≢ [] → blame_text (verdict (map (λ (state : List Bool). not (bit_in state part)) ds)) ≡ blame_word (map (λ (state : List Bool). not (bit_in state part)) ds)
 verdict_word [] part some = absurd (some refl)
 verdict_word (d ∷ ds) part some = same_word (not (bit_in d part)) (map (λ (state : List Bool). not (bit_in state part)) ds)
 
 -- The lines by the verdicts are those by the diagnoses.
 pub blame_lines-are : (s : Name) (ds : List (List Bool)) (part : ℕ) (names : List Name) (verdicts : List Blame) → ds ≢ [] → length verdicts ≡ length names
-    → ((i : ℕ) → i < length names → slice_get verdicts i ≡ Some (verdict_on (map (λ (state : List Bool). not (bit_in state (part + i))) ds)))
+    → ((i : ℕ) → i < length names → slice_get verdicts i ≡ Some (verdict (map (λ (state : List Bool). not (bit_in state (part + i))) ds)))
     → verdict_lines s names verdicts ≡ blame_lines s ds part names
 blame_lines-are s ds part [] verdicts some long each = refl
 blame_lines-are s ds part (name ∷ names) [] some long each = absurd (omega (arith, long))
 blame_lines-are s ds part (name ∷ names) (v ∷ verdicts) some long each =
-    let first : Some v ≡ Some (verdict_on (map (λ (state : List Bool). not (bit_in state (part + 0))) ds)) = each 0 (omega arith) in
+    let first : Some v ≡ Some (verdict (map (λ (state : List Bool). not (bit_in state (part + 0))) ds)) = each 0 (omega arith) in
     let here : part + 0 ≡ part = omega arith in
-    let same : v ≡ verdict_on (map (λ (state : List Bool). not (bit_in state part)) ds) = (let e : v ≡ verdict_on (map (λ (state : List Bool). not (bit_in state (part + 0))) ds) = cc in e ∙ ap (λ n. verdict_on (map (λ (state : List Bool). not (bit_in state n)) ds)) here) in
+    let same : v ≡ verdict (map (λ (state : List Bool). not (bit_in state part)) ds) = (let e : v ≡ verdict (map (λ (state : List Bool). not (bit_in state (part + 0))) ds) = cc in e ∙ ap (λ n. verdict (map (λ (state : List Bool). not (bit_in state n)) ds)) here) in
     ap₂ (λ word lines. (s ∷ codes "blame" ∷ name ∷ word ∷ []) ∷ lines)
     (ap blame_text same ∙ verdict_word ds part some)
     (blame_lines-are s ds (part + 1) names verdicts some (omega (arith, long)) (λ i h. later i h))
   where
-    later : (i : ℕ) → i < length names → slice_get verdicts i ≡ Some (verdict_on (map (λ (state : List Bool). not (bit_in state (part + 1 + i))) ds))
+    later : (i : ℕ) → i < length names → slice_get verdicts i ≡ Some (verdict (map (λ (state : List Bool). not (bit_in state (part + 1 + i))) ds))
     later i h =
         let next : part + suc i ≡ part + 1 + i = omega arith in
-        each (suc i) (omega (arith, h)) ∙ ap (λ n. Some (verdict_on (map (λ (state : List Bool). not (bit_in state n)) ds))) next
+        each (suc i) (omega (arith, h)) ∙ ap (λ n. Some (verdict (map (λ (state : List Bool). not (bit_in state n)) ds))) next

@@ -101,15 +101,15 @@ probe_lines system session known wire (name ∷ names) =
     ]
 
 -- in all, in some but not all, or in none
-abbrev pub verdict : List Bool → List ℕ
-verdict faulty =
+abbrev pub blame_word : List Bool → List ℕ
+blame_word faulty =
     if list_all (λ b. b) faulty then codes "always" else if list_any (λ b. b) faulty then codes "sometimes" else codes "never"
 
 -- a line for each part, from this place on
 abbrev pub blame_lines : Name → List (List Bool) → ℕ → List Name → List (List (List ℕ))
 blame_lines session ds part [] = []
 blame_lines session ds part (name ∷ names) =
-    (session ∷ codes "blame" ∷ name ∷ verdict (map (λ state. not (bit_in state part)) ds) ∷ [])
+    (session ∷ codes "blame" ∷ name ∷ blame_word (map (λ state. not (bit_in state part)) ds) ∷ [])
     ∷ blame_lines session ds (part + 1) names
 
 -- these lines, or the one that says so where no state agrees

@@ -8,11 +8,11 @@ abbrev pub keeps : List ℕ → ℕ → ℕ → Bool
 keeps values cost kid = nat_lt 0 (slice_index values kid) && nat_le (slice_index values kid) cost
 
 -- the places of the kids that stay
-abbrev pub row_of : List ℕ → List ℕ → ℕ → List ℕ → List ℕ
-row_of values places cost kids = map (slice_index places) (filter (keeps values cost) kids)
+abbrev pub kept_kids : List ℕ → List ℕ → ℕ → List ℕ → List ℕ
+kept_kids values places cost kids = map (slice_index places) (filter (keeps values cost) kids)
 
 abbrev pub kept_node : List ℕ → List ℕ → ℕ → Node → Node
-kept_node values places cost node = record { what = node.what; kids = row_of values places cost node.kids }
+kept_node values places cost node = record { what = node.what; kids = kept_kids values places cost node.kids }
 
 -- a node left with one kid is that kid; else it comes behind the others
 abbrev pub Adds : List Node → Node → List Node → ℕ → Type 0

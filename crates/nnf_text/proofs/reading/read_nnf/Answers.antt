@@ -6,7 +6,7 @@ use Rattle.text_rules.proofs.LineLemmas.{length-all_lines}
 use Rattle.graph_rules.specs.GraphTexts.{parsed, parsed_below, parsed_lines, checked_if}
 use Rattle.nnf_text.specs.Refusals.{told}
 use Rattle.nnf_text.specs.inner.Reading.{said_by, filled_from}
-use Rattle.nnf_text.proofs.LineSteps.{verdict-line, verdict-counts, parsed-is}
+use Rattle.nnf_text.proofs.LineSteps.{read-line, read-counts, parsed-is}
 use Rattle.nnf_text.proofs.ReadTexts.{IsParsed-from, checked_nodes}
 use Rattle.nnf_text.proofs.reading.read_nnf.Goals as goal
 
@@ -19,7 +19,7 @@ returns-in_err-nodes-clause-read c =
     let lines = filled_from (c.in-Some.above + 1) (all_lines c.first_header.new.lines) in
     let below : parsed c.args.text.now ≡ parsed_below lines (Some header) = ap (λ t. parsed_lines (filled_from 1 (all_lines t))) (sym c.new-lines.ensures) ∙ c.in-Some.ensures.header in
     let p = err_from_is_err_and c.from_residual.result c.from_residual.ensures.1 in
-    rw (p.1, p.2) (verdict-line c.args.text.now header lines below (told c.in_err-nodes.field-0.0) c.in_err-nodes.ensures)
+    rw (p.1, p.2) (read-line c.args.text.now header lines below (told c.in_err-nodes.field-0.0) c.in_err-nodes.ensures)
 
 pub returns-in_err-check_counts-clause-read : goal.returns-in_err-check_counts-clause-read
 returns-in_err-check_counts-clause-read c =
@@ -27,7 +27,7 @@ returns-in_err-check_counts-clause-read c =
     let lines = filled_from (c.in-Some.above + 1) (all_lines c.first_header.new.lines) in
     let below : parsed c.args.text.now ≡ parsed_below lines (Some header) = ap (λ t. parsed_lines (filled_from 1 (all_lines t))) (sym c.new-lines.ensures) ∙ c.in-Some.ensures.header in
     let p = err_from_is_err_and c.from_residual-in_err-check_counts.result c.from_residual-in_err-check_counts.ensures.1 in
-    rw (p.1, p.2) (verdict-counts c.args.text.now header lines below c.in_ok-nodes.nodes c.in_ok-nodes.ensures (told c.in_err-check_counts.field-0.0) c.in_err-check_counts.ensures)
+    rw (p.1, p.2) (read-counts c.args.text.now header lines below c.in_ok-nodes.nodes c.in_ok-nodes.ensures (told c.in_err-check_counts.field-0.0) c.in_err-check_counts.ensures)
 
 pub graph_of-requires-clause-some : goal.graph_of-requires-clause-some
 graph_of-requires-clause-some c =

@@ -3,7 +3,7 @@ use Rattle.std.specs.Prelude.{slice_get, is_some}
 use Rattle.text_rules.specs.Names.{Name}
 use Rattle.ranking.specs.Bits.{bit_in}
 use Rattle.probe_report.specs.declared.verdicts.Blame.{Blame}
-use Rattle.probe_report.specs.Verdicts.{verdict as verdict_on}
+use Rattle.probe_report.specs.Verdicts.{verdict}
 use Rattle.session_rules.specs.GraphSystems.{system_of}
 use Rattle.session_rules.specs.Items.{line}
 use Rattle.session_rules.specs.Replies.{blame_lines, end_line, inconsistent}
@@ -35,7 +35,7 @@ told_lines desk s verdicts long some each =
     blame_lines-are s ds 0 system.parts verdicts (has_diagnosis system.costs (agreeing desk) some) long
     (λ i h.
     let z : i ≡ 0 + i = omega arith in
-    each i h ∙ ap (λ n. Some (verdict_on (map (λ (state : List Bool). not (bit_in state n)) ds))) z)
+    each i h ∙ ap (λ n. Some (verdict (map (λ (state : List Bool). not (bit_in state n)) ds))) z)
 
 -- and those that a desk has told are those lines
 told_by : (old middle new : OnDesk) (s : Name) → middle ≡ old → new ≡ record middle { state = new.state; verdicts = new.verdicts }

@@ -18,7 +18,7 @@ use Rattle.component_lang.specs.declared.design.Shape.{Shape}
 use Rattle.component_lang.specs.declared.design.Block.{Block}
 use Rattle.component_lang.specs.Designs.{is_used, are_blocks, takes_args, shape_takes}
 use Rattle.flattener.specs.Flat.{Content, Instance, nothing, below, kind_content, used_content, instance}
-use Rattle.flattener.proofs.Lists.{all_both}
+use Rattle.ranking.proofs.Lists.{list_all-both}
 use Rattle.flattener.proofs.Relative.{GoodUsed-from_test, GoodBlock-from_test}
 use Rattle.flattener.proofs.Values.{values-hold}
 
@@ -49,7 +49,7 @@ module _ (types : List Shape) (above : List Block) (mades : List Instance) (h : 
   all_fed path wires count [] g = refl
   all_fed path wires count (u ∷ us) g =
       let two = and_parts (is_used types above count u) (list_all (is_used types above count) us) g in
-      all_both (is_fed (tables_of types)) (used_content mades path wires u).parts _
+      list_all-both (is_fed (tables_of types)) (used_content mades path wires u).parts _
       (kind_fed u.kind (below path u.name) _ (length u.args) (length-map u.args _) (GoodUsed-from_test types above count u two.0).takes)
       (all_fed path wires count us two.1)
 

@@ -25,8 +25,8 @@ use Rattle.component_lang.specs.declared.design.Block.{Block}
 use Rattle.component_lang.specs.Designs.{Design, is_design, are_blocks, block_takes, is_used, takes_args}
 use Rattle.flattener.specs.Flat.{Content, Instance, nothing, below, one_part, kind_content, used_content, instance}
 use Rattle.flattener.specs.inner.Expanding.{CanExpand, Grows, wire_at, shown, are_joined, are_within, position_of, instance_at, are_short, paths_of, prefix_of, behind}
-use Rattle.ranking.proofs.Lists.{list_all-at}
-use Rattle.flattener.proofs.Lists.{all_parts, all_both, map_same}
+use Rattle.ranking.proofs.Lists.{list_all-at, list_all-both}
+use Rattle.flattener.proofs.Lists.{all_parts, map_same}
 use Rattle.flattener.proofs.Naming.{map-behind}
 use Rattle.flattener.proofs.Values.{block_among}
 use Rattle.flattener.proofs.Relative.{Which, Parts, Wires, Instances, own_names, names_of, names-instance, GoodUsed, GoodUsed-from_test, GoodBlock, GoodBlock-from_test}
@@ -72,7 +72,7 @@ pub Grows-part : (parts : List Component) (wires : List Name) (name : Name) (kin
 Grows-part parts wires name kind ports h g = record {
   wires_grow = sym (append-nil wires);
   parts_grow = map-append (shown wires) parts (record { name = name; kind = kind; ports = ports } ∷ []);
-  joined = all_both (has_wires (length wires)) parts (record { name = name; kind = kind; ports = ports } ∷ []) h (and_from (are_within (length wires) ports) true g refl);
+  joined = list_all-both (has_wires (length wires)) parts (record { name = name; kind = kind; ports = ports } ∷ []) h (and_from (are_within (length wires) ports) true g refl);
 }
 
 -- ---- positions
@@ -147,7 +147,7 @@ short_each c h which = by which
     by Instances = more.1
 
 pub short_all : (c : Content) → ((which : Which) → are_short (names_of which c) ≡ true) → are_short (paths_of c) ≡ true
-short_all c h = all_both is_short (names_of Parts c) (c.wires ++ c.instances) (h Parts) (all_both is_short c.wires c.instances (h Wires) (h Instances))
+short_all c h = list_all-both is_short (names_of Parts c) (c.wires ++ c.instances) (h Parts) (list_all-both is_short c.wires c.instances (h Wires) (h Instances))
 
 -- the path of a part of a block is one of its paths
 name_short : (above : List Instance) (kind : UsedKind) (path : Name) (passed : List Name) → ((which : Which) → are_short (names_of which (kind_content above kind path passed)) ≡ true) → length path ≤ NAME_LIMIT

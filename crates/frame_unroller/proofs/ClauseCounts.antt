@@ -3,7 +3,7 @@ use Rattle.std.proofs.Common.{◌≡◌, ℕ, zero, suc, ◌+◌, ◌-◌, ◌*�
 use Rattle.std.specs.Prelude.{nat_lt, if◌then◌else◌}
 use Rattle.std.specs.List.{flat_map, enumerate_from, range_with_len}
 use Rattle.std.proofs.lemmas.Bool.{lt-ltb}
-use Rattle.std.proofs.lemmas.List.{drop_more, map-append, length-append, length-map, take-append-drop}
+use Rattle.std.proofs.lemmas.List.{drop_more, drop_all, map-append, length-append, length-map, take-append-drop}
 use Rattle.device_model.specs.declared.component.Component.{Component}
 use Rattle.device_model.specs.Devices.{Device}
 use Rattle.device_model.specs.Building.{place_in, joined}
@@ -138,12 +138,6 @@ module _ (seq : Sequential) (frames : ℕ) where
       subst (λ (ps : List Component). Have over ps (n + rest)) (sym split) (have_both over (map made (copies_of seq t (place, part))) (left_at t (place + 1)) n rest one have) in
       let sum : count + (n + rest) ≡ (count + n) + rest = omega arith in
       subst (λ m. Have over (map made (copies_for seq t)) m) sum (so_far (n + rest) both)
-
-  drop_all : (k : ℕ) (ps : List Component) → length ps ≤ k → drop k ps ≡ []
-  drop_all zero [] h = refl
-  drop_all (suc k) [] h = refl
-  drop_all zero (p ∷ ps) h = absurd (omega arith)
-  drop_all (suc k) (p ∷ ps) h = drop_all k ps (omega arith)
 
   pub counted_all : (t place count : ℕ) → length seq.device.parts ≤ place → Counted t place count → Have over (map made (copies_for seq t)) count
   counted_all t place count all so_far =

@@ -11,7 +11,7 @@ use Rattle.std.proofs.lemmas.Simd.{map-map}
 use Rattle.text_rules.specs.Names.{Name}
 use Rattle.ranking.specs.Bits.{bit_in, lists_of_bits}
 use Rattle.ranking.specs.Assignments.{Assignment, assignment}
-use Rattle.ranking.proofs.Members.{In, In-at}
+use Rattle.ranking.proofs.Members.{any_same, In, In-at}
 use Rattle.device_model.specs.declared.component.Component.{Component}
 use Rattle.device_model.specs.TruthTable.{TruthTable}
 use Rattle.device_model.specs.Devices.{IsDevice, has_wires, allows, part_allows, parts_fit, fits}
@@ -22,7 +22,6 @@ use Rattle.clause_encoder.specs.Clauses.{ClauseList, all_hold, is_clause}
 use Rattle.clause_encoder.specs.Encoding.{Describes, DescribesBy}
 use Rattle.clause_encoder.specs.Replacing.{variable_for}
 use Rattle.clause_encoder.proofs.OtherVariables.{all_hold-same}
-use Rattle.clause_encoder.proofs.Settled.{any-same}
 use Rattle.frame_unroller.specs.Times.{times, wire_at}
 use Rattle.frame_unroller.specs.Frames.{is_delayed, inputs, output, row_across, fits_at}
 use Rattle.frame_unroller.specs.Diagnosis.{frame_wires, waves_of, fits_over}
@@ -163,7 +162,7 @@ module _ (seq : Sequential) (frames : ℕ) (valid : IsDevice seq.device) (list :
       → DescribesBy cnf (length seq.device.parts) (length (frame_wires seq frames)) (fits_over seq frames)
   frames-described cnf is truth state bits long wide =
       (λ i. list_any (λ inner. all_hold (assignment (state ++ bits ++ inner)) cnf.clauses) (lists_of_bits (counted i)))
-      ∙ any-same (λ inner. all_hold (assignment (state ++ bits ++ inner)) cnf.clauses) (λ inner. all_hold (assignment (made ++ bits ++ inner)) list.clauses) (lists_of_bits more) same
+      ∙ any_same (λ inner. all_hold (assignment (state ++ bits ++ inner)) cnf.clauses) (λ inner. all_hold (assignment (made ++ bits ++ inner)) list.clauses) (lists_of_bits more) (λ inner _. same inner)
       ∙ describes made bits made_long wide
       ∙ device-fits seq frames valid state bits
     where

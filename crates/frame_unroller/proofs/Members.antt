@@ -64,8 +64,3 @@ module _ {A : Type 0} (f : ℕ → List A) (w : ℕ) (each : (t : ℕ) → lengt
       let next : (a + 1) + k ≡ a + suc k = omega arith in
       ap (λ j. get_or (f a ++ rest) j d) past ∙ get_or-append-add (f a) rest (k * w + i) d
       ∙ get_or-chunks (a + 1) n k i d (omega arith) l ∙ ap (λ t. get_or (f t) i d) next
-
-pub mul-le : (a b w : ℕ) → a ≤ b → a * w ≤ b * w
-mul-le zero b w h = omega arith
-mul-le (suc a) zero w h = absurd (omega arith)
-mul-le (suc a) (suc b) w h = omega (arith, mul-le a b w (omega arith))

@@ -13,7 +13,7 @@ use Rattle.text_rules.specs.Names.{Name}
 use Rattle.frame_unroller.specs.Times.{wire_at}
 use Rattle.frame_unroller.specs.Unrolling.{Copy, input_time, copies_of, copies_for, copies}
 use Rattle.frame_unroller.specs.inner.Copying.{given_copy, AreCopies}
-use Rattle.frame_unroller.proofs.Sharing.{range_more}
+use Rattle.ranking.proofs.Lists.{range_more}
 
 module _ (seq : Sequential) (t : ℕ) where
   abbrev pub copy : ℕ → Component → ℕ → Copy
@@ -120,7 +120,7 @@ module _ (seq : Sequential) where
 time_more : {A : Type 0} (f : ℕ → List A) (n : ℕ) → flat_map f (range_with_len 1 n) ++ f (n + 1) ≡ flat_map f (range_with_len 1 (n + 1))
 time_more f n =
     let next : n + 1 ≡ 1 + n = omega arith in
-    ap (λ t. flat_map f (range_with_len 1 n) ++ f t) next ∙ flat_map_more f [] (range_with_len 1 n) (1 + n) ∙ ap (flat_map f) (range_more 1 n)
+    ap (λ t. flat_map f (range_with_len 1 n) ++ f t) next ∙ flat_map_more f [] (range_with_len 1 n) (1 + n) ∙ ap (flat_map f) (sym (range_more 1 n))
 
 module _ (seq : Sequential) (time : ℕ) (some : 1 ≤ time) where
   more : {A : Type 0} (f : ℕ → List A) (done new : List A) → done ≡ flat_map f (range_with_len 1 (time - 1)) → new ≡ done ++ f time → new ≡ flat_map f (range_with_len 1 (time + 1 - 1))

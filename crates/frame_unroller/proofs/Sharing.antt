@@ -2,17 +2,14 @@
 use Rattle.std.proofs.Common.{◌≡◌, ℕ, ◌+◌, ◌-◌, ◌<◌, ◌≤◌, inl, inr, List, [], ◌∷◌, ◌++◌, map, length, get_or, sym, ap, ◌∙◌, arith}
 use Rattle.std.specs.List.{All, range_with_len}
 use Rattle.std.proofs.lemmas.Bool.{cases_lt}
-use Rattle.std.proofs.lemmas.List.{length-append, length-map, get_or-map, get_or_append_left, get_or-append_right, append_assoc, map-id}
-use Rattle.std.proofs.lemmas.List.FromFn.{length-range_with_len, get_or-range_with_len, map-range_with_len_more}
+use Rattle.std.proofs.lemmas.List.{length-append, length-map, get_or-map, get_or_append_left, get_or-append_right, append_assoc}
+use Rattle.std.proofs.lemmas.List.FromFn.{length-range_with_len, get_or-range_with_len}
+use Rattle.ranking.proofs.Lists.{range_more}
 use Rattle.frame_unroller.specs.Unrolling.{shared_variables}
-
-pub range_more : (a n : ℕ) → range_with_len a n ++ (a + n) ∷ [] ≡ range_with_len a (n + 1)
-range_more a n =
-    ap (λ ks. ks ++ (a + n) ∷ []) (sym (map-id (range_with_len a n))) ∙ sym (map-range_with_len_more (λ (k : ℕ). k) a n (a + n) (omega arith)) ∙ map-id (range_with_len a (n + 1))
 
 -- one of the other variables more
 pub other_more : (fronts : List ℕ) (parts other : ℕ) → (fronts ++ range_with_len (parts + 1) other) ++ (parts + 1 + other) ∷ [] ≡ fronts ++ range_with_len (parts + 1) (other + 1)
-other_more fronts parts other = append_assoc fronts (range_with_len (parts + 1) other) ((parts + 1 + other) ∷ []) ∙ ap (λ ks. fronts ++ ks) (range_more (parts + 1) other)
+other_more fronts parts other = append_assoc fronts (range_with_len (parts + 1) other) ((parts + 1 + other) ∷ []) ∙ ap (λ ks. fronts ++ ks) (sym (range_more (parts + 1) other))
 
 module _ (parts vars : ℕ) (places : List ℕ) (many : length places ≤ vars) where
   pub length-shared : length (shared_variables parts places vars) ≡ vars

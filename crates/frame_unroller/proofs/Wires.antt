@@ -2,6 +2,7 @@
 use Rattle.std.proofs.Common.{◌≡◌, ℕ, zero, suc, ◌+◌, ◌-◌, ◌*◌, ◌<◌, ◌≤◌, true, List, [], ◌∷◌, map, length, drop, get_or, refl, sym, ap, subst, ◌∙◌, arith}
 use Rattle.std.specs.Prelude.{nat_lt}
 use Rattle.std.specs.List.{list_all, flat_map, range_with_len}
+use Rattle.std.proofs.Math.Nat.{mul-le-mul_right}
 use Rattle.std.proofs.lemmas.Bool.{and_parts, and_from, ltb-true, lt-ltb}
 use Rattle.std.proofs.lemmas.List.{length-append, length-map, get_or-map, drop_at, append_cancel_right}
 use Rattle.text_rules.specs.Names.{Name}
@@ -14,7 +15,7 @@ use Rattle.device_model.proofs.Joining.{wire_at as name_at}
 use Rattle.frame_unroller.specs.Times.{four_digits, wire_at}
 use Rattle.frame_unroller.specs.Unrolling.{wires_at}
 use Rattle.frame_unroller.specs.inner.Copying.{position_at}
-use Rattle.frame_unroller.proofs.Members.{among-flat_map, among-range, length-chunks, get_or-chunks, mul-le}
+use Rattle.frame_unroller.proofs.Members.{among-flat_map, among-range, length-chunks, get_or-chunks}
 use Rattle.frame_unroller.proofs.Order.{times_rise}
 
 -- ---- names
@@ -82,6 +83,7 @@ module _ (wires : List Name) where
     positions-within [] h = refl
     positions-within (p ∷ ports) h =
         let two = and_parts (nat_lt p (length wires)) (list_all (λ port. nat_lt port (length wires)) ports) h in
-        let most = mul-le ((t - 1) + 1) frames (length wires) (omega arith) in
+        let few : (t - 1) + 1 ≤ frames = omega arith in
+        let most = mul-le-mul_right (length wires) few in
         let lt = ltb-true p (length wires) two.0 in
         and_from _ _ (lt-ltb (position_at (length wires) t p) (length given) (omega (arith, most, lt, length-wires frames))) (positions-within ports two.1)

@@ -1,5 +1,5 @@
 -- What was given, where all of it was put or a write failed.
-use Rattle.std.proofs.Common.{◌≡◌, ◌≢◌, ℕ, List, [], ◌∷◌, ◌++◌, inl, inr, Option, Result, Ok, Err, IsErr, refl, sym, ◌∙◌, subst}
+use Rattle.std.proofs.Common.{◌≡◌, ◌≢◌, ◌≤◌, ◌-◌, ℕ, List, [], ◌∷◌, ◌++◌, map, length, take, drop, get_or, take_all, inl, inr, Option, Result, Ok, Err, IsErr, refl, sym, ap, ◌∙◌, subst, arith}
 use Rattle.std.specs.Prelude.{MatchResult}
 use Rattle.std.specs.Io.KnownBytes.{Appends}
 use Rattle.diag_edge.specs.Edge.{AppendsPrefix, Puts}
@@ -7,11 +7,13 @@ use Rattle.session_rules.specs.Items.{Item, Plain}
 use Rattle.session_rules.specs.Spelling.{Writes, WritesPart, Replies}
 use Rattle.session_rules.proofs.Spellings.{replies_one, spells_one, writes_more}
 use Rattle.session_rules.proofs.Begun.{HaveSpellings, part_more, part_after}
+use Rattle.device_files.specs.declared.inspecting.Count.{Count}
 use Rattle.device_files.specs.declared.refusal.Refusal.{Refusal}
 use Rattle.device_files.specs.declared.refusal.Refusal.TheVariants.{Fault, Header, Counts, Bits, Shared, Above, Sum, Memory}
 use Rattle.device_files.specs.declared.status.Status.{Status}
 use Rattle.device_files.specs.declared.status.Status.TheVariants.{WriteFailed}
 use Rattle.device_files.specs.Output.{Output, Gives, says}
+use Rattle.device_files.specs.Inspecting.{count_line}
 use Rattle.device_files.specs.Refusals.{refusal_line, refusal_status, told_by, or_memory}
 use Rattle.device_files.proofs.Statuses.{cases_status}
 
@@ -77,15 +79,42 @@ pub ruleset gives_refusal = (refusal_given, refusal_begun)
 pub line_replies : {T E : Type 0} (text : List ℕ) (a b : Option (List ℕ)) (r : Result T E) → Puts a b r text → Replies a b r (Plain text ∷ [])
 line_replies text a b r put = replies_one a b r (Plain text) text refl put
 
--- the first item was written, and then the others were or not
-pub replies_then : {T E : Type 0} (item : Item) (items : List Item) (a b c : Option (List ℕ)) (r : Result T E) → Writes a b (item ∷ []) → Replies b c r items → Replies a c r (item ∷ items)
-replies_then item items a b c (Ok v) first rest = writes_more a b c (item ∷ []) items first rest
-replies_then item items a b c (Err e) first rest = part_after a b c (item ∷ []) items first rest
+-- some items were written, and then the others were or not
+pub replies_then : {T E : Type 0} (xs ys : List Item) (a b c : Option (List ℕ)) (r : Result T E) → Writes a b xs → Replies b c r ys → Replies a c r (xs ++ ys)
+replies_then xs ys a b c (Ok v) first rest = writes_more a b c xs ys first rest
+replies_then xs ys a b c (Err e) first rest = part_after a b c xs ys first rest
 
--- with the first item a write failed
-pub replies_cut : {T E : Type 0} (item : Item) (items : List Item) (a b : Option (List ℕ)) (r : Result T E) → IsErr r → HaveSpellings items → WritesPart a b (item ∷ []) → Replies a b r (item ∷ items)
-replies_cut item items a b (Ok v) is have first = absurd (let no : ⊥ = cc in no)
-replies_cut item items a b (Err e) is have first = part_more a b (item ∷ []) items first have
+-- while the first ones were put a write failed
+pub replies_cut : {T E : Type 0} (xs ys : List Item) (a b : Option (List ℕ)) (r : Result T E) → IsErr r → HaveSpellings ys → WritesPart a b xs → Replies a b r (xs ++ ys)
+replies_cut xs ys a b (Ok v) is have first = absurd (let no : ⊥ = cc in no)
+replies_cut xs ys a b (Err e) is have first = part_more a b xs ys first have
+
+-- ---- a line for each count
+
+abbrev line_of : Count → Item
+line_of count = count_line count.what.now count.number
+
+counts-have : (counts : List Count) → HaveSpellings (map line_of counts)
+counts-have [] = tt
+counts-have (count ∷ counts) = ((_, refl), counts-have counts)
+
+-- what stands first, and what stands behind it
+first_and_rest : {A B : Type 0} (f : A → B) (xs : List A) (x : A) → 1 ≤ length xs → f (get_or xs 0 x) ∷ map f (take (length xs - 1) (drop 1 xs)) ≡ map f xs
+first_and_rest f [] x some = absurd (omega (arith, some))
+first_and_rest f (y ∷ xs) x some = ap (λ ys. f y ∷ map f ys) (take_all (length (y ∷ xs) - 1) xs (omega arith))
+
+module _ (counts : List Count) (none : Count) (some : 1 ≤ length counts) where
+  abbrev first : List Item
+  first = line_of (get_or counts 0 none) ∷ []
+
+  abbrev rest : List Item
+  rest = map line_of (take (length counts - 1) (drop 1 counts))
+
+  pub counts_then : {T E : Type 0} (a b c : Option (List ℕ)) (r : Result T E) → Writes a b first → Replies b c r rest → Replies a c r (map line_of counts)
+  counts_then a b c r written more = subst (Replies a c r) (first_and_rest line_of counts none some) (replies_then first rest a b c r written more)
+
+  pub counts_cut : {T E : Type 0} (a b : Option (List ℕ)) (r : Result T E) → IsErr r → WritesPart a b first → Replies a b r (map line_of counts)
+  counts_cut a b r is begun = subst (Replies a b r) (first_and_rest line_of counts none some) (replies_cut first rest a b r is (counts-have (take (length counts - 1) (drop 1 counts))) begun)
 
 pub ruleset gives_items = (gives_all, gives_part)
 

@@ -11,7 +11,7 @@ use Rattle.clause_order.proofs.Choosing.{order_of, order_narrows, order_finds}
 use Rattle.device_files.specs.declared.status.Status.TheVariants.{AboveBudget}
 use Rattle.device_files.specs.Output.{says}
 use Rattle.device_files.specs.Orders.{list_by, ByOrder, ByClauses, IsInOrder, IsListOf}
-use Rattle.device_files.specs.Planning.{within, sum_line}
+use Rattle.device_files.specs.Weighing.{within, sum_line}
 
 -- what holds by every order holds by the given one
 pub by_any : {Holds : (ClauseList → ClauseList) → Type 0} → ((order : ClauseList → ClauseList) → Holds order) → ByOrder Holds

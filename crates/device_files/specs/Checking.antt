@@ -1,18 +1,16 @@
--- What is told of a graph in `.nnf` text.
-use Rattle.std.specs.Prelude.{ℕ, List, [], ◌∷◌, length, Result, Err, codes, nat_le, if◌then◌else◌}
+-- The graph that an `.nnf` text writes, or what is said of a text that gives none.
+use Rattle.std.specs.Prelude.{ℕ, List, [], ◌∷◌, Result, codes}
 use Rattle.std.specs.Fmt.{decimal}
-use Rattle.text_rules.specs.declared.text_lines.TheConstants.{TEXT_LIMIT}
 use Rattle.text_rules.specs.Tokens.{spaced}
 use Rattle.graph_rules.specs.declared.TheConstants.{BITS_LIMIT}
 use Rattle.graph_rules.specs.Graphs.{Graph}
-use Rattle.graph_rules.specs.GraphTexts.{Refusal, NoHeader, AtLine, Counts, TooLarge, Shared, edges, read_graph}
-use Rattle.device_files.specs.declared.status.Status.TheVariants.{Done, Refused}
-use Rattle.device_files.specs.Output.{Output, says, told_or_refused}
+use Rattle.graph_rules.specs.GraphTexts.{Refusal, NoHeader, AtLine, Counts, TooLarge, Shared, read_graph}
+use Rattle.device_files.specs.Output.{Output}
 use Rattle.device_files.specs.declared.graph_fault.GraphFault.{GraphFault}
 use Rattle.device_files.specs.declared.graph_fault.GraphFault.TheVariants as faults
 use Rattle.device_files.specs.GraphFaults.{graph_fault_row, fault_of_line}
 use Rattle.diag_edge.specs.ErrorLines.{fault_line}
-use Rattle.device_files.specs.Describing.{long_file_line, or_line}
+use Rattle.device_files.specs.Describing.{or_line}
 
 -- the line that tells a fault of a whole text, and what is told of it besides
 abbrev pub text_fault_line : GraphFault → List (List ℕ) → List ℕ
@@ -26,13 +24,6 @@ graph_fault_line (Counts said found) = text_fault_line faults.Counts (decimal sa
 graph_fault_line (TooLarge bits) = text_fault_line faults.Bits (decimal bits ∷ codes "above" ∷ decimal BITS_LIMIT ∷ [])
 graph_fault_line (Shared node variable) = text_fault_line faults.Shared (codes "node" ∷ decimal node ∷ codes "variable" ∷ decimal variable ∷ [])
 
--- the graph of a file, which may be too long, or the output that refuses it
+-- the graph of a file, or the output that refuses it
 abbrev pub graph_in : List ℕ → Result Graph Output
-graph_in file = if nat_le (length file) TEXT_LIMIT then or_line graph_fault_line (read_graph file) else Err (says long_file_line Refused)
-
--- the line that tells a decomposable graph: how many nodes, children and variables it has
-abbrev pub decomposable_line : Graph → List ℕ
-decomposable_line graph = spaced (codes "decomposable" ∷ decimal (length graph.nodes) ∷ decimal (edges graph.nodes) ∷ decimal graph.vars ∷ [])
-
-abbrev pub checked : Result Graph Output → Output
-checked found = told_or_refused (λ graph. says (decomposable_line graph) Done) found
+graph_in file = or_line graph_fault_line (read_graph file)

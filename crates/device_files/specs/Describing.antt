@@ -1,7 +1,6 @@
 -- The device that a file describes, or what is said of a file that gives none.
-use Rattle.std.specs.Prelude.{ℕ, List, length, Result, Err, codes, nat_le, if◌then◌else◌}
+use Rattle.std.specs.Prelude.{ℕ, List, Result, codes, if◌then◌else◌}
 use Rattle.std.specs.Result.{result_map_both}
-use Rattle.text_rules.specs.declared.text_lines.TheConstants.{TEXT_LIMIT}
 use Rattle.device_model.specs.declared.limits.TheConstants.{NAME_LIMIT, PART_LIMIT, WIRE_LIMIT}
 use Rattle.device_model.specs.Devices.{Device}
 use Rattle.bench_reader.specs.Netlists.{netlist}
@@ -16,7 +15,7 @@ use Rattle.flattener.specs.Flat.{flattened}
 use Rattle.diag_edge.specs.ErrorLines.{fault_line, above_line}
 use Rattle.device_files.specs.Paths.{is_design_path}
 use Rattle.device_files.specs.declared.status.Status.TheVariants.{Refused}
-use Rattle.device_files.specs.Output.{Output, says, too_long_line, no_memory_line, result_and_then}
+use Rattle.device_files.specs.Output.{Output, says, no_memory_line, result_and_then}
 
 abbrev pub netlist_line : NetlistFault → List ℕ
 netlist_line fault = fault_line fault.line (netlist_row fault.what).0 (netlist_row fault.what).1
@@ -31,9 +30,6 @@ flatten_line (TooManyBlocks count) = above_line (codes "blocks") count INSTANCE_
 flatten_line (PathTooLong count) = above_line (codes "path") count NAME_LIMIT
 flatten_line Memory = no_memory_line
 
-abbrev pub long_file_line : List ℕ
-long_file_line = too_long_line (codes "file") TEXT_LIMIT
-
 -- what a file gives, or the line that refuses it
 abbrev pub or_line : {A F : Type 0} → (F → List ℕ) → Result A F → Result A Output
 or_line line found = result_map_both (λ given. given) (λ fault. says (line fault) Refused) found
@@ -44,7 +40,3 @@ design_device found = result_and_then (λ made. or_line flatten_line (flattened 
 -- the device that a text describes, by the path of its file
 abbrev pub described : List ℕ → List ℕ → Result Device Output
 described path text = if is_design_path path then design_device (design text) else or_line netlist_line (netlist text)
-
--- the same of a file, which may be too long
-abbrev pub device_in : List ℕ → List ℕ → Result Device Output
-device_in path file = if nat_le (length file) TEXT_LIMIT then described path file else Err (says long_file_line Refused)

@@ -1,9 +1,10 @@
 pub mod Checking
 pub mod Describing
 pub mod GraphFaults
+pub mod Inspecting
 pub mod Orders
 pub mod Output
 pub mod Paths
-pub mod Planning
 pub mod Refusals
 pub mod Statuses
+pub mod Weighing

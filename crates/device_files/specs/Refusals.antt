@@ -9,7 +9,7 @@ use Rattle.device_files.specs.Output.{Output, says, no_memory, no_memory_line}
 use Rattle.graph_rules.specs.GraphTexts as graphs
 use Rattle.diag_edge.specs.ErrorLines.{fault_line, above_line}
 use Rattle.device_files.specs.Checking.{graph_fault_line}
-use Rattle.device_files.specs.Planning.{sum_line}
+use Rattle.device_files.specs.Weighing.{sum_line}
 
 -- the line that tells a refusal
 abbrev pub refusal_line : Refusal → List ℕ

@@ -4,17 +4,17 @@
 mod checking;
 mod describing;
 mod graph_fault;
+mod inspecting;
 mod paths;
-mod planning;
 mod refusal;
 mod status;
 mod weighing;
 
-pub use checking::{check_file, graph_in};
+pub use checking::graph_in;
 pub use describing::{described, netlist_device};
 pub use graph_fault::GraphFault;
+pub use inspecting::{Count, Inspection, Sizes, inspect_file, put_count, put_counts};
 pub use paths::{is_design_path, is_device_path, is_graph_path, is_netlist_path};
-pub use planning::{Sizes, plan_file, put_count};
 pub use refusal::{Refusal, above, tell};
 pub use status::Status;
 pub use weighing::{in_order, ordered_clauses, sum_within};

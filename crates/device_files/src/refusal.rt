@@ -4,7 +4,7 @@ ghost use Rattle.diag_edge.specs.ErrorLines.{above_line};
 ghost use Rattle.graph_rules.specs.GraphTexts.{NoHeader, Counts, TooLarge, Shared};
 ghost use Rattle.device_files.specs.declared.refusal.Refusal.TheVariants.{Memory};
 ghost use Rattle.device_files.specs.Checking.{graph_fault_line};
-ghost use Rattle.device_files.specs.Planning.{sum_line};
+ghost use Rattle.device_files.specs.Weighing.{sum_line};
 ghost use Rattle.device_files.specs.Output.{Gives, says};
 ghost use Rattle.device_files.specs.Refusals.{refusal_line, refusal_status, told_by, or_memory};
 

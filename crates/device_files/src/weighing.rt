@@ -4,7 +4,7 @@ ghost use Rattle.clause_encoder.specs.Clauses.{ClauseList};
 ghost use Rattle.clause_encoder.specs.Encoding.{encoded, Describes};
 ghost use Rattle.branch_states.specs.Branches.{sum_of};
 ghost use Rattle.device_files.specs.Orders.{clauses_by, ByClauses, IsInOrder, IsListOf};
-ghost use Rattle.device_files.specs.Planning.{within};
+ghost use Rattle.device_files.specs.Weighing.{within};
 ghost use Rattle.device_files.specs.Refusals.{told_by};
 
 use crate::refusal::{Refusal, above};

@@ -4,12 +4,12 @@ use Rattle.std.specs.Fmt.{digits}
 use Rattle.session_rules.specs.Items.{Item, Plain}
 use Rattle.ranking.specs.Systems.{no_extras}
 use Rattle.diag_cli.specs.declared.words.ServeOptions.{ServeOptions}
-use Rattle.diag_cli.specs.declared.words.Command.TheVariants.{Serve, ServeFrames, Ask, Plan, Check, Compile}
+use Rattle.diag_cli.specs.declared.words.Command.TheVariants.{Serve, ServeFrames, Ask, Inspect, Compile}
 use Rattle.diag_cli.specs.Words.{Load, Over, form_of}
 use Rattle.device_files.specs.declared.status.Status.TheVariants.{Done, ReadFailed, CutShort}
-use Rattle.device_files.specs.Describing.{long_file_line}
+use Rattle.device_files.specs.declared.inspecting.Inspection.TheVariants.{Plan, Check}
 use Rattle.diag_cli.specs.Besides.{levels_bits, least_bits, bits_line}
-use Rattle.diag_cli.specs.Courses.{Ended, Failed, Cut, read_error, script_too_long, served}
+use Rattle.diag_cli.specs.Courses.{Ended, Failed, Cut, read_error, long_file_line, script_too_long, served}
 
 -- ---- words with a form
 
@@ -38,7 +38,7 @@ compile_a_design = refl
 compile_within_a_budget : form_of (codes "compile" ∷ codes "c.bench" ∷ codes "--budget" ∷ codes "6" ∷ []) ≡ Some (Over (codes "c.bench") (Compile 6 false))
 compile_within_a_budget = refl
 
-plan_a_netlist : form_of (codes "plan" ∷ codes "c.bench" ∷ []) ≡ Some (Over (codes "c.bench") (Plan false))
+plan_a_netlist : form_of (codes "plan" ∷ codes "c.bench" ∷ []) ≡ Some (Over (codes "c.bench") (Inspect (Plan false)))
 plan_a_netlist = refl
 
 serve_in_another_order : form_of (codes "serve" ∷ codes "c.bench" ∷ codes "--narrow" ∷ []) ≡ Some (Over (codes "c.bench") (Serve (record usual { narrow = true })))
@@ -50,10 +50,10 @@ another_order_between_others = refl
 another_order_before_others : form_of (codes "compile" ∷ codes "c.bench" ∷ codes "--narrow" ∷ codes "--budget" ∷ codes "7" ∷ []) ≡ Some (Over (codes "c.bench") (Compile 7 true))
 another_order_before_others = refl
 
-plan_in_another_order : form_of (codes "plan" ∷ codes "c.bench" ∷ codes "--narrow" ∷ []) ≡ Some (Over (codes "c.bench") (Plan true))
+plan_in_another_order : form_of (codes "plan" ∷ codes "c.bench" ∷ codes "--narrow" ∷ []) ≡ Some (Over (codes "c.bench") (Inspect (Plan true)))
 plan_in_another_order = refl
 
-check_a_graph : form_of (codes "check" ∷ codes "g.nnf" ∷ []) ≡ Some (Over (codes "g.nnf") Check)
+check_a_graph : form_of (codes "check" ∷ codes "g.nnf" ∷ []) ≡ Some (Over (codes "g.nnf") (Inspect Check))
 check_a_graph = refl
 
 ask_a_graph : form_of (codes "ask" ∷ codes "g.nnf" ∷ codes "2" ∷ []) ≡ Some (Over (codes "g.nnf") (Ask 2 16))

@@ -16,25 +16,21 @@ use Rattle.ranking.specs.Systems.{System}
 use Rattle.device_model.specs.Devices.{Device}
 use Rattle.clause_encoder.specs.declared.encoding.EncodeError.{EncodeError}
 use Rattle.clause_encoder.specs.Clauses.{ClauseList}
-use Rattle.bench_reader.specs.SequentialNetlists.{sequential_netlist}
 use Rattle.diag_cli.specs.declared.serving.TheConstants.{SCRIPT_LIMIT}
 use Rattle.diag_cli.specs.declared.words.ServeOptions.{ServeOptions}
 use Rattle.diag_cli.specs.declared.words.Command.{Command}
-use Rattle.diag_cli.specs.declared.words.Command.TheVariants.{Serve, ServeFrames, Ask, Plan, Check, Compile}
+use Rattle.diag_cli.specs.declared.words.Command.TheVariants.{Serve, ServeFrames, Ask, Inspect, Compile}
 use Rattle.diag_cli.specs.Words.{Form, Load, Over, asks_script}
 use Rattle.device_files.proofs.Statuses.{cases_status}
 use Rattle.device_files.specs.declared.status.Status.{Status}
 use Rattle.device_files.specs.declared.status.Status.TheVariants.{Done, Refused, Usage, ReadFailed, WriteFailed, NoMemory, CutShort}
-use Rattle.device_files.specs.Describing.{netlist_line, long_file_line, or_line, described, device_in}
-use Rattle.diag_cli.specs.Frames.{sequential_in, if_unrolled}
 use Rattle.device_files.specs.Output.{Output, Gives, says, no_memory, GivesUnlessMemory}
-use Rattle.diag_cli.specs.Courses.{End, Ended, Failed, Cut, Course, Tells, Serves, usage_line, read_error, not_loaded, served, wholly_served, whole_output, if_within, served_or_refused, course_by}
+use Rattle.diag_cli.specs.Courses.{End, Ended, Failed, Cut, Course, Tells, Serves, usage_line, read_error, long_file_line, not_loaded, served, wholly_served, whole_output, served_or_refused, course_by, course_of}
 use Rattle.diag_cli.specs.Loads.{loaded}
 use Rattle.device_files.specs.Refusals.{or_memory}
 use Rattle.diag_cli.specs.Runs.{GivesUnlessShort, IsDone, IsRun}
 use Rattle.diag_cli.specs.Following.{IsIdle, EndsAs, AreTaken, CameTo, IsServed, WritesFirst, IsStopped, Follows}
 use Rattle.device_files.proofs.Failing.{gives_part}
-use Rattle.device_files.proofs.PlannedDevices.{short_file}
 use Rattle.diag_cli.proofs.Unread.{IsUnread}
 use Rattle.diag_cli.proofs.Scripts.{taken_all, broken_begins_all}
 
@@ -43,21 +39,15 @@ pub same_file : (file bytes : List ℕ) (told : Option (List ℕ)) → file ≡ 
 same_file file bytes None same is = tt
 same_file file bytes (Some all) same is = same ∙ is
 
--- a file that is short enough is read
-pub short_netlist : (file : List ℕ) → length file ≤ TEXT_LIMIT → sequential_in file ≡ or_line netlist_line (sequential_netlist file)
-short_netlist file short = let few : nat_le (length file) TEXT_LIMIT ≡ true = grind arith in rw few
+-- ---- a file may be too long
 
--- what is said of a short text is said of its file
-pub refused_in : (fault : Option Output) (path file : List ℕ) (options : ServeOptions) (clauses : Device → Result ClauseList EncodeError) → length file ≤ TEXT_LIMIT → IsExpectedFault fault (described path file)
-    → IsExpectedFault fault (if_within options clauses (device_in path file))
-refused_in None path file options clauses short is = tt
-refused_in (Some output) path file options clauses short is = ap (if_within options clauses) (short_file path file short ∙ is)
+-- a file that is short enough has the course of the command
+short_course : (order : ClauseList → ClauseList) (path : List ℕ) (command : Command) (file : List ℕ) → length file ≤ TEXT_LIMIT → course_of order (Some (Over path command)) file ≡ course_by order path command file
+short_course order path command file short = let few : nat_le (length file) TEXT_LIMIT ≡ true = grind arith in rw few
 
--- the same of a netlist over several times
-pub refused_frames : (fault : Option Output) (file : List ℕ) (frames : ℕ) (options : ServeOptions) (put : ClauseList → ClauseList) → length file ≤ TEXT_LIMIT
-    → IsExpectedFault fault (or_line netlist_line (sequential_netlist file)) → IsExpectedFault fault (if_unrolled frames options put (sequential_in file))
-refused_frames None file frames options put short is = tt
-refused_frames (Some output) file frames options put short is = ap (if_unrolled frames options put) (short_netlist file short ∙ is)
+-- a file that is too long has this output
+long_course : (order : ClauseList → ClauseList) (path : List ℕ) (command : Command) (file : List ℕ) → TEXT_LIMIT < length file → course_of order (Some (Over path command)) file ≡ Tells (says long_file_line Refused)
+long_course order path command file long = let many : nat_le (length file) TEXT_LIMIT ≡ false = grind arith in rw many
 
 -- words with a form may run out of memory
 with_form : (form : Form) {output : Output} {status : Status} {a b : Option (List ℕ)} → GivesUnlessMemory output status a b → GivesUnlessShort (Some form) output status a b
@@ -222,6 +212,10 @@ module _ (input new_input : Reading) (out new_out : Writing) (status : Status) w
   -- ---- runs
 
   module _ (order : ClauseList → ClauseList) (path : List ℕ) (command : Command) (held : List ℕ → Holding) (shelf new_shelf : Reading) where
+    -- what the command comes to over a file, which may be too long
+    abbrev course : List ℕ → Course
+    course file = course_of order (Some (Over path command)) file
+
     -- The file was read.
     pub run_loaded : (file : List ℕ) → IfSome (told_bytes (held path)) (λ bytes. file ≡ bytes) → held path ≢ absent → new_shelf.faults ≡ shelf.faults
         → new_shelf.taken ≡ shelf.taken + length file → length file ≤ TEXT_LIMIT
@@ -229,7 +223,7 @@ module _ (input new_input : Reading) (out new_out : Writing) (status : Status) w
         → Follows (course_by order path command file) input new_input out new_out status → (status ≡ CutShort → new_input.taken ≡ input.taken + SCRIPT_LIMIT)
         → (status ≢ WriteFailed → status ≢ CutShort → new_input.taken < input.taken + SCRIPT_LIMIT)
         → IsRun order (Some (Over path command)) held shelf new_shelf input new_input out new_out status
-    run_loaded file is there kept taken small writes reads other done cut short = record {
+    run_loaded file is there kept taken small writes reads other follows cut short = record {
       done = λ _. inl (record { file = file; is_told = is; taken = omega (arith, taken, small); follows = done });
       write_fault = writes;
       read_fault = λ whole. ((λ four. inr ((reads whole).rose four)), λ rises. elim rises [ inl moves ↦ absurd (omega (arith, kept, moves)) | inr moves ↦ four_of whole moves ]);
@@ -240,58 +234,45 @@ module _ (input new_input : Reading) (out new_out : Writing) (status : Status) w
       file_once = some_map (told_bytes (held path)) (λ bytes same. omega (arith, taken, ap length same)) is;
       absent_file = λ gone. absurd (there gone);
       no_file = λ moves. absurd (omega (arith, kept, moves));
-      not_asked = idle_by command done;
-      no_script = some_map (told_bytes (held path)) (λ bytes same output course.
-          (told_of (course_by order path command file) output (ap (course_by order path command) same ∙ course) done).0) is;
+      not_asked = idle_by command follows;
+      no_script = some_map (told_bytes (held path)) (λ bytes same output told.
+          (told_of (course file) output (ap course same ∙ told) done).0) is;
       output = given;
-      complete = all_complete (Some (Over path command)) shelf new_shelf input new_input out new_out status writes (told_bytes (held path)) (λ bytes. whole_output (course_by order path command bytes) input.left) given;
-      script_fault = some_map (told_bytes (held path)) (λ bytes same answers course rises.
-          fault_of answers rises (served_of (course_by order path command file) answers (ap (course_by order path command) same ∙ course) done)) is;
-      stopped = some_map (told_bytes (held path)) (λ bytes same answers course five moved.
-          stopped_of answers five moved (served_of (course_by order path command file) answers (ap (course_by order path command) same ∙ course) done)) is;
-      memory = λ six. idle_without_memory six (course_by order path command file) done;
-      all_read = some_map (told_bytes (held path)) (λ bytes same answers course zero.
-          (served_of (course_by order path command file) answers (ap (course_by order path command) same ∙ course) done).all_read zero) is;
-      script_taken = few_taken (course_by order path command file) done;
+      complete = all_complete (Some (Over path command)) shelf new_shelf input new_input out new_out status writes (told_bytes (held path)) (λ bytes. whole_output (course bytes) input.left) given;
+      script_fault = some_map (told_bytes (held path)) (λ bytes same answers serves rises.
+          fault_of answers rises (served_of (course file) answers (ap course same ∙ serves) done)) is;
+      stopped = some_map (told_bytes (held path)) (λ bytes same answers serves five moved.
+          stopped_of answers five moved (served_of (course file) answers (ap course same ∙ serves) done)) is;
+      memory = λ six. idle_without_memory six (course file) done;
+      all_read = some_map (told_bytes (held path)) (λ bytes same answers serves zero.
+          (served_of (course file) answers (ap course same ∙ serves) done).all_read zero) is;
+      script_taken = few_taken (course file) done;
       cut = λ whole. (cut, λ taken. elim (cases_status status CutShort) [ inl seven ↦ seven | inr other ↦ absurd (omega (arith, short whole other, taken)) ]);
     }
       where
+        done : Follows (course file) input new_input out new_out status
+        done = subst (λ c. Follows c input new_input out new_out status) (sym (short_course order path command file small)) follows
+
         idle_by : (any : Command) → Follows (course_by order path any file) input new_input out new_out status → asks_script (Some (Over path any)) ≡ false → IsIdle input new_input
         idle_by (Serve options) done asks = absurd (let never : ⊥ = cc in never)
         idle_by (ServeFrames frames options) done asks = absurd (let never : ⊥ = cc in never)
         idle_by (Ask health sessions) done asks = absurd (let never : ⊥ = cc in never)
-        idle_by (Plan narrow) done asks = done.0
-        idle_by Check done asks = done.0
+        idle_by (Inspect inspection) done asks = done.0
         idle_by (Compile budget narrow) done asks = done.0
 
         four_of : status ≢ WriteFailed → input.faults < new_input.faults → status ≡ ReadFailed
         four_of whole moves = elim (cases_status status ReadFailed) [ inl four ↦ four | inr not_four ↦ absurd (omega (arith, (reads whole).stayed not_four, moves)) ]
 
-        given : IfSome (told_bytes (held path)) (λ bytes. IfSome (whole_output (course_by order path command bytes) input.left) (IsGiven (Some (Over path command)) shelf new_shelf input new_input out new_out status))
+        given : IfSome (told_bytes (held path)) (λ bytes. IfSome (whole_output (course bytes) input.left) (IsGiven (Some (Over path command)) shelf new_shelf input new_input out new_out status))
         given = some_map (told_bytes (held path)) (λ bytes same.
-            subst (λ text. IfSome (whole_output (course_by order path command text) input.left) (IsGiven (Some (Over path command)) shelf new_shelf input new_input out new_out status)) same
-            (some_map (whole_output (course_by order path command file) input.left) (λ output gives read taken. with_form (Over path command) (gives taken)) (output_of (course_by order path command file) input.left refl done))) is
+            subst (λ text. IfSome (whole_output (course text) input.left) (IsGiven (Some (Over path command)) shelf new_shelf input new_input out new_out status)) same
+            (some_map (whole_output (course file) input.left) (λ output gives read taken. with_form (Over path command) (gives taken)) (output_of (course file) input.left refl done))) is
 
 -- ---- what may be told without a look at the script
 
 -- an output that tells that memory ran out, or the one that the file comes to
 abbrev pub IsRight : (ClauseList → ClauseList) → List ℕ → Command → Output → List ℕ → Type 0
-IsRight order path command output file = (output ≡ no_memory) ⊎ (course_by order path command file ≡ Tells output)
-
--- a file that is too long has this output
-long_course : (order : ClauseList → ClauseList) (path : List ℕ) (command : Command) (file : List ℕ) → TEXT_LIMIT < length file → course_by order path command file ≡ Tells (says long_file_line Refused)
-long_course order path command file long = by command
-  where
-    no_more : nat_le (length file) TEXT_LIMIT ≡ false
-    no_more = grind arith
-
-    by : (any : Command) → course_by order path any file ≡ Tells (says long_file_line Refused)
-    by (Serve options) = rw no_more
-    by (ServeFrames frames options) = rw no_more
-    by (Ask health sessions) = rw no_more
-    by (Plan narrow) = rw no_more
-    by Check = rw no_more
-    by (Compile budget narrow) = rw no_more
+IsRight order path command output file = (output ≡ no_memory) ⊎ (course_of order (Some (Over path command)) file ≡ Tells output)
 
 -- some bytes are too many, those that are told where any are
 too_many : (limit : ℕ) → (file : List ℕ) × (limit < length file)
@@ -320,7 +301,7 @@ module _ (order : ClauseList → ClauseList) (held : List ℕ → Holding) (shel
 
   module _ (path : List ℕ) (command : Command) where
     abbrev output_by : List ℕ → Option Output
-    output_by file = whole_output (course_by order path command file) input.left
+    output_by file = whole_output (course_of order (Some (Over path command)) file) input.left
 
     abbrev OutputsGiven : Type 0
     OutputsGiven = IfSome (told_bytes (held path)) (λ file. IfSome (output_by file) (IsGiven (Some (Over path command)) shelf new_shelf input input out new_out status))

@@ -24,7 +24,7 @@ use Rattle.diag_cli.specs.declared.loading.TheConstants.{LISTED_LIMIT}
 use Rattle.diag_cli.specs.declared.loading.Summary.{Summary}
 use Rattle.device_files.specs.declared.status.Status.{Status}
 use Rattle.device_files.specs.Output.{Output, Gives, GivesUnlessMemory}
-use Rattle.device_files.specs.Planning.{count_line}
+use Rattle.device_files.specs.Inspecting.{count_line}
 use Rattle.diag_cli.specs.Loads.{names_line, listed_lines}
 use Rattle.device_files.specs.Refusals.{or_memory}
 use Rattle.diag_cli.specs.inner.Loading.{if_found, IsSummaryOf}

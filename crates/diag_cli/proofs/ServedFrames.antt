@@ -17,7 +17,7 @@ use Rattle.dnnf_compiler.proofs.Laws.{graph_over}
 use Rattle.diag_edge.specs.Edge.{Reading, Writing}
 use Rattle.device_files.specs.declared.status.Status.{Status}
 use Rattle.device_files.specs.declared.status.Status.TheVariants.{NoMemory}
-use Rattle.device_files.specs.Planning.{within}
+use Rattle.device_files.specs.Weighing.{within}
 use Rattle.device_files.specs.Orders.{list_by, ByOrder, IsInOrder}
 use Rattle.std.proofs.lemmas.List.{length-map, length-replicate}
 use Rattle.ranking.specs.Ranking.{plain_costs}

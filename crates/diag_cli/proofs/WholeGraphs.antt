@@ -1,7 +1,6 @@
 -- What is given where a device is compiled.
 use Rattle.std.proofs.Common.{◌≡◌, ℕ, ◌+◌, ◌*◌, ◌≤◌, true, List, [], ◌∷◌, length, Option, None, Some, Result, Ok, refl, sym, ◌∙◌, ap, subst, inl, inr}
 use Rattle.std.specs.Prelude.{MatchResult}
-use Rattle.text_rules.specs.declared.text_lines.TheConstants.{TEXT_LIMIT}
 use Rattle.text_rules.specs.Expected.{IsExpectedFault}
 use Rattle.text_rules.specs.Tokens.{is_neat}
 use Rattle.graph_rules.specs.Graphs.{Graph}
@@ -18,24 +17,19 @@ use Rattle.session_rules.proofs.Spellings.{replies_one}
 use Rattle.device_files.specs.declared.status.Status.{Status}
 use Rattle.device_files.specs.declared.status.Status.TheVariants.{Done, WriteFailed}
 use Rattle.device_files.specs.Output.{Output, Gives, GivesUnlessMemory, told_or_refused}
-use Rattle.device_files.specs.Describing.{described, device_in}
-use Rattle.device_files.specs.Planning.{within}
+use Rattle.device_files.specs.Describing.{described}
+use Rattle.device_files.specs.Weighing.{within}
 use Rattle.diag_cli.specs.Courses.{graph_by, compiled}
 use Rattle.device_files.specs.Refusals.{or_memory}
 use Rattle.diag_cli.specs.inner.Serving.{IsServable}
 use Rattle.device_files.proofs.Failing.{replies_give}
-use Rattle.device_files.proofs.PlannedDevices.{short_file}
-
--- the device of a short text is that of its file
-in_file : (path file : List ℕ) (device : Device) → length file ≤ TEXT_LIMIT → described path file ≡ Ok device → device_in path file ≡ Ok device
-in_file path file device short is = short_file path file short ∙ is
+use Rattle.device_files.proofs.Refusing.{refused_told}
 
 -- there are too many clauses, or their sum is above the budget
-pub not_compiled : (fault : Option Output) (path file : List ℕ) (budget : ℕ) (clauses : Device → Result ClauseList EncodeError) (device : Device) (status : Status) (a b : Option (List ℕ)) → length file ≤ TEXT_LIMIT → described path file ≡ Ok device
-    → IsExpectedFault fault (within budget (clauses device)) → Gives (or_memory fault) status a b → GivesUnlessMemory (compiled budget clauses (device_in path file)) status a b
-not_compiled None path file budget clauses device status a b short is fault said = inl said
-not_compiled (Some output) path file budget clauses device status a b short is fault said =
-    inr (subst (λ (o : Output). Gives o status a b) (sym (ap (compiled budget clauses) (in_file path file device short is) ∙ ap (told_or_refused (graph_by device)) fault)) said)
+pub not_compiled : (fault : Option Output) (path file : List ℕ) (budget : ℕ) (clauses : Device → Result ClauseList EncodeError) (device : Device) (status : Status) (a b : Option (List ℕ)) → described path file ≡ Ok device
+    → IsExpectedFault fault (within budget (clauses device)) → Gives (or_memory fault) status a b → GivesUnlessMemory (compiled budget clauses (described path file)) status a b
+not_compiled fault path file budget clauses device status a b is refused said =
+    subst (λ found. GivesUnlessMemory (compiled budget clauses found) status a b) (sym is) (refused_told (graph_by device) (within budget (clauses device)) fault status a b refused said)
 
 module _ (path file : List ℕ) (budget : ℕ) (clauses : Device → Result ClauseList EncodeError) (device : Device) (cnf : ClauseList) (graph : Graph) (status : Status) (a b : Option (List ℕ)) where
   abbrev most : ℕ
@@ -44,29 +38,22 @@ module _ (path file : List ℕ) (budget : ℕ) (clauses : Device → Result Clau
   abbrev output : Output
   output = record { items = Whole device cnf.vars most ∷ []; status = Done }
 
-  output_is : length file ≤ TEXT_LIMIT → described path file ≡ Ok device → within budget (clauses device) ≡ Ok cnf → compiled budget clauses (device_in path file) ≡ output
-  output_is short is list = ap (compiled budget clauses) (in_file path file device short is) ∙ ap (told_or_refused (graph_by device)) list
+  output_is : described path file ≡ Ok device → within budget (clauses device) ≡ Ok cnf → compiled budget clauses (described path file) ≡ output
+  output_is is list = ap (compiled budget clauses) is ∙ ap (told_or_refused (graph_by device)) list
 
   is_whole : IsServable device graph → graph.vars ≡ cnf.vars → length graph.nodes ≤ most → IsWholeOf device cnf.vars most (Ok graph)
   is_whole is vars few_nodes = (vars, is.valid.nodes.apart, few_nodes, is.meaning)
 
   -- its text, with its own number of variables said again, was written, or a write failed
   pub graph_gives : {T E : Type 0} (result : Result T E) (vars : ℕ) → vars ≡ graph.vars
-      → length file ≤ TEXT_LIMIT → described path file ≡ Ok device → within budget (clauses device) ≡ Ok cnf
+      → described path file ≡ Ok device → within budget (clauses device) ≡ Ok cnf
       → IsServable device graph → graph.vars ≡ cnf.vars → length graph.nodes ≤ most
       → is_neat (graph_text (record graph { vars = vars })) ≡ true → parsed (graph_text (record graph { vars = vars })) ≡ Ok (record graph { vars = vars })
       → Puts a b result (graph_text (record graph { vars = vars })) → MatchResult result (λ _. status ≡ Done) (λ _. status ≡ WriteFailed)
-      → GivesUnlessMemory (compiled budget clauses (device_in path file)) status a b
-  graph_gives result vars same short is list servable of_cnf few_nodes neat reads puts ends =
-      inr (subst (λ (o : Output). Gives o status a b) (sym (output_is short is list))
+      → GivesUnlessMemory (compiled budget clauses (described path file)) status a b
+  graph_gives result vars same is list servable of_cnf few_nodes neat reads puts ends =
+      inr (subst (λ (o : Output). Gives o status a b) (sym (output_is is list))
       (replies_give output status a b result (λ five. let never : ⊥ = cc in never) (replies_one a b result (Whole device cnf.vars most) _ ((neat, (record graph { vars = vars }, refl)), spelled) puts) ends))
     where
       spelled : IsWholeOf device cnf.vars most (parsed (graph_text (record graph { vars = vars })))
       spelled = subst (IsWholeOf device cnf.vars most) (sym (reads ∙ ap (λ n. Ok (record graph { vars = n })) same)) (is_whole servable of_cnf few_nodes)
-
--- what is told where a file cannot be compiled
-pub not_described : (fault : Option Output) (path file : List ℕ) (budget : ℕ) (clauses : Device → Result ClauseList EncodeError) (status : Status) (a b : Option (List ℕ))
-    → length file ≤ TEXT_LIMIT → IsExpectedFault fault (described path file) → Gives (or_memory fault) status a b → GivesUnlessMemory (compiled budget clauses (device_in path file)) status a b
-not_described None path file budget clauses status a b short is said = inl said
-not_described (Some output) path file budget clauses status a b short is said =
-    inr (subst (λ (o : Output). Gives o status a b) (sym (ap (compiled budget clauses) (short_file path file short ∙ is))) said)

@@ -1,6 +1,7 @@
 -- Laws of what the words ask for.
 use Rattle.std.proofs.Common.{◌≡◌, ℕ, ◌<◌, ◌≤◌, ◌-◌, Bool, true, false, ◌&&◌, nat_le, List, [], ◌∷◌, length, map, take, drop, get_or, take_all, Option, Some, None, IfSome, is_some, is_none, refl, sym, subst, codes, unwrap_or, lit≤, arith, if◌then◌else◌}
 use Rattle.std.specs.Prelude.{option_and_then}
+use Rattle.std.specs.Bool.{then_some}
 use Rattle.std.specs.Option.{option_map}
 use Rattle.std.proofs.lemmas.Bool.{and_parts, leb-true}
 use Rattle.text_rules.specs.Names.{same_name}
@@ -17,10 +18,12 @@ use Rattle.diag_cli.specs.declared.words.OptionKind.{OptionKind}
 use Rattle.diag_cli.specs.declared.words.OptionKind.TheVariants.{Budget, Sessions, Frames, Levels, Narrow, Least}
 use Rattle.diag_cli.specs.declared.words.Options.{Options}
 use Rattle.diag_cli.specs.declared.words.ServeOptions.{ServeOptions}
-use Rattle.diag_cli.specs.declared.words.Command.TheVariants.{Serve, ServeFrames, Ask, Plan, Check, Compile}
+use Rattle.diag_cli.specs.declared.words.Command.TheVariants.{Serve, ServeFrames, Ask, Inspect, Compile}
 use Rattle.diag_cli.specs.declared.words.Form.{Form as FormRead}
-use Rattle.diag_cli.specs.Words.{Form, Load, Over, row_of, option_for, number_for, with_option, no_options, and_options, serve_options, form_serve, form_by, ask_by, form_ask, form_load, form_by_words, form_of, only_if}
+use Rattle.diag_cli.specs.Words.{Form, Load, Over, row_of, option_for, number_for, with_option, no_options, and_options, serve_options, form_serve, form_by, ask_by, form_ask, form_load, form_by_words, form_of}
 use Rattle.device_files.specs.Paths.{is_netlist_path, is_device_path, is_graph_path}
+use Rattle.device_files.specs.declared.inspecting.Inspection.{Inspection}
+use Rattle.device_files.specs.Inspecting.{inspection_named}
 use Rattle.diag_cli.specs.inner.Forms.{meant, AreWithinLimits, IsWithinLimits}
 
 -- ---- words of the code and words of the definition
@@ -133,7 +136,7 @@ or_default P (Some n) number is fits = is
 record GivesWithin (form : Option Form) : Type 0 where
   given : IfSome form IsWithinLimits
 
-only_within : (taken : Bool) (form : Form) → IsWithinLimits form → IfSome (only_if taken form) IsWithinLimits
+only_within : (taken : Bool) (form : Form) → IsWithinLimits form → IfSome (then_some taken form) IsWithinLimits
 only_within true form is = is
 only_within false form is = tt
 
@@ -152,6 +155,10 @@ of_command false form other is others = others
 within_sessions : (options : Options) → AreWithin options → IsWithin 1 SESSION_LIMIT (unwrap_or options.sessions DEFAULT_SESSIONS)
 within_sessions options are = or_default (IsWithin 1 SESSION_LIMIT) options.sessions DEFAULT_SESSIONS are.1 (lit≤ tt, lit≤ tt)
 
+inspect_within : (path : List ℕ) (inspection : Option Inspection) → IfSome (option_map (λ is. Over path (Inspect is)) inspection) IsWithinLimits
+inspect_within path None = tt
+inspect_within path (Some inspection) = tt
+
 form_by_within : (command path : List ℕ) (options : Options) → AreWithin options → GivesWithin (form_by command path options)
 form_by_within command path options are =
     let budget = or_default (IsWithin 1 BUDGET_LIMIT) options.budget DEFAULT_BUDGET are.0 (lit≤ tt, lit≤ tt) in
@@ -159,8 +166,7 @@ form_by_within command path options are =
     let served : AreWithinLimits (serve_options options) = record { budget = budget.1; some = sessions.0; few = sessions.1; top = top_within options.levels are.3 } in
     of_command (same_name command (codes "serve")) (form_serve path (serve_options options) options.frames) _ (serve_within path (serve_options options) options.frames served are.2)
     (of_command (same_name command (codes "compile")) _ _ (only_within (is_device_path path) (Over path (Compile (unwrap_or options.budget DEFAULT_BUDGET) options.narrow)) budget.1)
-    (of_command (same_name command (codes "plan")) _ _ (only_within (is_device_path path) (Over path (Plan options.narrow)) tt)
-    (of_command (same_name command (codes "check")) _ None (only_within (is_graph_path path) (Over path Check) tt) (record { given = tt }))))
+    (record { given = inspect_within path (inspection_named command path options.narrow) }))
 
 load_within : (places : Option ℕ) → IfSome places (IsWithin 1 PLACE_LIMIT) → IfSome (option_map Load places) IsWithinLimits
 load_within None is = tt

@@ -1,8 +1,9 @@
 -- What a run comes to by its words and its file: an output, or a script whose lines are answered.
-use Rattle.std.specs.Prelude.{ℕ, ◌+◌, ◌*◌, List, [], ◌∷◌, ◌++◌, length, take, Option, Some, None, Result, Ok, Err, codes, nat_lt, if◌then◌else◌}
+use Rattle.std.specs.Prelude.{ℕ, ◌+◌, ◌*◌, List, [], ◌∷◌, ◌++◌, length, take, Option, Some, None, Result, Ok, Err, codes, nat_le, nat_lt, if◌then◌else◌}
 use Rattle.std.specs.Option.{option_map}
 use Rattle.std.specs.Result.{result_and}
 use Rattle.std.specs.Fmt.{decimal}
+use Rattle.text_rules.specs.declared.text_lines.TheConstants.{TEXT_LIMIT}
 use Rattle.text_rules.specs.TextLines.{whole_lines, all_lines}
 use Rattle.diag_edge.specs.declared.loading.LoadError.{LoadError}
 use Rattle.diag_edge.specs.declared.loading.LoadError.TheVariants.{Failed as LoadFailed, Long, Memory}
@@ -18,18 +19,19 @@ use Rattle.session_rules.specs.GraphSystems.{system_of}
 use Rattle.diag_cli.specs.declared.serving.TheConstants.{SCRIPT_LIMIT}
 use Rattle.diag_cli.specs.declared.words.ServeOptions.{ServeOptions}
 use Rattle.diag_cli.specs.declared.words.Command.{Command}
-use Rattle.diag_cli.specs.declared.words.Command.TheVariants.{Serve, ServeFrames, Ask, Plan, Check, Compile}
+use Rattle.diag_cli.specs.declared.words.Command.TheVariants.{Serve, ServeFrames, Ask, Inspect, Compile}
 use Rattle.diag_cli.specs.Words.{Form, Load, Over}
 use Rattle.device_files.specs.declared.status.Status.TheVariants.{Done, Refused, Usage, ReadFailed, CutShort}
 use Rattle.device_files.specs.Output.{Output, says, too_long_line, no_memory, result_and_then, told_or_refused}
-use Rattle.device_files.specs.Describing.{long_file_line, device_in}
+use Rattle.device_files.specs.Describing.{described}
 use Rattle.device_files.specs.Orders.{list_by, clauses_by}
-use Rattle.device_files.specs.Planning.{within, sizes_in, planned}
+use Rattle.device_files.specs.Weighing.{within}
+use Rattle.device_files.specs.Inspecting.{inspected}
 use Rattle.diag_cli.specs.Besides.{in_few_bits}
 use Rattle.bench_reader.specs.declared.sequential.Sequential.{Sequential}
 use Rattle.frame_unroller.specs.Diagnosis.{frame_system}
 use Rattle.diag_cli.specs.Frames.{sequential_in, if_unrolled}
-use Rattle.device_files.specs.Checking.{graph_in, checked}
+use Rattle.device_files.specs.Checking.{graph_in}
 use Rattle.diag_cli.specs.Asking.{asked}
 use Rattle.diag_cli.specs.Loads.{loaded}
 
@@ -40,6 +42,9 @@ usage_line = codes "error: usage\n"
 
 abbrev pub read_error : List ℕ
 read_error = codes "error: read\n"
+
+abbrev pub long_file_line : List ℕ
+long_file_line = too_long_line (codes "file") TEXT_LIMIT
 
 -- the output by why the file was not read
 abbrev pub not_loaded : LoadError → Output
@@ -121,15 +126,16 @@ whole_output (Serves answers) left = option_map (wholly_served answers) left
 -- by the command, over a file, and by the order of clauses that is used where another one is asked for
 abbrev pub course_by : (ClauseList → ClauseList) → List ℕ → Command → List ℕ → Course
 course_by order path (Serve options) file =
-    served_or_refused (served_device options) options.sessions (if_within options (clauses_by options.narrow order) (device_in path file))
+    served_or_refused (served_device options) options.sessions (if_within options (clauses_by options.narrow order) (described path file))
 course_by order path (ServeFrames frames options) file =
     served_or_refused (served_frames frames options) options.sessions (if_unrolled frames options (list_by options.narrow order) (sequential_in file))
 course_by order path (Ask health sessions) file = served_or_refused system_of sessions (asked health (graph_in file))
-course_by order path (Plan narrow) file = Tells (planned (sizes_in (clauses_by narrow order) (device_in path file)))
-course_by order path Check file = Tells (checked (graph_in file))
-course_by order path (Compile budget narrow) file = Tells (compiled budget (clauses_by narrow order) (device_in path file))
+course_by order path (Inspect inspection) file = Tells (inspected order path inspection file)
+course_by order path (Compile budget narrow) file = Tells (compiled budget (clauses_by narrow order) (described path file))
 
+-- by the form; of a file that is too long, that is told
 abbrev pub course_of : (ClauseList → ClauseList) → Option Form → List ℕ → Course
 course_of order None file = Tells (says usage_line Usage)
 course_of order (Some (Load places)) file = Tells (loaded places)
-course_of order (Some (Over path command)) file = course_by order path command file
+course_of order (Some (Over path command)) file =
+    if nat_le (length file) TEXT_LIMIT then course_by order path command file else Tells (says long_file_line Refused)

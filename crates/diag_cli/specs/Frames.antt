@@ -1,7 +1,6 @@
 -- What a run comes to over a netlist with flip-flops and several times.
-use Rattle.std.specs.Prelude.{ℕ, List, length, Result, Ok, Err, codes, nat_le, if◌then◌else◌}
+use Rattle.std.specs.Prelude.{ℕ, List, length, Result, Ok, Err, codes}
 use Rattle.std.specs.Result.{result_and}
-use Rattle.text_rules.specs.declared.text_lines.TheConstants.{TEXT_LIMIT}
 use Rattle.device_model.specs.declared.limits.TheConstants.{PART_LIMIT, WIRE_LIMIT}
 use Rattle.bench_reader.specs.declared.sequential.Sequential.{Sequential}
 use Rattle.bench_reader.specs.SequentialNetlists.{sequential_netlist}
@@ -14,14 +13,14 @@ use Rattle.frame_unroller.specs.Unrolling.{unrolled}
 use Rattle.diag_edge.specs.ErrorLines.{above_line}
 use Rattle.device_files.specs.declared.status.Status.TheVariants.{Refused}
 use Rattle.device_files.specs.Output.{Output, says, no_memory, result_and_then}
-use Rattle.device_files.specs.Describing.{netlist_line, long_file_line, or_line}
+use Rattle.device_files.specs.Describing.{netlist_line, or_line}
 use Rattle.diag_cli.specs.declared.words.ServeOptions.{ServeOptions}
-use Rattle.device_files.specs.Planning.{within}
+use Rattle.device_files.specs.Weighing.{within}
 use Rattle.diag_cli.specs.Besides.{in_few_bits}
 
--- the netlist of a file, which may be too long
+-- the netlist of a file, or the output that refuses it
 abbrev pub sequential_in : List ℕ → Result Sequential Output
-sequential_in file = if nat_le (length file) TEXT_LIMIT then or_line netlist_line (sequential_netlist file) else Err (says long_file_line Refused)
+sequential_in file = or_line netlist_line (sequential_netlist file)
 
 -- too many parts, wires or clauses at all times
 abbrev pub not_unrolled : UnrollError → Output

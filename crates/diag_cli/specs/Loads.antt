@@ -17,7 +17,8 @@ use Rattle.diag_cli.specs.declared.loading.TheConstants.{LISTED_LIMIT}
 use Rattle.device_files.specs.declared.status.Status.TheVariants.{Done}
 use Rattle.device_files.specs.Output.{Output, told_or_refused}
 use Rattle.device_files.specs.Describing.{or_line, netlist_line}
-use Rattle.device_files.specs.Planning.{count_line, within}
+use Rattle.device_files.specs.Weighing.{within}
+use Rattle.device_files.specs.Inspecting.{count_line}
 
 -- a word and the names of the faulty parts
 abbrev pub names_line : List ℕ → List Name → List Bool → Item

@@ -1,5 +1,6 @@
 -- What the words of the command line ask for.
 use Rattle.std.specs.Prelude.{ℕ, Bool, true, false, is_none, is_some, List, [], ◌∷◌, Option, Some, None, find, unwrap_or, option_and_then, if◌then◌else◌, codes}
+use Rattle.std.specs.Bool.{then_some}
 use Rattle.std.specs.Option.{option_map, option_map_or}
 use Rattle.text_rules.specs.Names.{same_name, is_among}
 use Rattle.text_rules.specs.Numbers.{plain_number_in}
@@ -9,8 +10,9 @@ use Rattle.branch_states.specs.declared.measuring.TheConstants.{BUDGET_LIMIT}
 use Rattle.frame_unroller.specs.declared.unrolling.TheConstants.{FRAME_LIMIT}
 use Rattle.diag_edge.specs.Edge.{Holding, told_bytes}
 use Rattle.device_files.specs.Paths.{is_netlist_path, is_device_path, is_graph_path}
+use Rattle.device_files.specs.Inspecting.{inspection_named}
 use Rattle.diag_cli.specs.declared.words.Command.{Command}
-use Rattle.diag_cli.specs.declared.words.Command.TheVariants.{Serve, ServeFrames, Ask, Plan, Check, Compile}
+use Rattle.diag_cli.specs.declared.words.Command.TheVariants.{Serve, ServeFrames, Ask, Inspect, Compile}
 use Rattle.diag_cli.specs.declared.words.OptionKind.{OptionKind}
 use Rattle.diag_cli.specs.declared.words.OptionKind.TheVariants.{Budget, Sessions, Frames, Levels, Narrow, Least}
 use Rattle.diag_cli.specs.declared.words.Numbers.{Numbers}
@@ -66,7 +68,7 @@ option_named word = find (λ kind. same_name word (row_of kind).word) (Budget �
 
 -- the same, only if the command takes it
 abbrev pub option_for : List ℕ → List ℕ → Option OptionKind
-option_for command word = option_and_then (λ kind. if is_among (row_of kind).commands command then Some kind else None) (option_named word)
+option_for command word = option_and_then (λ kind. then_some (is_among (row_of kind).commands command) kind) (option_named word)
 
 -- the options that were given and this one, with its number, if it takes one; none is given twice
 abbrev pub with_option : Options → OptionKind → Option ℕ → Option Options
@@ -96,10 +98,6 @@ and_options command given (Some kind) (word ∷ words) =
 
 -- ---- words
 
--- a form, only where the path is such as it takes
-abbrev pub only_if : Bool → Form → Option Form
-only_if is_taken form = if is_taken then Some form else None
-
 -- how `serve` answers a script by the options that were given
 abbrev pub serve_options : Options → ServeOptions
 serve_options options = record {
@@ -111,21 +109,19 @@ serve_options options = record {
 
 -- `serve`, over a netlist where there are frames
 abbrev pub form_serve : List ℕ → ServeOptions → Option ℕ → Option Form
-form_serve path options None = only_if (is_device_path path) (Over path (Serve options))
-form_serve path options (Some frames) = only_if (is_netlist_path path) (Over path (ServeFrames frames options))
+form_serve path options None = then_some (is_device_path path) (Over path (Serve options))
+form_serve path options (Some frames) = then_some (is_netlist_path path) (Over path (ServeFrames frames options))
 
 -- a command over a file, with options
 abbrev pub form_by : List ℕ → List ℕ → Options → Option Form
 form_by command path options =
     if same_name command (codes "serve") then form_serve path (serve_options options) options.frames
-    else if same_name command (codes "compile") then only_if (is_device_path path) (Over path (Compile (unwrap_or options.budget DEFAULT_BUDGET) options.narrow))
-    else if same_name command (codes "plan") then only_if (is_device_path path) (Over path (Plan options.narrow))
-    else if same_name command (codes "check") then only_if (is_graph_path path) (Over path Check)
-    else None
+    else if same_name command (codes "compile") then then_some (is_device_path path) (Over path (Compile (unwrap_or options.budget DEFAULT_BUDGET) options.narrow))
+    else option_map (λ inspection. Over path (Inspect inspection)) (inspection_named command path options.narrow)
 
 -- questions to a graph, with so many parts and with options
 abbrev pub ask_by : List ℕ → ℕ → Options → Option Form
-ask_by path health options = only_if (is_graph_path path) (Over path (Ask health (unwrap_or options.sessions DEFAULT_SESSIONS)))
+ask_by path health options = then_some (is_graph_path path) (Over path (Ask health (unwrap_or options.sessions DEFAULT_SESSIONS)))
 
 -- and with the words of these
 abbrev pub form_ask : List ℕ → List (List ℕ) → Option Form

@@ -7,7 +7,7 @@ ghost use Rattle.diag_cli.specs.Besides.{levels_bits, least_bits, bits_line, in_
 ghost use Rattle.diag_cli.specs.Courses.{if_within};
 ghost use Rattle.device_files.specs.Orders.{ByClauses};
 ghost use Rattle.device_files.specs.Output.{says};
-ghost use Rattle.device_files.specs.Planning.{within};
+ghost use Rattle.device_files.specs.Weighing.{within};
 ghost use Rattle.device_files.specs.Refusals.{told_by};
 ghost use Rattle.diag_cli.specs.inner.Forms.{AreWithinLimits};
 ghost use Rattle.diag_cli.specs.inner.Serving.{IsServable, CanTell};

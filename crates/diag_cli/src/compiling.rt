@@ -1,6 +1,6 @@
 ghost use Rattle.std.specs.Prelude.{◌≡◌, ◌≢◌, ◌-◌, ◌^◌, ◌<◌, ◌≤◌, length};
 ghost use Rattle.diag_edge.specs.Edge.{RoseExactly};
-ghost use Rattle.device_files.specs.Describing.{device_in};
+ghost use Rattle.device_files.specs.Describing.{described};
 ghost use Rattle.device_files.specs.Orders.{ByClauses};
 ghost use Rattle.diag_cli.specs.Courses.{compiled};
 ghost use Rattle.device_files.specs.Output.{GivesUnlessMemory};
@@ -30,7 +30,7 @@ pub(crate) fn compile_file<O: Sink>(
     ensures not_read { result ≢ Status.ReadFailed }
     ensures not_cut { result ≢ Status.CutShort }
     ensures said { ByClauses is_narrow (λ clauses.
-        GivesUnlessMemory (compiled budget clauses (device_in path.now file.now)) result (O.got out.old) (O.got out.new)) }
+        GivesUnlessMemory (compiled budget clauses (described path.now file.now)) result (O.got out.old) (O.got out.new)) }
 {
     let device = match described(alloc, path, file) {
         Ok(device) => device,

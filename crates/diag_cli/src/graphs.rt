@@ -6,7 +6,7 @@ ghost use Rattle.device_model.specs.Devices.{part_costs};
 ghost use Rattle.branch_states.specs.Branches.{sum_of};
 ghost use Rattle.dnnf_compiler.specs.Compiled.{IsCompiled};
 ghost use Rattle.device_files.specs.Orders.{ByClauses};
-ghost use Rattle.device_files.specs.Planning.{within};
+ghost use Rattle.device_files.specs.Weighing.{within};
 ghost use Rattle.device_files.specs.Refusals.{told_by};
 ghost use Rattle.diag_cli.specs.inner.Serving.{IsServable};
 

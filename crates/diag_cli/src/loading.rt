@@ -15,7 +15,7 @@ ghost use Rattle.diag_cli.specs.inner.Serving.{IsServable};
 use crate::graphs::{costs_of, graph_within};
 use crate::words::DEFAULT_BUDGET;
 use adder_load::{Found, PLACE_LIMIT, adder_text, note_readings, sample};
-use device_files::{Refusal, Status, netlist_device, put_count, tell};
+use device_files::{Count, Refusal, Status, netlist_device, put_count, put_counts, tell};
 use device_model::{Device, Name};
 use diag_edge::{Sink, WriteFailed, put_line};
 use fault_graph::Distiller;
@@ -177,9 +177,23 @@ fn put_summary<O: Sink>(out: &mut O, summary: &Summary) -> Result<(), WriteFaile
     ensures text { Replies (O.got out.old) (O.got out.new) result (summary_items summary.now) }
     ensures cause { HasCause (O.faults out.old) (O.faults out.new) result }
 {
-    put_count(out, b"parts", summary.parts.len() as u64)?;
-    put_count(out, b"wires", summary.wires)?;
-    put_count(out, b"clauses", summary.clauses)?;
+    put_counts(
+        out,
+        &[
+            Count {
+                what: b"parts",
+                number: summary.parts.len() as u64,
+            },
+            Count {
+                what: b"wires",
+                number: summary.wires,
+            },
+            Count {
+                what: b"clauses",
+                number: summary.clauses,
+            },
+        ],
+    )?;
     put_found(out, summary)
 }
 

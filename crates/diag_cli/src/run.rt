@@ -10,7 +10,7 @@ use crate::compiling::compile_file;
 use crate::framing::serve_frames;
 use crate::serving::{SCRIPT_LIMIT, serve_file};
 use crate::words::Command;
-use device_files::{Status, check_file, plan_file};
+use device_files::{Status, inspect_file};
 use diag_edge::{Sink, Source};
 use std::alloc::Global;
 use text_rules::TEXT_LIMIT;
@@ -43,8 +43,7 @@ pub(crate) fn run_file<I: Source, O: Sink>(
             serve_frames(alloc, file, frames, options, input, out)
         }
         Command::Ask { health, sessions } => ask_file(alloc, file, health, sessions, input, out),
-        Command::Plan { narrow } => plan_file(alloc, path, file, narrow, out),
-        Command::Check => check_file(alloc, file, out),
+        Command::Inspect { inspection } => inspect_file(alloc, path, file, inspection, out),
         Command::Compile { budget, narrow } => {
             compile_file(alloc, path, file, budget, narrow, out)
         }

@@ -5,7 +5,7 @@ ghost use Rattle.diag_edge.specs.Edge.{HasCause, Puts, RoseExactly};
 ghost use Rattle.session_rules.specs.GraphSystems.{system_of};
 ghost use Rattle.device_files.specs.Orders.{ByClauses};
 ghost use Rattle.diag_cli.specs.Courses.{answers_of, if_within, served_device, served_or_refused};
-ghost use Rattle.device_files.specs.Describing.{device_in};
+ghost use Rattle.device_files.specs.Describing.{described};
 ghost use Rattle.device_files.specs.Refusals.{told_by};
 ghost use Rattle.diag_cli.specs.Following.{Follows, IsServed};
 ghost use Rattle.diag_cli.specs.inner.Forms.{AreWithinLimits};
@@ -161,7 +161,7 @@ pub(crate) fn serve_file<I: Source, O: Sink>(
     ensures read_fault { result ≢ Status.WriteFailed → RoseExactly (I.faults input.old) (I.faults input.new) (result ≡ Status.ReadFailed) }
     ensures not_usage { result ≢ Status.Usage }
     ensures follows { ByClauses options.narrow (λ clauses.
-        Follows (served_or_refused (served_device options) options.sessions (if_within options clauses (device_in path.now file.now)))
+        Follows (served_or_refused (served_device options) options.sessions (if_within options clauses (described path.now file.now)))
         (I.shown input.old) (I.shown input.new) (O.shown out.old) (O.shown out.new) result) }
     ensures cut { result ≡ Status.CutShort → I.taken input.new ≡ I.taken input.old + SCRIPT_LIMIT }
     ensures short { result ≢ Status.WriteFailed → result ≢ Status.CutShort → I.taken input.new < I.taken input.old + SCRIPT_LIMIT }

@@ -7,7 +7,7 @@ ghost use Rattle.diag_cli.specs.inner.Forms.{meant, IsWithinLimits};
 
 use adder_load::PLACE_LIMIT;
 use branch_states::BUDGET_LIMIT;
-use device_files::{is_device_path, is_graph_path, is_netlist_path};
+use device_files::{Inspection, is_device_path, is_graph_path, is_netlist_path};
 use device_model::PART_LIMIT;
 use frame_unroller::FRAME_LIMIT;
 use level_lister::TOP_LIMIT;
@@ -43,10 +43,8 @@ pub enum Command {
     /// `ask`: answers the script on the input over the graph of the file, whose first variables are so many parts, with at most
     /// so many sessions open at a time.
     Ask { health: u32, sessions: u32 },
-    /// `plan`: tells how large a device is, and the sum that the budget limits.
-    Plan { narrow: bool },
-    /// `check`: tells whether the text of the file is a decomposable graph.
-    Check,
+    /// What is told of the file alone, as by `plan` and `check`.
+    Inspect { inspection: Inspection },
     /// `compile`: writes the graph of a device whose sum is within a budget.
     Compile { budget: u32, narrow: bool },
 }
@@ -277,9 +275,10 @@ fn form_by<'a>(command: &str, path: &'a str, options: Options) -> Option<Form<'a
     let command = match command {
         "serve" => return form_serve(path, options.of_serve(), options.frames),
         "compile" if is_device_path(path) => Command::Compile { budget, narrow },
-        "plan" if is_device_path(path) => Command::Plan { narrow },
-        "check" if is_graph_path(path) => Command::Check,
-        _ => return None,
+        _ => {
+            let inspection = Inspection::named(command, path, narrow)?;
+            Command::Inspect { inspection }
+        }
     };
     Some(Form::Over { path, command })
 }

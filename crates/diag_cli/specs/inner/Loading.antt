@@ -11,7 +11,7 @@ use Rattle.diag_cli.specs.declared.loading.Summary.{Summary}
 use Rattle.device_files.specs.declared.status.Status.TheVariants.{Done}
 use Rattle.device_files.specs.declared.refusal.Refusal.{Refusal}
 use Rattle.device_files.specs.Output.{Output}
-use Rattle.device_files.specs.Planning.{count_line}
+use Rattle.device_files.specs.Inspecting.{count_line}
 use Rattle.diag_cli.specs.Loads.{names_line, summary_lines}
 use Rattle.device_files.specs.Refusals.{told_by}
 

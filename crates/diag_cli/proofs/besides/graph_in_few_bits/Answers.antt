@@ -6,7 +6,7 @@ use Rattle.clause_encoder.proofs.Sizes.{encoded-few_vars}
 use Rattle.branch_states.specs.Branches.{sum_of}
 use Rattle.diag_cli.specs.Besides.{in_few_bits}
 use Rattle.device_files.specs.Orders.{clauses_by}
-use Rattle.device_files.specs.Planning.{within}
+use Rattle.device_files.specs.Weighing.{within}
 use Rattle.device_files.specs.Refusals.{told_by}
 use Rattle.diag_cli.proofs.FewBits.{fault_through}
 use Rattle.device_files.proofs.Ordering.{by_any, list_vars, list_alike, list_gives}

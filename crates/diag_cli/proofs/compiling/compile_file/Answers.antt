@@ -1,8 +1,9 @@
 use Rattle.std.proofs.Common.{refl, Result, Ok, Err}
 use Rattle.device_files.specs.Refusals.{told_by}
-use Rattle.diag_cli.proofs.WholeGraphs.{graph_gives, not_compiled, not_described}
+use Rattle.diag_cli.proofs.WholeGraphs.{graph_gives, not_compiled}
 use Rattle.device_files.specs.Orders.{clauses_by}
 use Rattle.device_files.proofs.Ordering.{by_any, by_same}
+use Rattle.device_files.proofs.Refusing.{refused_told}
 use Rattle.diag_cli.proofs.compiling.compile_file.Goals as goal
 
 pub returns-in-Ok-write_nnf-clause-said : goal.returns-in-Ok-write_nnf-clause-said
@@ -11,7 +12,7 @@ returns-in-Ok-write_nnf-clause-said g c =
     let wrote = c.write_nnf.ensures in
     let put : Result (Unit {0}) (Unit {0}) = Ok tt in
     by_same found.list (λ order list.
-    graph_gives c.args.path.now c.args.file.now c.args.budget (clauses_by c.args.is_narrow order) _ _ _ _ _ _ put _ c.vars.ensures.vars c.requires.short c.in-Ok.ensures list
+    graph_gives c.args.path.now c.args.file.now c.args.budget (clauses_by c.args.is_narrow order) _ _ _ _ _ _ put _ c.vars.ensures.vars c.in-Ok.ensures list
     found.servable found.vars found.few_nodes wrote.neat wrote.read c.in-Ok-write_nnf.ensures.bytes refl)
 
 pub returns-clause-said : goal.returns-clause-said
@@ -20,15 +21,15 @@ returns-clause-said g c =
     let wrote = c.write_nnf.ensures in
     let put : Result (Unit {0}) (Unit {0}) = Err tt in
     by_same found.list (λ order list.
-    graph_gives c.args.path.now c.args.file.now c.args.budget (clauses_by c.args.is_narrow order) _ _ _ _ _ _ put _ c.vars.ensures.vars c.requires.short c.in-Ok.ensures list
+    graph_gives c.args.path.now c.args.file.now c.args.budget (clauses_by c.args.is_narrow order) _ _ _ _ _ _ put _ c.vars.ensures.vars c.in-Ok.ensures list
     found.servable found.vars found.few_nodes wrote.neat wrote.read c.in-Err-write_nnf.ensures.bytes refl)
 
 pub returns-in-Err-graph_within-clause-said : goal.returns-in-Err-graph_within-clause-said
 returns-in-Err-graph_within-clause-said g c =
     by_same c.in-Err-graph_within.ensures.list (λ order fault.
-    not_compiled (told_by c.in-Err-graph_within.refusal) c.args.path.now c.args.file.now c.args.budget (clauses_by c.args.is_narrow order) _ _ _ _ c.requires.short c.in-Ok.ensures fault c.tell-in-Err-graph_within.ensures.said)
+    not_compiled (told_by c.in-Err-graph_within.refusal) c.args.path.now c.args.file.now c.args.budget (clauses_by c.args.is_narrow order) _ _ _ _ c.in-Ok.ensures fault c.tell-in-Err-graph_within.ensures.said)
 
 pub returns-in-Err-clause-said : goal.returns-in-Err-clause-said
 returns-in-Err-clause-said g c =
     by_any (λ order.
-    not_described (told_by c.in-Err.refusal) c.args.path.now c.args.file.now c.args.budget (clauses_by c.args.is_narrow order) _ _ _ c.requires.short c.in-Err.ensures c.tell.ensures.said)
+    refused_told _ _ (told_by c.in-Err.refusal) _ _ _ c.in-Err.ensures c.tell.ensures.said)

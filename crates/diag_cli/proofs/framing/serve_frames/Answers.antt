@@ -4,8 +4,9 @@ use Rattle.device_files.specs.Orders.{list_by}
 use Rattle.diag_cli.specs.Frames.{sequential_in, if_unrolled}
 use Rattle.device_files.specs.Refusals.{told_by}
 use Rattle.diag_cli.proofs.Shown.{gives_shown}
-use Rattle.diag_cli.proofs.Headline.{refused_frames, follows_refusal}
+use Rattle.diag_cli.proofs.Headline.{follows_refusal}
 use Rattle.device_files.proofs.Ordering.{by_any}
+use Rattle.device_files.proofs.Refusing.{refused_then}
 use Rattle.diag_cli.proofs.framing.serve_frames.Goals as goal
 
 pub returns-in-Err-clause-follows : goal.returns-in-Err-clause-follows
@@ -15,4 +16,4 @@ returns-in-Err-clause-follows g c =
     by_any (λ order.
     let put = list_by options.narrow order in
     follows_refusal _ _ _ _ _ (served_frames c.args.frames options) options.sessions (if_unrolled c.args.frames options put (sequential_in c.args.file.now)) fault
-    (refused_frames fault c.args.file.now c.args.frames options put c.requires.short c.in-Err.ensures.read) (record { left = refl; taken = refl; faults = refl }) (gives_shown (g.O.Sink.shown_is _) (g.O.Sink.shown_is _) c.tell.ensures.said))
+    (refused_then _ _ fault c.in-Err.ensures.read) (record { left = refl; taken = refl; faults = refl }) (gives_shown (g.O.Sink.shown_is _) (g.O.Sink.shown_is _) c.tell.ensures.said))

@@ -6,7 +6,7 @@ use Rattle.ranking.specs.Ranking.{plain_costs}
 use Rattle.session_core.specs.Services.{CanList, CanDraw}
 use Rattle.diag_cli.specs.Besides.{in_few_bits}
 use Rattle.device_files.specs.Orders.{list_by}
-use Rattle.device_files.specs.Planning.{within}
+use Rattle.device_files.specs.Weighing.{within}
 use Rattle.device_files.specs.Refusals.{told_by}
 use Rattle.diag_cli.proofs.FewBits.{fault_through}
 use Rattle.device_files.proofs.Ordering.{by_any, ordered_vars, ordered_alike}

@@ -2,7 +2,7 @@ use Rattle.std.proofs.Common.{◌≡◌, Ok, ◌∙◌, arith}
 use Rattle.std.proofs.lemmas.Result.{err_from_is_err_and}
 use Rattle.text_rules.specs.Expected.{IsExpectedFault}
 use Rattle.branch_states.specs.Branches.{sum_of}
-use Rattle.device_files.specs.Planning.{within}
+use Rattle.device_files.specs.Weighing.{within}
 use Rattle.device_files.specs.Refusals.{told_by}
 use Rattle.diag_cli.proofs.ServedDevices.{servable}
 use Rattle.device_files.proofs.Ordering.{by_any, list_vars, list_alike, list_gives}

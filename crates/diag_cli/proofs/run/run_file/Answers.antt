@@ -2,13 +2,9 @@ use Rattle.device_files.proofs.Ordering.{by_any, by_same}
 use Rattle.diag_cli.proofs.Shown.{told_shown}
 use Rattle.diag_cli.proofs.run.run_file.Goals as goal
 
-pub returns-in-Check-clause-follows : goal.returns-in-Check-clause-follows
-returns-in-Check-clause-follows g c =
-    by_any (λ order. rw c.in-Check.is (told_shown (g.O.Sink.shown_is c.args.out.now) (g.O.Sink.shown_is c.check_file.new.out) c.check_file.ensures.said))
-
-pub returns-in-Plan-clause-follows : goal.returns-in-Plan-clause-follows
-returns-in-Plan-clause-follows g c =
-    by_same c.plan_file.ensures.said (λ order said. rw c.in-Plan.is (told_shown (g.O.Sink.shown_is c.args.out.now) (g.O.Sink.shown_is c.plan_file.new.out) said))
+pub returns-in-Inspect-clause-follows : goal.returns-in-Inspect-clause-follows
+returns-in-Inspect-clause-follows g c =
+    by_same c.inspect_file.ensures.said (λ order said. rw c.in-Inspect.is (told_shown (g.O.Sink.shown_is c.args.out.now) (g.O.Sink.shown_is c.inspect_file.new.out) said))
 
 pub returns-in-Compile-clause-follows : goal.returns-in-Compile-clause-follows
 returns-in-Compile-clause-follows g c =

@@ -1,0 +1,26 @@
+-- The clauses of a device, whose sum a budget limits.
+use Rattle.std.specs.Prelude.{ℕ, List, [], ◌∷◌, Result, Ok, Err, codes, nat_lt, if◌then◌else◌}
+use Rattle.std.specs.Fmt.{decimal}
+use Rattle.text_rules.specs.Tokens.{spaced}
+use Rattle.clause_encoder.specs.declared.limits.TheConstants.{CLAUSE_LIMIT}
+use Rattle.clause_encoder.specs.declared.encoding.EncodeError.{EncodeError}
+use Rattle.clause_encoder.specs.declared.encoding.EncodeError.TheVariants.{TooManyClauses, Memory}
+use Rattle.clause_encoder.specs.Clauses.{ClauseList}
+use Rattle.branch_states.specs.Branches.{sum_of}
+use Rattle.device_files.specs.declared.status.Status.TheVariants.{Refused, AboveBudget}
+use Rattle.device_files.specs.Output.{Output, says, no_memory}
+use Rattle.diag_edge.specs.ErrorLines.{above_line}
+
+-- the line that tells a sum above the budget
+abbrev pub sum_line : ℕ → List ℕ
+sum_line budget = spaced (codes "error:" ∷ codes "sum" ∷ codes "above" ∷ decimal budget ∷ [])
+
+-- too many clauses
+abbrev pub not_encoded : EncodeError → Output
+not_encoded (TooManyClauses count) = says (above_line (codes "clauses") count CLAUSE_LIMIT) Refused
+not_encoded Memory = no_memory
+
+-- the clauses of a device, whose sum is within a budget
+abbrev pub within : ℕ → Result ClauseList EncodeError → Result ClauseList Output
+within budget (Ok cnf) = if nat_lt budget (sum_of cnf.clauses) then Err (says (sum_line budget) AboveBudget) else Ok cnf
+within budget (Err error) = Err (not_encoded error)

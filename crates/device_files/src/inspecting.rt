@@ -44,15 +44,18 @@ pub struct Sizes {
     pub sum: u64,
 }
 
-/// A number, and a word for what it counts.
+/// A number, and what it counts.
 #[derive(Clone, Copy, Debug)]
 pub struct Count<'a> {
+    /// The word for that, as it is put.
     pub what: &'a [u8],
+    /// The number, which is put in decimal digits.
     pub number: u64,
 }
 
 impl Inspection {
-    /// The inspection that a word asks for, of a file with this path: by clauses in a better order where `narrow` asks for that.
+    /// The inspection of this word, if there is one and it is for files with such an ending. `narrow` asks `plan` for a better order of
+    /// the clauses; `check` has none.
     pub fn named(word: &str, path: &str, narrow: bool) -> Option<Inspection>
         ensures { result ≡ inspection_named word.now path.now narrow }
     {
@@ -84,7 +87,7 @@ fn sizes_in(alloc: Global, path: &str, file: &[u8], is_narrow: bool) -> Result<S
     sizes_of(alloc, &device, is_narrow)
 }
 
-/// Puts a line of a word and a number.
+/// Puts a line of a word and a number. An error says that a write failed.
 #[tactic(auto, using(crate::proofs::Failing::line_replies))]
 pub fn put_count<O: Sink>(out: &mut O, what: &[u8], count: u64) -> Result<(), WriteFailed>
     ensures text { Replies (O.got out.old) (O.got out.new) result (count_line what.now count ∷ []) }
@@ -93,7 +96,7 @@ pub fn put_count<O: Sink>(out: &mut O, what: &[u8], count: u64) -> Result<(), Wr
     put_line(out, &[what, Buffer::new().format(count).as_bytes()])
 }
 
-/// Puts a line for each count.
+/// Puts a line for each count, in their order. An error says that a write failed, and that a beginning of these lines was written.
 pub fn put_counts<O: Sink>(out: &mut O, counts: &[Count<'_>]) -> Result<(), WriteFailed>
     ensures text { Replies (O.got out.old) (O.got out.new) result (map (λ count. count_line count.what.now count.number) counts.now) }
     ensures cause { HasCause (O.faults out.old) (O.faults out.new) result }
@@ -203,7 +206,8 @@ fn check_file<O: Sink>(alloc: Global, path: &str, file: &[u8], out: &mut O) -> S
     }
 }
 
-/// Tells what an inspection of a file comes to, or why it cannot be told, and answers the status.
+/// Tells what an inspection of a file, of at most `TEXT_LIMIT` bytes, comes to: `Done`; or why that cannot be told: `Refused`,
+/// `AboveBudget` or `NoMemory`; or `WriteFailed`.
 pub fn inspect_file<O: Sink>(
     alloc: Global,
     path: &str,

@@ -1,5 +1,5 @@
 -- What is given where a device is compiled.
-use Rattle.std.proofs.Common.{◌≡◌, ℕ, ◌+◌, ◌*◌, ◌≤◌, true, List, [], ◌∷◌, length, Option, None, Some, Result, Ok, refl, sym, ◌∙◌, ap, subst, inl, inr}
+use Rattle.std.proofs.Common.{◌≡◌, ℕ, ◌+◌, ◌*◌, ◌≤◌, true, List, [], ◌∷◌, length, Option, Result, Ok, refl, sym, ◌∙◌, ap, subst, inr}
 use Rattle.std.specs.Prelude.{MatchResult}
 use Rattle.text_rules.specs.Expected.{IsExpectedFault}
 use Rattle.text_rules.specs.Tokens.{is_neat}

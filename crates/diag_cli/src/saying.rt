@@ -68,7 +68,8 @@ pub(crate) fn say_too_long<O: Sink>(out: &mut O, what: &[u8], limit: u64, status
     }
 }
 
-/// Tells why a file of at most `TEXT_LIMIT` bytes was not read and answers the status, `WriteFailed` where the write failed.
+/// Tells why a file, which may have `TEXT_LIMIT` bytes, was not read: it has more, a read failed, or memory ran out. Answers the status,
+/// `WriteFailed` where the write failed.
 pub fn say_load_error<O: Sink>(out: &mut O, error: LoadError) -> Status
     requires limit { (limit : ℕ) → error ≡ LoadError.Long limit → limit ≡ TEXT_LIMIT }
     requires faults { O.faults out.old < 2 ^ 64 - 1 }

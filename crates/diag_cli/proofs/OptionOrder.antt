@@ -1,5 +1,6 @@
 -- The order of options does not matter.
 use Rattle.std.proofs.Common.{◌≡◌, ℕ, Bool, true, false, List, [], ◌∷◌, ◌++◌, Option, Some, None, IfSome, is_some, is_none, find, cond, refl, sym, ◌∙◌, ap, codes, if◌then◌else◌}
+use Rattle.std.specs.Bool.{then_some}
 use Rattle.std.specs.Prelude.{option_and_then}
 use Rattle.std.specs.Option.{option_map_or}
 use Rattle.text_rules.specs.Names.{same_name, is_among}
@@ -94,13 +95,13 @@ data Acts (f : Options → Option Options) : Type 0 where
 
 -- the option, if the command takes it
 abbrev taken : List ℕ → Option OptionKind → Option OptionKind
-taken command named = option_and_then (λ kind. if is_among (row_of kind).commands command then Some kind else None) named
+taken command named = option_and_then (λ kind. then_some (is_among (row_of kind).commands command) kind) named
 
 -- there is none, or one that stands alone as the named one does
 taken_as : (command : List ℕ) (P : Option OptionKind → Type 0) (b : Bool) (named : Option OptionKind) → stands_alone named ≡ b
     → P None → ((kind : OptionKind) → is_none (row_of kind).numbers ≡ b → P (Some kind)) → P (taken command named)
 taken_as command P b None is none each = none
-taken_as command P b (Some kind) is none each = elim (is_among (row_of kind).commands command) as (λ t. P (if t then Some kind else None)) [ true ↦ each kind is | false ↦ none ]
+taken_as command P b (Some kind) is none each = elim (is_among (row_of kind).commands command) as (λ t. P (then_some t kind)) [ true ↦ each kind is | false ↦ none ]
 
 acts_with : (kind : OptionKind) (found : Option ℕ) → is_none (row_of kind).numbers ≡ false → Acts (λ given. option_and_then (λ n. with_option given kind (Some n)) found)
 acts_with kind None is = Fails (λ given. refl)

@@ -3,7 +3,7 @@ use Rattle.std.specs.Prelude.{ℕ, ◌%◌, ◌==◌, Bool, false, List, [], ◌
 use Rattle.std.specs.List.{flat_map, range_with_len}
 use Rattle.std.specs.Option.{option_map_or}
 use Rattle.text_rules.specs.Names.{Name}
-use Rattle.ranking.specs.Cases.{Case}
+use Rattle.state_rules.specs.Cases.{Case}
 use Rattle.device_model.specs.Devices.{Device, place_of}
 use Rattle.adder_load.specs.Adders.{signal}
 

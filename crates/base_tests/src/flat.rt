@@ -10,9 +10,9 @@ fn keeps_lists(rt: HostRuntime) -> Result<(), Fail> {
     lists.push(&[9, 10, 11])?;
     assert_eq!(rt; lists.len(), 3);
     assert_eq!(rt; lists.item_count(), 5);
-    assert_eq!(rt; lists.get(0), [7u32, 8].as_slice());
-    assert_eq!(rt; lists.get(1), [].as_slice());
-    assert_eq!(rt; lists.get(2), [9u32, 10, 11].as_slice());
+    assert_eq!(rt; lists.list(0), [7u32, 8].as_slice());
+    assert_eq!(rt; lists.list(1), [].as_slice());
+    assert_eq!(rt; lists.list(2), [9u32, 10, 11].as_slice());
     lists.clear();
     assert_eq!(rt; lists.len(), 0);
     assert_eq!(rt; lists.item_count(), 0);

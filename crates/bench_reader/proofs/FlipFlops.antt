@@ -5,12 +5,13 @@ use Rattle.std.specs.List.{list_any, list_all, filter, filter_map, flat_map, enu
 use Rattle.std.proofs.lemmas.Bool.{and_parts, leb-true}
 use Rattle.std.proofs.lemmas.List.{drop_more}
 use Rattle.std.proofs.lemmas.List.Folds.{list_any-append, list_all-map}
-use Rattle.indexmap.specs.IndexSet.{insert_key}
 use Rattle.std.proofs.Math.Bool.{or-false, or_assoc}
+use Rattle.indexmap.specs.IndexSet.{insert_key}
 use Rattle.text_rules.specs.Expected.{IsExpectedFault}
 use Rattle.text_rules.specs.Names.{Name, same_name, is_among, is_short_name, is_name_byte}
 use Rattle.text_rules.proofs.NameLemmas.{equal_if_same}
-use Rattle.ranking.proofs.Members.{In-at}
+use Rattle.text_rules.specs.TextLines.{all_lines}
+use Rattle.state_rules.proofs.Members.{In-at}
 use Rattle.device_model.specs.declared.component.Component.{Component}
 use Rattle.device_model.specs.Order.{sorted_distinct}
 use Rattle.device_model.specs.Devices.{Device, part_names}
@@ -37,7 +38,6 @@ use Rattle.bench_reader.specs.inner.Steps.{statements_or_fault, device_or_fault,
 use Rattle.bench_reader.proofs.Lines.{said, read_are_faultless}
 use Rattle.bench_reader.proofs.Parts.{names-parts, names-joined}
 use Rattle.bench_reader.proofs.Whole.{all_driven_named, is_read, both}
-use Rattle.text_rules.specs.TextLines.{all_lines}
 
 -- ---- a set of names
 

@@ -9,7 +9,7 @@ use Rattle.std.proofs.lemmas.List.Folds.{list_all-append}
 use Rattle.text_rules.specs.Expected.{IsExpectedFault}
 use Rattle.text_rules.specs.Names.{Name, is_short_name, is_among}
 use Rattle.text_rules.specs.TextLines.{all_lines}
-use Rattle.ranking.proofs.Members.{In}
+use Rattle.state_rules.proofs.Members.{In}
 use Rattle.device_model.specs.declared.component.Component.{Component}
 use Rattle.device_model.specs.declared.limits.TheConstants.{PART_LIMIT, WIRE_LIMIT}
 use Rattle.device_model.specs.declared.building.BuildError.{BuildError}
@@ -23,7 +23,7 @@ use Rattle.device_model.proofs.Ordered.{among_sorted_distinct, placed-below, pla
 use Rattle.device_model.proofs.Sorting.{itself}
 use Rattle.device_model.proofs.Repeats.{is_among-among, among_from_test}
 use Rattle.device_model.proofs.Making.{list_all-among, list_all-from_among, component_name}
-use Rattle.device_model.proofs.CallerLemmas.{sorted_distinct-same_tests}
+use Rattle.device_model.proofs.CallerLemmas.{sorted_distinct-same_tests, only_memory as only_memory_of}
 use Rattle.device_model.proofs.Joining.{CanBeBuilt, built-over}
 use Rattle.bench_reader.specs.declared.fault.BenchFault.{BenchFault}
 use Rattle.bench_reader.specs.declared.fault.BenchFault.TheVariants.{Name as NoName, DrivenTwice, Undriven, TooMany}
@@ -41,7 +41,6 @@ use Rattle.bench_reader.proofs.Drivers.{among_keys, Drives-none}
 use Rattle.bench_reader.proofs.Lines.{said, read_are_faultless}
 use Rattle.bench_reader.proofs.Twice.{Ends, Splits, splits, gates_once}
 use Rattle.bench_reader.proofs.Parts.{faultless_gate, names-parts, names-joined, statements_fit, arities-joined, wired-joined, named_back}
-use Rattle.device_model.proofs.CallerLemmas.{only_memory as only_memory_of}
 
 -- ---- names that differ are as many in order
 

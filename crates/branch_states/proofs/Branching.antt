@@ -5,9 +5,9 @@ use Rattle.std.proofs.Math.Bool.{and-true, and_assoc}
 use Rattle.std.proofs.lemmas.Bool.{false≢true, or_parts, or_cases, and_parts, and_from, or_left, or_right, not_from_false, not_from_true, not-true, not-false}
 use Rattle.std.proofs.lemmas.List.Folds.{flat_map-map}
 use Rattle.std.proofs.lemmas.List.{take-append-drop, length-take, length-drop, nil_from_length}
-use Rattle.ranking.specs.Bits.{row_number, lists_of_bits}
-use Rattle.ranking.proofs.Bits.{not_left}
-use Rattle.ranking.proofs.Lists.{map-flat_map}
+use Rattle.state_rules.specs.Bits.{row_number, lists_of_bits}
+use Rattle.state_rules.proofs.Bits.{not_left}
+use Rattle.state_rules.proofs.Lists.{map-flat_map}
 use Rattle.clause_encoder.specs.Clauses.{Clause}
 use Rattle.branch_states.specs.Branches.{order, has_true, is_left, left, is_touched, is_covered, is_open, some_passes, is_dead, different, living, size, bits_of, words_of, state_of, without, branch, IsLiving}
 use Rattle.branch_states.proofs.Lists.{longer, lists_of_bits-more, each-long, flat_map_same, filter-flat_map, flat_map-filter, different-flat_map, each-different, each-filter, each-map}

@@ -10,16 +10,15 @@ use Rattle.std.proofs.lemmas.List.{map-append, length-append, length-map, append
 use Rattle.std.proofs.Math.Nat.{div-lt_iff_lt-mul}
 use Rattle.std.proofs.lemmas.List.Concat.{flat_map-append}
 use Rattle.std.proofs.lemmas.List.Sums.{sum_by-append}
-use Rattle.ranking.proofs.Bits.{pointwise-refl, pointwise-equal}
-use Rattle.ranking.proofs.Lists.{AllByRecursion-append, range_more}
 use Rattle.indexmap.specs.IndexSet.{insert_key}
+use Rattle.state_rules.proofs.Bits.{pointwise-refl, pointwise-equal}
+use Rattle.state_rules.proofs.Lists.{AllByRecursion-append, range_more}
 use Rattle.clause_encoder.specs.Clauses.{Clause, ClauseList, var_of, is_clause, is_clause_list}
 use Rattle.branch_states.specs.Branches.{order, place, left, is_touched, is_covered, is_open, some_passes, is_dead, same_list, different, living, size, bits_of, words_of, state_of, weight, sum_of, branch, IsLiving}
 use Rattle.branch_states.specs.Forks.{sum_to}
-use Rattle.branch_states.proofs.Branching.{branches}
+use Rattle.branch_states.proofs.Branching.{branches, left-next, living_lists-next, living_are_living, equal_states-equal_lists}
 use Rattle.branch_states.specs.inner.Following.{followed, AreFound, AreStates}
 use Rattle.branch_states.proofs.Lists.{each-different, is_among, different-append}
-use Rattle.branch_states.proofs.Branching.{left-next, living_lists-next, living_are_living, equal_states-equal_lists}
 use Rattle.branch_states.proofs.Ordering.{clauses-valid}
 
 -- a list that is written over as a whole

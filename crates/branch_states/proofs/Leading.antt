@@ -9,7 +9,7 @@ use Rattle.std.proofs.lemmas.List.Concat.{flat_map-append}
 use Rattle.std.proofs.lemmas.List.Folds.{list_any-append}
 use Rattle.std.proofs.lemmas.List.Quantifiers.{position-Some}
 use Rattle.std.proofs.lemmas.Option.{slice_get-get_or, none-some}
-use Rattle.ranking.proofs.Bits.{pointwise-refl, pointwise-equal}
+use Rattle.state_rules.proofs.Bits.{pointwise-refl, pointwise-equal}
 use Rattle.clause_encoder.specs.Clauses.{Clause}
 use Rattle.branch_states.specs.Branches.{order, different, living, is_dead, same_list, branch, state_of, IsLiving}
 use Rattle.branch_states.specs.declared.forks.Fork.{Fork}

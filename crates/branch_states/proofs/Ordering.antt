@@ -8,10 +8,10 @@ use Rattle.std.proofs.lemmas.List.{append-nil, length-append, length-set, get_or
 use Rattle.std.proofs.lemmas.List.Folds.{list_any-append}
 use Rattle.std.proofs.lemmas.List.Elements.{filter-append}
 use Rattle.std.proofs.lemmas.List.Sums.{sum_by-set}
+use Rattle.state_rules.proofs.Lists.{list_all-at}
 use Rattle.clause_encoder.specs.Clauses.{Clause, ClauseList, var_of, vars_rise, is_clause, is_clause_list}
 use Rattle.branch_states.specs.Branches.{first_met, same_variable, order, place}
 use Rattle.branch_states.specs.inner.Steps.{IsWithin, IsPlaced, IsIndex}
-use Rattle.ranking.proofs.Lists.{list_all-at}
 
 abbrev pub among : List ℕ → ℕ → Bool
 among vs v = list_any (same_variable v) vs

@@ -3,7 +3,7 @@ use Rattle.std.proofs.Common.{◌≡◌, ℕ, zero, suc, ◌+◌, ◌<◌, Bool,
 use Rattle.std.specs.Prelude.{◌==◌, nat_lt}
 use Rattle.std.specs.List.{list_any, filter}
 use Rattle.std.proofs.lemmas.Bool.{and_parts, or_parts, or_from, and_from, and_left, not_from_false, ltb-true, ltb-false, lt-ltb, le-ltb, eq-eqb, ne_eqb, eqb-false}
-use Rattle.ranking.specs.Bits.{same_bit}
+use Rattle.state_rules.specs.Bits.{same_bit}
 use Rattle.clause_encoder.specs.Clauses.{Clause, var_of, is_positive}
 use Rattle.branch_states.specs.inner.Steps.{AllOnce}
 use Rattle.branch_states.specs.Branches.{first_met, same_variable, place, is_true_by, has_true, is_left, is_touched, is_covered}

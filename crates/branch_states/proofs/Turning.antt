@@ -8,9 +8,10 @@ use Rattle.std.proofs.lemmas.Bool.{false≢true, and_parts, or_parts, or_from, a
 use Rattle.std.proofs.lemmas.List.{append-nil, take_more, take_all, length-append, same_from_push, get_or-set_same, get_or-set_other}
 use Rattle.std.proofs.lemmas.List.Folds.{list_any_at, list_any-append}
 use Rattle.std.proofs.lemmas.List.Elements.{All-head, All-tail}
-use Rattle.ranking.specs.Bits.{same_bit}
+use Rattle.state_rules.specs.Bits.{same_bit}
+use Rattle.state_rules.proofs.Bits.{same_bit-refl}
+use Rattle.state_rules.proofs.Lists.{list_all-at}
 use Rattle.clause_encoder.specs.Clauses.{Clause, var_of, is_positive}
-use Rattle.ranking.proofs.Bits.{same_bit-refl}
 use Rattle.branch_states.specs.Branches.{place, is_true_by, has_true, is_touched, is_covered}
 use Rattle.branch_states.specs.inner.Steps.{is_walked, entry_of, walk_of, true_at, plain, spread, span_of, first_place, end_place, AllOnce, IsPlaced, has_place, IsTurning, AreTurning}
 use Rattle.branch_states.specs.declared.walk.Entry.{Entry}
@@ -20,7 +21,6 @@ use Rattle.branch_states.proofs.Places.{place-at}
 use Rattle.branch_states.proofs.Ordering.{one_more}
 use Rattle.branch_states.proofs.Spanning.{walked-span}
 use Rattle.branch_states.proofs.Walking.{true_at-entry, spread-event}
-use Rattle.ranking.proofs.Lists.{list_all-at}
 
 -- ---- places
 

@@ -7,8 +7,8 @@ use Rattle.std.proofs.Math.Bool.{or-false, or_assoc}
 use Rattle.std.proofs.lemmas.Bool.{false≢true, or_parts, or_from, and_parts, and_from, and_left, and_right, or_cases, or_left, or_right, not-true, not-false}
 use Rattle.std.proofs.lemmas.List.{append-nil, append_assoc, get_or-drop, length-append, length-map, length-drop, replicate_more, take_more, take_all, drop_more, take-append-drop, length-take-le, map-append, take-append-le, drop-append-le, drop_at}
 use Rattle.std.proofs.lemmas.List.Elements.{filter-append, All-head, All-tail, All-push}
-use Rattle.ranking.specs.Bits.{bit_in}
-use Rattle.ranking.proofs.Lists.{length-filter-le}
+use Rattle.state_rules.specs.Bits.{bit_in}
+use Rattle.state_rules.proofs.Lists.{length-filter-le}
 use Rattle.clause_encoder.specs.Clauses.{Clause, ClauseList, var_of}
 use Rattle.branch_states.specs.Branches.{order, is_dead, branch, IsLiving, place, has_true, is_touched, is_covered, is_open, some_passes, bits_of, words_of, without}
 use Rattle.branch_states.specs.inner.Steps.{is_walked, entry_of, walk_of, true_at, was_open, goes_on, still_left, plain, spread, row_walk, IsRow, IsPut, IsKept}

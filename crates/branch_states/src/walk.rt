@@ -1,7 +1,7 @@
 ghost use Rattle.std.specs.Prelude.{◌≡◌, ◌+◌, ◌*◌, ◌<◌, ◌≤◌, ◌^◌, ◌&&◌, ◌||◌, not, Bool, List, [], ◌∷◌, ◌++◌, true, false, length, IfOk, OnOk, ◌⊎◌};
 ghost use Rattle.std.specs.Bool.{OnTrue};
 ghost use Rattle.std.specs.List.{filter};
-ghost use Rattle.ranking.specs.Bits.{bit_in};
+ghost use Rattle.state_rules.specs.Bits.{bit_in};
 ghost use Rattle.branch_states.specs.Branches.{words_of, bits_of, some_passes, is_true_by, has_true};
 ghost use Rattle.branch_states.specs.inner.Steps.{true_at, was_open, goes_on, still_left, plain, spread, filled, IsPut};
 

@@ -6,8 +6,8 @@ use Rattle.std.proofs.Math.Bool.{and_assoc, or_assoc}
 use Rattle.std.proofs.lemmas.Bool.{ltb-true, false≢true}
 use Rattle.std.proofs.lemmas.List.{length-map, map-append, take-map, drop-map, get_or-map, take_all, take_more, length-take-le, length-drop}
 use Rattle.std.proofs.lemmas.List.Folds.{list_all-append}
-use Rattle.ranking.specs.Bits.{same_bit, bit_in, has_odd_ones}
-use Rattle.ranking.specs.Assignments.{Assignment}
+use Rattle.state_rules.specs.Bits.{same_bit, bit_in, has_odd_ones}
+use Rattle.state_rules.specs.Assignments.{Assignment}
 use Rattle.device_model.specs.declared.component.Kind.{Kind}
 use Rattle.device_model.specs.declared.component.Kind.TheVariants.{Gate as OfGate, Table}
 use Rattle.device_model.specs.declared.gates.Gate.{Gate}

@@ -3,17 +3,18 @@ use Rattle.std.proofs.Common.{◌≡◌, ℕ, ◌+◌, ◌-◌, ◌*◌, ◌%◌
 use Rattle.std.specs.Prelude.{if◌then◌else◌}
 use Rattle.std.specs.List.{filter}
 use Rattle.std.proofs.Math.Pow.{pow_mono}
-use lib.Count.{ones-le}
 use Rattle.std.proofs.lemmas.Bool.{lt-ltb}
 use Rattle.std.proofs.lemmas.List.{length-append, length-map, length-take-le, length-drop}
 use Rattle.std.proofs.lemmas.List.FromFn.{length-map-range_with_len}
+use lib.Count.{ones-le}
+use Rattle.state_rules.specs.Bits.{has_bit}
 use Rattle.device_model.specs.declared.gates.Gate.{Gate}
 use Rattle.device_model.specs.declared.gates.Reduction.{Reduction}
 use Rattle.device_model.specs.declared.gates.Reduction.TheVariants.{AllOnes, AnyOne, OddOnes}
 use Rattle.device_model.specs.declared.component.Component.{Component}
 use Rattle.device_model.specs.declared.limits.TheConstants.{INPUT_LIMIT}
 use Rattle.device_model.specs.TruthTable.{TruthTable, is_table}
-use Rattle.device_model.specs.Devices.{Device, is_set}
+use Rattle.device_model.specs.Devices.{Device}
 use Rattle.device_model.specs.Gates.{gate_row, takes}
 use Rattle.clause_encoder.specs.Clauses.{literal}
 use Rattle.clause_encoder.specs.Encoding.{and_clauses, parity_clauses, reduction_clauses, gate_clauses, step_clauses, chain_clauses, wide_clauses, any_gate_clauses, raw_clauses, clauses_from, wire_variable, blocked_rows, table_clauses, rows_of, row_bits, blocking_literals}
@@ -41,7 +42,7 @@ table-counts rows e =
     }
 
 length-side : (ok : Bool) (allowed h : ℕ) (vs : List ℕ) → allowed < 2 ^ (2 ^ length vs) → length (blocked_rows ok allowed h vs) + count_ones allowed ≡ 2 ^ length vs
-length-side ok allowed h vs lt = ap (λ n. n + count_ones allowed) (length-map (filter (λ r. not (is_set allowed r)) (rows_of vs)) (λ r. literal (not ok) h ∷ blocking_literals vs (row_bits r vs)))
+length-side ok allowed h vs lt = ap (λ n. n + count_ones allowed) (length-map (filter (λ r. not (has_bit allowed r)) (rows_of vs)) (λ r. literal (not ok) h ∷ blocking_literals vs (row_bits r vs)))
     ∙ others allowed (2 ^ length vs) lt
 
 pub length-table : (rows : TruthTable) (h : ℕ) (vs : List ℕ) → is_table rows ≡ true → length vs ≡ rows.ports

@@ -3,11 +3,10 @@ use Rattle.std.proofs.Common.{◌≡◌, ℕ, suc, ◌+◌, ◌-◌, ◌<◌, �
 use Rattle.std.specs.Prelude.{nat_lt}
 use Rattle.std.specs.List.{list_any, list_all}
 use Rattle.std.proofs.lemmas.Bool.{ltb-true, and_parts}
-use Rattle.std.proofs.lemmas.List.{length-append, length-map}
-use Rattle.std.proofs.lemmas.List.{get_or_append_left, get_or-append_right}
-use Rattle.ranking.specs.Bits.{bit_in, lists_of_bits}
-use Rattle.ranking.specs.Assignments.{Assignment, assignment}
-use Rattle.ranking.proofs.Members.{any_same}
+use Rattle.std.proofs.lemmas.List.{length-append, length-map, get_or_append_left, get_or-append_right}
+use Rattle.state_rules.specs.Bits.{bit_in, lists_of_bits}
+use Rattle.state_rules.specs.Assignments.{Assignment, assignment}
+use Rattle.state_rules.proofs.Members.{any_same}
 use Rattle.device_model.specs.declared.component.Component.{Component}
 use Rattle.device_model.specs.Devices.{Device, IsDevice, allows, parts_fit, fits, takes_ports, has_arity, has_wires}
 use Rattle.clause_encoder.specs.Clauses.{Clause, all_hold, is_clause}

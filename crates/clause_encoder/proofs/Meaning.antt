@@ -5,20 +5,20 @@ use Rattle.std.specs.List.{list_any, list_all}
 use Rattle.std.proofs.lemmas.Bool.{leb-true, and_parts}
 use Rattle.std.proofs.lemmas.List.{length-map}
 use Rattle.std.proofs.lemmas.List.Folds.{list_all-append, list_any-append, list_all-map}
-use Rattle.ranking.specs.Bits.{same_bit, bit_in, row_number, has_odd_ones}
-use Rattle.ranking.specs.Assignments.{Assignment}
+use Rattle.std.proofs.Math.Bool.{or-false, or-true, and-true}
+use Rattle.state_rules.specs.Bits.{same_bit, bit_in, row_number, has_odd_ones, has_bit}
+use Rattle.state_rules.specs.Assignments.{Assignment}
+use Rattle.state_rules.proofs.Bits.{same_bit-swap}
 use Rattle.device_model.specs.declared.gates.Gate.{Gate}
 use Rattle.device_model.specs.declared.gates.Reduction.{Reduction}
 use Rattle.device_model.specs.declared.gates.Reduction.TheVariants.{AllOnes, AnyOne, OddOnes}
 use Rattle.device_model.specs.TruthTable.{TruthTable}
-use Rattle.device_model.specs.Devices.{is_set, gate_allows, table_allows}
+use Rattle.device_model.specs.Devices.{gate_allows, table_allows}
 use Rattle.device_model.specs.Gates.{gate_row, takes, reduced, gate_value}
 use Rattle.clause_encoder.specs.Clauses.{Clause, literal, is_true_clause, all_hold}
 use Rattle.clause_encoder.specs.Encoding.{parity_clauses, and_clauses, row_bits, rows_of, blocking_literals, row_clause, blocked_rows, table_clauses, reduction_clauses, gate_clauses}
 use Rattle.clause_encoder.proofs.Literals.{lit, lit-literal, neg-literal}
 use Rattle.clause_encoder.proofs.RowBits.{AllPositive, row_bits-number, row_number-below, blocking_literals-row, all-rows, all-filtered}
-use Rattle.ranking.proofs.Bits.{same_bit-swap}
-use Rattle.std.proofs.Math.Bool.{or-false, or-true, and-true}
 
 -- ---- ands, of literals on either side
 
@@ -141,9 +141,9 @@ allowed-later false true false = refl
 allowed-later false false differs = sym (or-false differs)
 
 side-holds : (a : Assignment) (ok : Bool) (allowed h : ℕ) (ports : List ℕ) → 1 ≤ h → AllPositive ports
-    → all_hold a (blocked_rows ok allowed h ports) ≡ (is_set allowed (row_number (map a ports)) || same_bit (not ok) (a h))
-side-holds a ok allowed h ports hh hs = all-filtered (is_true_clause a) clause_of (λ r. not (is_set allowed r)) (rows_of ports)
-    ∙ all-rows (λ r. not (not (is_set allowed r)) || is_true_clause a (clause_of r)) (λ r. is_set allowed r || same_bit (not ok) (a h)) ports row
+    → all_hold a (blocked_rows ok allowed h ports) ≡ (has_bit allowed (row_number (map a ports)) || same_bit (not ok) (a h))
+side-holds a ok allowed h ports hh hs = all-filtered (is_true_clause a) clause_of (λ r. not (has_bit allowed r)) (rows_of ports)
+    ∙ all-rows (λ r. not (not (has_bit allowed r)) || is_true_clause a (clause_of r)) (λ r. has_bit allowed r || same_bit (not ok) (a h)) ports row
     (row_number-below (map a ports) (length ports) (length-map ports a)) at_row where
       row : ℕ
       row = row_number (map a ports)
@@ -151,18 +151,18 @@ side-holds a ok allowed h ports hh hs = all-filtered (is_true_clause a) clause_o
       clause_of : ℕ → Clause
       clause_of r = literal (not ok) h ∷ blocking_literals ports (row_bits r ports)
 
-      at_row : (r : ℕ) → r < 2 ^ length ports → (not (not (is_set allowed r)) || is_true_clause a (clause_of r)) ≡ (not (r == row) || (is_set allowed r || same_bit (not ok) (a h)))
-      at_row r lt = (λ i. not (not (is_set allowed r)) || (lit-literal a (not ok) h hh i || blocking_literals-row a ports r hs lt i))
-          ∙ allowed-later (is_set allowed r) (same_bit (not ok) (a h)) (not (r == row))
+      at_row : (r : ℕ) → r < 2 ^ length ports → (not (not (has_bit allowed r)) || is_true_clause a (clause_of r)) ≡ (not (r == row) || (has_bit allowed r || same_bit (not ok) (a h)))
+      at_row r lt = (λ i. not (not (has_bit allowed r)) || (lit-literal a (not ok) h hh i || blocking_literals-row a ports r hs lt i))
+          ∙ allowed-later (has_bit allowed r) (same_bit (not ok) (a h)) (not (r == row))
 
 pub table-holds : (a : Assignment) (rows : TruthTable) (h : ℕ) (ports : List ℕ) → 1 ≤ h → AllPositive ports
     → all_hold a (table_clauses (Some rows) h ports) ≡ table_allows rows (a h) (map a ports)
 table-holds a rows h ports hh hs = list_all-append (is_true_clause a) (blocked_rows true rows.ok h ports) (blocked_rows false rows.bad h ports)
     ∙ (λ i. side-holds a true rows.ok h ports hh hs i && side-holds a false rows.bad h ports hh hs i)
     ∙ by_mode (a h) where
-      by_mode : (ok : Bool) → ((is_set rows.ok (row_number (map a ports)) || not ok) && (is_set rows.bad (row_number (map a ports)) || ok)) ≡ table_allows rows ok (map a ports)
-      by_mode true = (λ i. or-false (is_set rows.ok (row_number (map a ports))) i && or-true (is_set rows.bad (row_number (map a ports))) i) ∙ and-true (is_set rows.ok (row_number (map a ports)))
-      by_mode false = (λ i. or-true (is_set rows.ok (row_number (map a ports))) i && or-false (is_set rows.bad (row_number (map a ports))) i)
+      by_mode : (ok : Bool) → ((has_bit rows.ok (row_number (map a ports)) || not ok) && (has_bit rows.bad (row_number (map a ports)) || ok)) ≡ table_allows rows ok (map a ports)
+      by_mode true = (λ i. or-false (has_bit rows.ok (row_number (map a ports))) i && or-true (has_bit rows.bad (row_number (map a ports))) i) ∙ and-true (has_bit rows.ok (row_number (map a ports)))
+      by_mode false = (λ i. or-true (has_bit rows.ok (row_number (map a ports))) i && or-false (has_bit rows.bad (row_number (map a ports))) i)
 
 -- ---- gates
 

@@ -4,9 +4,9 @@ use Rattle.std.specs.Prelude.{nat_lt, nat_le}
 use Rattle.std.specs.List.{All, list_all}
 use Rattle.std.proofs.lemmas.Bool.{and_parts, ltb-true, leb-true}
 use Rattle.std.proofs.lemmas.List.{length-map, take_more, map-append}
-use Rattle.ranking.specs.Bits.{same_bit}
-use Rattle.ranking.specs.Assignments.{Assignment}
-use Rattle.ranking.proofs.Lists.{list_all-at}
+use Rattle.state_rules.specs.Bits.{same_bit}
+use Rattle.state_rules.specs.Assignments.{Assignment}
+use Rattle.state_rules.proofs.Lists.{list_all-at}
 use Rattle.clause_encoder.specs.declared.limits.TheConstants.{CLAUSE_LIMIT, VARIABLE_LIMIT}
 use Rattle.clause_encoder.specs.Clauses.{Clause, ClauseList, var_of, is_positive, is_true_clause, all_hold, vars_rise, is_clause, is_clause_list}
 use Rattle.clause_encoder.specs.Encoding.{tidy}

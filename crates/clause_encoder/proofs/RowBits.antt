@@ -5,18 +5,17 @@ use Rattle.std.specs.Int.{bit_at}
 use Rattle.std.specs.List.{list_any, list_all, filter, range_with_len}
 use Rattle.std.proofs.lemmas.Nat.Bits.{bit_at-suc, bit_at_lowest}
 use Rattle.std.proofs.lemmas.Bool.Decides.{nat_tests}
-use lib.Count.{ones, ones_step}
 use Rattle.std.proofs.lemmas.List.Sums.{sum_by-cons}
 use Rattle.std.proofs.lemmas.List.Filters.{length-filter_both}
 use Rattle.std.proofs.lemmas.List.FromFn.{length-range_with_len}
 use Rattle.std.proofs.lemmas.Bool.{cases_eq, eq-eqb, ne_eqb}
-use Rattle.ranking.specs.Bits.{same_bit, number_of_bit, row_number, has_odd_ones}
-use Rattle.ranking.specs.Assignments.{Assignment}
-use Rattle.device_model.specs.Devices.{is_set}
+use Rattle.std.proofs.Math.Bool.{and-true}
+use lib.Count.{ones, ones_step}
+use Rattle.state_rules.specs.Bits.{same_bit, number_of_bit, row_number, has_odd_ones, has_bit}
+use Rattle.state_rules.specs.Assignments.{Assignment}
+use Rattle.state_rules.proofs.Bits.{half-below, row_number-half}
 use Rattle.clause_encoder.specs.Encoding.{row_bits, rows_of, blocking_literals}
 use Rattle.clause_encoder.proofs.Literals.{lit, lit-literal}
-use Rattle.ranking.proofs.Bits.{half-below, row_number-half}
-use Rattle.std.proofs.Math.Bool.{and-true}
 
 -- each variable is above 0
 abbrev pub AllPositive : List ℕ → Type 0
@@ -25,22 +24,22 @@ AllPositive (v ∷ vs) = (1 ≤ v) × AllPositive vs
 
 -- ---- a row number by halves
 
-is_set-more : (r k : ℕ) → is_set r (k + 1) ≡ is_set (r / 2) k
-is_set-more r k = ap (λ i. bit_at r i == 1) (add-one k) ∙ ap (λ b. b == 1) (bit_at-suc r k)
+has_bit-more : (r k : ℕ) → has_bit r (k + 1) ≡ has_bit (r / 2) k
+has_bit-more r k = ap (λ i. bit_at r i == 1) (add-one k) ∙ ap (λ b. b == 1) (bit_at-suc r k)
 
-sets-more : (r k n : ℕ) → map (is_set r) (range_with_len (k + 1) n) ≡ map (is_set (r / 2)) (range_with_len k n)
+sets-more : (r k n : ℕ) → map (has_bit r) (range_with_len (k + 1) n) ≡ map (has_bit (r / 2)) (range_with_len k n)
 sets-more r k zero = refl
-sets-more r k (suc n) = λ i. is_set-more r k i ∷ sets-more r (k + 1) n i
+sets-more r k (suc n) = λ i. has_bit-more r k i ∷ sets-more r (k + 1) n i
 
-pub row_bits-cons : (r v : ℕ) (vs : List ℕ) → row_bits r (v ∷ vs) ≡ is_set r 0 ∷ row_bits (r / 2) vs
-row_bits-cons r v vs = λ i. is_set r 0 ∷ sets-more r 0 (length vs) i
+pub row_bits-cons : (r v : ℕ) (vs : List ℕ) → row_bits r (v ∷ vs) ≡ has_bit r 0 ∷ row_bits (r / 2) vs
+row_bits-cons r v vs = λ i. has_bit r 0 ∷ sets-more r 0 (length vs) i
 
-pub is_set-zero : (r : ℕ) → is_set r 0 ≡ (r % 2 == 1)
-is_set-zero r = ap (λ b. b == 1) (bit_at_lowest r)
+pub has_bit-zero : (r : ℕ) → has_bit r 0 ≡ (r % 2 == 1)
+has_bit-zero r = ap (λ b. b == 1) (bit_at_lowest r)
 
-bit-of : (b : Bool) (n : ℕ) → is_set (number_of_bit b + 2 * n) 0 ≡ b
-bit-of true n = is_set-zero (1 + 2 * n) ∙ grind (arith, nat_tests)
-bit-of false n = is_set-zero (0 + 2 * n) ∙ grind (arith, nat_tests)
+bit-of : (b : Bool) (n : ℕ) → has_bit (number_of_bit b + 2 * n) 0 ≡ b
+bit-of true n = has_bit-zero (1 + 2 * n) ∙ grind (arith, nat_tests)
+bit-of false n = has_bit-zero (0 + 2 * n) ∙ grind (arith, nat_tests)
 
 pub row_bits-number : (bits : List Bool) (vs : List ℕ) → length bits ≡ length vs → row_bits (row_number bits) vs ≡ bits
 row_bits-number [] [] h = refl
@@ -74,8 +73,8 @@ pub blocking_literals-row : (a : Assignment) (vs : List ℕ) (r : ℕ) → AllPo
     → list_any (lit a) (blocking_literals vs (row_bits r vs)) ≡ not (r == row_number (map a vs))
 blocking_literals-row a [] r h lt = grind (arith, nat_tests)
 blocking_literals-row a (v ∷ vs) r h lt = ap (λ bits. list_any (lit a) (blocking_literals (v ∷ vs) bits)) (row_bits-cons r v vs)
-    ∙ (λ i. lit-literal a (not (is_set r 0)) v h.0 i || blocking_literals-row a vs (r / 2) h.1 (half-below r (length vs) lt) i)
-    ∙ ap (λ b. same_bit (not b) (a v) || not (r / 2 == row_number (map a vs))) (is_set-zero r)
+    ∙ (λ i. lit-literal a (not (has_bit r 0)) v h.0 i || blocking_literals-row a vs (r / 2) h.1 (half-below r (length vs) lt) i)
+    ∙ ap (λ b. same_bit (not b) (a v) || not (r / 2 == row_number (map a vs))) (has_bit-zero r)
     ∙ differs (a v) r (row_number (map a vs))
 
 -- ---- tests of all rows, of which one counts
@@ -128,10 +127,10 @@ no_ones : (r : ℕ) → r ≡ 0 → 0 ≡ count_ones r
 unfolding ones
 no_ones r e = ap count_ones (sym e)
 
-pub ones-set : (n r : ℕ) → r < 2 ^ n → count_by (λ b. b) (map (is_set r) (range_with_len 0 n)) ≡ count_ones r
+pub ones-set : (n r : ℕ) → r < 2 ^ n → count_by (λ b. b) (map (has_bit r) (range_with_len 0 n)) ≡ count_ones r
 ones-set zero r h = no_ones r (omega arith)
-ones-set (suc n) r h = (λ i. count_by (λ b. b) (is_set r 0 ∷ sets-more r 0 n i)) ∙ count-cons (is_set r 0) (map (is_set (r / 2)) (range_with_len 0 n))
-    ∙ (λ i. cond (is_set-zero r i) 1 0 + ones-set n (r / 2) (half-below r n h) i)
+ones-set (suc n) r h = (λ i. count_by (λ b. b) (has_bit r 0 ∷ sets-more r 0 n i)) ∙ count-cons (has_bit r 0) (map (has_bit (r / 2)) (range_with_len 0 n))
+    ∙ (λ i. cond (has_bit-zero r i) 1 0 + ones-set n (r / 2) (half-below r n h) i)
     ∙ ap (λ n. n + count_ones (r / 2)) (odd-bit r)
     ∙ sym (ones_step r)
 
@@ -147,11 +146,11 @@ count-kept f (r ∷ rs) = count-cons (f r) (map f rs) ∙ by_test (f r) (count-k
   by_test false e = omega arith
 
 -- of all rows, those that are not in a set
-pub others : (set : ℕ) (n : ℕ) → set < 2 ^ n → length (filter (λ r. not (is_set set r)) (range_with_len 0 n)) + count_ones set ≡ n
+pub others : (set : ℕ) (n : ℕ) → set < 2 ^ n → length (filter (λ r. not (has_bit set r)) (range_with_len 0 n)) + count_ones set ≡ n
 others set n h = omega (
   arith,
-  length-filter_both (is_set set) (λ r. not (is_set set r)) (λ r. refl) (range_with_len 0 n),
-  count-kept (is_set set) (range_with_len 0 n),
+  length-filter_both (has_bit set) (λ r. not (has_bit set r)) (λ r. refl) (range_with_len 0 n),
+  count-kept (has_bit set) (range_with_len 0 n),
   ones-set n set h,
   length-range_with_len 0 n,
 )

@@ -4,12 +4,12 @@ use Rattle.std.proofs.Common.{◌≡◌, ℕ, suc, ◌+◌, ◌-◌, Bool, true,
 use Rattle.std.specs.List.{list_any}
 use Rattle.std.proofs.lemmas.List.{get_or-append_right, length-append}
 use Rattle.std.proofs.lemmas.List.Folds.{list_all-append, list_any-append}
-use Rattle.ranking.specs.Bits.{bit_in, same_bit, lists_of_bits}
-use Rattle.ranking.specs.Assignments.{Assignment, assignment}
-use Rattle.clause_encoder.specs.Clauses.{Clause, is_true_clause, all_hold}
-use Rattle.ranking.proofs.Lists.{list_any-map}
-use Rattle.ranking.proofs.Members.{any_same}
 use Rattle.std.proofs.Math.Bool.{and_assoc, or-false}
+use Rattle.state_rules.specs.Bits.{bit_in, same_bit, lists_of_bits}
+use Rattle.state_rules.specs.Assignments.{Assignment, assignment}
+use Rattle.state_rules.proofs.Lists.{list_any-map, any-never}
+use Rattle.state_rules.proofs.Members.{any_same}
+use Rattle.clause_encoder.specs.Clauses.{Clause, is_true_clause, all_hold}
 
 -- the variables from one on have these bits
 abbrev pub has_bits : Assignment → ℕ → List Bool → Bool
@@ -47,10 +47,6 @@ Settles-append a z y cs ds bits more rest others at first second =
     ∙ ap (λ b. b && (rest && others)) (sym (has_bits-append a z bits more))
 
 -- ---- some bits of the inner variables
-
-none : {A : Type 0} (xs : List A) → list_any (λ x. false) xs ≡ false
-none [] = refl
-none (x ∷ xs) = none xs
 
 one_of_both : (b rest : Bool) → ((same_bit b false && rest) || (same_bit b true && rest)) ≡ rest
 one_of_both true rest = refl
@@ -94,7 +90,7 @@ some-settled (b ∷ bits) front rest =
 
       by_bit : (same c : Bool) → list_any (λ inner. below c inner && rest) tails ≡ rest → list_any (λ inner. (same && below c inner) && rest) tails ≡ (same && rest)
       by_bit true c h = h
-      by_bit false c h = none tails
+      by_bit false c h = any-never tails
 
       half : ((c : Bool) → list_any (λ inner. below c inner && rest) tails ≡ rest) → (c : Bool) → list_any (λ inner. test (c ∷ inner)) tails ≡ (same_bit b c && rest)
       half shorter c = any_same (λ inner. test (c ∷ inner)) (λ inner. (same_bit b c && below c inner) && rest) tails (λ inner _. ap (λ t. t && rest) (front-bits front c inner bits b))

@@ -7,19 +7,19 @@ use Rattle.std.proofs.Math.Pow.{pow_mono}
 use Rattle.std.proofs.lemmas.Bool.{eqb-true, leb-true, ltb-true, and_parts, false≢true}
 use Rattle.std.proofs.lemmas.Bool.Decides.{nat_tests}
 use Rattle.std.proofs.lemmas.Int.{to_z-of_z, fits_signed_from_abs}
-use Rattle.ranking.specs.Bits.{same_bit, has_odd_ones}
+use Rattle.state_rules.specs.Bits.{same_bit, has_odd_ones, has_bit}
+use Rattle.state_rules.proofs.Lists.{list_all-at}
 use Rattle.device_model.specs.TruthTable.{TruthTable, has_few_ports, is_cost, is_table}
 use Rattle.device_model.specs.declared.gates.Gate.{Gate}
 use Rattle.device_model.specs.declared.gates.Reduction.{Reduction}
 use Rattle.device_model.specs.Gates.{gate_row}
 use Rattle.device_model.specs.declared.component.Component.{Component}
-use Rattle.device_model.specs.Devices.{Device, IsDevice, has_arity, has_wires, is_set, rows_take, takes_ports}
+use Rattle.device_model.specs.Devices.{Device, IsDevice, has_arity, has_wires, rows_take, takes_ports}
 use Rattle.clause_encoder.specs.Clauses.{Clause, literal}
 use Rattle.clause_encoder.specs.Encoding.{tidy, and_clauses, row_bits, row_clause, blocking_literals, step_clauses, chain_clauses, raw_clauses, inner_count, inner_vars, first_inner, clauses_from, wire_variable}
 use Rattle.clause_encoder.proofs.Literals.{tidy-append}
-use Rattle.clause_encoder.proofs.RowBits.{row_bits-cons, is_set-zero, odd-row}
+use Rattle.clause_encoder.proofs.RowBits.{row_bits-cons, has_bit-zero, odd-row}
 use Rattle.clause_encoder.proofs.Meaning.{and_clauses-literals}
-use Rattle.ranking.proofs.Lists.{list_all-at}
 
 module _ (now next start : List Clause) where
   -- some were written, and some are left
@@ -120,8 +120,8 @@ bit-written vs i rest now next start l lt e f inv =
       other : (r : ℕ) → (r % 2 == 0) ≡ not (r % 2 == 1)
       other r = grind (arith, nat_tests)
 
-      same : l ≡ literal (not (is_set rest 0)) (get_or vs i 0)
-      same = e ∙ ap (λ b. literal b (get_or vs i 0)) (other rest ∙ ap not (sym (is_set-zero rest)))
+      same : l ≡ literal (not (has_bit rest 0)) (get_or vs i 0)
+      same = e ∙ ap (λ b. literal b (get_or vs i 0)) (other rest ∙ ap not (sym (has_bit-zero rest)))
 
 -- what `1 << n` is
 pub shifted : (n : ℕ) → n ≤ 8 → 1 * 2 ^ n % 4294967296 ≡ 2 ^ n

@@ -1,9 +1,9 @@
 -- Clauses over numbered variables: what a clause list is, and which bits make all its clauses true.
 use Rattle.std.specs.Prelude.{ℕ, ◌+◌, Bool, true, false, ◌&&◌, List, [], ◌∷◌, length, ℤ, pos, negsuc, neg_ℤ, nat_lt, nat_le}
 use Rattle.std.specs.List.{list_any, list_all}
-use Rattle.ranking.specs.Bits.{same_bit}
+use Rattle.state_rules.specs.Bits.{same_bit}
+use Rattle.state_rules.specs.Assignments.{Assignment}
 use Rattle.clause_encoder.specs.declared.limits.TheConstants.{CLAUSE_LIMIT, VARIABLE_LIMIT}
-use Rattle.ranking.specs.Assignments.{Assignment}
 
 -- a literal is a variable, or below 0 where it is negated
 abbrev pub var_of : ℤ → ℕ

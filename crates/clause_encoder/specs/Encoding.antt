@@ -1,8 +1,8 @@
 -- The clauses of a device.
 use Rattle.std.specs.Prelude.{◌≡◌, ℕ, ◌+◌, ◌-◌, ◌/◌, ◌^◌, Bool, true, false, not, ◌&&◌, ◌||◌, List, [], ◌∷◌, ◌++◌, map, length, take, drop, Option, Some, None, ℤ, pos, neg_ℤ, Result, Ok, Err, ◌==◌, nat_lt, slice_index_or, slice_get, if◌then◌else◌}
 use Rattle.std.specs.List.{filter, list_any, range_with_len}
-use Rattle.ranking.specs.Bits.{has_odd_ones, same_bit, lists_of_bits}
-use Rattle.ranking.specs.Assignments.{assignment}
+use Rattle.state_rules.specs.Bits.{has_odd_ones, same_bit, lists_of_bits, has_bit}
+use Rattle.state_rules.specs.Assignments.{assignment}
 use Rattle.device_model.specs.declared.component.Kind.{Kind}
 use Rattle.device_model.specs.declared.component.Kind.TheVariants.{Gate as OfGate, Table}
 use Rattle.device_model.specs.declared.gates.Gate.{Gate}
@@ -12,7 +12,7 @@ use Rattle.device_model.specs.declared.component.Component.{Component}
 use Rattle.device_model.specs.declared.limits.TheConstants.{PART_LIMIT, WIRE_LIMIT}
 use Rattle.device_model.specs.TruthTable.{TruthTable}
 use Rattle.device_model.specs.Gates.{gate_row}
-use Rattle.device_model.specs.Devices.{Device, is_set, fits}
+use Rattle.device_model.specs.Devices.{Device, fits}
 use Rattle.clause_encoder.specs.declared.limits.TheConstants.{CLAUSE_LIMIT, NARROW_LIMIT}
 use Rattle.clause_encoder.specs.declared.encoding.EncodeError.{EncodeError}
 use Rattle.clause_encoder.specs.declared.encoding.EncodeError.TheVariants.{TooManyClauses, Memory}
@@ -52,7 +52,7 @@ and_clauses ok y xs = map (λ x. neg_ℤ ok ∷ neg_ℤ y ∷ x ∷ []) xs ++ (n
 
 -- the bits of row number r, as many as there are variables, the lowest first
 abbrev pub row_bits : ℕ → List ℕ → List Bool
-row_bits r vs = map (is_set r) (range_with_len 0 (length vs))
+row_bits r vs = map (has_bit r) (range_with_len 0 (length vs))
 
 -- the numbers of all rows, upwards
 abbrev pub rows_of : List ℕ → List ℕ
@@ -75,7 +75,7 @@ parity_clauses odd h xs y = map (λ r. row_clause h xs y (row_bits r xs) (same_b
 -- In this mode the ports have none of the rows that are not in the set.
 abbrev pub blocked_rows : Bool → ℕ → ℕ → List ℕ → List Clause
 blocked_rows ok allowed h ports =
-    map (λ r. literal (not ok) h ∷ blocking_literals ports (row_bits r ports)) (filter (λ r. not (is_set allowed r)) (rows_of ports))
+    map (λ r. literal (not ok) h ∷ blocking_literals ports (row_bits r ports)) (filter (λ r. not (has_bit allowed r)) (rows_of ports))
 
 abbrev pub table_clauses : Option TruthTable → ℕ → List ℕ → List Clause
 table_clauses None h ports = []

@@ -104,6 +104,6 @@ impl Cnf {
         requires { at < length self.now.clauses }
         ensures { result.now ≡ slice_index_or self.now.clauses at [] }
     {
-        self.clauses.get(at as usize)
+        self.clauses.list(at as usize)
     }
 }

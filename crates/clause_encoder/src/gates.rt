@@ -1,5 +1,5 @@
 ghost use Rattle.std.specs.Prelude.{◌≡◌, ◌<◌, ◌≤◌, ◌+◌, ◌-◌, ◌%◌, ◌==◌, ◌++◌, ◌∷◌, pos, true, map, length, count_ones, All, OnOk, IfOk, if◌then◌else◌};
-ghost use Rattle.ranking.specs.Bits.{same_bit};
+ghost use Rattle.state_rules.specs.Bits.{same_bit};
 ghost use Rattle.device_model.specs.Devices.{takes_ports};
 ghost use Rattle.device_model.specs.Gates.{takes};
 ghost use Rattle.clause_encoder.specs.Clauses.{literal};

@@ -1,5 +1,5 @@
 ghost use Rattle.std.specs.Prelude.{◌≡◌, ◌<◌, ◌≤◌, ◌++◌, ◌∷◌, [], length, map, All, OnOk, IfOk};
-ghost use Rattle.ranking.specs.Assignments.{Assignment};
+ghost use Rattle.state_rules.specs.Assignments.{Assignment};
 ghost use Rattle.clause_encoder.specs.Clauses.{var_of, all_hold};
 ghost use Rattle.clause_encoder.specs.Encoding.{tidy};
 ghost use Rattle.clause_encoder.specs.Replacing.{variable_for, literal_for, replaced};

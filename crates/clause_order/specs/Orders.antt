@@ -1,7 +1,7 @@
 -- Clause lists in other orders.
 use Rattle.std.specs.Prelude.{◌≡◌, ◌≤◌, IsPermutation}
+use Rattle.state_rules.specs.Assignments.{Assignment}
 use Rattle.clause_encoder.specs.Clauses.{ClauseList, all_hold}
-use Rattle.ranking.specs.Assignments.{Assignment}
 use Rattle.branch_states.specs.Branches.{sum_of}
 
 -- the same clauses in some order, over the same variables

@@ -7,7 +7,7 @@ use Rattle.std.proofs.lemmas.List.{map-append}
 use Rattle.std.proofs.lemmas.List.Folds.{list_any-append, list_all-append}
 use Rattle.text_rules.specs.Names.{Name, same_name, is_among}
 use Rattle.text_rules.proofs.PartLemmas.{passes_too}
-use Rattle.ranking.proofs.Lists.{slice_get-before}
+use Rattle.state_rules.proofs.Lists.{slice_get-before}
 use Rattle.component_lang.proofs.NameLists.{same_name-sym, are_distinct-cons}
 use Rattle.component_lang.specs.declared.design.UsedKind.{UsedKind}
 use Rattle.component_lang.specs.declared.design.UsedKind.TheVariants.{Gate, Shape as OfShape, Block as OfBlock}

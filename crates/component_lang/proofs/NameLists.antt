@@ -11,12 +11,11 @@ use Rattle.std.proofs.lemmas.List.Folds.{list_any-append}
 use Rattle.indexmap.specs.IndexSet.{insert_key}
 use Rattle.text_rules.specs.Names.{Name, same_name, is_among}
 use Rattle.text_rules.proofs.NameLemmas.{same_name-Decides, same_if_equal, equal_if_same}
-use Rattle.device_model.specs.Building.{place_in}
+use Rattle.state_rules.proofs.Lists.{list_any-map}
+use Rattle.device_model.specs.Building.{place_in, repeated}
+use Rattle.device_model.proofs.Making.{none_given}
 use Rattle.component_lang.specs.declared.fault.LangFault.{LangFault}
 use Rattle.component_lang.specs.declared.fault.LangFault.TheVariants.{Name as NoName, Twice}
-use Rattle.device_model.specs.Building.{repeated}
-use Rattle.device_model.proofs.Making.{none_given}
-use Rattle.ranking.proofs.Lists.{list_any-map}
 use Rattle.component_lang.specs.Designs.{is_plain_name, is_empty, are_distinct}
 use Rattle.component_lang.specs.DesignLines.{are_new, places_in}
 use Rattle.component_lang.specs.inner.Words.{with_name, places_among}

@@ -11,9 +11,9 @@ use Rattle.std.proofs.lemmas.Nat.{or_lt, pow_below}
 use Rattle.std.proofs.lemmas.Nat.Bits.{and_pow, bit_at-lt}
 use Rattle.std.proofs.lemmas.Bool.{and_parts, and_from, eqb-true}
 use Rattle.std.proofs.lemmas.Grind.{pow_more}
-use Rattle.ranking.specs.Bits.{row_number, number_of_bit}
+use Rattle.state_rules.specs.Bits.{row_number, number_of_bit}
+use Rattle.state_rules.proofs.Bits.{row_number-push}
 use Rattle.component_lang.specs.TypeRows.{is_row, row_in, with_row}
-use Rattle.ranking.proofs.Bits.{row_number-push}
 
 or_of_bit : (rows row b : ℕ) → bit_at rows row ≡ b → bit_or rows (2 ^ row) + b * 2 ^ row ≡ rows + 2 ^ row
 or_of_bit rows row b e = ap (λ n. bit_or rows (2 ^ row) + n) (sym (and_pow rows row ∙ ap (λ n. n * 2 ^ row) e)) ∙ or_add_and rows (2 ^ row)

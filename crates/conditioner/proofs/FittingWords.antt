@@ -2,9 +2,9 @@
 use Rattle.std.proofs.Common.{◌≡◌, ℕ, zero, suc, ◌<◌, Bool, true, false, List, [], ◌∷◌, ◌++◌, length, take, get_or, Some, None, refl, sym, ◌∙◌, subst, arith}
 use Rattle.std.proofs.lemmas.Bool.{and_parts, and_from}
 use Rattle.std.proofs.lemmas.List.{length-map}
-use Rattle.ranking.specs.Bits.{bit_in}
-use Rattle.ranking.specs.Cases.{agrees_at, agrees}
-use Rattle.ranking.proofs.Cases.{agrees-at, agrees-from}
+use Rattle.state_rules.specs.Bits.{bit_in}
+use Rattle.state_rules.specs.Cases.{agrees_at, agrees}
+use Rattle.state_rules.proofs.Cases.{agrees-at, agrees-from}
 use Rattle.conditioner.specs.Words.{known_of, word_of, known}
 use Rattle.conditioner.specs.Models.{fits_words}
 

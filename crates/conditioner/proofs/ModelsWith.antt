@@ -1,14 +1,14 @@
 -- The states that a graph allows under words where a variable has a bit too.
-use Rattle.std.proofs.Common.{◌≡◌, ℕ, ◌-◌, ◌<◌, ◌≤◌, Bool, true, false, not, ◌&&◌, List, [], ◌∷◌, ◌++◌, length, get_or, set, Some, None, refl, ap, sym, ◌∙◌, arith, length-append}
-use Rattle.std.specs.List.{list_any, filter}
+use Rattle.std.proofs.Common.{◌≡◌, ℕ, ◌-◌, ◌<◌, ◌≤◌, Bool, true, false, not, ◌&&◌, List, [], ◌++◌, length, get_or, set, Some, None, refl, ap, sym, ◌∙◌, arith, length-append}
 use Rattle.std.proofs.Math.Bool.{and_assoc, and-false}
 use Rattle.std.proofs.lemmas.List.{length-map, map-set}
-use Rattle.ranking.specs.Bits.{bit_in, same_bit, lists_of_bits}
-use Rattle.ranking.specs.Cases.{agrees_at, agrees}
-use Rattle.ranking.specs.Ranking.{Test, states, passing}
-use Rattle.ranking.proofs.Cases.{agrees-place, agrees-set}
-use Rattle.ranking.proofs.Members.{bits_length, filter_same, any_same}
-use Rattle.graph_rules.specs.Graphs.{Graph, holds}
+use Rattle.state_rules.specs.Bits.{bit_in, same_bit, lists_of_bits}
+use Rattle.state_rules.specs.Cases.{agrees_at, agrees}
+use Rattle.state_rules.specs.Ranking.{Test, states, passing}
+use Rattle.state_rules.proofs.Cases.{agrees-place, agrees-set}
+use Rattle.state_rules.proofs.Members.{bits_length, filter_same, any_same}
+use Rattle.state_rules.specs.Graphs.{Graph, holds}
+use Rattle.state_rules.proofs.Lists.{any-never, filter-never}
 use Rattle.conditioner.specs.Words.{known_of, known}
 use Rattle.conditioner.specs.Models.{has_model, fits_words, models}
 
@@ -18,14 +18,6 @@ allowed-same : (graph : Graph) (parts : ℕ) (p q : Test) → parts ≤ graph.va
 allowed-same graph parts p q room agree = filter_same (has_model graph p parts) (has_model graph q parts) (states parts) (λ state m.
     any_same (λ others. p (state ++ others) && holds graph (state ++ others)) (λ others. q (state ++ others) && holds graph (state ++ others)) (lists_of_bits (graph.vars - parts)) (λ others n.
     ap (λ b. b && holds graph (state ++ others)) (agree (state ++ others) (omega (arith, room, length-append state others, bits_length parts state m, bits_length (graph.vars - parts) others n)))))
-
-any-never : {A : Type 0} (xs : List A) → list_any (λ _. false) xs ≡ false
-any-never [] = refl
-any-never (x ∷ xs) = any-never xs
-
-filter-never : {A : Type 0} (xs : List A) → filter (λ _. false) xs ≡ []
-filter-never [] = refl
-filter-never (x ∷ xs) = filter-never xs
 
 -- a test that nothing passes allows none
 allowed-none : (graph : Graph) (parts : ℕ) → passing parts (has_model graph (λ _. false) parts) ≡ []

@@ -1,10 +1,10 @@
 -- The health states that a graph allows under words.
 use Rattle.std.specs.Prelude.{ℕ, ◌-◌, Bool, ◌&&◌, List, ◌++◌, length, sum_by, Option}
 use Rattle.std.specs.List.{list_any}
-use Rattle.ranking.specs.Bits.{bit_in, same_bit, lists_of_bits}
-use Rattle.ranking.specs.Cases.{agrees}
-use Rattle.ranking.specs.Ranking.{Test, passing, least, diagnoses}
-use Rattle.graph_rules.specs.Graphs.{Graph, holds}
+use Rattle.state_rules.specs.Bits.{bit_in, same_bit, lists_of_bits}
+use Rattle.state_rules.specs.Cases.{agrees}
+use Rattle.state_rules.specs.Ranking.{Test, passing, least, diagnoses}
+use Rattle.state_rules.specs.Graphs.{Graph, holds}
 use Rattle.conditioner.specs.Words.{known}
 
 -- a health state with some bits of the other variables passes a test, and makes the last node true

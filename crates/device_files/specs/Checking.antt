@@ -2,14 +2,14 @@
 use Rattle.std.specs.Prelude.{ℕ, List, [], ◌∷◌, Result, codes}
 use Rattle.std.specs.Fmt.{decimal}
 use Rattle.text_rules.specs.Tokens.{spaced}
-use Rattle.graph_rules.specs.declared.TheConstants.{BITS_LIMIT}
-use Rattle.graph_rules.specs.Graphs.{Graph}
-use Rattle.graph_rules.specs.GraphTexts.{Refusal, NoHeader, AtLine, Counts, TooLarge, Shared, read_graph}
+use Rattle.state_rules.specs.Graphs.{Graph}
+use Rattle.diag_edge.specs.ErrorLines.{fault_line}
+use Rattle.nnf_text.specs.declared.checking.TheConstants.{BITS_LIMIT}
+use Rattle.nnf_text.specs.GraphTexts.{Refusal, NoHeader, AtLine, Counts, TooLarge, Shared, read_graph}
 use Rattle.device_files.specs.Output.{Output}
 use Rattle.device_files.specs.declared.graph_fault.GraphFault.{GraphFault}
 use Rattle.device_files.specs.declared.graph_fault.GraphFault.TheVariants as faults
 use Rattle.device_files.specs.GraphFaults.{graph_fault_row, fault_of_line}
-use Rattle.diag_edge.specs.ErrorLines.{fault_line}
 use Rattle.device_files.specs.Describing.{or_line}
 
 -- the line that tells a fault of a whole text, and what is told of it besides

@@ -1,6 +1,6 @@
 -- The faults of graphs' texts: their numbers and their names.
 use Rattle.std.specs.Prelude.{ℕ, List, codes}
-use Rattle.graph_rules.specs.GraphTexts.{LineFault, WrongLine, WrongChild, WrongVariable}
+use Rattle.nnf_text.specs.GraphTexts.{LineFault, WrongLine, WrongChild, WrongVariable}
 use Rattle.device_files.specs.declared.graph_fault.GraphFault.{GraphFault}
 use Rattle.device_files.specs.declared.graph_fault.GraphFault.TheVariants.{Header, Line, Child, Variable, Counts, Bits, Shared}
 

@@ -5,8 +5,7 @@ use Rattle.std.specs.Result.{result_map_both}
 use Rattle.std.specs.Fmt.{decimal}
 use Rattle.text_rules.specs.Names.{same_name}
 use Rattle.text_rules.specs.Tokens.{spaced}
-use Rattle.graph_rules.specs.Graphs.{Graph}
-use Rattle.graph_rules.specs.GraphTexts.{edges}
+use Rattle.state_rules.specs.Graphs.{Graph, edges}
 use Rattle.device_model.specs.Devices.{Device}
 use Rattle.clause_encoder.specs.declared.encoding.EncodeError.{EncodeError}
 use Rattle.clause_encoder.specs.Clauses.{ClauseList}
@@ -39,6 +38,7 @@ inspection_named word path narrow =
 abbrev pub count_line : List ℕ → ℕ → Item
 count_line what count = line (what ∷ decimal count ∷ [])
 
+-- how many parts, wires, and so on there are, a line each
 abbrev pub size_lines : Sizes → List Item
 size_lines sizes = count_line (codes "parts") sizes.parts ∷ count_line (codes "wires") sizes.wires
     ∷ count_line (codes "clauses") sizes.clauses ∷ count_line (codes "sum") sizes.sum ∷ []
@@ -51,6 +51,7 @@ sizes_by device cnf = record { parts = length device.parts; wires = length devic
 abbrev pub sizes_in : (Device → Result ClauseList EncodeError) → Result Device Output → Result Sizes Output
 sizes_in clauses found = result_and_then (λ device. result_map_both (sizes_by device) (λ output. output) (within BUDGET_LIMIT (clauses device))) found
 
+-- the sizes of a device whose clauses are within the budget
 abbrev pub planned : Sizes → Output
 planned sizes = record { items = size_lines sizes; status = Done }
 
@@ -60,12 +61,13 @@ planned sizes = record { items = size_lines sizes; status = Done }
 abbrev pub decomposable_line : Graph → List ℕ
 decomposable_line graph = spaced (codes "decomposable" ∷ decimal (length graph.nodes) ∷ decimal (edges graph.nodes) ∷ decimal graph.vars ∷ [])
 
-abbrev pub checked : Graph → Output
-checked graph = says (decomposable_line graph) Done
+-- the sizes of a graph that is decomposable
+abbrev pub told_decomposable : Graph → Output
+told_decomposable graph = says (decomposable_line graph) Done
 
 -- ---- all inspections
 
 -- what each tells of a file, by the order of clauses that is used where another one is asked for
 abbrev pub inspected : (ClauseList → ClauseList) → List ℕ → Inspection → List ℕ → Output
 inspected order path (Plan narrow) file = told_or_refused planned (sizes_in (clauses_by narrow order) (described path file))
-inspected order path Check file = told_or_refused checked (graph_in file)
+inspected order path Check file = told_or_refused told_decomposable (graph_in file)

@@ -1,13 +1,13 @@
 -- Why a file gives nothing of what the words ask for, and what is told of it.
 use Rattle.std.specs.Prelude.{ℕ, List, Option, Some, None, Result, unwrap_or}
 use Rattle.text_rules.specs.Expected.{Fulfils}
+use Rattle.diag_edge.specs.ErrorLines.{fault_line, above_line}
+use Rattle.nnf_text.specs.GraphTexts as graphs
 use Rattle.device_files.specs.declared.refusal.Refusal.{Refusal}
 use Rattle.device_files.specs.declared.refusal.Refusal.TheVariants.{Fault, Header, Counts, Bits, Shared, Above, Sum, Memory}
 use Rattle.device_files.specs.declared.status.Status.{Status}
 use Rattle.device_files.specs.declared.status.Status.TheVariants.{Refused, AboveBudget, NoMemory}
 use Rattle.device_files.specs.Output.{Output, says, no_memory, no_memory_line}
-use Rattle.graph_rules.specs.GraphTexts as graphs
-use Rattle.diag_edge.specs.ErrorLines.{fault_line, above_line}
 use Rattle.device_files.specs.Checking.{graph_fault_line}
 use Rattle.device_files.specs.Weighing.{sum_line}
 

@@ -3,7 +3,7 @@ ghost use Rattle.std.specs.Prelude.{◌≡◌, ◌≢◌, ◌⊎◌, ◌-◌, �
 ghost use Rattle.diag_edge.specs.Edge.{HasCause, RoseExactly};
 ghost use Rattle.session_rules.specs.Spelling.{Replies};
 ghost use Rattle.device_files.specs.Describing.{described};
-ghost use Rattle.device_files.specs.Inspecting.{inspection_named, count_line, size_lines, sizes_in, planned, checked, inspected};
+ghost use Rattle.device_files.specs.Inspecting.{inspection_named, count_line, size_lines, sizes_in, planned, told_decomposable, inspected};
 ghost use Rattle.device_files.specs.Orders.{ByOrder, ByClauses};
 ghost use Rattle.device_files.specs.Output.{Gives, GivesUnlessMemory};
 ghost use Rattle.device_files.specs.Refusals.{Finds};
@@ -156,7 +156,7 @@ fn tell_graph<O: Sink>(out: &mut O, graph: &Graph) -> Status
     requires faults { O.faults out.old < 2 ^ 64 - 1 }
     ensures write_fault { RoseExactly (O.faults out.old) (O.faults out.new) (result ≡ Status.WriteFailed) }
     ensures either { (result ≡ Status.Done) ⊎ (result ≡ Status.WriteFailed) }
-    ensures said { Gives (checked graph.now) result (O.got out.old) (O.got out.new) }
+    ensures said { Gives (told_decomposable graph.now) result (O.got out.old) (O.got out.new) }
 {
     match put_line(
         out,

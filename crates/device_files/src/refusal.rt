@@ -1,7 +1,7 @@
-ghost use Rattle.std.specs.Prelude.{◌≡◌, ◌≢◌, ◌-◌, ◌^◌, ◌<◌, ◌≤◌, Some};
+ghost use Rattle.std.specs.Prelude.{◌≡◌, ◌≢◌, ◌-◌, ◌^◌, ◌<◌, Some};
 ghost use Rattle.diag_edge.specs.Edge.{HasCause, RoseExactly, Puts};
 ghost use Rattle.diag_edge.specs.ErrorLines.{above_line};
-ghost use Rattle.graph_rules.specs.GraphTexts.{NoHeader, Counts, TooLarge, Shared};
+ghost use Rattle.nnf_text.specs.GraphTexts.{NoHeader, Counts, TooLarge, Shared};
 ghost use Rattle.device_files.specs.declared.refusal.Refusal.TheVariants.{Memory};
 ghost use Rattle.device_files.specs.Checking.{graph_fault_line};
 ghost use Rattle.device_files.specs.Weighing.{sum_line};
@@ -11,8 +11,8 @@ ghost use Rattle.device_files.specs.Refusals.{refusal_line, refusal_status, told
 use crate::graph_fault::GraphFault;
 use crate::status::Status;
 use diag_edge::{Sink, WriteFailed, put_above, put_fault, put_line};
-use graph_rules::BITS_LIMIT;
 use itoa::Buffer;
+use nnf_text::BITS_LIMIT;
 use std::alloc::AllocError;
 
 /// Why a file gives nothing of what the words ask for.

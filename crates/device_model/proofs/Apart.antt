@@ -2,7 +2,7 @@
 use Rattle.std.proofs.Common.{◌≡◌, inl, inr, Bool, true, false, List, [], ◌∷◌, ◌++◌, map, refl, sym, ap, subst, ◌∙◌}
 use Rattle.std.specs.Prelude.{if◌then◌else◌}
 use Rattle.text_rules.specs.Names.{Name, is_among}
-use Rattle.ranking.proofs.Members.{In, In-append, from_map}
+use Rattle.state_rules.proofs.Members.{In, In-append, from_map}
 use Rattle.device_model.specs.Building.{repeated}
 use Rattle.device_model.proofs.Naming.{Below-irreflexive}
 use Rattle.device_model.proofs.Ordered.{Rises, Below-among}

@@ -3,7 +3,8 @@ use Rattle.std.proofs.Common.{◌≡◌, ℕ, ◌<◌, true, List, [], length, g
 use Rattle.std.proofs.lemmas.List.Sums.{passes_at_first}
 use Rattle.text_rules.specs.Expected.{IsExpectedFault}
 use Rattle.text_rules.specs.Names.{Name, same_name, is_among, names_rise}
-use Rattle.ranking.proofs.Members.{In}
+use Rattle.text_rules.proofs.NameLemmas.{equal_if_same}
+use Rattle.state_rules.proofs.Members.{In}
 use Rattle.device_model.specs.declared.component.Component.{Component}
 use Rattle.device_model.specs.declared.building.BuildError.{BuildError}
 use Rattle.device_model.specs.declared.building.BuildError.TheVariants.{TooMany, TwoParts, TwoWires, Arity, NoWire, Memory}
@@ -16,7 +17,6 @@ use Rattle.device_model.proofs.Sorting.{itself, Rises-from_names_rise}
 use Rattle.device_model.proofs.Repeats.{is_among-among, among_from_test, count}
 use Rattle.device_model.proofs.Making.{position_or_len-among}
 use Rattle.device_model.proofs.Placing.{place_in-rising}
-use Rattle.text_rules.proofs.NameLemmas.{equal_if_same}
 
 -- names in order are the names of the list
 pub In-sorted_distinct : (names : List Name) (n : Name) → In n names → In n (sorted_distinct itself names)

@@ -2,7 +2,8 @@
 use Rattle.std.proofs.Common.{◌≡◌, ℕ, Bool, true, false, List, [], ◌∷◌, Some, None, Ok, Err, refl, map}
 use Rattle.std.specs.Prelude.{codes, replicate}
 use Rattle.text_rules.specs.Names.{names_rise}
-use Rattle.ranking.specs.Cases.{Case}
+use Rattle.state_rules.specs.Cases.{Case}
+use Rattle.state_rules.specs.Systems.{least_cost, all_diagnoses}
 use Rattle.device_model.specs.declared.component.Component.{Component}
 use Rattle.device_model.specs.declared.component.Kind.{Kind}
 use Rattle.device_model.specs.declared.component.Kind.TheVariants.{Gate as OfGate, Table}
@@ -12,7 +13,6 @@ use Rattle.device_model.specs.declared.building.BuildError.TheVariants.{TooMany,
 use Rattle.device_model.specs.TruthTable.{TruthTable, is_cost}
 use Rattle.device_model.specs.Devices.{Device, kind_cost, part_costs, allows}
 use Rattle.device_model.specs.Gates.{gate_row, gates, takes, gate_value, gate_named}
-use Rattle.ranking.specs.Systems.{least_cost, all_diagnoses}
 use Rattle.device_model.specs.Diagnosis.{device_system}
 use Rattle.device_model.specs.Building.{built}
 

@@ -7,7 +7,8 @@ use Rattle.std.proofs.lemmas.List.{length-map}
 use Rattle.std.proofs.lemmas.List.Sums.{fails_before_first}
 use Rattle.std.proofs.lemmas.List.Folds.{list_all-map}
 use Rattle.text_rules.specs.Names.{Name, same_name}
-use Rattle.ranking.proofs.Members.{In, In-at}
+use Rattle.text_rules.proofs.NameLemmas.{same_if_equal}
+use Rattle.state_rules.proofs.Members.{In, In-at}
 use Rattle.device_model.specs.declared.component.Component.{Component}
 use Rattle.device_model.specs.TruthTable.{TruthTable}
 use Rattle.device_model.specs.Order.{placed, sorted_distinct}
@@ -16,7 +17,6 @@ use Rattle.device_model.specs.Building.{place_in, renumbered, device_of}
 use Rattle.device_model.proofs.Naming.{same, below, above, compared}
 use Rattle.device_model.proofs.Ordered.{Rises-sorted_distinct, among_sorted_distinct, sorted_distinct-has, placed-same, placed-below, placed-above}
 use Rattle.device_model.proofs.Sorting.{itself, Contains-from_among, Rises-map, names_rise-Rises}
-use Rattle.text_rules.proofs.NameLemmas.{same_if_equal}
 
 -- ---- tests of each item
 

@@ -1,10 +1,10 @@
 -- Lists of items by rising name, and that `sorted_distinct` makes the only one that has the same items.
 use Rattle.std.proofs.Common.{◌≡◌, ◌⊎◌, inl, inr, List, [], ◌∷◌, refl, sym, ap, subst, ◌∙◌}
 use Rattle.text_rules.specs.Names.{Name}
-use Rattle.ranking.proofs.Members.{In}
+use Rattle.text_rules.proofs.NameLemmas.{same_if_equal}
+use Rattle.state_rules.proofs.Members.{In}
 use Rattle.device_model.specs.Order.{placed, sorted_distinct}
 use Rattle.device_model.proofs.Naming.{Below, Below-trans, Below-irreflexive, Below-asymmetric, same, below, above, compared, same_name-below, same_name-above, name_below-Below, name_below-above}
-use Rattle.text_rules.proofs.NameLemmas.{same_if_equal}
 
 module _ {A : Type 0} (name : A → Name) where
   -- the name stands before each item's

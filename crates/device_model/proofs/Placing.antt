@@ -8,7 +8,8 @@ use Rattle.std.proofs.lemmas.Bool.{ltb-true}
 use Rattle.std.proofs.lemmas.List.{get_or-map, length-map}
 use Rattle.std.proofs.lemmas.List.Sorted.{length_permutation, IsPermutation-sym}
 use Rattle.text_rules.specs.Names.{Name, same_name}
-use Rattle.ranking.proofs.Members.{In, In-at}
+use Rattle.text_rules.proofs.NameLemmas.{same_if_equal}
+use Rattle.state_rules.proofs.Members.{In, In-at}
 use Rattle.device_model.specs.declared.component.Component.{Component}
 use Rattle.device_model.specs.Order.{sorted_distinct}
 use Rattle.device_model.specs.TruthTable.{TruthTable}
@@ -19,7 +20,6 @@ use Rattle.device_model.proofs.Naming.{Below, Below-irreflexive, same_name-above
 use Rattle.device_model.proofs.Ordered.{Below-among, Rises, Rises-sorted_distinct}
 use Rattle.device_model.proofs.Sorting.{itself, Contains-from_among, among_permutation, Rises-unmap}
 use Rattle.device_model.proofs.Making.{list_all-among, component_name, sorted_distinct-map, list_all-sorted_distinct}
-use Rattle.text_rules.proofs.NameLemmas.{same_if_equal}
 
 -- a numbered name stands at its number
 numbered-tells : (p : ℕ) (ns : List Name) (w : Name × ℕ) → In w (numbered_from p ns) → (i : ℕ) × (i < length ns) × (w.1 ≡ p + i) × (w.0 ≡ get_or ns i [])

@@ -7,7 +7,8 @@ use Rattle.std.proofs.lemmas.Bool.{or_cases}
 use Rattle.std.proofs.lemmas.List.Sorted.{sum_by-IsPermutation}
 use Rattle.std.proofs.lemmas.List.Sums.{sum_by-cons}
 use Rattle.text_rules.specs.Names.{Name, same_name, is_among}
-use Rattle.ranking.proofs.Members.{In}
+use Rattle.text_rules.proofs.NameLemmas.{same_if_equal, equal_if_same}
+use Rattle.state_rules.proofs.Members.{In, empty-none}
 use Rattle.device_model.specs.declared.building.BuildError.{BuildError}
 use Rattle.device_model.specs.Order.{sorted_distinct}
 use Rattle.device_model.specs.Devices.{Device}
@@ -15,7 +16,6 @@ use Rattle.device_model.specs.Building.{repeated, unless_name}
 use Rattle.device_model.proofs.Naming.{Below, Below-trans, Below-irreflexive, same, below, above, compared, same_name-other}
 use Rattle.device_model.proofs.Ordered.{BelowAll, Below-among, Rises, Rises-sorted_distinct, among_sorted_distinct, sorted_distinct-has}
 use Rattle.device_model.proofs.Sorting.{itself, AtMost, AtMostAll, AtMost-among, Ascends}
-use Rattle.text_rules.proofs.NameLemmas.{same_if_equal, equal_if_same}
 
 -- how often a name stands in a list
 abbrev pub one_if : Bool → ℕ
@@ -175,13 +175,9 @@ once_in_rising (n ∷ ns) h m = elim (same_or_other m n) [
     alone e zero g = omega (arith, count-same m n ns e)
     alone e (suc c) g = absurd (Below-irreflexive n (subst (Below n) e (Below-among itself n ns m h.0 (among_from_count m ns (omega arith)))))
 
-pub none_among : {A : Type 0} (xs : List A) → ((x : A) → In x xs → ⊥) → xs ≡ []
-none_among [] h = refl
-none_among (x ∷ xs) h = absurd (h x (inl refl))
-
 -- no name is repeated where the names can be put in rising order
 pub repeated-rising : (xs ys : List Name) → IsPermutation xs ys → Rises itself ys → repeated xs ≡ []
-repeated-rising xs ys p h = none_among (repeated xs) (λ m k. omega (arith, twice_from_repeated xs m k, count-permutation m xs ys p, once_in_rising ys h m))
+repeated-rising xs ys p h = empty-none (repeated xs) (λ m k. omega (arith, twice_from_repeated xs m k, count-permutation m xs ys p, once_in_rising ys h m))
 
 -- the first name in order is the least
 sorted_distinct-first : (ns : List Name) (n : Name) → In n ns → ((m : Name) → In m ns → AtMost n m) → (rest : List Name) × (sorted_distinct itself ns ≡ n ∷ rest)

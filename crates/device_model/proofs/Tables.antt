@@ -3,13 +3,13 @@ use Rattle.std.proofs.Common.{◌≡◌, ℕ, zero, suc, ◌+◌, ◌<◌, Bool,
 use Rattle.std.specs.Prelude.{if◌then◌else◌, position}
 use Rattle.std.specs.List.{list_any, position_or_len}
 use Rattle.std.proofs.lemmas.List.{length-map, get_or-map, take-map, take_more, map_push}
-use Rattle.text_rules.specs.Names.{Name, same_name, is_among}
 use Rattle.indexmap.specs.IndexSet.{insert_key}
+use Rattle.text_rules.specs.Names.{Name, same_name, is_among}
+use Rattle.state_rules.proofs.Lists.{list_any-map}
+use Rattle.state_rules.proofs.Members.{In-at}
 use Rattle.device_model.proofs.Naming.{same_name-above}
 use Rattle.device_model.proofs.Ordered.{Rises, Below-among}
 use Rattle.device_model.proofs.Sorting.{itself}
-use Rattle.ranking.proofs.Lists.{list_any-map}
-use Rattle.ranking.proofs.Members.{In-at}
 
 -- a name is not among those before it
 pub is_among-front : (ns : List Name) (i : ℕ) → Rises itself ns → i < length ns → is_among (take i ns) (get_or ns i []) ≡ false

@@ -1,9 +1,8 @@
 -- Devices, and which bits of the wires fit which health state.
 use Rattle.std.specs.Prelude.{◌≡◌, ℕ, ◌-◌, ◌≤◌, Bool, true, false, ◌&&◌, List, [], ◌∷◌, map, length, take, ◌==◌, Option, Some, None, slice_get, nat_lt, position}
-use Rattle.std.specs.Int.{bit_at}
 use Rattle.std.specs.List.{list_all}
 use Rattle.text_rules.specs.Names.{Name, same_name, names_rise}
-use Rattle.ranking.specs.Bits.{bit_in, same_bit, row_number}
+use Rattle.state_rules.specs.Bits.{bit_in, same_bit, row_number, has_bit}
 use Rattle.device_model.specs.declared.component.Kind.{Kind}
 use Rattle.device_model.specs.declared.component.Kind.TheVariants.{Gate as OfGate, Table}
 use Rattle.device_model.specs.declared.gates.Gate.{Gate}
@@ -31,12 +30,9 @@ gate_allows gate false row = true
 gate_allows gate true row =
     let inputs = length row - 1 in same_bit (bit_in row inputs) (gate_value gate (take inputs row))
 
-abbrev pub is_set : ℕ → ℕ → Bool
-is_set rows row = bit_at rows row == 1
-
 abbrev pub table_allows : TruthTable → Bool → List Bool → Bool
-table_allows rows true row = is_set rows.ok (row_number row)
-table_allows rows false row = is_set rows.bad (row_number row)
+table_allows rows true row = has_bit rows.ok (row_number row)
+table_allows rows false row = has_bit rows.bad (row_number row)
 
 -- a part of no table allows nothing
 abbrev pub any_table_allows : Option TruthTable → Bool → List Bool → Bool

@@ -2,10 +2,10 @@
 use Rattle.std.specs.Prelude.{ℕ, Bool, ◌&&◌, List, length}
 use Rattle.std.specs.List.{list_any}
 use Rattle.text_rules.specs.Names.{Name}
-use Rattle.ranking.specs.Bits.{lists_of_bits}
-use Rattle.ranking.specs.Cases.{Case, agrees}
-use Rattle.ranking.specs.Ranking.{passing}
-use Rattle.ranking.specs.Systems.{System, no_extras}
+use Rattle.state_rules.specs.Bits.{lists_of_bits}
+use Rattle.state_rules.specs.Cases.{Case, agrees}
+use Rattle.state_rules.specs.Ranking.{passing}
+use Rattle.state_rules.specs.Systems.{System, no_extras}
 use Rattle.device_model.specs.Devices.{Device, fits, part_names, part_costs}
 
 -- The state has what is held, and some bits of so many wires have what was seen and fit.

@@ -3,7 +3,7 @@ use Rattle.std.specs.Prelude.{ℕ, Bool, true, false, ◌&&◌, nat_le, List, []
 use Rattle.std.specs.Map.{lookup}
 use Rattle.std.specs.List.{list_all, list_any}
 use Rattle.text_rules.specs.Names.{Name, same_name}
-use Rattle.ranking.specs.Bits.{same_bit, has_odd_ones}
+use Rattle.state_rules.specs.Bits.{same_bit, has_odd_ones}
 use Rattle.device_model.specs.declared.gates.Gate.{Gate}
 use Rattle.device_model.specs.declared.gates.Gate.TheVariants.{And, Or, Nand, Nor, Xor, Xnor, Not, Buff}
 use Rattle.device_model.specs.declared.gates.Reduction.{Reduction}

@@ -1,6 +1,6 @@
 ghost use Rattle.std.specs.Prelude.{◌≡◌, ◌<◌, ◌^◌, length, map, slice_index, All, IfOk, Some, None, true, if◌then◌else◌};
+ghost use Rattle.state_rules.specs.Bits.{has_bit};
 ghost use Rattle.device_model.specs.TruthTable.{set_of_all, is_table};
-ghost use Rattle.device_model.specs.Devices.{is_set};
 
 use crate::gates::Gate;
 use crate::limits::COST_LIMIT;
@@ -154,7 +154,7 @@ impl Table {
     /// Whether a part, ok or faulty, allows a row.
     pub fn allows(&self, ok: bool, row: u32) -> bool
         requires { row < 2 ^ self.now.ports }
-        ensures { result ≡ is_set (if ok then self.now.ok else self.now.bad) row }
+        ensures { result ≡ has_bit (if ok then self.now.ok else self.now.bad) row }
     {
         let rows = if ok { self.ok } else { self.bad };
         (rows >> row) & 1 == 1

@@ -1,5 +1,5 @@
-use graph_rules::NodeKind;
 use node_store::Graph;
+use state_rules::NodeKind;
 use std::alloc::Global;
 use std::test::Fail;
 

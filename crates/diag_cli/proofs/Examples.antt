@@ -1,13 +1,13 @@
 -- Worked rows: what words ask for, and how a script ends. Their check computes both sides.
 use Rattle.std.proofs.Common.{◌≡◌, ℕ, List, [], ◌∷◌, map, true, false, Some, None, codes, refl}
 use Rattle.std.specs.Fmt.{digits}
+use Rattle.state_rules.specs.Systems.{no_extras}
 use Rattle.session_rules.specs.Items.{Item, Plain}
-use Rattle.ranking.specs.Systems.{no_extras}
+use Rattle.device_files.specs.declared.status.Status.TheVariants.{Done, ReadFailed, CutShort}
+use Rattle.device_files.specs.declared.inspecting.Inspection.TheVariants.{Plan, Check}
 use Rattle.diag_cli.specs.declared.words.ServeOptions.{ServeOptions}
 use Rattle.diag_cli.specs.declared.words.Command.TheVariants.{Serve, ServeFrames, Ask, Inspect, Compile}
 use Rattle.diag_cli.specs.Words.{Load, Over, form_of}
-use Rattle.device_files.specs.declared.status.Status.TheVariants.{Done, ReadFailed, CutShort}
-use Rattle.device_files.specs.declared.inspecting.Inspection.TheVariants.{Plan, Check}
 use Rattle.diag_cli.specs.Besides.{levels_bits, least_bits, bits_line}
 use Rattle.diag_cli.specs.Courses.{Ended, Failed, Cut, read_error, long_file_line, script_too_long, served}
 

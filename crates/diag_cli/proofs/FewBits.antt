@@ -4,29 +4,28 @@ use Rattle.std.specs.Prelude.{Result, Ok, Err, IfOk}
 use Rattle.std.proofs.Math.Nat.{mul-le-mul_right, le_trans}
 use Rattle.std.proofs.lemmas.Bool.{lt-ltb, ltb-true, cases_lt}
 use Rattle.text_rules.specs.Expected.{IsExpectedFault, Fulfils}
-use Rattle.ranking.specs.declared.extras.Extras.{Extras}
-use Rattle.graph_rules.specs.Graphs.{Graph}
-use Rattle.graph_rules.specs.GraphTexts.{edges}
+use Rattle.state_rules.specs.declared.extras.Extras.{Extras}
+use Rattle.state_rules.specs.Graphs.{Graph, edges}
 use Rattle.clause_encoder.specs.Clauses.{ClauseList}
 use Rattle.branch_states.specs.Branches.{sum_of}
 use Rattle.branch_states.specs.declared.measuring.TheConstants.{BUDGET_LIMIT}
 use Rattle.dnnf_compiler.specs.declared.compiling.Compiled.{Compiled}
-use Rattle.dnnf_compiler.specs.Compiled.{IsCompiled}
-use Rattle.level_lister.specs.Listing.{cost_words}
+use Rattle.dnnf_compiler.specs.Compiled.{IsCompiled, most_nodes}
 use Rattle.part_sets.specs.declared.kept.TheConstants.{PART_LIMIT}
+use Rattle.level_lister.specs.Listing.{cost_words}
 use Rattle.level_lister.specs.declared.levels.TheConstants.{TOP_LIMIT}
 use Rattle.session_core.specs.declared.limits.TheConstants.{SERVED_BITS}
 use Rattle.session_core.specs.Services.{CanList, CanDraw}
 use Rattle.device_files.specs.declared.status.Status.TheVariants.{Refused}
 use Rattle.device_files.specs.declared.refusal.Refusal.{Refusal}
-use Rattle.diag_cli.specs.Besides.{levels_bits, least_bits, bits_line, if_few, in_few_bits}
 use Rattle.device_files.specs.Output.{Output, says}
 use Rattle.device_files.specs.Refusals.{told_by}
+use Rattle.diag_cli.specs.Besides.{levels_bits, least_bits, bits_line, if_few, in_few_bits}
 use Rattle.diag_cli.specs.inner.Serving.{CanTell}
 
 -- ---- few bits of the greatest graph are few of each
 
-module _ (graph : Graph) (parts sum vars : ℕ) (few : length graph.nodes ≤ 3 * sum + 2 * vars + 2) where
+module _ (graph : Graph) (parts sum vars : ℕ) (few : length graph.nodes ≤ most_nodes sum vars) where
   can_list : (levels : Option ℕ) → IfSome levels (λ top. top ≤ TOP_LIMIT) → levels_bits sum vars parts levels ≤ SERVED_BITS → IfSome levels (CanList graph parts)
   can_list None top bits = tt
   can_list (Some top) top_is bits = record {

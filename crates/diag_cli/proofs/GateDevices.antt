@@ -7,12 +7,12 @@ use Rattle.std.proofs.lemmas.Bool.{and_parts, and_from}
 use Rattle.std.proofs.lemmas.List.{length-map}
 use Rattle.std.proofs.lemmas.List.Folds.{list_all-append}
 use Rattle.text_rules.specs.Names.{Name}
-use Rattle.ranking.specs.Bits.{bit_in, lists_of_bits}
-use Rattle.ranking.specs.Cases.{Case, agrees}
-use Rattle.ranking.specs.Ranking.{cost}
-use Rattle.ranking.specs.Systems.{least_cost}
-use Rattle.ranking.proofs.Bits.{same_bit-refl}
-use Rattle.ranking.proofs.Members.{In, bits_in, any_in, AtMost, least-below}
+use Rattle.state_rules.specs.Bits.{bit_in, lists_of_bits}
+use Rattle.state_rules.specs.Cases.{Case, agrees}
+use Rattle.state_rules.specs.Ranking.{cost}
+use Rattle.state_rules.specs.Systems.{least_cost}
+use Rattle.state_rules.proofs.Bits.{same_bit-refl}
+use Rattle.state_rules.proofs.Members.{In, bits_in, any_in, AtMost, least-below}
 use Rattle.device_model.specs.declared.component.Kind.{Kind}
 use Rattle.device_model.specs.declared.component.Kind.TheVariants.{Gate as OfGate, Table}
 use Rattle.device_model.specs.declared.gates.Gate.{Gate as GateKind}

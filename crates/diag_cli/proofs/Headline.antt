@@ -7,27 +7,27 @@ use Rattle.std.proofs.lemmas.List.{length-replicate}
 use Rattle.text_rules.specs.declared.text_lines.TheConstants.{TEXT_LIMIT}
 use Rattle.text_rules.specs.TextLines.{whole_lines}
 use Rattle.text_rules.specs.Expected.{IsExpectedFault}
+use Rattle.state_rules.specs.Systems.{System}
 use Rattle.diag_edge.specs.Edge.{Reading, Writing, RoseExactly, Holding, absent, told_bytes}
 use Rattle.diag_edge.specs.declared.loading.LoadError.{LoadError}
 use Rattle.diag_edge.specs.declared.loading.LoadError.TheVariants.{Failed as LoadFailed, Long, Memory}
+use Rattle.clause_encoder.specs.Clauses.{ClauseList}
 use Rattle.session_rules.specs.Items.{Item}
 use Rattle.session_rules.specs.Spelling.{Writes}
-use Rattle.ranking.specs.Systems.{System}
-use Rattle.clause_encoder.specs.Clauses.{ClauseList}
-use Rattle.diag_cli.specs.declared.serving.TheConstants.{SCRIPT_LIMIT}
-use Rattle.diag_cli.specs.declared.words.Command.{Command}
-use Rattle.diag_cli.specs.declared.words.Command.TheVariants.{Serve, ServeFrames, Ask, Inspect, Compile}
-use Rattle.diag_cli.specs.Words.{Form, Load, Over, asks_script}
 use Rattle.device_files.proofs.Statuses.{cases_status}
 use Rattle.device_files.specs.declared.status.Status.{Status}
 use Rattle.device_files.specs.declared.status.Status.TheVariants.{Done, Refused, Usage, ReadFailed, WriteFailed, NoMemory, CutShort}
 use Rattle.device_files.specs.Output.{Output, Gives, says, no_memory, GivesUnlessMemory}
+use Rattle.device_files.specs.Refusals.{or_memory}
+use Rattle.device_files.proofs.Failing.{gives_part}
+use Rattle.diag_cli.specs.declared.serving.TheConstants.{SCRIPT_LIMIT}
+use Rattle.diag_cli.specs.declared.words.Command.{Command}
+use Rattle.diag_cli.specs.declared.words.Command.TheVariants.{Serve, ServeFrames, Ask, Inspect, Compile}
+use Rattle.diag_cli.specs.Words.{Form, Load, Over, asks_script}
 use Rattle.diag_cli.specs.Courses.{End, Ended, Failed, Cut, Course, Tells, Serves, usage_line, read_error, long_file_line, not_loaded, served, wholly_served, whole_output, served_or_refused, course_by, course_of}
 use Rattle.diag_cli.specs.Loads.{loaded}
-use Rattle.device_files.specs.Refusals.{or_memory}
 use Rattle.diag_cli.specs.Runs.{GivesUnlessShort, IsDone, IsRun}
 use Rattle.diag_cli.specs.Following.{IsIdle, EndsAs, AreTaken, CameTo, IsServed, WritesFirst, IsStopped, Follows}
-use Rattle.device_files.proofs.Failing.{gives_part}
 use Rattle.diag_cli.proofs.Unread.{IsUnread}
 use Rattle.diag_cli.proofs.Scripts.{taken_all, broken_begins_all}
 

@@ -2,7 +2,7 @@
 use Rattle.std.proofs.Common.{◌≡◌, ◌^◌, refl}
 use Rattle.text_rules.specs.declared.names.TheConstants.{SHORT_NAME_LIMIT}
 use Rattle.text_rules.specs.declared.text_lines.TheConstants.{TEXT_LIMIT}
-use Rattle.graph_rules.specs.declared.TheConstants.{BITS_LIMIT}
+use Rattle.nnf_text.specs.declared.checking.TheConstants.{BITS_LIMIT}
 use Rattle.device_model.specs.declared.limits.TheConstants.{PART_LIMIT, WIRE_LIMIT, NAME_LIMIT, INPUT_LIMIT, TYPE_PORT_LIMIT, COST_LIMIT}
 use Rattle.flattener.specs.declared.flattening.TheConstants.{INSTANCE_LIMIT}
 use Rattle.clause_encoder.specs.declared.limits.TheConstants.{CLAUSE_LIMIT}

@@ -4,29 +4,29 @@ use Rattle.std.specs.Option.{option_map}
 use Rattle.std.proofs.Math.Seq.{get_or-take, take-append_seam}
 use Rattle.std.proofs.lemmas.List.{length-map, length-take}
 use Rattle.text_rules.specs.Names.{Name}
-use Rattle.ranking.specs.Cases.{Case}
-use Rattle.ranking.specs.Ranking.{least, diagnoses}
-use Rattle.ranking.specs.Systems.{least_cost, all_diagnoses}
-use Rattle.graph_rules.specs.Graphs.{Graph}
+use Rattle.state_rules.specs.Cases.{Case}
+use Rattle.state_rules.specs.Ranking.{least, diagnoses}
+use Rattle.state_rules.specs.Systems.{least_cost, all_diagnoses}
+use Rattle.state_rules.specs.Graphs.{Graph}
 use Rattle.device_model.specs.Devices.{Device, part_names, part_costs}
 use Rattle.device_model.specs.declared.component.Component.{Component}
 use Rattle.device_model.specs.Diagnosis.{device_system}
 use Rattle.conditioner.specs.Models.{models, least_under, diagnoses_under}
 use Rattle.conditioner.specs.Words.{bits_of}
-use Rattle.adder_load.specs.declared.sampling.Found.{Found}
-use Rattle.adder_load.specs.Readings.{adder_case}
-use Rattle.adder_load.proofs.Cases.{case_seen, case_held}
 use Rattle.session_rules.specs.GraphSystems.{case_words}
 use Rattle.session_rules.specs.CaseSizes.{IsCaseOf}
 use Rattle.session_rules.proofs.Begun.{HaveSpellings}
 use Rattle.session_rules.proofs.Meaning.{same_consistent}
-use Rattle.diag_cli.specs.declared.loading.TheConstants.{LISTED_LIMIT}
-use Rattle.diag_cli.specs.declared.loading.Summary.{Summary}
+use Rattle.adder_load.specs.declared.sampling.Found.{Found}
+use Rattle.adder_load.specs.Readings.{adder_case}
+use Rattle.adder_load.proofs.Cases.{case_seen, case_held}
 use Rattle.device_files.specs.declared.status.Status.{Status}
 use Rattle.device_files.specs.Output.{Output, Gives, GivesUnlessMemory}
 use Rattle.device_files.specs.Inspecting.{count_line}
-use Rattle.diag_cli.specs.Loads.{names_line, listed_lines}
 use Rattle.device_files.specs.Refusals.{or_memory}
+use Rattle.diag_cli.specs.declared.loading.TheConstants.{LISTED_LIMIT}
+use Rattle.diag_cli.specs.declared.loading.Summary.{Summary}
+use Rattle.diag_cli.specs.Loads.{names_line, listed_lines}
 use Rattle.diag_cli.specs.inner.Loading.{if_found, IsSummaryOf}
 use Rattle.diag_cli.specs.inner.Serving.{IsServable}
 

@@ -4,7 +4,9 @@ use Rattle.std.specs.Prelude.{decimal}
 use Rattle.std.specs.Io.KnownBytes.{Appends, append_known}
 use Rattle.text_rules.specs.TextLines.{whole_lines}
 use Rattle.text_rules.specs.Tokens.{spaced}
-use Rattle.ranking.specs.Systems.{System}
+use Rattle.state_rules.specs.Systems.{System}
+use Rattle.diag_edge.specs.Edge.{AppendsPrefix}
+use Rattle.diag_edge.proofs.Growing.{grows_more}
 use Rattle.session_rules.specs.Items.{Item}
 use Rattle.session_rules.specs.Sessions.{Table, Step, replies}
 use Rattle.session_rules.specs.Moves.{said, left_by, line_moves, script_moves}
@@ -17,18 +19,16 @@ use Rattle.session_rules.proofs.Whole.{said-append, said-replies}
 use Rattle.session_rules.proofs.Begun.{part_more, part_after}
 use Rattle.session_rules.proofs.Broken.{breaks_after, script_moves-append}
 use Rattle.session_rules.proofs.Keeping.{HasCases-empty}
-use Rattle.session_rules.proofs.ReplyTexts.{replies-have, broken_begins_more}
+use Rattle.session_core.proofs.ReplyTexts.{replies-have, broken_begins_more}
 use Rattle.session_core.specs.Services.{Shown, moves_of, IsSound}
 use Rattle.session_core.specs.declared.serving.TheConstants.{READ_LIMIT}
 use Rattle.session_core.specs.Serving.{FailsBehind, FailsAtOnce}
 use Rattle.session_core.proofs.Exact.{makes_over, breaks_over, parted}
-use Rattle.diag_edge.specs.Edge.{AppendsPrefix}
-use Rattle.diag_edge.proofs.Growing.{grows_more}
 use Rattle.device_files.specs.declared.status.Status.{Status}
 use Rattle.device_files.specs.Output.{Output, Gives}
+use Rattle.device_files.proofs.Failing.{given_grows}
 use Rattle.diag_cli.specs.Courses.{ready_line, answers_of}
 use Rattle.diag_cli.specs.Following.{WritesFirst, IsStopped}
-use Rattle.device_files.proofs.Failing.{given_grows}
 
 -- ---- nothing is read after a write that failed
 

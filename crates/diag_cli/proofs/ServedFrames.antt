@@ -2,45 +2,45 @@
 use Rattle.std.proofs.Common.{◌≡◌, ◌≤◌, ◌+◌, ◌*◌, ℕ, List, [], ◌∷◌, length, ap, sym, subst, ◌∙◌, arith}
 use Rattle.std.specs.Prelude.{Result, Ok, Option}
 use Rattle.std.specs.Result.{result_and}
-use Rattle.text_rules.specs.Expected.{IsExpectedFault}
-use Rattle.branch_states.specs.Branches.{sum_of}
-use Rattle.frame_unroller.specs.declared.unrolling.Unrolled.{Unrolled}
-use Rattle.frame_unroller.specs.declared.unrolling.UnrollError.{UnrollError}
-use Rattle.frame_unroller.specs.declared.unrolling.UnrollError.TheVariants.{TooManyParts, TooManyWires, TooManyClauses, Memory as NoMemory}
-use Rattle.branch_states.specs.declared.measuring.TheConstants.{BUDGET_LIMIT}
-use Rattle.clause_encoder.specs.Clauses.{ClauseList}
-use Rattle.clause_encoder.specs.Encoding.{DescribesBy}
-use Rattle.clause_order.specs.Orders.{SameTruth}
-use Rattle.frame_unroller.specs.Unrolling.{unrolled, reason, IsUnrolled}
-use Rattle.frame_unroller.proofs.Refusing.{unrolled-names}
-use Rattle.dnnf_compiler.proofs.Laws.{graph_over}
-use Rattle.diag_edge.specs.Edge.{Reading, Writing}
-use Rattle.device_files.specs.declared.status.Status.{Status}
-use Rattle.device_files.specs.declared.status.Status.TheVariants.{NoMemory}
-use Rattle.device_files.specs.Weighing.{within}
-use Rattle.device_files.specs.Orders.{list_by, ByOrder, IsInOrder}
 use Rattle.std.proofs.lemmas.List.{length-map, length-replicate}
-use Rattle.ranking.specs.Ranking.{plain_costs}
-use Rattle.graph_rules.specs.Graphs.{Graph, IsGraph}
+use Rattle.text_rules.specs.Expected.{IsExpectedFault}
+use Rattle.state_rules.specs.Ranking.{plain_costs}
+use Rattle.state_rules.specs.Graphs.{Graph, IsGraph}
+use Rattle.state_rules.specs.GraphsOver.{IsGraphOver}
+use Rattle.diag_edge.specs.Edge.{Reading, Writing}
 use Rattle.device_model.specs.Devices.{part_names}
 use Rattle.device_model.specs.declared.component.Component.{Component}
 use Rattle.bench_reader.specs.declared.sequential.Sequential.{Sequential}
+use Rattle.clause_encoder.specs.Clauses.{ClauseList}
+use Rattle.clause_encoder.specs.Encoding.{DescribesBy}
+use Rattle.frame_unroller.specs.declared.unrolling.Unrolled.{Unrolled}
+use Rattle.frame_unroller.specs.declared.unrolling.UnrollError.{UnrollError}
+use Rattle.frame_unroller.specs.declared.unrolling.UnrollError.TheVariants.{TooManyParts, TooManyWires, TooManyClauses, Memory as NoMemory}
+use Rattle.frame_unroller.specs.Unrolling.{unrolled, reason, IsUnrolled}
+use Rattle.frame_unroller.proofs.Refusing.{unrolled-names}
 use Rattle.frame_unroller.specs.Diagnosis.{frame_wires, fits_over, frame_system}
+use Rattle.branch_states.specs.Branches.{sum_of}
+use Rattle.branch_states.specs.declared.measuring.TheConstants.{BUDGET_LIMIT}
+use Rattle.clause_order.specs.Orders.{SameTruth}
+use Rattle.dnnf_compiler.proofs.Laws.{graph_over}
 use Rattle.dnnf_compiler.specs.Compiled.{SaysAll}
-use Rattle.graph_rules.specs.GraphsOver.{IsGraphOver}
 use Rattle.session_rules.specs.Items.{Item}
 use Rattle.session_rules.specs.GraphSystems.{system_of}
 use Rattle.session_rules.proofs.GraphReplies.{fitting_replies}
 use Rattle.session_rules.proofs.Keeping.{HasCases-empty}
 use Rattle.session_core.specs.Services.{Shown}
-use Rattle.diag_cli.specs.declared.words.ServeOptions.{ServeOptions}
+use Rattle.device_files.specs.declared.status.Status.{Status}
+use Rattle.device_files.specs.declared.status.Status.TheVariants.{NoMemory}
+use Rattle.device_files.specs.Weighing.{within}
+use Rattle.device_files.specs.Orders.{list_by, ByOrder, IsInOrder}
 use Rattle.device_files.specs.Output.{Output}
+use Rattle.device_files.proofs.Ordering.{by_same, by_list}
+use Rattle.diag_cli.specs.declared.words.ServeOptions.{ServeOptions}
 use Rattle.diag_cli.specs.Besides.{in_few_bits}
 use Rattle.diag_cli.specs.Courses.{ready_line, answers_of, served_frames, served_or_refused}
 use Rattle.diag_cli.specs.Frames.{unrolled_within, if_unrolled}
 use Rattle.diag_cli.specs.Following.{IsServed, Follows}
 use Rattle.diag_cli.specs.inner.Serving.{IsFrameService, frames_told}
-use Rattle.device_files.proofs.Ordering.{by_same, by_list}
 
 module _ (seq : Sequential) (frames : ℕ) (options : ServeOptions) where
   named : length (part_names seq.device.parts) ≡ length seq.device.parts

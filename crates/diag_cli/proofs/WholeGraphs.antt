@@ -1,16 +1,17 @@
 -- What is given where a device is compiled.
-use Rattle.std.proofs.Common.{◌≡◌, ℕ, ◌+◌, ◌*◌, ◌≤◌, true, List, [], ◌∷◌, length, Option, Result, Ok, refl, sym, ◌∙◌, ap, subst, inr}
+use Rattle.std.proofs.Common.{◌≡◌, ℕ, ◌≤◌, true, List, [], ◌∷◌, length, Option, Result, Ok, refl, sym, ◌∙◌, ap, subst, inr}
 use Rattle.std.specs.Prelude.{MatchResult}
 use Rattle.text_rules.specs.Expected.{IsExpectedFault}
 use Rattle.text_rules.specs.Tokens.{is_neat}
-use Rattle.graph_rules.specs.Graphs.{Graph}
-use Rattle.graph_rules.specs.GraphTexts.{parsed}
-use Rattle.graph_rules.specs.WrittenGraphs.{graph_text}
+use Rattle.state_rules.specs.Graphs.{Graph}
 use Rattle.diag_edge.specs.Edge.{Puts}
+use Rattle.nnf_text.specs.GraphTexts.{parsed}
+use Rattle.nnf_text.specs.WrittenGraphs.{graph_text}
 use Rattle.device_model.specs.Devices.{Device}
 use Rattle.clause_encoder.specs.Clauses.{ClauseList}
 use Rattle.clause_encoder.specs.declared.encoding.EncodeError.{EncodeError}
 use Rattle.branch_states.specs.Branches.{sum_of}
+use Rattle.dnnf_compiler.specs.Compiled.{most_nodes}
 use Rattle.session_rules.specs.Items.{Whole}
 use Rattle.session_rules.specs.Spelling.{IsWholeOf}
 use Rattle.session_rules.proofs.Spellings.{replies_one}
@@ -19,11 +20,11 @@ use Rattle.device_files.specs.declared.status.Status.TheVariants.{Done, WriteFai
 use Rattle.device_files.specs.Output.{Output, Gives, GivesUnlessMemory, told_or_refused}
 use Rattle.device_files.specs.Describing.{described}
 use Rattle.device_files.specs.Weighing.{within}
-use Rattle.diag_cli.specs.Courses.{graph_by, compiled}
 use Rattle.device_files.specs.Refusals.{or_memory}
-use Rattle.diag_cli.specs.inner.Serving.{IsServable}
 use Rattle.device_files.proofs.Failing.{replies_give}
 use Rattle.device_files.proofs.Refusing.{refused_told}
+use Rattle.diag_cli.specs.Courses.{graph_by, compiled}
+use Rattle.diag_cli.specs.inner.Serving.{IsServable}
 
 -- there are too many clauses, or their sum is above the budget
 pub not_compiled : (fault : Option Output) (path file : List ℕ) (budget : ℕ) (clauses : Device → Result ClauseList EncodeError) (device : Device) (status : Status) (a b : Option (List ℕ)) → described path file ≡ Ok device
@@ -33,7 +34,7 @@ not_compiled fault path file budget clauses device status a b is refused said =
 
 module _ (path file : List ℕ) (budget : ℕ) (clauses : Device → Result ClauseList EncodeError) (device : Device) (cnf : ClauseList) (graph : Graph) (status : Status) (a b : Option (List ℕ)) where
   abbrev most : ℕ
-  most = 3 * sum_of cnf.clauses + 2 * cnf.vars + 2
+  most = most_nodes (sum_of cnf.clauses) cnf.vars
 
   abbrev output : Output
   output = record { items = Whole device cnf.vars most ∷ []; status = Done }

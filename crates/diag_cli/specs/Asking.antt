@@ -1,13 +1,13 @@
 -- What is asked over a graph of which no device is known.
 use Rattle.std.specs.Prelude.{ℕ, List, Result, Ok, codes}
 use Rattle.std.specs.Result.{result_and}
-use Rattle.graph_rules.specs.Graphs.{Graph}
+use Rattle.state_rules.specs.Graphs.{Graph}
+use Rattle.diag_edge.specs.ErrorLines.{above_line}
 use Rattle.device_model.specs.declared.limits.TheConstants.{WIRE_LIMIT}
+use Rattle.session_rules.specs.GraphSystems.{Subject}
 use Rattle.nnf_ask.specs.declared.names.AskError.{AskError}
 use Rattle.nnf_ask.specs.declared.names.AskError.TheVariants.{Health, Wires, Memory}
 use Rattle.nnf_ask.specs.Asking.{asked_names, asked_subject}
-use Rattle.session_rules.specs.GraphSystems.{Subject}
-use Rattle.diag_edge.specs.ErrorLines.{above_line}
 use Rattle.device_files.specs.Output.{Output, no_memory_line, result_and_then}
 use Rattle.device_files.specs.Describing.{or_line}
 

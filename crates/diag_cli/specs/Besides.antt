@@ -1,10 +1,11 @@
 -- What is told besides, and how many bits it may take.
-use Rattle.std.specs.Prelude.{ℕ, ◌+◌, ◌*◌, Bool, List, Option, Result, Ok, Err, codes, nat_lt, if◌then◌else◌}
+use Rattle.std.specs.Prelude.{ℕ, Bool, List, Option, Result, Ok, Err, codes, nat_lt, if◌then◌else◌}
 use Rattle.std.specs.Option.{option_map_or}
-use Rattle.ranking.specs.declared.extras.Extras.{Extras}
+use Rattle.state_rules.specs.declared.extras.Extras.{Extras}
 use Rattle.diag_edge.specs.ErrorLines.{above_line}
 use Rattle.clause_encoder.specs.Clauses.{ClauseList}
 use Rattle.branch_states.specs.Branches.{sum_of}
+use Rattle.dnnf_compiler.specs.Compiled.{most_nodes}
 use Rattle.level_lister.specs.Bits.{level_bits}
 use Rattle.smooth_nnf.specs.Sizes.{drawing_bits}
 use Rattle.session_core.specs.declared.limits.TheConstants.{SERVED_BITS}
@@ -13,11 +14,11 @@ use Rattle.device_files.specs.Output.{Output, says, result_and_then}
 
 -- the bits of states by rising cost, where these are told, over the greatest graph that is compiled from clauses of this sum
 abbrev pub levels_bits : (sum vars parts : ℕ) → Option ℕ → ℕ
-levels_bits sum vars parts levels = option_map_or (level_bits sum vars parts) levels 0
+levels_bits sum vars parts levels = option_map_or (level_bits (most_nodes sum vars) parts) levels 0
 
 -- and those with which the graph of the diagnoses is drawn
 abbrev pub least_bits : (sum vars parts : ℕ) → Bool → ℕ
-least_bits sum vars parts least = if least then drawing_bits (3 * sum + 2 * vars + 2) parts else 0
+least_bits sum vars parts least = if least then drawing_bits (most_nodes sum vars) parts else 0
 
 abbrev pub bits_line : ℕ → List ℕ
 bits_line bits = above_line (codes "bits") bits SERVED_BITS

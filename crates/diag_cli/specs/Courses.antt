@@ -1,37 +1,38 @@
 -- What a run comes to by its words and its file: an output, or a script whose lines are answered.
-use Rattle.std.specs.Prelude.{ℕ, ◌+◌, ◌*◌, List, [], ◌∷◌, ◌++◌, length, take, Option, Some, None, Result, Ok, Err, codes, nat_le, nat_lt, if◌then◌else◌}
+use Rattle.std.specs.Prelude.{ℕ, List, [], ◌∷◌, ◌++◌, length, take, Option, Some, None, Result, Ok, Err, codes, nat_le, nat_lt, if◌then◌else◌}
 use Rattle.std.specs.Option.{option_map}
 use Rattle.std.specs.Result.{result_and}
 use Rattle.std.specs.Fmt.{decimal}
 use Rattle.text_rules.specs.declared.text_lines.TheConstants.{TEXT_LIMIT}
 use Rattle.text_rules.specs.TextLines.{whole_lines, all_lines}
+use Rattle.state_rules.specs.Systems.{System, with_extras}
 use Rattle.diag_edge.specs.declared.loading.LoadError.{LoadError}
 use Rattle.diag_edge.specs.declared.loading.LoadError.TheVariants.{Failed as LoadFailed, Long, Memory}
 use Rattle.device_model.specs.Devices.{Device}
-use Rattle.ranking.specs.Systems.{System, with_extras}
 use Rattle.device_model.specs.Diagnosis.{device_system}
+use Rattle.bench_reader.specs.declared.sequential.Sequential.{Sequential}
 use Rattle.clause_encoder.specs.Clauses.{ClauseList}
 use Rattle.clause_encoder.specs.declared.encoding.EncodeError.{EncodeError}
+use Rattle.frame_unroller.specs.Diagnosis.{frame_system}
 use Rattle.branch_states.specs.Branches.{sum_of}
+use Rattle.dnnf_compiler.specs.Compiled.{most_nodes}
 use Rattle.session_rules.specs.Items.{Item, Plain, Whole, line}
 use Rattle.session_rules.specs.Sessions.{replies}
 use Rattle.session_rules.specs.GraphSystems.{system_of}
-use Rattle.diag_cli.specs.declared.serving.TheConstants.{SCRIPT_LIMIT}
-use Rattle.diag_cli.specs.declared.words.ServeOptions.{ServeOptions}
-use Rattle.diag_cli.specs.declared.words.Command.{Command}
-use Rattle.diag_cli.specs.declared.words.Command.TheVariants.{Serve, ServeFrames, Ask, Inspect, Compile}
-use Rattle.diag_cli.specs.Words.{Form, Load, Over}
 use Rattle.device_files.specs.declared.status.Status.TheVariants.{Done, Refused, Usage, ReadFailed, CutShort}
 use Rattle.device_files.specs.Output.{Output, says, too_long_line, no_memory, result_and_then, told_or_refused}
 use Rattle.device_files.specs.Describing.{described}
 use Rattle.device_files.specs.Orders.{list_by, clauses_by}
 use Rattle.device_files.specs.Weighing.{within}
 use Rattle.device_files.specs.Inspecting.{inspected}
-use Rattle.diag_cli.specs.Besides.{in_few_bits}
-use Rattle.bench_reader.specs.declared.sequential.Sequential.{Sequential}
-use Rattle.frame_unroller.specs.Diagnosis.{frame_system}
-use Rattle.diag_cli.specs.Frames.{sequential_in, if_unrolled}
 use Rattle.device_files.specs.Checking.{graph_in}
+use Rattle.diag_cli.specs.declared.serving.TheConstants.{SCRIPT_LIMIT}
+use Rattle.diag_cli.specs.declared.words.ServeOptions.{ServeOptions}
+use Rattle.diag_cli.specs.declared.words.Command.{Command}
+use Rattle.diag_cli.specs.declared.words.Command.TheVariants.{Serve, ServeFrames, Ask, Inspect, Compile}
+use Rattle.diag_cli.specs.Words.{Form, Load, Over}
+use Rattle.diag_cli.specs.Besides.{in_few_bits}
+use Rattle.diag_cli.specs.Frames.{sequential_in, if_unrolled}
 use Rattle.diag_cli.specs.Asking.{asked}
 use Rattle.diag_cli.specs.Loads.{loaded}
 
@@ -89,7 +90,7 @@ wholly_served answers script = served answers (take SCRIPT_LIMIT script) (end_of
 
 -- its graph, over the variables of the clauses, with at most so many nodes
 abbrev pub graph_by : Device → ClauseList → Output
-graph_by device cnf = record { items = Whole device cnf.vars (3 * sum_of cnf.clauses + 2 * cnf.vars + 2) ∷ []; status = Done }
+graph_by device cnf = record { items = Whole device cnf.vars (most_nodes (sum_of cnf.clauses) cnf.vars) ∷ []; status = Done }
 
 -- by what the clauses of devices are
 abbrev pub compiled : ℕ → (Device → Result ClauseList EncodeError) → Result Device Output → Output

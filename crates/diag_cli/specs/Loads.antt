@@ -1,24 +1,24 @@
 -- What is told of an adder whose readings disagree with its design.
 use Rattle.std.specs.Prelude.{ℕ, ◌-◌, Bool, List, [], ◌∷◌, length, take, Option, Some, None, Result, codes, slice_index_or}
 use Rattle.text_rules.specs.Names.{Name}
-use Rattle.ranking.specs.Cases.{Case}
-use Rattle.ranking.specs.Systems.{System, least_cost, all_diagnoses}
+use Rattle.state_rules.specs.Cases.{Case}
+use Rattle.state_rules.specs.Systems.{System, least_cost, all_diagnoses}
 use Rattle.device_model.specs.Devices.{Device}
 use Rattle.device_model.specs.Diagnosis.{device_system}
+use Rattle.bench_reader.specs.Netlists.{netlist}
 use Rattle.clause_encoder.specs.Clauses.{ClauseList}
 use Rattle.clause_encoder.specs.Encoding.{encoded}
-use Rattle.bench_reader.specs.Netlists.{netlist}
-use Rattle.adder_load.specs.Adders.{adder_text}
-use Rattle.adder_load.specs.Readings.{adder_case}
 use Rattle.session_rules.specs.Items.{Item, line}
 use Rattle.session_rules.specs.Replies.{faulty_names}
-use Rattle.diag_cli.specs.declared.words.TheConstants.{DEFAULT_BUDGET}
-use Rattle.diag_cli.specs.declared.loading.TheConstants.{LISTED_LIMIT}
+use Rattle.adder_load.specs.Adders.{adder_text}
+use Rattle.adder_load.specs.Readings.{adder_case}
 use Rattle.device_files.specs.declared.status.Status.TheVariants.{Done}
 use Rattle.device_files.specs.Output.{Output, told_or_refused}
 use Rattle.device_files.specs.Describing.{or_line, netlist_line}
 use Rattle.device_files.specs.Weighing.{within}
 use Rattle.device_files.specs.Inspecting.{count_line}
+use Rattle.diag_cli.specs.declared.words.TheConstants.{DEFAULT_BUDGET}
+use Rattle.diag_cli.specs.declared.loading.TheConstants.{LISTED_LIMIT}
 
 -- a word and the names of the faulty parts
 abbrev pub names_line : List ℕ → List Name → List Bool → Item

@@ -3,12 +3,12 @@ ghost use Rattle.std.specs.Prelude.{◌≡◌, ◌^◌, ◌+◌, ◌*◌, ◌<�
 ghost use Rattle.text_rules.specs.Expected.{IsExpectedFault, Fulfils};
 ghost use Rattle.branch_states.specs.Branches.{sum_of};
 ghost use Rattle.dnnf_compiler.specs.Compiled.{IsCompiled};
-ghost use Rattle.diag_cli.specs.Besides.{levels_bits, least_bits, bits_line, in_few_bits};
-ghost use Rattle.diag_cli.specs.Courses.{if_within};
 ghost use Rattle.device_files.specs.Orders.{ByClauses};
 ghost use Rattle.device_files.specs.Output.{says};
 ghost use Rattle.device_files.specs.Weighing.{within};
 ghost use Rattle.device_files.specs.Refusals.{told_by};
+ghost use Rattle.diag_cli.specs.Besides.{levels_bits, least_bits, bits_line, in_few_bits};
+ghost use Rattle.diag_cli.specs.Courses.{if_within};
 ghost use Rattle.diag_cli.specs.inner.Forms.{AreWithinLimits};
 ghost use Rattle.diag_cli.specs.inner.Serving.{IsServable, CanTell};
 
@@ -17,7 +17,7 @@ use crate::words::ServeOptions;
 use clause_encoder::Cnf;
 use device_files::{Refusal, Status, above, ordered_clauses, sum_within};
 use device_model::{Device, PART_LIMIT};
-use dnnf_compiler::Compiled;
+use dnnf_compiler::{Compiled, most_nodes};
 use level_lister::{TOP_LIMIT, level_bits};
 use node_store::Graph;
 use part_sets::part_words;
@@ -97,7 +97,7 @@ fn levels_bits(sum: u32, vars: u32, parts: u32, levels: Option<u32>) -> u64
 {
     match levels {
         None => 0,
-        Some(top) => level_bits(u64::from(sum), vars, parts, top),
+        Some(top) => level_bits(most_nodes(sum, vars), parts, top),
     }
 }
 
@@ -111,8 +111,7 @@ fn least_bits(sum: u32, vars: u32, parts: u32, least: bool) -> u64
     if !least {
         return 0;
     }
-    let nodes = 3 * u64::from(sum) + 2 * u64::from(vars) + 2;
-    nodes * (32 * (2 + part_words(parts as usize) as u64))
+    most_nodes(sum, vars) * (32 * (2 + part_words(parts as usize) as u64))
 }
 
 // Refuses too many bits.

@@ -2,14 +2,14 @@
 ghost use Rattle.std.specs.Prelude.{◌≡◌, ◌≢◌, ◌+◌, ◌-◌, ◌^◌, ◌<◌, ◌≤◌, length, All, Ok, IfOk};
 ghost use Rattle.std.specs.List.{sum};
 ghost use Rattle.text_rules.specs.Expected.{Fulfils};
-ghost use Rattle.ranking.specs.Ranking.{plain_costs};
+ghost use Rattle.state_rules.specs.Ranking.{plain_costs};
 ghost use Rattle.diag_edge.specs.Edge.{RoseExactly};
 ghost use Rattle.bench_reader.specs.SequentialNetlists.{sequential_netlist, HasShortNames};
 ghost use Rattle.device_files.specs.Orders.{list_by, ByOrder};
-ghost use Rattle.diag_cli.specs.Courses.{served_frames, served_or_refused};
 ghost use Rattle.device_files.specs.Describing.{netlist_line, or_line};
-ghost use Rattle.diag_cli.specs.Frames.{sequential_in, if_unrolled};
 ghost use Rattle.device_files.specs.Refusals.{Finds, told_by};
+ghost use Rattle.diag_cli.specs.Courses.{served_frames, served_or_refused};
+ghost use Rattle.diag_cli.specs.Frames.{sequential_in, if_unrolled};
 ghost use Rattle.diag_cli.specs.Following.{Follows};
 ghost use Rattle.diag_cli.specs.inner.Forms.{AreWithinLimits};
 ghost use Rattle.diag_cli.specs.inner.Serving.{IsFrameService, frames_told};

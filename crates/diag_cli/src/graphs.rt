@@ -1,10 +1,10 @@
 //! What a device is asked by: its graph, and the costs of its parts.
-ghost use Rattle.std.specs.Prelude.{◌≡◌, ◌+◌, ◌*◌, ◌<◌, ◌≤◌, Ok, length, All, IfOk};
+ghost use Rattle.std.specs.Prelude.{◌≡◌, ◌*◌, ◌<◌, ◌≤◌, Ok, length, All, IfOk};
 ghost use Rattle.std.specs.List.{sum};
 ghost use Rattle.text_rules.specs.Expected.{Fulfils};
 ghost use Rattle.device_model.specs.Devices.{part_costs};
 ghost use Rattle.branch_states.specs.Branches.{sum_of};
-ghost use Rattle.dnnf_compiler.specs.Compiled.{IsCompiled};
+ghost use Rattle.dnnf_compiler.specs.Compiled.{IsCompiled, most_nodes};
 ghost use Rattle.device_files.specs.Orders.{ByClauses};
 ghost use Rattle.device_files.specs.Weighing.{within};
 ghost use Rattle.device_files.specs.Refusals.{told_by};
@@ -30,7 +30,7 @@ pub(crate) fn graph_within(
         Fulfils (λ found. found.0) told_by (within budget (clauses device.now)) result) }
     ensures servable { IfOk result (λ found. IsServable device.now found.1) }
     ensures vars { IfOk result (λ found. found.1.vars ≡ found.0.vars) }
-    ensures few_nodes { IfOk result (λ found. length found.1.nodes ≤ 3 * sum_of found.0.clauses + 2 * found.0.vars + 2) }
+    ensures few_nodes { IfOk result (λ found. length found.1.nodes ≤ most_nodes (sum_of found.0.clauses) found.0.vars) }
 {
     // Its contract says that a device has few parts and wires.
     let _parts = device.parts();

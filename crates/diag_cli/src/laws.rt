@@ -1,6 +1,6 @@
 //! Laws about what is told of netlists. Each is the contract of a function that does nothing.
 ghost use Rattle.std.specs.Prelude.{◌≡◌, ℕ, Bool, List, Option, None, Ok, IsSome, length, replicate};
-ghost use Rattle.ranking.specs.Systems.{least_cost};
+ghost use Rattle.state_rules.specs.Systems.{least_cost};
 ghost use Rattle.device_model.specs.Devices.{Device};
 ghost use Rattle.device_model.specs.Diagnosis.{device_system};
 ghost use Rattle.bench_reader.specs.Netlists.{netlist};

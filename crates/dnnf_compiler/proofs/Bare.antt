@@ -4,11 +4,11 @@ use Rattle.std.specs.Prelude.{slice_get, IfSome, Contains, ◌==◌, ◌⊎◌}
 use Rattle.std.proofs.Math.Bool.{or-false}
 use Rattle.std.proofs.lemmas.Bool.{eqb-true}
 use Rattle.std.proofs.lemmas.Option.{slice_get_within}
-use Rattle.graph_rules.specs.declared.NodeKind.{NodeKind}
-use Rattle.graph_rules.specs.declared.NodeKind.TheVariants.{Literal, And, Or}
-use Rattle.graph_rules.specs.Graphs.{Node, true_node, literal_node, is_true, mention_by, mentions, AreNodes}
-use Rattle.graph_rules.proofs.NodeValues.{value_of-get}
-use Rattle.graph_rules.proofs.NodesFit.{fits-get}
+use Rattle.state_rules.specs.declared.nodes.NodeKind.{NodeKind}
+use Rattle.state_rules.specs.declared.nodes.NodeKind.TheVariants.{Literal, And, Or}
+use Rattle.state_rules.specs.Graphs.{Node, true_node, literal_node, is_true, mention_by, mentions, AreNodes, false_node}
+use Rattle.state_rules.proofs.NodeValues.{value_of-get}
+use Rattle.state_rules.proofs.NodesFit.{fits-get}
 use Rattle.node_store.specs.Stores.{Stored, IsStore, Makes, Means, AddsAtMost, literals, is_bare, HasNoBareKid}
 use Rattle.node_store.proofs.Copying.{before}
 use Rattle.dnnf_compiler.specs.declared.maker.Maker.{Maker}
@@ -59,7 +59,7 @@ other_plain m is k not_yes not_no = λ node there. by node.what node.kids there 
   by (Literal positive var) kids e = refl
   by And [] e = absurd (not_yes (is.store.once k m.yes true_node e is.yes_node))
   by And (x ∷ kids) e = filled x kids
-  by Or [] e = absurd (not_no (is.store.once k m.no (record { what = Or; kids = [] }) e is.no_node))
+  by Or [] e = absurd (not_no (is.store.once k m.no false_node e is.no_node))
   by Or (x ∷ kids) e = filled x kids
 
 -- ---- one more node

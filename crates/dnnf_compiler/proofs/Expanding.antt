@@ -3,13 +3,13 @@ use Rattle.std.proofs.Common.{◌≡◌, ℕ, ◌+◌, ◌<◌, ◌≤◌, Bool,
 use Rattle.std.specs.Prelude.{◌==◌, nat_lt, slice_index}
 use Rattle.std.proofs.Math.Bool.{or-false, or-true}
 use Rattle.std.proofs.lemmas.Bool.{false≢true, eqb-true, eqb-false, lt-ltb, ltb-true, ltb-false, or_right}
-use Rattle.ranking.specs.Bits.{same_bit}
-use Rattle.ranking.specs.Assignments.{Assignment}
+use Rattle.state_rules.specs.Bits.{same_bit}
+use Rattle.state_rules.specs.Assignments.{Assignment}
 use Rattle.clause_encoder.specs.Clauses.{Clause, var_of, is_positive, is_true_clause, all_hold}
 use Rattle.branch_states.specs.Branches.{order, place, is_true_by, has_true, is_left, left, is_covered, some_passes, is_dead, without, branch, IsLiving}
-use Rattle.dnnf_compiler.specs.inner.Meaning.{rest_holds, left_holds}
 use Rattle.branch_states.proofs.Holding.{nothing-left}
 use Rattle.branch_states.proofs.Branching.{no_bits}
+use Rattle.dnnf_compiler.specs.inner.Meaning.{rest_holds, left_holds}
 use Rattle.dnnf_compiler.proofs.Orders.{place_in_order, at_place}
 
 not_below : (a b : ℕ) → b ≤ a → nat_lt a b ≡ false

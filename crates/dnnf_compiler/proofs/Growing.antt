@@ -2,9 +2,9 @@
 use Rattle.std.proofs.Common.{ℕ, zero, suc, ◌<◌, Bool, false, ◌&&◌, ◌||◌, List, [], ◌∷◌, length, All, refl, ap, ◌∙◌, arith, inl, inr, length-append}
 use Rattle.std.proofs.Math.Bool.{and-true}
 use Rattle.std.proofs.lemmas.Option.{slice_get_within}
-use Rattle.graph_rules.specs.declared.NodeKind.TheVariants.{And}
-use Rattle.graph_rules.specs.declared.NodeKind.{NodeKind}
-use Rattle.graph_rules.specs.Graphs.{Node, is_true, mentions}
+use Rattle.state_rules.specs.declared.nodes.NodeKind.TheVariants.{And}
+use Rattle.state_rules.specs.declared.nodes.NodeKind.{NodeKind}
+use Rattle.state_rules.specs.Graphs.{Node, is_true, mentions}
 use Rattle.node_store.specs.Stores.{Stored, Makes, Means, AddsAtMost}
 use Rattle.dnnf_compiler.specs.inner.Joining.{Grows, IsConstant, IsBoth}
 

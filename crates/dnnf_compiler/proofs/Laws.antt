@@ -1,16 +1,16 @@
 -- A graph that was compiled from clauses means what they describe.
 use Rattle.std.proofs.Common.{◌≡◌, ℕ, Bool, List, ◌+◌, ◌-◌, ◌≤◌, ◌++◌, length, ◌∙◌, arith, Ok}
 use Rattle.std.specs.List.{list_any}
-use Rattle.ranking.specs.Bits.{lists_of_bits}
-use Rattle.ranking.specs.Assignments.{assignment}
-use Rattle.graph_rules.specs.Graphs.{Graph, holds}
+use Rattle.state_rules.specs.Bits.{lists_of_bits}
+use Rattle.state_rules.specs.Assignments.{assignment}
+use Rattle.state_rules.specs.Graphs.{Graph, holds}
+use Rattle.state_rules.proofs.Members.{any_same}
+use Rattle.state_rules.specs.GraphsOver.{IsGraphOver}
 use Rattle.device_model.specs.Devices.{Device, fits}
 use Rattle.clause_encoder.specs.Clauses.{ClauseList, all_hold}
 use Rattle.clause_encoder.specs.Encoding.{encoded, DescribesBy, Describes}
-use Rattle.ranking.proofs.Members.{any_same}
 use Rattle.clause_encoder.proofs.Sizes.{encoded-is}
 use Rattle.dnnf_compiler.specs.Compiled.{SaysAll}
-use Rattle.graph_rules.specs.GraphsOver.{IsGraphOver}
 
 -- With what is said of clauses and of their graph, the graph is true where they describe that bits fit.
 pub graph_over : (parts wires : ℕ) (fits_by : List Bool → List Bool → Bool) (cnf : ClauseList) (graph : Graph) → parts + wires ≤ cnf.vars → DescribesBy cnf parts wires fits_by

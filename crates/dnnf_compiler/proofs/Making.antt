@@ -4,12 +4,12 @@ use Rattle.std.specs.Prelude.{slice_get, slice_index, IfSome, ◌==◌, ◌⊎�
 use Rattle.std.proofs.lemmas.Option.{slice_get_within}
 use Rattle.std.proofs.Math.Bool.{or-false}
 use Rattle.std.proofs.lemmas.Bool.{eqb-true, eq-eqb}
-use Rattle.ranking.specs.Bits.{same_bit}
-use Rattle.ranking.specs.Assignments.{Assignment}
-use Rattle.graph_rules.specs.declared.NodeKind.TheVariants.{And, Or}
-use Rattle.graph_rules.specs.Graphs.{Node, true_node, at_most_one, is_true, mentions}
+use Rattle.state_rules.specs.Bits.{same_bit}
+use Rattle.state_rules.specs.Assignments.{Assignment}
+use Rattle.state_rules.specs.declared.nodes.NodeKind.TheVariants.{And, Or}
+use Rattle.state_rules.specs.Graphs.{Node, true_node, at_most_one, is_true, mentions, false_node}
+use Rattle.state_rules.proofs.Lists.{slice_get-before}
 use Rattle.node_store.specs.Stores.{Stored, IsStore, Makes, Means, AddsAtMost, HasNoBareKid}
-use Rattle.ranking.proofs.Lists.{slice_get-before}
 use Rattle.branch_states.specs.declared.forks.Fork.{Fork}
 use Rattle.dnnf_compiler.specs.declared.maker.Maker.{Maker}
 use Rattle.dnnf_compiler.specs.inner.Joining.{Grows, AddsBoth}
@@ -25,16 +25,16 @@ pub new_maker : (s s' : Stored) (s0 : Stored) (top bottom : ℕ) → Makes s0 s 
 new_maker s s' s0 top bottom make_yes mean_yes make_no mean_no store bare = record {
   store = store;
   yes = constant_grows s.nodes s'.nodes true top (grows_by s.nodes s'.nodes Or [] bottom make_no.nodes mean_no) (record {
-    within = slice_get_within s.nodes top (record { what = And; kids = [] }) make_yes.there;
+    within = slice_get_within s.nodes top true_node make_yes.there;
     truth = λ a. mean_yes.truth a;
     variables = λ v. mean_yes.variables v;
   });
   no = record {
-    within = slice_get_within s'.nodes bottom (record { what = Or; kids = [] }) make_no.there;
+    within = slice_get_within s'.nodes bottom false_node make_no.there;
     truth = λ a. mean_no.truth a;
     variables = λ v. mean_no.variables v;
   };
-  yes_node = kept_in s.nodes s'.nodes (record { what = Or; kids = [] }) make_no.nodes top (record { what = And; kids = [] }) make_yes.there;
+  yes_node = kept_in s.nodes s'.nodes false_node make_no.nodes top true_node make_yes.there;
   no_node = make_no.there;
   bare = bare;
 }
@@ -56,7 +56,7 @@ adds_then old mid new more kids more' kids' all all_kids a b e f = record {
 
 pub adds_store : (m : Maker) (s : Stored) → IsMaker m → IsStore s → ((k : ℕ) (n : Node) → slice_get m.store.nodes k ≡ Some n → slice_get s.nodes k ≡ Some n) → HasNoBareKid s.nodes → Grows m.store.nodes s.nodes → s.vars ≡ m.store.vars → s.made ≤ m.store.made + 1 → s.handed ≤ m.store.handed + 2 → Adds m (record m { store = s }) 1 2
 adds_store m s is store kept bare g vars made handed = record {
-  maker = record { store = store; yes = constant_grows m.store.nodes s.nodes true m.yes g is.yes; no = constant_grows m.store.nodes s.nodes false m.no g is.no; yes_node = kept m.yes true_node is.yes_node; no_node = kept m.no (record { what = Or; kids = [] }) is.no_node; bare = bare };
+  maker = record { store = store; yes = constant_grows m.store.nodes s.nodes true m.yes g is.yes; no = constant_grows m.store.nodes s.nodes false m.no g is.no; yes_node = kept m.yes true_node is.yes_node; no_node = kept m.no false_node is.no_node; bare = bare };
   grows = g;
   vars = vars;
   yes = refl;

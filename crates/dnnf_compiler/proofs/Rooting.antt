@@ -7,10 +7,10 @@ use Rattle.std.proofs.lemmas.Bool.{eqb-true}
 use Rattle.std.proofs.lemmas.List.{length-map, map-append, get_or-map}
 use Rattle.std.proofs.lemmas.List.FromFn.{length-map-range_with_len, get_or-map-range_with_len}
 use Rattle.std.proofs.lemmas.Option.{slice_get-map, slice_get_within, slice_get-get_or}
-use Rattle.graph_rules.specs.Graphs.{Node}
-use Rattle.ranking.specs.Assignments.{Assignment}
+use Rattle.state_rules.specs.Graphs.{Node}
+use Rattle.state_rules.specs.Assignments.{Assignment}
+use Rattle.state_rules.proofs.Lists.{range_more}
 use Rattle.clause_encoder.specs.Clauses.{Clause, ClauseList, is_clause_list}
-use Rattle.ranking.proofs.Lists.{range_more}
 use Rattle.branch_states.specs.Branches.{order, place, branch, left, living, size, weight, sum_of}
 use Rattle.branch_states.specs.declared.forks.Fork.{Fork}
 use Rattle.branch_states.specs.Forks.{leads_to, fork_of, forks_of, sum_to}

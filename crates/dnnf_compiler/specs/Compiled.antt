@@ -1,16 +1,19 @@
 -- What a graph says that was compiled of clauses.
-use Rattle.std.specs.Prelude.{◌≡◌, ◌+◌, ◌*◌, ◌-◌, ◌≤◌, List, length}
-use Rattle.ranking.specs.Assignments.{Assignment}
-use Rattle.graph_rules.specs.Graphs.{Graph, IsGraph, is_true}
-use Rattle.graph_rules.specs.GraphTexts.{edges}
+use Rattle.std.specs.Prelude.{◌≡◌, ℕ, ◌+◌, ◌*◌, ◌-◌, ◌≤◌, List, length}
+use Rattle.state_rules.specs.Assignments.{Assignment}
+use Rattle.state_rules.specs.Graphs.{Graph, IsGraph, is_true, edges}
+use Rattle.node_store.specs.Stores.{HasNoBareKid}
 use Rattle.clause_encoder.specs.Clauses.{Clause, ClauseList, all_hold}
 use Rattle.branch_states.specs.Branches.{sum_of}
-use Rattle.node_store.specs.Stores.{HasNoBareKid}
 use Rattle.dnnf_compiler.specs.declared.compiling.Compiled.{Compiled}
 
 -- The root, which is the last node, is true exactly under the assignments that make all clauses true.
 abbrev pub SaysAll : List Clause → Graph → Type 0
 SaysAll clauses graph = (a : Assignment) → is_true graph.nodes (length graph.nodes - 1) a ≡ all_hold a clauses
+
+-- how many nodes there are at most of clauses with this sum, over so many variables
+abbrev pub most_nodes : (sum vars : ℕ) → ℕ
+most_nodes sum vars = 3 * sum + 2 * vars + 2
 
 -- What clauses are compiled to: a decomposable graph over their variables that is true exactly where all of them are, whose size
 -- their sum bounds.

@@ -2,7 +2,7 @@ ghost use Rattle.std.specs.Prelude.{◌≡◌, ◌<◌, ◌≤◌, IfOk};
 ghost use Rattle.branch_states.specs.declared.measuring.TheConstants.{BUDGET_LIMIT};
 ghost use Rattle.branch_states.specs.declared.measuring.MeasureError.TheVariants.{Above};
 ghost use Rattle.branch_states.specs.Branches.{sum_of};
-ghost use Rattle.dnnf_compiler.specs.Compiled.{IsCompiled};
+ghost use Rattle.dnnf_compiler.specs.Compiled.{IsCompiled, most_nodes};
 ghost use Rattle.dnnf_compiler.specs.inner.Rooting.{IsRoot};
 
 use crate::forks::{count_forks, find_forks};
@@ -17,6 +17,13 @@ use std::alloc::{AllocError, Global};
 pub struct Compiled {
     pub graph: Graph,
     pub made: u64,
+}
+
+/// How many nodes the graph of clauses has at most, by their sum and how many variables they are over.
+pub fn most_nodes(sum: u32, vars: u32) -> u64
+    ensures { result ≡ most_nodes sum vars }
+{
+    3 * u64::from(sum) + 2 * u64::from(vars) + 2
 }
 
 /// The decomposable graph that is true exactly where all clauses are.

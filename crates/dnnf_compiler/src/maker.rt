@@ -1,5 +1,5 @@
 ghost use Rattle.std.specs.Prelude.{◌≡◌, ◌≢◌, ℕ, ◌+◌, ◌*◌, ◌<◌, ◌≤◌, true, false, Option, [], ◌∷◌, All, map, length, IfOk, OnOk, IfSome};
-ghost use Rattle.graph_rules.specs.Graphs.{at_most_one, mentions};
+ghost use Rattle.state_rules.specs.Graphs.{at_most_one, mentions};
 ghost use Rattle.node_store.specs.declared.store.TheConstants.{MADE_LIMIT, VARIABLE_LIMIT};
 ghost use Rattle.node_store.specs.Stores.{IsStore, HasNoBareKid};
 ghost use Rattle.dnnf_compiler.specs.inner.Joining.{IsConstant, IsPlain, AddsBoth};

@@ -4,25 +4,24 @@ use Rattle.std.specs.Prelude.{◌⊎◌, slice_get, nat_lt}
 use Rattle.std.specs.List.{list_any, filter}
 use Rattle.std.proofs.Math.Bool.{and-true, or-false}
 use Rattle.std.proofs.Math.ListN.{length-map}
-use Rattle.std.proofs.lemmas.Bool.{and_from, cases_lt, leb-true, le-leb, ltb-true, lt-ltb, false≢true}
+use Rattle.std.proofs.lemmas.Bool.{and_from, cases_lt, leb-true, le-leb, ltb-true, lt-ltb, false≢true, cases_eq}
 use Rattle.std.proofs.lemmas.List.Sums.{sum_by-take-le}
 use Rattle.std.proofs.lemmas.Option.{slice_get-get_or, get_or_from_slice_get, same_Some}
-use Rattle.ranking.specs.Assignments.{Assignment}
-use Rattle.ranking.proofs.Members.{In, In-map, In-filtered, AtMost}
-use Rattle.ranking.proofs.Lists.{length-filter-le}
-use Rattle.graph_rules.specs.declared.NodeKind.{NodeKind}
-use Rattle.graph_rules.specs.declared.NodeKind.TheVariants.{Literal, And, Or}
-use Rattle.graph_rules.specs.Graphs.{Node, Graph, true_node, node_at, truth_by, mention_by, is_true, mentions, apart_at, kind_fits, node_fits, AreNodes, IsGraph}
-use Rattle.graph_rules.specs.GraphTexts.{edges}
-use Rattle.graph_rules.proofs.NodeValues.{are_below, value_of-last}
-use Rattle.graph_rules.proofs.NodesFit.{fits-get, apart-get, literal, AreNodes-push}
+use Rattle.state_rules.specs.Assignments.{Assignment}
+use Rattle.state_rules.proofs.Members.{In, In-map, In-filtered, AtMost}
+use Rattle.state_rules.proofs.Lists.{length-filter-le}
+use Rattle.state_rules.specs.declared.nodes.NodeKind.{NodeKind}
+use Rattle.state_rules.specs.declared.nodes.NodeKind.TheVariants.{Literal, And, Or}
+use Rattle.state_rules.specs.Graphs.{Node, Graph, true_node, node_at, truth_by, mention_by, is_true, mentions, apart_at, kind_fits, node_fits, AreNodes, IsGraph, edges}
+use Rattle.state_rules.proofs.NodeValues.{are_below, value_of-last}
+use Rattle.state_rules.proofs.NodesFit.{fits-get, apart-get, literal, AreNodes-push}
 use Rattle.node_store.proofs.Copying.{take-more, edges-push}
 use Rattle.conditioner.specs.Models.{total_cost}
 use Rattle.minimiser.specs.Costs.{part_cost, known_at, sum_costs, cheapest}
 use Rattle.minimiser.specs.Stored.{cost_in, AreLeastCosts}
-use Rattle.minimiser.specs.inner.Marked.{is_kid}
+use Rattle.minimiser.specs.inner.Swept.{is_kid}
 use Rattle.minimiser.proofs.Costs.{IsCost, from_add, and_left, and_right}
-use Rattle.minimiser.proofs.Models.{LeastIs, same_or_not}
+use Rattle.minimiser.proofs.Models.{LeastIs}
 use Rattle.minimiser.proofs.Sums.{cost_in-some}
 use Rattle.minimiser.proofs.Derivations.{is_cost, mention-at, costs-at, below, all-below, cheapest-kid}
 use Rattle.minimiser.proofs.Sweeping.{node_least, sum-kid, kid-in, kid-out, kid_before, value-is, root-low, cost_in-is}
@@ -136,7 +135,7 @@ module _ (graph : Graph) (words costs : List ℕ) (ok : IsGraph graph) (long : l
     built = λ k c h e f dear. ⊎_elim
         (λ (q : k ≡ at). absurd (none (is.ahead at (omega arith) ∙ ap (λ n. get_or marks n 0) (sym q) ∙ e)))
         (λ (q : k ≢ at). is.built k c (omega arith) e f dear)
-        (same_or_not k at);
+        (cases_eq k at);
     from = is.from;
     joins = is.joins;
     needed = λ p h. past p (is.needed p h);
@@ -148,7 +147,7 @@ module _ (graph : Graph) (words costs : List ℕ) (ok : IsGraph graph) (long : l
       from = ⊎_elim
           (λ (s : w.parent ≡ at). absurd (none (is.ahead at (omega arith) ∙ ap (λ n. get_or marks n 0) (sym s) ∙ w.marked)))
           (λ (ne : w.parent ≢ at). omega (arith, ne, w.from))
-          (same_or_not w.parent at);
+          (cases_eq w.parent at);
       within = w.within;
       marked = w.marked;
       kid = w.kid;
@@ -323,7 +322,7 @@ module _ (graph : Graph) (words costs : List ℕ) (ok : IsGraph graph) (long : l
         let other : w.kid ≢ at = omega (arith, w.met) in
         let same : get_or (set places at p) w.kid 0 ≡ get_or places w.kid 0 = rw get_or-set_other refl in
         inr (record { parent = w.parent; from = omega (arith, ne, w.from); within = w.within; marked = w.marked; kid = w.kid; met = omega (arith, w.met); is_kid = w.is_kid; stays = w.stays; there = same ∙ w.there }))
-        (same_or_not w.parent at)
+        (cases_eq w.parent at)
 
     -- the node waits for a marked parent
     waits : (p : ℕ) → at < root → at < length places → Waits graph values marks (set places at p) (at + 1) p
@@ -346,7 +345,7 @@ module _ (graph : Graph) (words costs : List ℕ) (ok : IsGraph graph) (long : l
     needed-pushed early room q h = ⊎_elim
         (λ (s : q ≡ length nodes). inr (subst (Waits graph values marks (set places at (length nodes)) (at + 1)) (sym s) (waits (length nodes) early room)))
         (λ (ne : q ≢ length nodes). by_need (is.needed q (omega (arith, ne, h, length-append nodes (record { what = what; kids = row } ∷ [])))))
-        (same_or_not q (length nodes)) where
+        (cases_eq q (length nodes)) where
           by_need : IsNeeded graph values marks places nodes at q → IsNeeded graph values marks (set places at (length nodes)) (nodes ++ record { what = what; kids = row } ∷ []) (at + 1) q
           by_need (inl x) = inl (parent-more nodes (record { what = what; kids = row }) q x)
           by_need (inr w) = carry (nodes ++ record { what = what; kids = row } ∷ []) (length nodes) q w (λ i. inl (parent-last nodes (record { what = what; kids = row }) q i))
@@ -383,7 +382,7 @@ module _ (graph : Graph) (words costs : List ℕ) (ok : IsGraph graph) (long : l
           let at_place : get_or (set places at p) k 0 ≡ p = ap (λ n. get_or (set places at p) n 0) q ∙ (rw get_or-set_same refl) in
           subst (λ x. IsPlace graph words costs new k d x) (sym at_place) (subst (λ x. IsPlace graph words costs new k x p) same (subst (λ n. IsPlace graph words costs new n c p) (sym q) here)))
           (λ (q : k ≢ at). subst (λ x. IsPlace graph words costs new k d x) (sym (rw get_or-set_other refl)) (more k d (get_or places k 0) (is.built k d (omega arith) f g dear)))
-          (same_or_not k at);
+          (cases_eq k at);
       from = from;
       joins = joins;
       needed = needed;

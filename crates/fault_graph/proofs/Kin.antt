@@ -4,13 +4,13 @@ use Rattle.std.specs.Prelude.{◌⊎◌, not, slice_get}
 use Rattle.std.specs.List.{list_all, list_any, filter}
 use Rattle.std.proofs.lemmas.Bool.{false≢true, and_from, or_cases, or_left, or_right}
 use Rattle.std.proofs.lemmas.Option.{same_Some}
-use Rattle.ranking.specs.Bits.{same_bit}
-use Rattle.ranking.specs.Assignments.{Assignment}
-use Rattle.ranking.proofs.Members.{In, AtMost}
-use Rattle.graph_rules.specs.declared.NodeKind.{NodeKind}
-use Rattle.graph_rules.specs.declared.NodeKind.TheVariants.{Literal, And, Or}
-use Rattle.graph_rules.specs.Graphs.{at_most_one, Graph, truth_by, is_true, mentions, IsGraph}
-use Rattle.graph_rules.proofs.Kids.{at_most_one-tail, not_both}
+use Rattle.state_rules.specs.Bits.{same_bit}
+use Rattle.state_rules.specs.Assignments.{Assignment}
+use Rattle.state_rules.proofs.Members.{In, AtMost}
+use Rattle.state_rules.specs.declared.nodes.NodeKind.{NodeKind}
+use Rattle.state_rules.specs.declared.nodes.NodeKind.TheVariants.{Literal, And, Or}
+use Rattle.state_rules.specs.Graphs.{at_most_one, Graph, truth_by, is_true, mentions, IsGraph}
+use Rattle.state_rules.proofs.Kids.{at_most_one-tail, not_both}
 use Rattle.conditioner.specs.Words.{leaf_of}
 use Rattle.minimiser.specs.Costs.{part_cost, known_at, sum_costs, literal_cost}
 use Rattle.minimiser.proofs.Costs.{IsCost, from_add, true_is}

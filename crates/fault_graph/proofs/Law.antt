@@ -2,20 +2,19 @@
 use Rattle.std.proofs.Common.{◌≡◌, ◌≢◌, ℕ, zero, suc, ◌+◌, ◌-◌, ◌<◌, ◌≤◌, Bool, true, false, ◌&&◌, List, length, All, Option, Some, None, refl, ap, sym, ◌∙◌, subst, arith, ⊎_elim}
 use Rattle.std.specs.Prelude.{nat_le}
 use Rattle.std.specs.List.{filter}
-use Rattle.std.proofs.lemmas.Bool.{and_from, leb-true}
+use Rattle.std.proofs.lemmas.Bool.{and_from, leb-true, cases_eq}
 use Rattle.std.proofs.lemmas.List.{ext_get_or}
 use Rattle.std.proofs.lemmas.Bool.Decides.{same_from_decides}
-use Rattle.ranking.specs.Cases.{agrees_at}
-use Rattle.ranking.specs.Ranking.{Test, cost, states, passing, is_at_most}
-use Rattle.ranking.proofs.Lists.{filter-filter}
-use Rattle.ranking.proofs.Members.{bits_length, filter_same}
-use Rattle.graph_rules.specs.Graphs.{Graph, is_true, mentions, IsGraph}
+use Rattle.state_rules.specs.Cases.{agrees_at}
+use Rattle.state_rules.specs.Ranking.{Test, cost, states, passing, is_at_most}
+use Rattle.state_rules.proofs.Lists.{filter-filter}
+use Rattle.state_rules.proofs.Members.{bits_length, filter_same}
+use Rattle.state_rules.specs.Graphs.{Graph, is_true, mentions, IsGraph}
 use Rattle.conditioner.specs.Models.{has_model, fits_words, models, least_under, diagnoses_under}
 use Rattle.minimiser.specs.Costs.{part_cost, known_at}
 use Rattle.minimiser.specs.inner.Held.{held_cost}
 use Rattle.minimiser.proofs.Totals.{total, total-le}
 use Rattle.minimiser.proofs.Costs.{fault, all_faults, and_left, and_right}
-use Rattle.minimiser.proofs.Models.{same_or_not}
 use Rattle.minimiser.proofs.Whole.{AddHeld, least_is, state_of, assignment_of}
 use Rattle.minimiser.proofs.Derivations.{C}
 use Rattle.fault_graph.proofs.Standing.{StandsFor}
@@ -29,7 +28,7 @@ total-same f g h a zero few v low high = absurd (omega arith)
 total-same f g h a (suc n) few v low high = ⊎_elim
     (λ (e : v ≡ a). subst (λ u. g u ≤ f u) (sym e) (omega (arith, few, total-le f g h (a + 1) n)))
     (λ (ne : v ≢ a). total-same f g h (a + 1) n (omega (arith, few, h a)) v (omega arith) (omega arith))
-    (same_or_not v a)
+    (cases_eq v a)
 
 -- bits that agree with what is known, and have the same fault where a fault costs something, are the same
 same_fault : (k : Option Bool) (w : ℕ) (x y : Bool) → 0 < w → agrees_at k x ≡ true → agrees_at k y ≡ true → fault k w x ≤ fault k w y → fault k w y ≤ fault k w x → x ≡ y

@@ -2,12 +2,12 @@
 use Rattle.std.proofs.Common.{◌≡◌, ◌≢◌, ℕ, suc, ◌<◌, ◌≤◌, true, List, [], ◌∷◌, ◌++◌, length, get_or, Some, refl, ap, sym, ◌∙◌, subst, arith, inl, inr, ⊎_elim, length-append}
 use Rattle.std.specs.Prelude.{◌⊎◌, Contains}
 use Rattle.std.proofs.lemmas.List.{get_or_append_left}
-use Rattle.ranking.proofs.Members.{In}
-use Rattle.graph_rules.specs.declared.NodeKind.TheVariants.{Or}
-use Rattle.graph_rules.specs.Graphs.{Node, Graph, true_node, node_at, truth_by, mention_by, is_true, mentions}
-use Rattle.graph_rules.proofs.NodeValues.{value_of-before, node_at-last}
+use Rattle.std.proofs.lemmas.Bool.{cases_eq}
+use Rattle.state_rules.proofs.Members.{In}
+use Rattle.state_rules.specs.declared.nodes.NodeKind.TheVariants.{Or}
+use Rattle.state_rules.specs.Graphs.{Node, Graph, true_node, node_at, truth_by, mention_by, is_true, mentions}
+use Rattle.state_rules.proofs.NodeValues.{value_of-before, node_at-last}
 use Rattle.minimiser.specs.Costs.{part_cost, known_at}
-use Rattle.minimiser.proofs.Models.{same_or_not}
 use Rattle.minimiser.proofs.Sweeping.{node_least}
 use Rattle.fault_graph.specs.Small.{HasParent, Joins}
 use Rattle.fault_graph.specs.inner.Rows.{keeps}
@@ -61,7 +61,7 @@ module _ (graph : Graph) (words costs : List ℕ) where
     each = λ p h. ⊎_elim
         (λ (e : p ≡ length nodes). (c, subst (IsFrom (nodes ++ node ∷ []) c) (sym e) here))
         (λ (ne : p ≢ length nodes). let x = are.each p (omega (arith, ne, h, length-append nodes (node ∷ []))) in (x.0, from-more nodes node x.0 p x.1))
-        (same_or_not p (length nodes));
+        (cases_eq p (length nodes));
     ors = λ p q h o m. ⊎_elim
         (λ (e : p ≡ length nodes).
         let at : node_at (nodes ++ node ∷ []) p ≡ node = ap (node_at (nodes ++ node ∷ [])) e ∙ node_at-last nodes node in
@@ -71,7 +71,7 @@ module _ (graph : Graph) (words costs : List ℕ) where
         let at : node_at (nodes ++ node ∷ []) p ≡ node_at nodes p = node_at-before nodes node p lt in
         let x = are.ors p q lt (sym (ap (λ (x : Node). x.what) at) ∙ o) (subst (λ (x : Node). In q x.kids) at m) in
         (x.0, from-more nodes node x.0 p x.1, from-more nodes node x.0 q x.2))
-        (same_or_not p (length nodes));
+        (cases_eq p (length nodes));
   }
 
 -- each and and each or joins two or more
@@ -85,7 +85,7 @@ pub joins-push : (nodes : List Node) (node : Node) → AllJoin nodes → Joins n
 joins-push nodes node all here p h = ⊎_elim
     (λ (e : p ≡ length nodes). subst (λ (x : Node). Joins x.what (length x.kids)) (sym (ap (node_at (nodes ++ node ∷ [])) e ∙ node_at-last nodes node)) here)
     (λ (ne : p ≢ length nodes). joins-before nodes node all p (omega (arith, ne, h, length-append nodes (node ∷ []))))
-    (same_or_not p (length nodes))
+    (cases_eq p (length nodes))
 
 -- ---- what is needed
 

@@ -1,8 +1,8 @@
 -- What stands for a node costs what the node does.
 use Rattle.std.proofs.Common.{◌≡◌, ℕ, ◌≤◌, Bool, true, cond, List, length, Option, Some, subst, arith}
-use Rattle.ranking.specs.Assignments.{Assignment}
-use Rattle.ranking.proofs.Members.{AtMost, AtMost-le}
-use Rattle.graph_rules.specs.Graphs.{Graph, is_true, mentions, IsGraph}
+use Rattle.state_rules.specs.Assignments.{Assignment}
+use Rattle.state_rules.proofs.Members.{AtMost, AtMost-le}
+use Rattle.state_rules.specs.Graphs.{Graph, is_true, mentions, IsGraph}
 use Rattle.minimiser.specs.Costs.{part_cost, known_at}
 use Rattle.minimiser.proofs.Totals.{total-le}
 use Rattle.minimiser.proofs.Costs.{fault, Agrees, faults_in, all_faults}

@@ -1,10 +1,8 @@
 -- A graph whose last node stands for the root is distilled, and so is a true one where nothing is wrong.
 use Rattle.std.proofs.Common.{◌≡◌, ℕ, ◌+◌, ◌-◌, ◌<◌, ◌≤◌, List, [], ◌∷◌, ◌++◌, length, get_or, All, Some, refl, ap, sym, ◌∙◌, subst, arith, length-append}
-use Rattle.graph_rules.specs.Graphs.{Node, Graph, true_node, is_true, mentions, AreNodes, IsGraph}
-use Rattle.graph_rules.specs.GraphTexts.{edges}
-use Rattle.graph_rules.proofs.NodeValues.{value_of-last}
-use Rattle.graph_rules.proofs.NodesFit.{AreNodes-push}
-use Rattle.graph_rules.specs.Graphs.{truth_by}
+use Rattle.state_rules.specs.Graphs.{Node, Graph, true_node, is_true, mentions, AreNodes, IsGraph, edges, truth_by}
+use Rattle.state_rules.proofs.NodeValues.{value_of-last}
+use Rattle.state_rules.proofs.NodesFit.{AreNodes-push}
 use Rattle.conditioner.specs.Models.{total_cost}
 use Rattle.minimiser.specs.Costs.{part_cost, known_at}
 use Rattle.minimiser.specs.Stored.{cost_in, AreLeastCosts}

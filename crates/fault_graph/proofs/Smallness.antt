@@ -4,10 +4,10 @@ use Rattle.std.specs.Prelude.{IsSomeAnd}
 use Rattle.std.proofs.lemmas.Bool.{cases_lt}
 use Rattle.std.proofs.lemmas.List.{get_or_past}
 use Rattle.std.proofs.lemmas.Option.{slice_get-get_or, same_Some}
-use Rattle.ranking.proofs.Members.{In-at}
-use Rattle.graph_rules.specs.declared.NodeKind.{NodeKind}
-use Rattle.graph_rules.specs.declared.NodeKind.TheVariants.{Literal, And, Or}
-use Rattle.graph_rules.specs.Graphs.{Graph, true_node, node_at, IsGraph}
+use Rattle.state_rules.proofs.Members.{In-at}
+use Rattle.state_rules.specs.declared.nodes.NodeKind.{NodeKind}
+use Rattle.state_rules.specs.declared.nodes.NodeKind.TheVariants.{Literal, And, Or}
+use Rattle.state_rules.specs.Graphs.{Graph, true_node, node_at, IsGraph}
 use Rattle.conditioner.specs.Words.{known_of, leaf_of}
 use Rattle.minimiser.specs.Costs.{part_cost, known_at, literal_cost, cost_by}
 use Rattle.minimiser.proofs.Derivations.{C, costs-at}

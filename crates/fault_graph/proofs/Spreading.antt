@@ -1,11 +1,10 @@
 -- Marks that go down from the root.
 use Rattle.std.proofs.Common.{◌≡◌, ◌≢◌, ℕ, ◌+◌, ◌-◌, ◌<◌, ◌≤◌, Bool, true, false, cond, ◌&&◌, List, length, get_or, refl, ap, sym, ◌∙◌, subst, arith, inl, inr, ⊎_elim}
 use Rattle.std.specs.Prelude.{◌⊎◌, nat_lt}
-use Rattle.std.proofs.lemmas.Bool.{and_from, leb-true, le-leb, ltb-true, lt-ltb}
-use Rattle.graph_rules.specs.Graphs.{Node, node_at}
+use Rattle.std.proofs.lemmas.Bool.{and_from, leb-true, le-leb, ltb-true, lt-ltb, cases_eq}
+use Rattle.state_rules.specs.Graphs.{Node, node_at}
 use Rattle.minimiser.proofs.Costs.{and_left, and_right}
-use Rattle.minimiser.proofs.Models.{same_or_not}
-use Rattle.minimiser.specs.inner.Marked.{is_kid}
+use Rattle.minimiser.specs.inner.Swept.{is_kid}
 use Rattle.fault_graph.specs.inner.Rows.{keeps}
 use Rattle.fault_graph.specs.inner.Marks.{mark_of, HasMarkedParent, AreMarks}
 
@@ -39,7 +38,7 @@ module _ (nodes : List Node) (values xs : List ℕ) (at : ℕ) (s : AreMarks nod
     down = λ k j h g m i d c. ⊎_elim
         (λ (e : k ≡ at). absurd (none (sym (ap (λ n. get_or xs n 0) e) ∙ m)))
         (λ (e : k ≢ at). s.down k j (omega arith) g m i d c)
-        (same_or_not k at);
+        (cases_eq k at);
     up = s.up;
   }
 
@@ -54,7 +53,7 @@ module _ (nodes : List Node) (values xs : List ℕ) (at : ℕ) (s : AreMarks nod
         let l : j < length nodes = omega (arith, before k j g i) in ⊎_elim
         (λ (q : k ≡ at). spreads j l ∙ mark-kid (node_at nodes at).kids values (get_or values at 0) j (get_or xs j 0) (subst (λ n. is_kid (node_at nodes n).kids j ≡ true) q i) d (subst (λ n. get_or values j 0 ≤ get_or values n 0) q c))
         (λ (q : k ≢ at). kept j l (s.down k j (omega arith) g (old k h g e) i d c))
-        (same_or_not k at);
+        (cases_eq k at);
     up = λ k h e. ⊎_elim
         (λ p. ⊎_elim (λ r. inl r) (λ (x : HasMarkedParent nodes values xs k). inr (record { parent = x.parent; within = x.within; marked = kept x.parent x.within x.marked; kid = x.kid; cheap = x.cheap })) (s.up k h p))
         (λ p. inr (record { parent = at; within = lt; marked = kept at lt m; kid = p.0; cheap = p.2 }))

@@ -1,11 +1,11 @@
 -- What stands for a node that is true at its least cost: literal by literal, one of two, both of two.
 use Rattle.std.proofs.Common.{◌≡◌, ℕ, ◌+◌, ◌<◌, ◌≤◌, Bool, true, false, cond, ◌&&◌, ◌||◌, Option, Some, None, refl, ap, sym, ◌∙◌, subst, arith, eqb, ⊎_elim}
 use Rattle.std.proofs.lemmas.Bool.{and_from, or_cases, or_left, or_right, eqb-true, eq-eqb, cases_lt}
-use Rattle.ranking.specs.Bits.{same_bit}
-use Rattle.ranking.specs.Assignments.{Assignment}
-use Rattle.ranking.proofs.Bits.{not_left}
-use Rattle.ranking.proofs.Cases.{usual_bit, usual_bit-agrees, agrees_cond}
-use Rattle.ranking.proofs.Members.{AtMost}
+use Rattle.state_rules.specs.Bits.{same_bit}
+use Rattle.state_rules.specs.Assignments.{Assignment}
+use Rattle.state_rules.proofs.Bits.{not_left}
+use Rattle.state_rules.proofs.Cases.{usual_bit, usual_bit-agrees, agrees_cond}
+use Rattle.state_rules.proofs.Members.{AtMost}
 use Rattle.minimiser.proofs.Totals.{total-le, total-le-add, add-le-total, total-one, le-total}
 use Rattle.minimiser.proofs.Costs.{fault, fault_cond, cond-le, usual_bit-fault, IsCost, Agrees, faults_in, all_faults, and_left, and_right, apart_sum, wider, wider_right}
 

@@ -1,7 +1,6 @@
 -- A smaller graph that has the same states of least cost, and one that is kept.
 use Rattle.std.specs.Prelude.{◌≡◌, ◌≤◌, ℕ, List, length, Option, Some, IsSome, IsSomeAnd}
-use Rattle.graph_rules.specs.Graphs.{Graph}
-use Rattle.graph_rules.specs.GraphTexts.{edges}
+use Rattle.state_rules.specs.Graphs.{Graph, edges}
 use Rattle.conditioner.specs.Models.{least_under, diagnoses_under}
 use Rattle.fault_graph.specs.Small.{IsSmall}
 

@@ -1,9 +1,9 @@
 -- A graph of which each node but the root is needed, and costs something, under words.
 use Rattle.std.specs.Prelude.{◌≡◌, ℕ, ◌+◌, ◌-◌, ◌<◌, ◌≤◌, false, List, length, All, Contains, Option, IsSomeAnd, slice_index, ⊤}
-use Rattle.ranking.specs.Values.{values}
-use Rattle.graph_rules.specs.declared.NodeKind.{NodeKind}
-use Rattle.graph_rules.specs.declared.NodeKind.TheVariants.{Literal, And, Or}
-use Rattle.graph_rules.specs.Graphs.{Node, Graph, node_at}
+use Rattle.state_rules.specs.Values.{values}
+use Rattle.state_rules.specs.declared.nodes.NodeKind.{NodeKind}
+use Rattle.state_rules.specs.declared.nodes.NodeKind.TheVariants.{Literal, And, Or}
+use Rattle.state_rules.specs.Graphs.{Node, Graph, node_at}
 use Rattle.minimiser.specs.Costs.{cost_at, node_cost, known_at, part_cost}
 
 -- the least cost at a node

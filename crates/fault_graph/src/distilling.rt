@@ -1,14 +1,14 @@
 ghost use Rattle.std.specs.Prelude.{◌≡◌, ◌+◌, ◌<◌, ◌≤◌, ◌++◌, [], ◌∷◌, length, All, IsSome, OnOk, OnErr, IfOk, MatchOption, Some, None, slice_index};
-ghost use Rattle.graph_rules.specs.Graphs.{node_at, IsGraph};
+ghost use Rattle.state_rules.specs.Graphs.{node_at, IsGraph};
 ghost use Rattle.conditioner.specs.Models.{least_under, total_cost};
 ghost use Rattle.fault_graph.specs.Distilled.{IsDistilled};
 ghost use Rattle.fault_graph.specs.Small.{IsSmall};
 ghost use Rattle.fault_graph.specs.inner.Rows.{kept_kids, kept_node, Adds, root_node};
 
 use crate::marking::mark;
-use graph_rules::NodeKind;
 use minimiser::{Steps, TOTAL_LIMIT, least};
 use node_store::{Graph, Nodes};
+use state_rules::NodeKind;
 use std::alloc::AllocError;
 use std::sync::ledger::Ledger;
 

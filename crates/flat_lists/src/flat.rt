@@ -54,7 +54,7 @@ impl<T> FlatLists<T> {
     }
 
     /// The list at a place.
-    pub fn get(&self, at: usize) -> &[T]
+    pub fn list(&self, at: usize) -> &[T]
         requires { at < length self.now }
         ensures { result.now ≡ slice_index_or self.now at [] }
     {

@@ -5,7 +5,8 @@ use Rattle.std.specs.List.{list_all, flat_map}
 use Rattle.std.proofs.lemmas.Bool.{and_parts, and_from}
 use Rattle.std.proofs.lemmas.List.{length-map}
 use Rattle.text_rules.specs.Names.{Name}
-use Rattle.ranking.specs.Values.{values}
+use Rattle.state_rules.specs.Values.{values}
+use Rattle.state_rules.proofs.Lists.{list_all-both}
 use Rattle.device_model.specs.declared.component.Kind.TheVariants.{Gate as OfGate}
 use Rattle.device_model.specs.TruthTable.{TruthTable}
 use Rattle.device_model.specs.Devices.{takes_ports, rows_take}
@@ -18,7 +19,6 @@ use Rattle.component_lang.specs.declared.design.Shape.{Shape}
 use Rattle.component_lang.specs.declared.design.Block.{Block}
 use Rattle.component_lang.specs.Designs.{is_used, are_blocks, takes_args, shape_takes}
 use Rattle.flattener.specs.Flat.{Content, Instance, nothing, below, kind_content, used_content, instance}
-use Rattle.ranking.proofs.Lists.{list_all-both}
 use Rattle.flattener.proofs.Relative.{GoodUsed-from_test, GoodBlock-from_test}
 use Rattle.flattener.proofs.Values.{values-hold}
 

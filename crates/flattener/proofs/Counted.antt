@@ -5,7 +5,7 @@ use Rattle.std.specs.List.{flat_map, list_all}
 use Rattle.std.proofs.lemmas.Bool.{and_parts, eq-eqb, ne_eqb, cases_lt}
 use Rattle.std.proofs.lemmas.List.{append_assoc, append-nil, take-append-drop, length-append, length-map}
 use Rattle.text_rules.specs.Names.{Name}
-use Rattle.ranking.specs.Values.{values}
+use Rattle.state_rules.specs.Values.{values}
 use Rattle.component_lang.specs.declared.design.UsedKind.{UsedKind}
 use Rattle.component_lang.specs.declared.design.UsedKind.TheVariants.{Gate, Shape as OfShape, Block as OfBlock}
 use Rattle.component_lang.specs.declared.design.Used.{Used}

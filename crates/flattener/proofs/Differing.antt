@@ -5,9 +5,10 @@ use Rattle.std.specs.List.{flat_map, list_any}
 use Rattle.std.proofs.lemmas.Bool.{true≢false}
 use Rattle.std.proofs.lemmas.List.{append_assoc, take-append-drop}
 use Rattle.text_rules.specs.Names.{Name}
-use Rattle.ranking.specs.Values.{values}
-use Rattle.ranking.proofs.Members.{In, In-append, from_map}
+use Rattle.state_rules.specs.Values.{values}
+use Rattle.state_rules.proofs.Members.{In, In-append, from_map}
 use Rattle.device_model.proofs.Making.{list_all-among}
+use Rattle.device_model.proofs.Apart.{Different, Different-append, Different-right}
 use Rattle.component_lang.specs.declared.design.UsedKind.{UsedKind}
 use Rattle.component_lang.specs.declared.design.UsedKind.TheVariants.{Gate, Shape as OfShape, Block as OfBlock}
 use Rattle.component_lang.specs.declared.design.Used.{Used}
@@ -16,7 +17,6 @@ use Rattle.component_lang.specs.declared.design.Block.{Block}
 use Rattle.component_lang.specs.Designs.{is_plain_name, is_used, are_blocks}
 use Rattle.flattener.specs.Flat.{below}
 use Rattle.flattener.proofs.Naming.{Plain, Plain-from_test, head_of, head_of-dotless, head_of-below, dot-below, Different-from_test, Different-below, Different-headed}
-use Rattle.device_model.proofs.Apart.{Different, Different-append, Different-right}
 use Rattle.flattener.proofs.Relative.{Which, Parts, Wires, Instances, Inner, no_names, kind_names, names_used, names_in, GoodUsed-from_test, GoodBlock, GoodBlock-from_test}
 use Rattle.flattener.proofs.Values.{values-hold}
 

@@ -8,8 +8,9 @@ use Rattle.std.proofs.lemmas.List.Concat.{flat_map-append}
 use Rattle.std.proofs.lemmas.Option.{slice_get_past}
 use Rattle.std.proofs.lemmas.Simd.{map-map}
 use Rattle.text_rules.specs.Names.{Name}
-use Rattle.ranking.specs.Values.{values}
-use Rattle.ranking.proofs.Values.{values-at, values-before}
+use Rattle.state_rules.specs.Values.{values}
+use Rattle.state_rules.proofs.Values.{values-at, values-before}
+use Rattle.state_rules.proofs.Lists.{list_all-at, list_all-both}
 use Rattle.device_model.specs.declared.component.Kind.{Kind}
 use Rattle.device_model.specs.declared.component.Kind.TheVariants.{Gate as OfGate, Table}
 use Rattle.device_model.specs.declared.gates.Gate.{Gate as GateKind}
@@ -25,7 +26,6 @@ use Rattle.component_lang.specs.declared.design.Block.{Block}
 use Rattle.component_lang.specs.Designs.{Design, is_design, are_blocks, block_takes, is_used, takes_args}
 use Rattle.flattener.specs.Flat.{Content, Instance, nothing, below, one_part, kind_content, used_content, instance}
 use Rattle.flattener.specs.inner.Expanding.{CanExpand, Grows, wire_at, shown, are_joined, are_within, position_of, instance_at, are_short, paths_of, prefix_of, behind}
-use Rattle.ranking.proofs.Lists.{list_all-at, list_all-both}
 use Rattle.flattener.proofs.Lists.{all_parts, map_same}
 use Rattle.flattener.proofs.Naming.{map-behind}
 use Rattle.flattener.proofs.Values.{block_among}

@@ -6,9 +6,9 @@ use Rattle.std.proofs.lemmas.Bool.{leb-true, and_parts}
 use Rattle.std.proofs.lemmas.List.{length-map, get_or-map}
 use Rattle.std.proofs.lemmas.List.Folds.{list_all-append}
 use Rattle.text_rules.specs.Names.{Name}
+use Rattle.state_rules.proofs.Lists.{list_all-at}
 use Rattle.device_model.specs.declared.limits.TheConstants.{NAME_LIMIT}
 use Rattle.flattener.specs.inner.Expanding.{are_short}
-use Rattle.ranking.proofs.Lists.{list_all-at}
 
 pub all_parts : {A : Type 0} (p : A → Bool) (xs ys : List A) → list_all p (xs ++ ys) ≡ true → (list_all p xs ≡ true) × (list_all p ys ≡ true)
 all_parts p xs ys h = and_parts (list_all p xs) (list_all p ys) (sym (list_all-append p xs ys) ∙ h)

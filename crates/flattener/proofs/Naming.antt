@@ -6,7 +6,7 @@ use Rattle.std.proofs.lemmas.Bool.{leb-true, and_parts, or_parts, or_right, not-
 use Rattle.std.proofs.lemmas.List.{append_assoc, append_cancel_left}
 use Rattle.std.proofs.lemmas.List.Folds.{list_any-append}
 use Rattle.text_rules.specs.Names.{Name, is_among, is_short_name, is_name_byte}
-use Rattle.ranking.proofs.Members.{In, In-append}
+use Rattle.state_rules.proofs.Members.{In, In-append}
 use Rattle.device_model.proofs.Repeats.{is_among-among}
 use Rattle.device_model.proofs.Apart.{Different, Different-append, Different-made}
 use Rattle.component_lang.specs.Designs.{is_plain_name, are_distinct}

@@ -6,7 +6,8 @@ use Rattle.std.proofs.lemmas.Bool.{and_parts, leb-true}
 use Rattle.std.proofs.lemmas.List.{map-append}
 use Rattle.std.proofs.lemmas.List.Folds.{flat_map-map}
 use Rattle.text_rules.specs.Names.{Name}
-use Rattle.ranking.specs.Values.{values}
+use Rattle.state_rules.specs.Values.{values}
+use Rattle.state_rules.proofs.Lists.{map-flat_map}
 use Rattle.device_model.specs.Building.{NamedPart}
 use Rattle.component_lang.specs.declared.design.UsedKind.{UsedKind}
 use Rattle.component_lang.specs.declared.design.UsedKind.TheVariants.{Gate, Shape as OfShape, Block as OfBlock}
@@ -15,7 +16,6 @@ use Rattle.component_lang.specs.declared.design.Shape.{Shape}
 use Rattle.component_lang.specs.declared.design.Block.{Block}
 use Rattle.component_lang.specs.Designs.{is_plain_name, is_used, is_block, are_blocks, are_distinct, used_names, takes_args}
 use Rattle.flattener.specs.Flat.{Content, Instance, nothing, below, kind_content, used_content, instance}
-use Rattle.ranking.proofs.Lists.{map-flat_map}
 use Rattle.flattener.proofs.Lists.{flat_map_same}
 use Rattle.flattener.proofs.Naming.{Plain, Plain-from_test, below-below}
 use Rattle.flattener.proofs.Values.{values-both}

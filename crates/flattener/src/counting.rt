@@ -1,6 +1,6 @@
 ghost use Rattle.std.specs.Prelude.{◌≡◌, true, drop, slice_index_or, IfOk};
+ghost use Rattle.state_rules.specs.Values.{values};
 ghost use Rattle.component_lang.specs.Designs.{is_design};
-ghost use Rattle.ranking.specs.Values.{values};
 ghost use Rattle.flattener.specs.Flat.{top_ports};
 ghost use Rattle.flattener.specs.inner.Counting.{no_counts, longest_of, counts_of_wires, added, counts_of_part, counts_of_instance, counts_of_used, counts_of_block, counts_of_design, refusal};
 

@@ -4,7 +4,7 @@ use Rattle.std.specs.Prelude.{nat_lt, if◌then◌else◌}
 use Rattle.std.specs.List.{flat_map, enumerate_from, range_with_len}
 use Rattle.std.proofs.lemmas.Bool.{ltb-true}
 use Rattle.text_rules.specs.Names.{Name}
-use Rattle.ranking.proofs.Members.{In}
+use Rattle.state_rules.proofs.Members.{In}
 use Rattle.device_model.specs.declared.component.Component.{Component}
 use Rattle.device_model.proofs.Naming.{Below}
 use Rattle.device_model.proofs.Ordered.{Rises, Below-among}

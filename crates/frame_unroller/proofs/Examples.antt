@@ -3,8 +3,8 @@ use Rattle.std.proofs.Common.{◌≡◌, ℕ, Bool, true, false, List, [], ◌�
 use Rattle.std.specs.Prelude.{Result, codes, length, replicate}
 use Rattle.std.specs.List.{flat_map}
 use Rattle.text_rules.specs.Names.{Name}
-use Rattle.ranking.specs.Cases.{Case}
-use Rattle.ranking.specs.Systems.{least_cost, all_diagnoses}
+use Rattle.state_rules.specs.Cases.{Case}
+use Rattle.state_rules.specs.Systems.{least_cost, all_diagnoses}
 use Rattle.device_model.specs.Devices.{part_names}
 use Rattle.bench_reader.specs.declared.sequential.Sequential.{Sequential}
 use Rattle.bench_reader.specs.declared.fault.BenchFault.TheVariants.{Inputs as WrongInputs}

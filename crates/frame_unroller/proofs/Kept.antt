@@ -6,7 +6,7 @@ use Rattle.std.specs.List.{All, list_any, list_all, filter, range_with_len}
 use Rattle.std.proofs.lemmas.Bool.{ne_eqb, ltb-true, cases_lt, and_parts}
 use Rattle.std.proofs.lemmas.List.{length-map, get_or-map, get_or_append_left, get_or-append_right}
 use Rattle.std.proofs.lemmas.List.FromFn.{get_or-range_with_len}
-use Rattle.ranking.specs.Bits.{same_bit}
+use Rattle.state_rules.specs.Bits.{same_bit}
 use Rattle.device_model.specs.declared.component.Component.{Component}
 use Rattle.device_model.specs.Devices.{Device, IsDevice, takes_ports, has_arity}
 use Rattle.clause_encoder.specs.declared.limits.TheConstants.{CLAUSE_LIMIT}

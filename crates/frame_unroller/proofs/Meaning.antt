@@ -9,9 +9,9 @@ use Rattle.std.proofs.lemmas.List.FromFn.{get_or-range_with_len}
 use Rattle.std.proofs.lemmas.List.Folds.{list_all-map}
 use Rattle.std.proofs.lemmas.Simd.{map-map}
 use Rattle.text_rules.specs.Names.{Name}
-use Rattle.ranking.specs.Bits.{bit_in, lists_of_bits}
-use Rattle.ranking.specs.Assignments.{Assignment, assignment}
-use Rattle.ranking.proofs.Members.{any_same, In, In-at}
+use Rattle.state_rules.specs.Bits.{bit_in, lists_of_bits}
+use Rattle.state_rules.specs.Assignments.{Assignment, assignment}
+use Rattle.state_rules.proofs.Members.{any_same, In, In-at}
 use Rattle.device_model.specs.declared.component.Component.{Component}
 use Rattle.device_model.specs.TruthTable.{TruthTable}
 use Rattle.device_model.specs.Devices.{IsDevice, has_wires, allows, part_allows, parts_fit, fits}

@@ -5,7 +5,7 @@ use Rattle.std.specs.List.{list_all, flat_map, enumerate_from, range_with_len}
 use Rattle.std.proofs.lemmas.Bool.{and_parts}
 use Rattle.std.proofs.lemmas.List.{length-append, take-append-drop, get_or_append_left, get_or-append-add}
 use Rattle.std.proofs.lemmas.List.Folds.{list_all-append}
-use Rattle.ranking.proofs.Members.{In, In-append}
+use Rattle.state_rules.proofs.Members.{In, In-append}
 
 -- ---- members
 

@@ -4,7 +4,7 @@ use Rattle.std.specs.Ordering.{nat_cmp}
 use Rattle.std.specs.declared.cmp.Ordering.TheVariants.{Less}
 use Rattle.std.specs.Cmp.Lexicographic.{slice_cmp}
 use Rattle.text_rules.specs.Names.{Name}
-use Rattle.ranking.proofs.Members.{In}
+use Rattle.state_rules.proofs.Members.{In}
 use Rattle.device_model.proofs.DigitOrder.{first_same, next_digit}
 use Rattle.device_model.proofs.Naming.{Below}
 use Rattle.device_model.proofs.Ordered.{BelowAll, Rises}

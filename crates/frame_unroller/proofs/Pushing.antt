@@ -3,17 +3,16 @@ use Rattle.std.proofs.Common.{◌≡◌, ℕ, zero, suc, ◌+◌, ◌-◌, ◌*�
 use Rattle.std.specs.Prelude.{nat_lt, if◌then◌else◌}
 use Rattle.std.specs.List.{flat_map, filter, enumerate_from, range_with_len, count_by}
 use Rattle.std.proofs.lemmas.Bool.{lt-ltb, le-ltb}
-use Rattle.std.proofs.lemmas.List.{drop_more, map-append, length-append}
+use Rattle.std.proofs.lemmas.List.{drop_more, map-append, length-append, flat_map_more}
 use Rattle.std.proofs.lemmas.List.Sums.{length-filter}
+use Rattle.text_rules.specs.Names.{Name}
+use Rattle.state_rules.proofs.Lists.{range_more}
 use Rattle.device_model.specs.declared.component.Component.{Component}
 use Rattle.bench_reader.specs.declared.sequential.Sequential.{Sequential}
 use Rattle.frame_unroller.specs.Frames.{is_delayed}
-use Rattle.std.proofs.lemmas.List.{flat_map_more}
-use Rattle.text_rules.specs.Names.{Name}
 use Rattle.frame_unroller.specs.Times.{wire_at}
 use Rattle.frame_unroller.specs.Unrolling.{Copy, input_time, copies_of, copies_for, copies}
 use Rattle.frame_unroller.specs.inner.Copying.{given_copy, AreCopies}
-use Rattle.ranking.proofs.Lists.{range_more}
 
 module _ (seq : Sequential) (t : ℕ) where
   abbrev pub copy : ℕ → Component → ℕ → Copy

@@ -4,7 +4,7 @@ use Rattle.std.specs.List.{All, range_with_len}
 use Rattle.std.proofs.lemmas.Bool.{cases_lt}
 use Rattle.std.proofs.lemmas.List.{length-append, length-map, get_or-map, get_or_append_left, get_or-append_right, append_assoc}
 use Rattle.std.proofs.lemmas.List.FromFn.{length-range_with_len, get_or-range_with_len}
-use Rattle.ranking.proofs.Lists.{range_more}
+use Rattle.state_rules.proofs.Lists.{range_more}
 use Rattle.frame_unroller.specs.Unrolling.{shared_variables}
 
 -- one of the other variables more

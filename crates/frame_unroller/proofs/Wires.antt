@@ -6,7 +6,7 @@ use Rattle.std.proofs.Math.Nat.{mul-le-mul_right}
 use Rattle.std.proofs.lemmas.Bool.{and_parts, and_from, ltb-true, lt-ltb}
 use Rattle.std.proofs.lemmas.List.{length-append, length-map, get_or-map, drop_at, append_cancel_right}
 use Rattle.text_rules.specs.Names.{Name}
-use Rattle.ranking.proofs.Members.{from_map}
+use Rattle.state_rules.proofs.Members.{from_map}
 use Rattle.device_model.proofs.Naming.{Below, Below-irreflexive}
 use Rattle.device_model.proofs.Ordered.{Rises}
 use Rattle.device_model.proofs.Sorting.{itself}

@@ -2,9 +2,9 @@
 use Rattle.std.specs.Prelude.{ℕ, Bool, List, map, length}
 use Rattle.std.specs.List.{flat_map}
 use Rattle.text_rules.specs.Names.{Name}
-use Rattle.ranking.specs.Bits.{bit_in}
-use Rattle.ranking.specs.Ranking.{plain_costs}
-use Rattle.ranking.specs.Systems.{System}
+use Rattle.state_rules.specs.Bits.{bit_in}
+use Rattle.state_rules.specs.Ranking.{plain_costs}
+use Rattle.state_rules.specs.Systems.{System}
 use Rattle.device_model.specs.Diagnosis.{fitting_system}
 use Rattle.device_model.specs.Order.{sorted_distinct}
 use Rattle.device_model.specs.Devices.{part_names}

@@ -1,7 +1,7 @@
 -- A netlist with flip-flops over several times, with one health state: which bits of the wires fit.
 use Rattle.std.specs.Prelude.{ℕ, ◌-◌, Bool, true, false, ◌||◌, List, ◌++◌, map, length, take, drop, ◌==◌, nat_le}
 use Rattle.std.specs.List.{list_all, list_any, enumerate_from}
-use Rattle.ranking.specs.Bits.{bit_in}
+use Rattle.state_rules.specs.Bits.{bit_in}
 use Rattle.device_model.specs.declared.component.Component.{Component}
 use Rattle.device_model.specs.TruthTable.{TruthTable}
 use Rattle.device_model.specs.Devices.{allows, part_allows}

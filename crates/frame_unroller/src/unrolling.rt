@@ -1,6 +1,6 @@
 ghost use Rattle.std.specs.Prelude.{◌≡◌, ◌<◌, ◌≤◌, ◌+◌, length, All, IfOk, true};
 ghost use Rattle.text_rules.specs.Expected.{Fulfils};
-ghost use Rattle.ranking.specs.Assignments.{Assignment};
+ghost use Rattle.state_rules.specs.Assignments.{Assignment};
 ghost use Rattle.device_model.specs.Devices.{IsDevice, part_names};
 ghost use Rattle.bench_reader.specs.SequentialNetlists.{HasShortNames};
 ghost use Rattle.clause_encoder.specs.Clauses.{is_clause_list, all_hold};

@@ -1,9 +1,9 @@
 ghost use Rattle.std.specs.Prelude.{◌≡◌, ◌<◌, length, All, IfOk};
 ghost use Rattle.conditioner.specs.Models.{total_cost};
 
-use graph_rules::NodeKind;
 use minimiser::{Steps, TOTAL_LIMIT, find_suspects, first_suspect, least};
 use node_store::{Graph, GraphBuilder};
+use state_rules::NodeKind;
 use std::alloc::Global;
 use std::marker::Brand;
 use std::process::Abort;

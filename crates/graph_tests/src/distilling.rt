@@ -1,9 +1,8 @@
 ghost use Rattle.std.specs.Prelude.{◌≡◌, ◌<◌};
 
 use crate::reports::wire_is_high;
-use diagnosis_lister::Step;
 use fault_graph::Distiller;
-use minimiser::Steps;
+use minimiser::{Step, Steps};
 use node_store::Graph;
 use std::alloc::{AllocError, Global};
 use std::marker::Brand;

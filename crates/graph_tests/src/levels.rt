@@ -199,5 +199,5 @@ fn goes_by_the_cost_of_a_point(rt: HostRuntime) -> Result<(), Fail> {
 
 #[test]
 fn tells_how_many_bits_it_needs(rt: HostRuntime) {
-    assert_eq!(rt; level_bits(159_704, 20_476, 4_095, 32), 2_162_954_494);
+    assert_eq!(rt; level_bits(520_066, 4_095, 32), 2_162_954_494);
 }

@@ -1,9 +1,8 @@
 ghost use Rattle.std.specs.Prelude.{◌≡◌, ◌<◌};
 
-use diagnosis_lister::{Step, first, next};
-use graph_rules::NodeKind;
-use minimiser::Steps;
+use minimiser::{Step, Steps, first, next};
 use node_store::{Graph, GraphBuilder};
+use state_rules::NodeKind;
 use std::alloc::{AllocError, Global};
 use std::marker::Brand;
 use std::process::Abort;

@@ -1,9 +1,9 @@
 ghost use Rattle.std.specs.Prelude.{◌≡◌, ◌<◌};
 
-use graph_rules::NodeKind;
 use minimiser::Steps;
 use node_store::{Graph, GraphBuilder};
 use probe_report::{Blame, blame, blame_all, cost_of, probe, probe_all};
+use state_rules::NodeKind;
 use std::alloc::{AllocError, Global};
 use std::marker::Brand;
 use std::process::Abort;

@@ -1,5 +1,5 @@
-use graph_rules::NodeKind;
 use node_store::{Graph, GraphBuilder, Store};
+use state_rules::NodeKind;
 use std::alloc::Global;
 use std::test::Fail;
 

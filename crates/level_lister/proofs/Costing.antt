@@ -2,9 +2,9 @@
 use Rattle.std.proofs.Common.{◌≡◌, ℕ, ◌+◌, ◌<◌, ◌≤◌, Bool, true, false, cond, List, ◌∷◌, length, get_or, drop, refl, ap, ◌∙◌, arith}
 use Rattle.std.specs.Prelude.{◌==◌}
 use Rattle.std.proofs.lemmas.List.{drop_all, drop_more}
-use Rattle.ranking.specs.Ranking.{cost}
-use Rattle.minimiser.proofs.Held.{total-drop}
+use Rattle.state_rules.specs.Ranking.{cost}
 use Rattle.conditioner.specs.Words.{bits_of}
+use Rattle.minimiser.proofs.Held.{total-drop}
 
 cost-cons : (c : ℕ) (costs : List ℕ) (s : ℕ) (state : List ℕ) → cost (c ∷ costs) (bits_of (s ∷ state)) ≡ cond (s == 0) 0 c + cost costs (bits_of state)
 cost-cons c costs s state = by_bit (s == 0) where

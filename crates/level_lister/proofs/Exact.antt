@@ -3,14 +3,15 @@ use Rattle.std.proofs.Common.{◌≡◌, ◌≢◌, ℕ, zero, suc, ◌+◌, ◌
 use Rattle.std.specs.Prelude.{◌⊎◌, ◌==◌}
 use Rattle.std.proofs.Math.ListN.{length-set, length-map}
 use Rattle.std.proofs.lemmas.List.{length-take-le, get_or-set_same, get_or-set_other}
-use Rattle.ranking.specs.Bits.{bit_in}
-use Rattle.ranking.specs.Ranking.{cost, is_before}
-use Rattle.ranking.proofs.Bits.{bit_in-map}
-use Rattle.graph_rules.specs.Graphs.{Graph}
+use Rattle.std.proofs.lemmas.Bool.{cases_eq}
+use Rattle.state_rules.specs.Bits.{bit_in}
+use Rattle.state_rules.specs.Ranking.{cost, is_before}
+use Rattle.state_rules.proofs.Bits.{bit_in-map}
+use Rattle.state_rules.specs.Graphs.{Graph}
+use Rattle.state_rules.proofs.Order.{before-at, same_bits}
 use Rattle.conditioner.specs.Words.{word_of}
-use Rattle.minimiser.proofs.Models.{same_or_not, Agree, Agree-bit, Agree-same, Refines, model-agrees, Passes-old, Passes-new}
-use Rattle.diagnosis_lister.specs.inner.Working.{IsFirst, fixed_bits}
-use Rattle.diagnosis_lister.proofs.Order.{before-at, same_bits}
+use Rattle.minimiser.proofs.Models.{Agree, Agree-bit, Agree-same, Refines, model-agrees, ModelWithin-old, ModelWithin-new}
+use Rattle.minimiser.specs.inner.Fixing.{IsFirst, fixed_bits}
 use Rattle.level_lister.specs.inner.Searching.{OfCost, HasCost}
 
 pub Refines-start : (parts : ℕ) (words : List ℕ) → Refines parts words words
@@ -49,12 +50,12 @@ module _ (graph : Graph) (costs : List ℕ) (within : length costs ≤ graph.var
 
   pub OfCost-old : (old new : List ℕ) (h : List Bool) → length old ≡ graph.vars → Refines (length costs) old new → OfCost graph new costs c h → OfCost graph old costs c h
   OfCost-old old new h long r o =
-      let p = Passes-old graph costs within old new (cost costs h) h long r (record { long = o.long; model = o.model; cheap = omega arith }) in
+      let p = ModelWithin-old graph costs within old new (cost costs h) h long r (record { long = o.long; model = o.model; cheap = omega arith }) in
       record { long = o.long; model = p.model; cost_is = o.cost_is }
 
   pub OfCost-new : (old new : List ℕ) (h : List Bool) → length old ≡ graph.vars → Refines (length costs) old new → OfCost graph old costs c h → ((i : ℕ) → i < length costs → Agree (get_or new i 0) (bit_in h i)) → OfCost graph new costs c h
   OfCost-new old new h long r o agree =
-      let p = Passes-new graph costs within old new (cost costs h) h long r (record { long = o.long; model = o.model; cheap = omega arith }) agree in
+      let p = ModelWithin-new graph costs within old new (cost costs h) h long r (record { long = o.long; model = o.model; cheap = omega arith }) agree in
       record { long = o.long; model = p.model; cost_is = o.cost_is }
 
   -- of an open part that is fixed to a bit
@@ -75,7 +76,7 @@ module _ (graph : Graph) (costs : List ℕ) (within : length costs ≤ graph.var
     set-new h o e = OfCost-new old (set old part (word_of b)) h long refines o (λ i g. ⊎_elim
         (λ q. subst (λ j. Agree (get_or (set old part (word_of b)) j 0) (bit_in h j)) (sym q) (subst (λ w. Agree w (bit_in h part)) (sym here) (subst (λ d. Agree (word_of d) (bit_in h part)) e (Agree-same (bit_in h part)))))
         (λ ne. subst (λ w. Agree w (bit_in h i)) (sym (get_or-set_other old part i (word_of b) 0 ne)) (OfCost-agrees old h long o i g))
-        (same_or_not i part))
+        (cases_eq i part))
 
   not_open : (b : Bool) → word_of b ≢ 0
   not_open true e = omega arith
@@ -85,7 +86,7 @@ module _ (graph : Graph) (costs : List ℕ) (within : length costs ≤ graph.var
   front-more old part b lt front k h e = ⊎_elim
       (λ q. not_open b (sym (get_or-set_same old part (word_of b) 0 lt) ∙ ap (λ j. get_or (set old part (word_of b)) j 0) (sym q) ∙ e))
       (λ ne. front k (below ne) (sym (get_or-set_other old part k (word_of b) 0 ne) ∙ e))
-      (same_or_not k part) where
+      (cases_eq k part) where
         below : k ≢ part → k < part
         below ne = omega arith
 

@@ -1,7 +1,7 @@
 -- Both sets of a test, to which one part after the other is added that is free.
 use Rattle.std.proofs.Common.{◌≡◌, ℕ, ◌+◌, ◌<◌, ◌≤◌, Bool, true, false, ◌||◌, List, length}
 use Rattle.std.specs.Prelude.{◌==◌}
-use Rattle.ranking.specs.Assignments.{Assignment}
+use Rattle.state_rules.specs.Assignments.{Assignment}
 use Rattle.part_sets.specs.PartSets.{ArePartsOf}
 use Rattle.level_lister.specs.inner.FaultSets.{AreBothSets}
 use Rattle.level_lister.proofs.Growing.{grown, is_missing, start_none, end_all, next_skip, not_yet, next_more}

@@ -6,11 +6,11 @@ use Rattle.std.proofs.lemmas.Bool.{cases_lt, lt-ltb, le-ltb, false≢true}
 use Rattle.std.proofs.lemmas.List.{map_more, take_all}
 use Rattle.std.proofs.lemmas.Nat.{div_below}
 use Rattle.std.proofs.Math.Nat.{lt-div-mul-add}
-use Rattle.ranking.specs.Assignments.{Assignment}
-use Rattle.ranking.specs.Bits.{same_bit}
-use Rattle.graph_rules.specs.declared.NodeKind.TheVariants.{Literal, And, Or}
-use Rattle.graph_rules.specs.Graphs.{Graph, node_at, truth_by, mention_by, is_true, mentions, at_most_one, apart_at, IsGraph}
-use Rattle.graph_rules.proofs.NodesFit.{apart-at}
+use Rattle.state_rules.specs.Assignments.{Assignment}
+use Rattle.state_rules.specs.Bits.{same_bit}
+use Rattle.state_rules.specs.declared.nodes.NodeKind.TheVariants.{Literal, And, Or}
+use Rattle.state_rules.specs.Graphs.{Graph, node_at, truth_by, mention_by, is_true, mentions, at_most_one, apart_at, IsGraph}
+use Rattle.state_rules.proofs.NodesFit.{each_apart}
 use Rattle.part_sets.specs.Numbers.{has_number}
 use Rattle.part_sets.specs.PartSets.{SameBelow}
 use Rattle.part_sets.proofs.Kids.{mention-is, kid-mentions}
@@ -93,7 +93,7 @@ module _ (graph : Graph) (at : ℕ) (kids : List ℕ) (ok : IsGraph graph) (insi
     pub and_faults_apart : (j : ℕ) → (node_at graph.nodes at).what ≡ And → j < length kids → (v : ℕ) → (list_any (λ b. b) (map (mentions graph.nodes v) (take j kids)) && mentions graph.nodes v (get_or kids j 0)) ≡ false
     and_faults_apart j what lt v = apart_from (mentions graph.nodes v) kids j apart lt where
       apart : at_most_one (map (mentions graph.nodes v) kids) ≡ true
-      apart = (λ i. apart_at (mentions graph.nodes v) (sym what i) (are i)) ∙ apart-at (mentions graph.nodes v) graph.nodes at (ok.nodes.apart v) inside
+      apart = (λ i. apart_at (mentions graph.nodes v) (sym what i) (are i)) ∙ each_apart (mentions graph.nodes v) graph.nodes at (ok.nodes.apart v) inside
 
     pub and_faults_more : (j : ℕ) (set faults : List ℕ) → j < length kids
         → AreBothSets words costs (in_first words costs groups) (λ a. list_all (λ b. b) (map (λ k. is_true (living graph.nodes skips) k a) (take j kids)) && is_true (living graph.nodes skips) (get_or kids j 0) a)

@@ -1,6 +1,6 @@
 -- The states in which an open part of a group is faulty, and the assignments that are behind them.
 use Rattle.std.proofs.Common.{◌≡◌, ℕ, ◌+◌, ◌-◌, ◌*◌, ◌/◌, ◌<◌, ◌≤◌, true, List, length, get_or, refl, ap, sym, ◌∙◌, subst, arith}
-use Rattle.graph_rules.specs.Graphs.{Graph, IsGraph, is_true}
+use Rattle.state_rules.specs.Graphs.{Graph, IsGraph, is_true}
 use Rattle.minimiser.proofs.Whole.{state_of, assignment_of}
 use Rattle.part_sets.specs.Numbers.{has_number}
 use Rattle.level_lister.specs.declared.pairs.Groups.{Groups}

@@ -2,9 +2,9 @@
 use Rattle.std.proofs.Common.{◌≡◌, ℕ, ◌+◌, ◌-◌, ◌*◌, ◌<◌, ◌≤◌, Bool, true, false, cond, not, ◌&&◌, ◌||◌, List, length, get_or, refl, ap, sym, ◌∙◌, inl, inr, ⊎_elim}
 use Rattle.std.specs.Prelude.{◌⊎◌, ◌==◌}
 use Rattle.std.proofs.lemmas.Bool.{and_parts, and_from, or_cases, or_left, or_right, eqb-true, eq-eqb, not-true, false≢true}
-use Rattle.ranking.specs.Assignments.{Assignment}
-use Rattle.ranking.specs.Bits.{same_bit}
-use Rattle.ranking.specs.Cases.{agrees_at}
+use Rattle.state_rules.specs.Assignments.{Assignment}
+use Rattle.state_rules.specs.Bits.{same_bit}
+use Rattle.state_rules.specs.Cases.{agrees_at}
 use Rattle.minimiser.specs.Costs.{known_at}
 use Rattle.part_sets.specs.Numbers.{has_number}
 use Rattle.part_sets.proofs.SetBits.{has-within}

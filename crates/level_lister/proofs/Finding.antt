@@ -2,10 +2,10 @@
 use Rattle.std.proofs.Common.{◌≡◌, ℕ, ◌+◌, ◌<◌, ◌≤◌, Bool, true, ◌&&◌, List, Option, Some, None, refl, sym, ◌∙◌, arith, inl, inr, ⊎_elim}
 use Rattle.std.specs.Prelude.{◌⊎◌, ◌==◌, nat_lt}
 use Rattle.std.proofs.lemmas.Bool.{cases_order, and_parts, and_from, or_cases, or_left, or_right, lt-ltb, ltb-true, eq-eqb, eqb-true}
-use Rattle.ranking.specs.Ranking.{cost, is_before}
-use Rattle.graph_rules.specs.Graphs.{Graph}
-use Rattle.diagnosis_lister.specs.inner.Working.{IsFirst}
-use Rattle.ranking.specs.Levels.{is_level_before}
+use Rattle.state_rules.specs.Ranking.{cost, is_before}
+use Rattle.state_rules.specs.Graphs.{Graph}
+use Rattle.state_rules.specs.Levels.{is_level_before}
+use Rattle.minimiser.specs.inner.Fixing.{IsFirst}
 use Rattle.level_lister.specs.inner.Searching.{OfCost, HasCost, NoneAfter, IsListed, IsFirstLevel, Finds, is_later}
 
 module _ (costs : List ℕ) (h k : List Bool) where

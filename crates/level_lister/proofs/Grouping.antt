@@ -2,10 +2,10 @@
 use Rattle.std.proofs.Common.{◌≡◌, ◌≢◌, ℕ, zero, suc, ◌+◌, ◌<◌, ◌≤◌, Bool, false, List, length, get_or, set, refl, sym, ◌∙◌, subst, arith, inl, inr}
 use Rattle.std.specs.Prelude.{◌⊎◌}
 use Rattle.std.proofs.lemmas.Bool.{cases_lt}
-use Rattle.ranking.specs.Bits.{bit_in}
-use Rattle.graph_rules.specs.Graphs.{Graph}
+use Rattle.state_rules.specs.Bits.{bit_in}
+use Rattle.state_rules.specs.Graphs.{Graph}
 use Rattle.minimiser.proofs.Models.{Agree, Refines}
-use Rattle.diagnosis_lister.proofs.Fixing.{FixesOk}
+use Rattle.minimiser.proofs.Fixing.{FixesOk}
 use Rattle.level_lister.specs.inner.Searching.{OfCost}
 use Rattle.level_lister.specs.inner.Pairs.{FaultIn, OkAmong}
 use Rattle.level_lister.proofs.Exact.{Settling, OfCost-agrees, OfCost-old, OfCost-new, set-new, settle_faulty}

@@ -4,11 +4,11 @@ use Rattle.std.specs.Prelude.{◌⊎◌, ◌==◌}
 use Rattle.std.specs.List.{list_all, list_any}
 use Rattle.std.proofs.lemmas.Bool.{not-true, le-leb}
 use Rattle.std.proofs.lemmas.List.{map_more, take_all}
-use Rattle.ranking.specs.Assignments.{Assignment}
-use Rattle.graph_rules.specs.declared.NodeKind.TheVariants.{Literal, And, Or}
-use Rattle.graph_rules.specs.Graphs.{Graph, node_at, truth_by, mention_by, is_true, mentions, at_most_one, apart_at, IsGraph}
-use Rattle.graph_rules.proofs.NodesFit.{apart-at}
-use Rattle.graph_rules.proofs.Kids.{at_most_one-tail}
+use Rattle.state_rules.specs.Assignments.{Assignment}
+use Rattle.state_rules.specs.declared.nodes.NodeKind.TheVariants.{Literal, And, Or}
+use Rattle.state_rules.specs.Graphs.{Graph, node_at, truth_by, mention_by, is_true, mentions, at_most_one, apart_at, IsGraph}
+use Rattle.state_rules.proofs.NodesFit.{each_apart}
+use Rattle.state_rules.proofs.Kids.{at_most_one-tail}
 use Rattle.conditioner.specs.declared.leaves.Leaf.{Leaf}
 use Rattle.conditioner.specs.declared.leaves.Leaf.TheVariants.{True, False, Open}
 use Rattle.conditioner.specs.Words.{leaf_of}
@@ -94,7 +94,7 @@ module _ (graph : Graph) (at : ℕ) (kids : List ℕ) (ok : IsGraph graph) (insi
         (λ v. sym (ap (list_any (λ b. b)) (map_more (mentions graph.nodes v) kids j 0 lt) ∙ any_push (map (mentions graph.nodes v) (take j kids)) (mentions graph.nodes v (get_or kids j 0))))
         (and_is words costs _ _ _ _ old kid set l m (λ v. apart_from (mentions graph.nodes v) kids j (apart v) lt) sums is_old is_kid) where
           apart : (v : ℕ) → at_most_one (map (mentions graph.nodes v) kids) ≡ true
-          apart v = (λ i. apart_at (mentions graph.nodes v) (sym what i) (are i)) ∙ apart-at (mentions graph.nodes v) graph.nodes at (ok.nodes.apart v) inside
+          apart v = (λ i. apart_at (mentions graph.nodes v) (sym what i) (are i)) ∙ each_apart (mentions graph.nodes v) graph.nodes at (ok.nodes.apart v) inside
 
     pub and_all : (j : ℕ) (set : List ℕ) → (node_at graph.nodes at).what ≡ And → length kids ≤ j → AndSet j set → IsNodeSet graph skips words costs at set
     and_all j set what le is = same_is words costs _ _ _ _ set

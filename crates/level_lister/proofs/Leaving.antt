@@ -2,16 +2,16 @@
 use Rattle.std.proofs.Common.{◌≡◌, ◌≢◌, ℕ, ◌+◌, ◌<◌, ◌≤◌, Bool, true, false, List, length, get_or, set, refl, ap, sym, ◌∙◌, subst, arith, inr, ⊎_elim}
 use Rattle.std.specs.Prelude.{◌⊎◌}
 use Rattle.std.proofs.Math.ListN.{length-set}
-use Rattle.std.proofs.lemmas.Bool.{cases_lt, false≢true}
+use Rattle.std.proofs.lemmas.Bool.{cases_lt, false≢true, cases_eq}
 use Rattle.std.proofs.lemmas.List.{get_or-set_same, get_or-set_other}
-use Rattle.ranking.specs.Bits.{bit_in}
-use Rattle.ranking.specs.Ranking.{is_before}
-use Rattle.graph_rules.specs.Graphs.{Graph}
+use Rattle.state_rules.specs.Bits.{bit_in, AlikeBelow}
+use Rattle.state_rules.specs.Ranking.{is_before}
+use Rattle.state_rules.specs.Graphs.{Graph}
+use Rattle.state_rules.proofs.Order.{before-at, not_both_before, Differs, differs}
 use Rattle.conditioner.specs.Words.{word_of}
-use Rattle.minimiser.proofs.Models.{same_or_not, Agree, Agree-bit, Agree-same, Refines}
-use Rattle.diagnosis_lister.specs.inner.Working.{IsFirst, AlikeBelow, Follows}
-use Rattle.diagnosis_lister.proofs.Order.{before-at, not_both_before, Differs, differs}
-use Rattle.diagnosis_lister.proofs.Points.{alike-more}
+use Rattle.minimiser.proofs.Models.{Agree, Agree-bit, Agree-same, Refines}
+use Rattle.minimiser.specs.inner.Fixing.{IsFirst, Follows}
+use Rattle.minimiser.proofs.Points.{alike-more}
 use Rattle.level_lister.specs.inner.Searching.{OfCost, HasCost, NoneAfter, Leaves}
 use Rattle.level_lister.proofs.Exact.{OfCost-agrees, OfCost-old, OfCost-new}
 
@@ -46,8 +46,8 @@ module _ (graph : Graph) (costs : List ℕ) (within : length costs ≤ graph.var
     pub back_next : (new : List ℕ) → get_or new j 0 ≡ get_or old j 0 → ((k : ℕ) → k ≢ j → get_or new k 0 ≡ get_or words k 0) → NoneAfter graph old costs c point j → GoesBack graph costs c old point new j
     back_next new here apart none = record {
       front = λ k h. apart k (λ q. absurd (omega arith)) ∙ back.front k (omega arith);
-      kept = λ k ne. ⊎_elim (λ q. ap (λ i. get_or new i 0) q ∙ here ∙ ap (λ i. get_or old i 0) (sym q)) (λ q. apart k q ∙ back.kept k ne) (same_or_not k j);
-      behind = λ k h. ⊎_elim (λ q. ap (λ i. get_or new i 0) q ∙ here ∙ ap (λ i. get_or old i 0) (sym q)) (λ q. apart k q ∙ back.behind k (above k h q)) (same_or_not k j);
+      kept = λ k ne. ⊎_elim (λ q. ap (λ i. get_or new i 0) q ∙ here ∙ ap (λ i. get_or old i 0) (sym q)) (λ q. apart k q ∙ back.kept k ne) (cases_eq k j);
+      behind = λ k h. ⊎_elim (λ q. ap (λ i. get_or new i 0) q ∙ here ∙ ap (λ i. get_or old i 0) (sym q)) (λ q. apart k q ∙ back.behind k (above k h q)) (cases_eq k j);
       none = none;
     } where
       above : (k : ℕ) → j ≤ k → k ≢ j → j + 1 ≤ k
@@ -70,7 +70,7 @@ module _ (graph : Graph) (costs : List ℕ) (within : length costs ≤ graph.var
       pub kept : (k : ℕ) → get_or old k 0 ≢ 0 → get_or (set words j 1) k 0 ≡ get_or old k 0
       kept k ne = ⊎_elim
           (λ q. ap (λ i. get_or (set words j 1) i 0) q ∙ here ∙ one (get_or old j 0) few free (λ e. ne (ap (λ i. get_or old i 0) q ∙ e)) ∙ ap (λ i. get_or old i 0) (sym q))
-          (λ q. apart k q ∙ back.kept k ne) (same_or_not k j) where
+          (λ q. apart k q ∙ back.kept k ne) (cases_eq k j) where
             one : (w : ℕ) → w < 3 → w ≢ 2 → w ≢ 0 → 1 ≡ w
             one w h f g = omega arith
 
@@ -88,7 +88,7 @@ module _ (graph : Graph) (costs : List ℕ) (within : length costs ≤ graph.var
           (λ (q : j ≤ k). ⊎_elim
           (λ e. subst (λ i. Agree (get_or (set words j 1) i 0) (bit_in h i)) (sym e) (subst (λ w. Agree w (bit_in h j)) (sym here) (subst (λ b. Agree 1 b) (sym f) refl)))
           (λ ne. subst (λ w. Agree w (bit_in h k)) (sym (apart k ne ∙ back.behind k (above k q ne))) (OfCost-agrees graph costs within c old h long p k g))
-          (same_or_not k j))
+          (cases_eq k j))
           (cases_lt k j)) where
             above : (k : ℕ) → j ≤ k → k ≢ j → j + 1 ≤ k
             above k q ne = omega arith
@@ -132,7 +132,7 @@ module _ (graph : Graph) (costs : List ℕ) (within : length costs ≤ graph.var
         (λ (q : part ≤ d.at). ⊎_elim
         (λ same_place. is.before k (OfCost-new graph costs within c old new k long refines p.0 (agrees same_place)))
         (λ ne. absurd (l.none k p.0 (λ i lt. sym (d.alike i (far q ne i lt))) p.1))
-        (same_or_not d.at part)) (cases_lt d.at part) where
+        (cases_eq d.at part)) (cases_lt d.at part) where
           far : part ≤ d.at → d.at ≢ part → (i : ℕ) → i < part + 1 → i < d.at
           far q ne i lt = omega arith
 
@@ -142,7 +142,7 @@ module _ (graph : Graph) (costs : List ℕ) (within : length costs ≤ graph.var
               (λ (q : part ≤ i). ⊎_elim
               (λ here. subst (λ w. Agree w (bit_in k i)) (sym (ap (λ j. get_or new j 0) here ∙ l.ok)) (subst (λ b. Agree 1 b) (sym (ap (bit_in k) (here ∙ sym at) ∙ d.ok)) refl))
               (λ ne. subst (λ w. Agree w (bit_in k i)) (sym (l.behind i (above q ne))) (OfCost-agrees graph costs within c old k long p.0 i lt))
-              (same_or_not i part))
+              (cases_eq i part))
               (cases_lt i part) where
                 above : part ≤ i → i ≢ part → part < i
                 above q ne = omega arith

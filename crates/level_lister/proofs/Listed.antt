@@ -2,15 +2,15 @@
 use Rattle.std.proofs.Common.{◌≡◌, ◌≢◌, ℕ, zero, suc, ◌+◌, ◌<◌, ◌≤◌, Bool, true, false, cond, List, [], ◌∷◌, ◌++◌, length, get_or, Option, Some, None, refl, ap, sym, ◌∙◌, subst, arith, inl, inr, ⊎_elim}
 use Rattle.std.specs.Prelude.{◌⊎◌, ◌==◌}
 use Rattle.std.specs.List.{filter, flat_map, range_with_len}
-use Rattle.std.proofs.lemmas.Bool.{eq-eqb, eqb-true}
-use Rattle.ranking.specs.Bits.{lists_of_bits}
-use Rattle.ranking.specs.Ranking.{cost, states}
-use Rattle.graph_rules.specs.Graphs.{Graph}
+use Rattle.std.proofs.lemmas.Bool.{eq-eqb, eqb-true, cases_eq}
+use Rattle.state_rules.specs.Bits.{lists_of_bits}
+use Rattle.state_rules.specs.Ranking.{cost, states}
+use Rattle.state_rules.specs.Graphs.{Graph}
+use Rattle.state_rules.proofs.Members.{In, In-append, In-append_left, In-append_right, In-filter, In-filtered, bits_in, bits_length, empty-none}
+use Rattle.state_rules.proofs.Order.{not_both_before, Sorted, Sorted-states, Sorted-filter}
+use Rattle.state_rules.specs.Levels.{of_cost, levels, is_level_before, levels_rest}
 use Rattle.conditioner.specs.Models.{has_model, fits_words, models}
-use Rattle.ranking.proofs.Members.{In, In-append, In-append_left, In-append_right, In-filter, In-filtered, bits_in, bits_length, empty-none}
-use Rattle.diagnosis_lister.proofs.Order.{not_both_before, Sorted, Sorted-states, Sorted-filter}
 use Rattle.level_lister.specs.declared.levels.LevelStep.TheVariants.{Found, End}
-use Rattle.ranking.specs.Levels.{of_cost, levels, is_level_before, levels_rest}
 use Rattle.level_lister.specs.Listing.{level_step}
 use Rattle.level_lister.specs.inner.Searching.{IsListed, IsFirstLevel, is_later}
 use Rattle.level_lister.proofs.Finding.{cheaper-before, same-before, before-cases}
@@ -60,17 +60,9 @@ module _ (costs : List ℕ) where
   some_levels-has hs from (suc n) h m low high = ⊎_elim
       (λ e. In-append_left h (of_cost costs hs from) (some_levels hs (from + 1) n) (In-filtered (λ h. cost costs h == from) h hs m (eq-eqb (cost costs h) from e)))
       (λ ne. In-append_right h (of_cost costs hs from) (some_levels hs (from + 1) n) (some_levels-has hs (from + 1) n h m (above ne) (omega arith)))
-      (same (cost costs h) from) where
+      (cases_eq (cost costs h) from) where
         above : cost costs h ≢ from → from + 1 ≤ cost costs h
         above ne = omega arith
-
-        same : (a b : ℕ) → (a ≡ b) ⊎ (a ≢ b)
-        same a b = by_test (a == b) refl where
-          by_test : (t : Bool) → (a == b) ≡ t → (a ≡ b) ⊎ (a ≢ b)
-          by_test true e = inl (eqb-true a b e)
-          by_test false e = inr (λ q. no (sym e ∙ eq-eqb a b q)) where
-            no : false ≡ true → ⊥
-            no x = cc
 
   Rising-levels : (hs : List (List Bool)) (from n : ℕ) → Sorted hs → Rising (some_levels hs from n)
   Rising-levels hs from zero s = tt

@@ -1,14 +1,13 @@
 -- What is left of a graph without the nodes that are skipped.
 use Rattle.std.proofs.Common.{◌≡◌, ◌≢◌, ℕ, zero, suc, ◌<◌, Bool, true, false, cond, List, [], ◌∷◌, map, length, get_or, refl, ap, sym, ◌∙◌, subst, arith, ⊎_elim}
 use Rattle.std.specs.List.{list_all, list_any}
-use Rattle.std.proofs.lemmas.Bool.{ne_eqb, eq-eqb, and_parts, and_from, or_cases, or_left, or_right, false≢true}
-use Rattle.ranking.specs.Assignments.{Assignment}
-use Rattle.graph_rules.specs.declared.NodeKind.{NodeKind}
-use Rattle.graph_rules.specs.declared.NodeKind.TheVariants.{Literal, And, Or}
-use Rattle.graph_rules.specs.Graphs.{Graph, Node, false_node, node_at, truth_by, is_true, IsGraph}
-use Rattle.graph_rules.proofs.NodeValues.{are_below, value_of-at}
-use Rattle.graph_rules.proofs.NodesFit.{fits-at}
-use Rattle.minimiser.proofs.Models.{same_or_not}
+use Rattle.std.proofs.lemmas.Bool.{ne_eqb, eq-eqb, and_parts, and_from, or_cases, or_left, or_right, false≢true, cases_eq}
+use Rattle.state_rules.specs.Assignments.{Assignment}
+use Rattle.state_rules.specs.declared.nodes.NodeKind.{NodeKind}
+use Rattle.state_rules.specs.declared.nodes.NodeKind.TheVariants.{Literal, And, Or}
+use Rattle.state_rules.specs.Graphs.{Graph, Node, false_node, node_at, truth_by, is_true, IsGraph}
+use Rattle.state_rules.proofs.NodeValues.{are_below, value_of-at}
+use Rattle.state_rules.proofs.NodesFit.{fits-at}
 use Rattle.part_sets.proofs.Kids.{kid-below}
 use Rattle.level_lister.specs.inner.Skips.{living}
 
@@ -83,7 +82,7 @@ module _ (graph : Graph) (skips : List ℕ) (ok : IsGraph graph) where
       (λ j lt. let low = kid-below graph k (node_at graph.nodes k).kids ok inside refl j lt in sound fuel (get_or (node_at graph.nodes k).kids j 0) (omega arith) (omega arith) a)
       (sym (living-is k inside q a) ∙ e))
       (λ (ne : get_or skips k 0 ≢ 0). absurd (false≢true (sym (skipped-is k inside ne a) ∙ e)))
-      (same_or_not (get_or skips k 0) 0)
+      (cases_eq (get_or skips k 0) 0)
 
   pub living-true : (k : ℕ) → k < length graph.nodes → (a : Assignment) → is_true (living graph.nodes skips) k a ≡ true → is_true graph.nodes k a ≡ true
   living-true k inside a e = sound (suc k) k (omega arith) inside a e

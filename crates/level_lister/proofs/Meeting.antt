@@ -2,10 +2,10 @@
 use Rattle.std.proofs.Common.{◌≡◌, ℕ, zero, suc, ◌+◌, ◌-◌, ◌*◌, ◌<◌, ◌≤◌, Bool, true, false, cond, not, ◌&&◌, ◌||◌, List, length, get_or, refl, ap, sym, ◌∙◌, subst, arith, inl, inr, ⊎_elim}
 use Rattle.std.specs.Prelude.{◌⊎◌, ◌==◌, nat_le}
 use Rattle.std.proofs.lemmas.Bool.{and_parts, and_from, or_cases, or_left, or_right, eqb-true, ne_eqb, le-leb, leb-true, false≢true}
-use Rattle.ranking.specs.Assignments.{Assignment}
-use Rattle.ranking.specs.Cases.{agrees_at}
-use Rattle.ranking.proofs.Bits.{not_left, and-not_alike, cond-not}
-use Rattle.ranking.proofs.Cases.{agrees_cond}
+use Rattle.state_rules.specs.Assignments.{Assignment}
+use Rattle.state_rules.specs.Cases.{agrees_at}
+use Rattle.state_rules.proofs.Bits.{not_left, and-not_alike, cond-not}
+use Rattle.state_rules.proofs.Cases.{agrees_cond}
 use Rattle.conditioner.specs.Words.{known_of}
 use Rattle.minimiser.specs.Costs.{known_at}
 use Rattle.part_sets.specs.Numbers.{has_number}

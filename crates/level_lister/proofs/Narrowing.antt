@@ -4,8 +4,8 @@ use Rattle.std.specs.Prelude.{◌⊎◌}
 use Rattle.std.proofs.lemmas.Bool.{cases_lt, false≢true}
 use Rattle.std.proofs.lemmas.Nat.{div_below}
 use Rattle.std.proofs.Math.Nat.{lt-div-mul-add, div-mul-le_self, pow-zero, pow-suc}
-use Rattle.ranking.specs.Bits.{bit_in}
-use Rattle.graph_rules.specs.Graphs.{Graph}
+use Rattle.state_rules.specs.Bits.{bit_in}
+use Rattle.state_rules.specs.Graphs.{Graph}
 use Rattle.level_lister.specs.declared.pairs.Groups.{Groups}
 use Rattle.level_lister.specs.inner.Pairs.{FaultOf, FaultIn, OkAmong}
 

@@ -6,23 +6,23 @@ use Rattle.std.specs.List.{list_all, list_any}
 use Rattle.std.proofs.Math.Bool.{and_comm, or_comm}
 use Rattle.std.proofs.lemmas.Bool.{cases_lt, cases_eq, cases_order, and_parts, and_from, leb-true, le-leb, eqb-true, eq-eqb, ne_eqb, false≢true}
 use Rattle.std.proofs.lemmas.List.{map_more, take_all, get_or-set_same, get_or-set_other}
-use Rattle.ranking.specs.Assignments.{Assignment}
-use Rattle.ranking.specs.Bits.{same_bit}
-use Rattle.ranking.specs.Cases.{agrees_at}
-use Rattle.graph_rules.specs.declared.NodeKind.TheVariants.{Literal, And, Or}
-use Rattle.graph_rules.specs.Graphs.{Graph, node_at, truth_by, mention_by, is_true, mentions, at_most_one, apart_at, IsGraph}
-use Rattle.graph_rules.proofs.NodesFit.{apart-at}
+use Rattle.state_rules.specs.Assignments.{Assignment}
+use Rattle.state_rules.specs.Bits.{same_bit}
+use Rattle.state_rules.specs.Cases.{agrees_at}
+use Rattle.state_rules.specs.declared.nodes.NodeKind.TheVariants.{Literal, And, Or}
+use Rattle.state_rules.specs.Graphs.{Graph, node_at, truth_by, mention_by, is_true, mentions, at_most_one, apart_at, IsGraph}
+use Rattle.state_rules.proofs.NodesFit.{each_apart}
 use Rattle.conditioner.specs.declared.leaves.Leaf.{Leaf}
 use Rattle.conditioner.specs.declared.leaves.Leaf.TheVariants.{False}
 use Rattle.conditioner.specs.Words.{known_of, word_of, leaf_of}
 use Rattle.minimiser.specs.Costs.{known_at}
+use Rattle.part_sets.specs.PartSets.{SameBelow}
+use Rattle.part_sets.proofs.Kids.{mention-is, kid-mentions}
 use Rattle.level_lister.specs.declared.pairs.Pair.{Pair}
 use Rattle.level_lister.specs.declared.pairs.Groups.{Groups}
-use Rattle.part_sets.specs.PartSets.{SameBelow}
 use Rattle.level_lister.specs.inner.CostSets.{Follows}
 use Rattle.level_lister.specs.inner.Pairs.{Tells, TellsNode, TellNodes, TellsWhole, pair_at, group_in, group_count}
 use Rattle.level_lister.specs.inner.Skips.{living}
-use Rattle.part_sets.proofs.Kids.{mention-is, kid-mentions}
 use Rattle.level_lister.proofs.Living.{skipped-is}
 use Rattle.level_lister.proofs.Kids.{all_push, any_push, apart_from, truth-is}
 use Rattle.level_lister.proofs.Telling.{step_below, tells_same, tells_none}
@@ -77,7 +77,7 @@ module _ (graph : Graph) (at : ℕ) (kids : List ℕ) (ok : IsGraph graph) (insi
   pub and_apart : (j : ℕ) → (node_at graph.nodes at).what ≡ And → j < length kids → (v : ℕ) → (mentions graph.nodes v (get_or kids j 0) && list_any (λ b. b) (map (mentions graph.nodes v) (take j kids))) ≡ false
   and_apart j what lt v = and_comm (mentions graph.nodes v (get_or kids j 0)) (list_any (λ b. b) (map (mentions graph.nodes v) (take j kids))) ∙ apart_from (mentions graph.nodes v) kids j apart lt where
     apart : at_most_one (map (mentions graph.nodes v) kids) ≡ true
-    apart = (λ i. apart_at (mentions graph.nodes v) (sym what i) (are i)) ∙ apart-at (mentions graph.nodes v) graph.nodes at (ok.nodes.apart v) inside
+    apart = (λ i. apart_at (mentions graph.nodes v) (sym what i) (are i)) ∙ each_apart (mentions graph.nodes v) graph.nodes at (ok.nodes.apart v) inside
 
   pub and_next : (j : ℕ) (pair : Pair) → j < length kids
       → Told (λ a. is_true (living graph.nodes skips) (get_or kids j 0) a && list_all (λ b. b) (map (λ k. is_true (living graph.nodes skips) k a) (take j kids))) (λ v. mentions graph.nodes v (get_or kids j 0) || list_any (λ b. b) (map (mentions graph.nodes v) (take j kids))) pair

@@ -1,8 +1,8 @@
 -- What the words of the whole graph tell, for the states that the words allow.
 use Rattle.std.proofs.Common.{◌≡◌, ℕ, ◌+◌, ◌-◌, ◌*◌, ◌<◌, ◌≤◌, true, List, length, sym, ◌∙◌, subst, arith}
-use Rattle.ranking.specs.Assignments.{Assignment}
-use Rattle.graph_rules.specs.Graphs.{Graph, IsGraph, is_true}
-use Rattle.graph_rules.specs.inner.WordBits.{has_bit}
+use Rattle.state_rules.specs.Assignments.{Assignment}
+use Rattle.state_rules.specs.Graphs.{Graph, IsGraph, is_true}
+use Rattle.state_rules.specs.Bits.{has_bit}
 use Rattle.minimiser.proofs.Whole.{state_of, assignment_of}
 use Rattle.level_lister.specs.declared.pairs.Pair.{Pair}
 use Rattle.level_lister.specs.declared.pairs.Groups.{Groups}

@@ -2,17 +2,17 @@
 use Rattle.std.proofs.Common.{◌≡◌, ℕ, zero, suc, ◌+◌, ◌-◌, ◌*◌, ◌<◌, ◌≤◌, Bool, true, false, cond, not, ◌&&◌, List, length, get_or, Option, Some, None, refl, ap, sym, ◌∙◌, subst, arith}
 use Rattle.std.specs.Prelude.{◌==◌}
 use Rattle.std.proofs.lemmas.Bool.{eqb-true, eq-eqb, false≢true}
-use Rattle.ranking.specs.Bits.{same_bit}
-use Rattle.ranking.specs.Cases.{agrees_at}
-use Rattle.ranking.specs.Assignments.{Assignment}
-use Rattle.ranking.proofs.Bits.{same_bit-refl, cond-not}
-use Rattle.ranking.proofs.Cases.{usual_bit, usual_bit-agrees}
+use Rattle.state_rules.specs.Bits.{same_bit}
+use Rattle.state_rules.specs.Cases.{agrees_at}
+use Rattle.state_rules.specs.Assignments.{Assignment}
+use Rattle.state_rules.proofs.Bits.{same_bit-refl, cond-not}
+use Rattle.state_rules.proofs.Cases.{usual_bit, usual_bit-agrees}
 use Rattle.conditioner.specs.declared.leaves.Leaf.TheVariants.{False}
 use Rattle.conditioner.specs.Words.{leaf_of}
 use Rattle.minimiser.specs.Costs.{known_at, part_cost}
 use Rattle.part_sets.specs.Numbers.{has_number}
-use Rattle.level_lister.specs.inner.CostSets.{cost_among, Follows, IsCostSet}
 use Rattle.part_sets.proofs.SetBits.{has-within}
+use Rattle.level_lister.specs.inner.CostSets.{cost_among, Follows, IsCostSet}
 use Rattle.level_lister.proofs.Among.{among-same, among-none, among-one}
 
 module _ (words costs : List ℕ) where

@@ -1,26 +1,25 @@
 -- The nodes that are skipped are in no derivation that costs little.
 use Rattle.std.proofs.Common.{◌≡◌, ◌≢◌, ℕ, zero, suc, ◌+◌, ◌-◌, ◌<◌, ◌≤◌, Bool, true, cond, List, [], ◌∷◌, map, length, get_or, set, Option, Some, None, refl, ap, sym, ◌∙◌, subst, arith, inl, inr, ⊎_elim}
 use Rattle.std.specs.List.{list_all, list_any}
-use Rattle.std.proofs.lemmas.Bool.{cases_lt, le-ltb}
+use Rattle.std.proofs.lemmas.Bool.{cases_lt, le-ltb, cases_eq}
 use Rattle.std.proofs.lemmas.Option.{same_Some}
 use Rattle.std.proofs.Math.Seq.{take-length}
 use Rattle.std.proofs.lemmas.List.{get_or-set_same, get_or-set_other}
-use Rattle.ranking.specs.Assignments.{Assignment}
-use Rattle.ranking.specs.Cases.{agrees_at}
-use Rattle.ranking.specs.Values.{values}
-use Rattle.ranking.proofs.Members.{In, AtMost}
-use Rattle.graph_rules.specs.declared.NodeKind.{NodeKind}
-use Rattle.graph_rules.specs.declared.NodeKind.TheVariants.{Literal, And, Or}
-use Rattle.graph_rules.specs.Graphs.{Graph, node_at, is_true, mentions, kind_fits, IsGraph}
-use Rattle.graph_rules.proofs.NodesFit.{fits-at, literal}
+use Rattle.state_rules.specs.Assignments.{Assignment}
+use Rattle.state_rules.specs.Cases.{agrees_at}
+use Rattle.state_rules.specs.Values.{values}
+use Rattle.state_rules.proofs.Members.{In, AtMost}
+use Rattle.state_rules.specs.declared.nodes.NodeKind.{NodeKind}
+use Rattle.state_rules.specs.declared.nodes.NodeKind.TheVariants.{Literal, And, Or}
+use Rattle.state_rules.specs.Graphs.{Graph, node_at, is_true, mentions, kind_fits, IsGraph}
+use Rattle.state_rules.proofs.NodesFit.{fits-at, literal}
 use Rattle.conditioner.specs.Words.{known_of}
 use Rattle.minimiser.specs.Costs.{known_at, part_cost, cost_at, node_cost, sum_costs}
 use Rattle.minimiser.specs.Stored.{cost_in, costs_to, AreLeastCosts}
 use Rattle.minimiser.proofs.Totals.{add-le-total}
 use Rattle.minimiser.proofs.Costs.{fault, from_add, apart_sum, faults_in, faults_in-le, and_left, and_right}
 use Rattle.minimiser.proofs.Derivations.{any-kid, is_cost, true-at, mention-at, costs-at, apart-kids, kids-cost, apart-tail, apart-both, Apart}
-use Rattle.minimiser.proofs.Models.{same_or_not}
-use Rattle.minimiser.proofs.Passes.{the_node, length-least_costs}
+use Rattle.minimiser.proofs.OnePass.{the_node, length-least_costs}
 use Rattle.minimiser.proofs.Sums.{cost_at-map}
 use Rattle.minimiser.proofs.Sweeping.{cost_in-is, node_least}
 use Rattle.minimiser.proofs.Whole.{state_of}
@@ -43,7 +42,7 @@ pub lowered : (xs : List ℕ) (i v k : ℕ) → i < length xs → v ≤ get_or x
 lowered xs i v k h le = ⊎_elim
     (λ (e : k ≡ i). subst (λ n. get_or (set xs i v) n 0 ≤ get_or xs n 0) (sym e) (omega (arith, get_or-set_same xs i v 0 h)))
     (λ (ne : k ≢ i). omega (arith, get_or-set_other xs i k v 0 ne))
-    (same_or_not k i)
+    (cases_eq k i)
 
 -- the kids of one more node are lowered
 pub rests_met : (graph : Graph) (least xs ys : List ℕ) (at : ℕ) → IsGraph graph → at < length graph.nodes → AreRests graph.nodes least xs (at + 1)
@@ -56,7 +55,7 @@ rests_met graph least xs ys at ok inside are low same kids = record {
       (λ (e : at ≡ k). subst (λ n. (j < length (node_at graph.nodes n).kids) → get_or ys (get_or (node_at graph.nodes n).kids j 0) 0 ≤ rest_below graph.nodes least ys n j) e
       (λ p. omega (arith, kids j p, same at (omega arith))) place)
       (λ (ne : at ≢ k). omega (arith, are.down k j (omega arith) lt place, low (get_or (node_at graph.nodes k).kids j 0), same k from))
-      (same_or_not at k);
+      (cases_eq at k);
 }
 
 -- ---- the marks
@@ -149,7 +148,7 @@ module _ (graph : Graph) (words costs : List ℕ) (ok : IsGraph graph) (least : 
           lives fuel (get_or (node_at graph.nodes k).kids j 0) (omega arith) (omega arith) t (omega (arith, le, are.down k j (omega arith) inside lt, kid-cheap k inside e j lt (omega arith) t)))
           (sym (graph-is graph skips ok k inside a) ∙ e))
           (λ (ne : get_or skips k 0 ≢ 0). absurd (omega (arith, le, skipped-dear top (get_or least k 0) (get_or rests k 0) (λ q. ne (marks k inside ∙ q)), (has_least k inside e).low)))
-          (same_or_not (get_or skips k 0) 0)
+          (cases_eq (get_or skips k 0) 0)
 
   pub enough : (rests skips : List ℕ) (top : ℕ) → length words ≡ graph.vars → length costs ≤ graph.vars → AreRests graph.nodes least rests 0
       → ((k : ℕ) → k < length graph.nodes → get_or skips k 0 ≡ skip_of top (get_or least k 0) (get_or rests k 0)) → IsEnough graph skips words costs top
@@ -167,7 +166,7 @@ pub follows_old : (old new : List ℕ) → ((k : ℕ) → get_or old k 0 ≢ 0 �
 follows_old old new kept a f v = ⊎_elim
     (λ (e : get_or old (v - 1) 0 ≡ 0). ap (λ w. agrees_at (known_of w) (a v)) e)
     (λ (ne : get_or old (v - 1) 0 ≢ 0). sym (ap (λ w. agrees_at (known_of w) (a v)) (kept (v - 1) ne)) ∙ f v)
-    (same_or_not (get_or old (v - 1) 0) 0)
+    (cases_eq (get_or old (v - 1) 0) 0)
 
 pub enough_more : (graph : Graph) (skips costs : List ℕ) (top : ℕ) (old new : List ℕ) → ((k : ℕ) → get_or old k 0 ≢ 0 → get_or new k 0 ≡ get_or old k 0) → IsEnough graph skips old costs top → IsEnough graph skips new costs top
 enough_more graph skips costs top old new kept is = record { left = λ a f h le. is.left a (follows_old old new kept a f) h le }

@@ -5,8 +5,8 @@ use Rattle.std.specs.Int.{bit_at}
 use Rattle.std.proofs.lemmas.Nat.{pow_pos}
 use Rattle.std.proofs.lemmas.Nat.Bits.{bit_at-zero, bit_at_cat_low, bit_at_cat_high, bit_at_above}
 use Rattle.std.proofs.lemmas.Bool.{cases_lt, or_cases, or_left, or_right, false≢true}
-use Rattle.graph_rules.specs.inner.WordBits.{has_bit}
-use Rattle.graph_rules.proofs.WordBits.{has_bit-zero, has_bit-or}
+use Rattle.state_rules.proofs.WordBits.{has_bit-zero, has_bit-or}
+use Rattle.state_rules.specs.Bits.{has_bit}
 use Rattle.level_lister.specs.inner.Pairs.{SpreadOf, IsSpread}
 use Rattle.level_lister.proofs.SetBits.{no_high}
 

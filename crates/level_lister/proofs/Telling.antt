@@ -2,20 +2,19 @@
 use Rattle.std.proofs.Common.{◌≡◌, ℕ, zero, suc, ◌+◌, ◌-◌, ◌*◌, ◌<◌, ◌≤◌, Bool, true, false, cond, not, ◌&&◌, ◌||◌, List, length, get_or, refl, ap, sym, ◌∙◌, subst, arith, inl, inr, ⊎_elim, bit_or}
 use Rattle.std.specs.Prelude.{◌⊎◌, ◌==◌}
 use Rattle.std.proofs.lemmas.Bool.{cases_lt, and_parts, and_from, or_cases, or_left, or_right, eqb-true, eq-eqb, not-true, false≢true}
-use Rattle.ranking.specs.Assignments.{Assignment}
-use Rattle.ranking.specs.Cases.{agrees_at}
-use Rattle.ranking.specs.Bits.{same_bit}
-use Rattle.ranking.proofs.Bits.{not_left, and-not_alike}
-use Rattle.ranking.proofs.Cases.{agrees_cond}
-use Rattle.graph_rules.specs.inner.WordBits.{has_bit}
-use Rattle.graph_rules.proofs.WordBits.{has_bit-zero, one_bit, has_bit-or}
+use Rattle.state_rules.specs.Assignments.{Assignment}
+use Rattle.state_rules.specs.Cases.{agrees_at}
+use Rattle.state_rules.specs.Bits.{same_bit, has_bit}
+use Rattle.state_rules.proofs.Bits.{not_left, and-not_alike}
+use Rattle.state_rules.proofs.Cases.{agrees_cond}
+use Rattle.state_rules.proofs.WordBits.{has_bit-zero, one_bit, has_bit-or}
 use Rattle.minimiser.specs.Costs.{known_at}
+use Rattle.scratch_pool.proofs.Counted.{block-below}
 use Rattle.level_lister.specs.declared.pairs.Pair.{Pair}
 use Rattle.level_lister.specs.inner.CostSets.{cost_among, Follows}
 use Rattle.level_lister.specs.inner.Pairs.{SpreadOf, IsSpread, Meets, AreCosts, HasFault, Tells}
 use Rattle.level_lister.proofs.Among.{among-same, among-none, among-apart, among-one}
 use Rattle.level_lister.proofs.Reaching.{usual, usual-follows, set_to, set_to-here, set_to-follows}
-use Rattle.scratch_pool.proofs.Counted.{block-below}
 
 -- ---- one word
 

@@ -1,9 +1,9 @@
 -- The set of the whole graph has just the costs of the states that the words allow.
 use Rattle.std.proofs.Common.{◌≡◌, ℕ, zero, suc, ◌+◌, ◌-◌, ◌*◌, ◌<◌, ◌≤◌, Bool, true, false, cond, not, List, [], ◌∷◌, length, refl, ap, sym, ◌∙◌, subst, arith}
-use Rattle.ranking.specs.Assignments.{Assignment}
-use Rattle.ranking.specs.Bits.{bit_in}
-use Rattle.ranking.specs.Ranking.{cost}
-use Rattle.graph_rules.specs.Graphs.{Graph, IsGraph}
+use Rattle.state_rules.specs.Assignments.{Assignment}
+use Rattle.state_rules.specs.Bits.{bit_in}
+use Rattle.state_rules.specs.Ranking.{cost}
+use Rattle.state_rules.specs.Graphs.{Graph, IsGraph}
 use Rattle.minimiser.proofs.Whole.{state_of, assignment_of}
 use Rattle.part_sets.specs.Numbers.{has_number}
 use Rattle.level_lister.specs.inner.CostSets.{cost_among}

@@ -1,15 +1,15 @@
 -- What the lister of levels keeps and answers.
 use Rattle.std.specs.Prelude.{ℕ, ◌+◌, ◌/◌, ◌<◌, ◌≤◌, Bool, true, false, List, [], ◌∷◌, length, Option, Some, None}
-use Rattle.ranking.specs.Ranking.{cost}
-use Rattle.graph_rules.specs.Graphs.{Graph}
+use Rattle.state_rules.specs.Ranking.{cost}
+use Rattle.state_rules.specs.Graphs.{Graph}
+use Rattle.state_rules.specs.Levels.{levels, levels_rest}
 use Rattle.conditioner.specs.Models.{models, total_cost}
 use Rattle.minimiser.specs.declared.pass.TheConstants.{TOTAL_LIMIT}
-use Rattle.ranking.specs.Levels.{levels, levels_rest}
+use Rattle.part_sets.specs.declared.kept.TheConstants.{PART_LIMIT}
+use Rattle.part_sets.specs.PartSets.{AreBelow, AreLacking}
 use Rattle.level_lister.specs.declared.levels.LevelStep.{LevelStep}
 use Rattle.level_lister.specs.declared.levels.LevelStep.TheVariants.{Found, End, Inconsistent}
-use Rattle.part_sets.specs.declared.kept.TheConstants.{PART_LIMIT}
 use Rattle.level_lister.specs.declared.levels.TheConstants.{TOP_LIMIT}
-use Rattle.part_sets.specs.PartSets.{AreBelow, AreLacking}
 
 -- the costs of the parts, the greatest cost that is listed, and for each node of a graph the parts below it and whether a kid lacks
 -- one of them

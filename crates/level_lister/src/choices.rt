@@ -1,6 +1,6 @@
 //! Parts that are free to be ok or faulty, since a kid of a node does not mention them.
 ghost use Rattle.std.specs.Prelude.{◌≡◌, ℕ, ◌+◌, ◌*◌, ◌<◌, ◌≤◌, Bool, true, not, ◌&&◌, ◌||◌, length, All, ◌==◌};
-ghost use Rattle.ranking.specs.Assignments.{Assignment};
+ghost use Rattle.state_rules.specs.Assignments.{Assignment};
 ghost use Rattle.part_sets.specs.Numbers.{has_number, part_words};
 ghost use Rattle.part_sets.specs.PartSets.{ArePartsOf};
 ghost use Rattle.level_lister.specs.inner.CostSets.{has_shifted, IsCostSet};

@@ -1,9 +1,9 @@
 //! One pass over the nodes, which brings for each the set of the costs at which an open part of a group is faulty.
 ghost use Rattle.std.specs.Prelude.{◌≡◌, ℕ, ◌+◌, ◌*◌, ◌<◌, ◌≤◌, Bool, true, false, ◌&&◌, ◌||◌, List, length, slice_index, All, ◌==◌};
-ghost use Rattle.ranking.specs.Assignments.{Assignment};
-ghost use Rattle.ranking.specs.Bits.{same_bit};
-ghost use Rattle.graph_rules.specs.declared.NodeKind.TheVariants.{And, Or};
-ghost use Rattle.graph_rules.specs.Graphs.{node_at};
+ghost use Rattle.state_rules.specs.Assignments.{Assignment};
+ghost use Rattle.state_rules.specs.Bits.{same_bit};
+ghost use Rattle.state_rules.specs.declared.nodes.NodeKind.TheVariants.{And, Or};
+ghost use Rattle.state_rules.specs.Graphs.{node_at};
 ghost use Rattle.part_sets.specs.Numbers.{part_words, set_at};
 ghost use Rattle.part_sets.specs.PartSets.{ArePartsOf};
 ghost use Rattle.level_lister.specs.Listing.{IsFor, cost_words};
@@ -16,9 +16,9 @@ use crate::pairs::Groups;
 use crate::pass::put_full;
 use crate::sets::{SET_LIMIT, add_shifted, put_sums};
 use conditioner::is_open;
-use graph_rules::NodeKind;
 use node_store::Graph;
 use part_sets::{clear, next_missing, part_words, put_one, set_at};
+use state_rules::NodeKind;
 
 // What the sets are put from: a graph, words, groups, the sets of the costs of all nodes, and which nodes are skipped.
 #[derive(Drop)]

@@ -1,23 +1,22 @@
 //! One pass over the nodes, which brings two words for each, where only costs below 32 are listed.
 ghost use Rattle.std.specs.Prelude.{◌≡◌, ℕ, ◌+◌, ◌*◌, ◌<◌, ◌≤◌, Bool, true, false, ◌&&◌, List, length, slice_index, All, ◌==◌};
-ghost use Rattle.ranking.specs.Assignments.{Assignment};
-ghost use Rattle.ranking.specs.Bits.{same_bit};
-ghost use Rattle.ranking.specs.Cases.{agrees_at};
-ghost use Rattle.graph_rules.specs.declared.NodeKind.TheVariants.{And, Or};
-ghost use Rattle.graph_rules.specs.Graphs.{node_at};
-ghost use Rattle.graph_rules.specs.inner.WordBits.{has_bit};
+ghost use Rattle.state_rules.specs.Assignments.{Assignment};
+ghost use Rattle.state_rules.specs.Bits.{same_bit, has_bit};
+ghost use Rattle.state_rules.specs.Cases.{agrees_at};
+ghost use Rattle.state_rules.specs.declared.nodes.NodeKind.TheVariants.{And, Or};
+ghost use Rattle.state_rules.specs.Graphs.{node_at};
 ghost use Rattle.minimiser.specs.Costs.{known_at};
-ghost use Rattle.level_lister.specs.Passes.{group_count};
 ghost use Rattle.part_sets.specs.Numbers.{part_words, set_at};
 ghost use Rattle.part_sets.specs.PartSets.{ArePartsOf, SameBelow};
+ghost use Rattle.level_lister.specs.Passes.{group_count};
 ghost use Rattle.level_lister.specs.inner.Pairs.{Tells, TellsNode, TellNodes, TellsWhole, group_in, pair_at};
 
 use crate::levels::Levels;
 use crate::pairs::{Groups, Pair, either, joined, one};
 use crate::search::Search;
 use conditioner::{Leaf, is_open, known_of, leaf};
-use graph_rules::NodeKind;
 use part_sets::{PART_LIMIT, next_missing, part_words, set_at};
+use state_rules::NodeKind;
 
 // What costs nothing, and has no faulty part.
 const FREE: Pair = Pair {

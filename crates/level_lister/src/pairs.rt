@@ -1,7 +1,7 @@
 //! Two words for a node, where few costs are listed: which costs it can have, and at which of them a part of a group is faulty.
 ghost use Rattle.std.specs.Prelude.{◌≡◌, ℕ, ◌+◌, ◌*◌, ◌<◌, ◌≤◌, Bool, false, ◌&&◌, ◌||◌, List, ◌==◌};
-ghost use Rattle.ranking.specs.Assignments.{Assignment};
-ghost use Rattle.graph_rules.specs.inner.WordBits.{has_bit};
+ghost use Rattle.state_rules.specs.Assignments.{Assignment};
+ghost use Rattle.state_rules.specs.Bits.{has_bit};
 ghost use Rattle.level_lister.specs.inner.Pairs.{IsSpread, Tells};
 
 /// How many numbers a word tells.

@@ -1,9 +1,9 @@
 //! One pass over the nodes, which brings the set of the costs of each.
 ghost use Rattle.std.specs.Prelude.{◌≡◌, ◌≢◌, ℕ, ◌+◌, ◌*◌, ◌<◌, ◌≤◌, false, List, length, slice_index, All, ◌==◌, if◌then◌else◌};
+ghost use Rattle.state_rules.specs.declared.nodes.NodeKind.TheVariants.{And, Or};
+ghost use Rattle.state_rules.specs.Graphs.{node_at};
 ghost use Rattle.conditioner.specs.declared.leaves.Leaf.{Leaf};
 ghost use Rattle.part_sets.specs.Numbers.{has_number, part_words, set_at};
-ghost use Rattle.graph_rules.specs.declared.NodeKind.TheVariants.{And, Or};
-ghost use Rattle.graph_rules.specs.Graphs.{node_at};
 ghost use Rattle.part_sets.specs.PartSets.{SameBelow};
 ghost use Rattle.level_lister.specs.declared.pairs.Groups.{Groups};
 ghost use Rattle.level_lister.specs.inner.NodeSets.{IsNodeSet, AreNodeSets, IsWholeSet};
@@ -13,10 +13,10 @@ use crate::choices::widen;
 use crate::search::Search;
 use crate::sets::{SET_LIMIT, add_shifted, put_sums};
 use conditioner::{Leaf, leaf};
-use graph_rules::NodeKind;
 use minimiser::part_cost;
 use node_store::Graph;
 use part_sets::{clear, part_words, put_one, set_at};
+use state_rules::NodeKind;
 
 impl Search<'_> {
     // Brings the set of the costs of each node, and that of the costs of all parts at which the last node can be true.

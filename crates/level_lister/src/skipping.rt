@@ -1,14 +1,14 @@
 //! Nodes that no state of a listed cost needs.
 ghost use Rattle.std.specs.Prelude.{◌≡◌, ◌≢◌, ℕ, ◌+◌, ◌<◌, ◌≤◌, [], true, false, length, All, slice_index};
+ghost use Rattle.state_rules.specs.Graphs.{node_at};
 ghost use Rattle.conditioner.specs.Models.{models};
-ghost use Rattle.graph_rules.specs.Graphs.{node_at};
 ghost use Rattle.level_lister.specs.Listing.{IsFor};
 ghost use Rattle.level_lister.specs.inner.Skips.{IsEnough, AreRests, others_cost, rest_below, skip_of};
 
 use crate::levels::{Levels, TOP_LIMIT};
-use graph_rules::NodeKind;
 use minimiser::{Steps, least};
 use node_store::Graph;
+use state_rules::NodeKind;
 use std::sync::ledger::Ledger;
 
 impl Levels {

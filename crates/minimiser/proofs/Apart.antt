@@ -3,12 +3,12 @@ use Rattle.std.proofs.Common.{◌≡◌, ℕ, ◌+◌, ◌<◌, ◌^◌, Bool, t
 use Rattle.std.specs.List.{AllByRecursion}
 use Rattle.std.proofs.lemmas.Bool.{and_parts, ltb-true}
 use Rattle.std.proofs.lemmas.List.{length_push}
-use Rattle.ranking.specs.Bits.{bit_in}
-use Rattle.ranking.specs.Values.{values_after}
-use Rattle.ranking.proofs.Values.{values_after-keeps}
-use Rattle.graph_rules.specs.declared.NodeKind.TheVariants.{And}
-use Rattle.graph_rules.specs.Graphs.{Node, mention, apart_at, kind_fits, node_fits, nodes_fit, AreNodes}
-use Rattle.graph_rules.proofs.NodesFit.{fits, apart_at-below}
+use Rattle.state_rules.specs.Bits.{bit_in}
+use Rattle.state_rules.specs.Values.{values_after}
+use Rattle.state_rules.proofs.Values.{values_after-keeps}
+use Rattle.state_rules.specs.declared.nodes.NodeKind.TheVariants.{And}
+use Rattle.state_rules.specs.Graphs.{Node, mention, apart_at, kind_fits, node_fits, nodes_fit, AreNodes}
+use Rattle.state_rules.proofs.NodesFit.{fits, apart_at-below}
 use Rattle.minimiser.proofs.Nodes.{ApartAfter}
 
 apart_after : (vars v : ℕ) (earlier : List Bool) (nodes : List Node) → nodes_fit vars (length earlier) nodes ≡ true

@@ -2,12 +2,12 @@
 use Rattle.std.proofs.Common.{◌≡◌, ℕ, ◌+◌, ◌<◌, ◌≤◌, Bool, true, false, cond, ◌&&◌, ◌||◌, Option, Some, None, refl, ap, sym, ◌∙◌, subst, arith, eqb, inl, inr, ⊎_elim}
 use Rattle.std.specs.Prelude.{◌⊎◌}
 use Rattle.std.proofs.lemmas.Bool.{and_from, or_cases, or_left, or_right, eqb-true, eq-eqb, cases_lt}
-use Rattle.ranking.specs.Bits.{same_bit}
-use Rattle.ranking.specs.Cases.{agrees_at}
-use Rattle.ranking.specs.Assignments.{Assignment}
-use Rattle.ranking.proofs.Bits.{same_bit-refl, not_left}
-use Rattle.ranking.proofs.Cases.{usual_bit, usual_bit-agrees, agrees_cond}
-use Rattle.ranking.proofs.Members.{AtMost, AtMost-le}
+use Rattle.state_rules.specs.Bits.{same_bit}
+use Rattle.state_rules.specs.Cases.{agrees_at}
+use Rattle.state_rules.specs.Assignments.{Assignment}
+use Rattle.state_rules.proofs.Bits.{same_bit-refl, not_left}
+use Rattle.state_rules.proofs.Cases.{usual_bit, usual_bit-agrees, agrees_cond}
+use Rattle.state_rules.proofs.Members.{AtMost, AtMost-le}
 use Rattle.conditioner.specs.Words.{leaf_of}
 use Rattle.minimiser.specs.Costs.{add_costs, min_costs, literal_cost}
 use Rattle.minimiser.proofs.Totals.{total, total-le, total-le-add, add-le-total, total-zero, total-one, le-total}

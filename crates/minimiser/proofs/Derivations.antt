@@ -5,18 +5,18 @@ use Rattle.std.specs.List.{list_all, list_any}
 use Rattle.std.proofs.lemmas.Bool.{and_from, and_parts, cases_lt, false≢true, eqb-true, eq-eqb, ltb-true}
 use Rattle.std.proofs.lemmas.List.{get_or_past}
 use Rattle.std.proofs.lemmas.Option.{get_or_from_slice_get, slice_get_within, same_Some}
-use Rattle.ranking.specs.Bits.{same_bit}
-use Rattle.ranking.specs.Assignments.{Assignment}
-use Rattle.ranking.specs.Values.{values}
-use Rattle.ranking.proofs.Lists.{list_any-map}
-use Rattle.ranking.proofs.Members.{In, Passing, any_from, any_in, AtMost}
-use Rattle.ranking.proofs.Values.{length-values_after, values-at, values-before}
-use Rattle.graph_rules.specs.declared.NodeKind.{NodeKind}
-use Rattle.graph_rules.specs.declared.NodeKind.TheVariants.{Literal, And, Or}
-use Rattle.graph_rules.specs.Graphs.{at_most_one, Node, Graph, truth, truth_by, mention, mention_by, mentions, is_true, IsGraph}
-use Rattle.graph_rules.proofs.NodeValues.{are_below, map-below, value_of-get}
-use Rattle.graph_rules.proofs.Kids.{at_most_one-tail, not_both}
-use Rattle.graph_rules.proofs.NodesFit.{fits-get, apart-get}
+use Rattle.state_rules.specs.Bits.{same_bit}
+use Rattle.state_rules.specs.Assignments.{Assignment}
+use Rattle.state_rules.specs.Values.{values}
+use Rattle.state_rules.proofs.Lists.{list_any-map}
+use Rattle.state_rules.proofs.Members.{In, Passing, any_from, any_in, AtMost}
+use Rattle.state_rules.proofs.Values.{length-values_after, values-at, values-before}
+use Rattle.state_rules.specs.declared.nodes.NodeKind.{NodeKind}
+use Rattle.state_rules.specs.declared.nodes.NodeKind.TheVariants.{Literal, And, Or}
+use Rattle.state_rules.specs.Graphs.{at_most_one, Node, Graph, truth, truth_by, mention, mention_by, mentions, is_true, IsGraph}
+use Rattle.state_rules.proofs.NodeValues.{are_below, map-below, value_of-get}
+use Rattle.state_rules.proofs.Kids.{at_most_one-tail, not_both}
+use Rattle.state_rules.proofs.NodesFit.{fits-get, apart-get}
 use Rattle.conditioner.specs.Words.{leaf_of}
 use Rattle.minimiser.specs.Costs.{part_cost, known_at, cost_at, sum_costs, cheapest, node_cost, cost_by, literal_cost}
 use Rattle.minimiser.proofs.Totals.{add-le-total, le-total}

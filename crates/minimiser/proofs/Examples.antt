@@ -1,7 +1,7 @@
 -- Worked rows: graphs of one node, and one of either literal.
 use Rattle.std.proofs.Common.{◌≡◌, true, false, [], ◌∷◌, Some, None, refl}
-use Rattle.graph_rules.specs.declared.NodeKind.TheVariants.{Or}
-use Rattle.graph_rules.specs.Graphs.{Graph, literal_node, true_node}
+use Rattle.state_rules.specs.declared.nodes.NodeKind.TheVariants.{Or}
+use Rattle.state_rules.specs.Graphs.{Graph, literal_node, true_node, false_node}
 use Rattle.conditioner.specs.Models.{least_under, least_with, models_with, diagnoses_under, total_cost}
 use Rattle.minimiser.specs.Costs.{part_cost}
 use Rattle.minimiser.specs.inner.Held.{held_cost}
@@ -11,7 +11,7 @@ abbrev always : Graph
 always = record { nodes = true_node ∷ []; vars = 2 }
 
 abbrev never : Graph
-never = record { nodes = record { what = Or; kids = [] } ∷ []; vars = 2 }
+never = record { nodes = false_node ∷ []; vars = 2 }
 
 -- the first of two parts is faulty, or the second
 abbrev either : Graph

@@ -5,8 +5,13 @@ pub mod Apart
 pub mod Held
 pub mod Sums
 pub mod Whole
-pub mod Passes
+pub mod OnePass
 pub mod Models
 pub mod Derivations
 pub mod Sweeping
+pub mod Faults
+pub mod OpenMarks
+pub mod Fixing
+pub mod Points
+pub mod Answering
 mod Examples

@@ -1,24 +1,19 @@
 -- The states that a graph allows, as words are changed.
-use Rattle.std.proofs.Common.{◌≡◌, ◌≢◌, ℕ, zero, suc, ◌-◌, ◌<◌, ◌≤◌, Bool, true, false, eqb, ◌&&◌, List, [], ◌∷◌, ◌++◌, length, get_or, Option, Some, None, refl, ap, sym, ◌∙◌, subst, arith, inl, inr, ⊎_elim, length-append}
+use Rattle.std.proofs.Common.{◌≡◌, ◌≢◌, ℕ, zero, suc, ◌-◌, ◌<◌, ◌≤◌, Bool, true, false, ◌&&◌, List, [], ◌∷◌, ◌++◌, length, get_or, Option, Some, None, refl, ap, sym, ◌∙◌, subst, arith, ⊎_elim, length-append}
 use Rattle.std.specs.Prelude.{◌⊎◌}
-use Rattle.std.proofs.lemmas.Bool.{and_from, eqb-true, eqb-false, cases_lt, leb-true, le-leb}
-use Rattle.ranking.specs.Bits.{bit_in, lists_of_bits}
-use Rattle.ranking.specs.Cases.{agrees_at}
-use Rattle.ranking.specs.Ranking.{cost, least, least_with, is_at_most, states}
-use Rattle.graph_rules.specs.Graphs.{Graph, holds}
+use Rattle.std.proofs.lemmas.Bool.{and_from, cases_lt, leb-true, le-leb}
+use Rattle.state_rules.specs.Bits.{bit_in, lists_of_bits}
+use Rattle.state_rules.specs.Cases.{agrees_at}
+use Rattle.state_rules.specs.Ranking.{cost, least, least_with, is_at_most, states}
+use Rattle.state_rules.specs.Graphs.{Graph, holds}
+use Rattle.state_rules.proofs.Members.{In, In-filter, In-filtered, bits_in, bits_length, any_from, any_in, AtMost, AtMost-le, least-below, least-from}
+use Rattle.state_rules.proofs.Bits.{bit_in-front}
 use Rattle.conditioner.specs.Words.{known_of, word_of}
 use Rattle.conditioner.specs.Models.{has_model, fits_words, models, least_under, diagnoses_under}
 use Rattle.conditioner.proofs.FittingWords.{fits_words-at, fits_words-from}
 use Rattle.minimiser.proofs.Costs.{and_left, and_right}
-use Rattle.ranking.proofs.Members.{In, In-filter, In-filtered, bits_in, bits_length, any_from, any_in, AtMost, AtMost-le, least-below, least-from}
-use Rattle.minimiser.proofs.Whole.{bit_in-front, from_bounds}
-use Rattle.minimiser.specs.Suspects.{Passes}
-
-pub same_or_not : (k i : ℕ) → (k ≡ i) ⊎ (k ≢ i)
-same_or_not k i = by_test (eqb k i) refl where
-  by_test : (b : Bool) → eqb k i ≡ b → (k ≡ i) ⊎ (k ≢ i)
-  by_test true e = inl (eqb-true _ _ e)
-  by_test false e = inr (eqb-false _ _ e)
+use Rattle.minimiser.proofs.Whole.{from_bounds}
+use Rattle.minimiser.specs.LeastStates.{ModelWithin}
 
 -- a bit that agrees with a word
 abbrev pub Agree : ℕ → Bool → Type 0
@@ -46,7 +41,7 @@ LeastIs graph costs words most = least_under graph words costs ≡ Some most
 -- some state passes
 pub record HasState (graph : Graph) (words costs : List ℕ) (most : ℕ) : Type 0 where
   pub state : List Bool
-  pub passes : Passes graph words costs most state
+  pub passes : ModelWithin graph words costs most state
 
 module _ (graph : Graph) (costs : List ℕ) (within : length costs ≤ graph.vars) where
   -- what the words say of the parts is so in a state that they allow
@@ -77,8 +72,8 @@ module _ (graph : Graph) (costs : List ℕ) (within : length costs ≤ graph.var
   agree-open zero new bit h a = refl
   agree-open (suc n) new bit h a = subst (λ w. Agree w bit) (h (λ e. absurd (omega arith))) a
 
-  pub Passes-old : (old new : List ℕ) (most : ℕ) (h : List Bool) → length old ≡ graph.vars → Refines (length costs) old new → Passes graph new costs most h → Passes graph old costs most h
-  Passes-old old new most h long r p = record {
+  pub ModelWithin-old : (old new : List ℕ) (most : ℕ) (h : List Bool) → length old ≡ graph.vars → Refines (length costs) old new → ModelWithin graph new costs most h → ModelWithin graph old costs most h
+  ModelWithin-old old new most h long r p = record {
     long = p.long;
     model = model-moved new old h (r.long ∙ long) long p.long p.model
         (λ i lt. agree-open (get_or old i 0) (get_or new i 0) (bit_in h i) (r.kept i) (model-agrees new h (r.long ∙ long) p.long p.model i lt))
@@ -86,16 +81,16 @@ module _ (graph : Graph) (costs : List ℕ) (within : length costs ≤ graph.var
     cheap = p.cheap;
   }
 
-  pub Passes-new : (old new : List ℕ) (most : ℕ) (h : List Bool) → length old ≡ graph.vars → Refines (length costs) old new → Passes graph old costs most h
-      → ((i : ℕ) → i < length costs → Agree (get_or new i 0) (bit_in h i)) → Passes graph new costs most h
-  Passes-new old new most h long r p agree = record {
+  pub ModelWithin-new : (old new : List ℕ) (most : ℕ) (h : List Bool) → length old ≡ graph.vars → Refines (length costs) old new → ModelWithin graph old costs most h
+      → ((i : ℕ) → i < length costs → Agree (get_or new i 0) (bit_in h i)) → ModelWithin graph new costs most h
+  ModelWithin-new old new most h long r p agree = record {
     long = p.long;
     model = model-moved old new h long (r.long ∙ long) p.long p.model agree r.others;
     cheap = p.cheap;
   }
 
-  pub Passes-agrees : (words : List ℕ) (most : ℕ) (h : List Bool) → length words ≡ graph.vars → Passes graph words costs most h → (i : ℕ) → i < length costs → Agree (get_or words i 0) (bit_in h i)
-  Passes-agrees words most h long p i lt = model-agrees words h long p.long p.model i lt
+  pub ModelWithin-agrees : (words : List ℕ) (most : ℕ) (h : List Bool) → length words ≡ graph.vars → ModelWithin graph words costs most h → (i : ℕ) → i < length costs → Agree (get_or words i 0) (bit_in h i)
+  ModelWithin-agrees words most h long p i lt = model-agrees words h long p.long p.model i lt
 
   -- no state that the words allow costs less
   pub least-low : (words : List ℕ) (most : ℕ) (h : List Bool) → LeastIs graph costs words most → length h ≡ length costs → has_model graph (fits_words words) (length costs) h ≡ true → most ≤ cost costs h
@@ -108,12 +103,12 @@ module _ (graph : Graph) (costs : List ℕ) (within : length costs ≤ graph.var
       record { state = r.item; passes = record { long = bits_length (length costs) r.item r.is_in; model = r.passes; cheap = omega (arith, r.is_size) } }
 
   -- a state that passes under words that say more shows that their least cost is the same
-  pub least-refined : (old new : List ℕ) (most : ℕ) (h : List Bool) → length old ≡ graph.vars → Refines (length costs) old new → LeastIs graph costs old most → Passes graph new costs most h → LeastIs graph costs new most
+  pub least-refined : (old new : List ℕ) (most : ℕ) (h : List Bool) → length old ≡ graph.vars → Refines (length costs) old new → LeastIs graph costs old most → ModelWithin graph new costs most h → LeastIs graph costs new most
   least-refined old new most h long r e p = from_bounds _ most
       (AtMost-le _ (cost costs h) most
       (least-below (cost costs) (has_model graph (fits_words new) (length costs)) h (states (length costs)) (subst (λ n. In h (lists_of_bits n)) p.long (bits_in h)) p.model) p.cheap)
       (λ k f. let s = least-from (cost costs) (has_model graph (fits_words new) (length costs)) k (states (length costs)) f in
-      let t = Passes-old old new k s.item long r (record { long = bits_length (length costs) s.item s.is_in; model = s.passes; cheap = omega (arith, s.is_size) }) in
+      let t = ModelWithin-old old new k s.item long r (record { long = bits_length (length costs) s.item s.is_in; model = s.passes; cheap = omega (arith, s.is_size) }) in
       omega (arith, least-low old most s.item e t.long t.model, s.is_size))
 
 -- ---- the diagnoses
@@ -139,11 +134,11 @@ module _ (graph : Graph) (words costs : List ℕ) (most : ℕ) (e : LeastIs grap
   low-out h t = leb-true (cost costs h) most (sym (ap (is_at_most (cost costs h)) e) ∙ t)
 
   -- the diagnoses are the states that pass
-  pub diagnosis-in : (h : List Bool) → Passes graph words costs most h → In h ds
+  pub diagnosis-in : (h : List Bool) → ModelWithin graph words costs most h → In h ds
   diagnosis-in h p = In-filtered is_low h (models graph words (length costs))
       (In-filtered (has_model graph (fits_words words) (length costs)) h (states (length costs)) (subst (λ n. In h (lists_of_bits n)) p.long (bits_in h)) p.model) (low-in h p.cheap)
 
-  pub diagnosis-out : (h : List Bool) → In h ds → Passes graph words costs most h
+  pub diagnosis-out : (h : List Bool) → In h ds → ModelWithin graph words costs most h
   diagnosis-out h m =
       let a = In-filter is_low h (models graph words (length costs)) m in
       let b = In-filter (has_model graph (fits_words words) (length costs)) h (states (length costs)) a.0 in

@@ -4,13 +4,13 @@ use Rattle.std.specs.Prelude.{◌⊎◌}
 use Rattle.std.specs.List.{list_any, list_all}
 use Rattle.std.proofs.lemmas.Bool.{cases_lt}
 use Rattle.std.proofs.lemmas.List.{get_or_append_left, get_or_push, get_or_past}
-use Rattle.ranking.specs.Bits.{bit_in}
-use Rattle.ranking.specs.Assignments.{Assignment}
-use Rattle.ranking.specs.Values.{values_after}
-use Rattle.graph_rules.specs.declared.NodeKind.{NodeKind}
-use Rattle.graph_rules.specs.declared.NodeKind.TheVariants.{Literal, And, Or}
-use Rattle.graph_rules.specs.Graphs.{at_most_one, Node, truth, truth_by, mention, mention_by, apart_at}
-use Rattle.graph_rules.proofs.Kids.{at_most_one-tail, not_both}
+use Rattle.state_rules.specs.Bits.{bit_in}
+use Rattle.state_rules.specs.Assignments.{Assignment}
+use Rattle.state_rules.specs.Values.{values_after}
+use Rattle.state_rules.specs.declared.nodes.NodeKind.{NodeKind}
+use Rattle.state_rules.specs.declared.nodes.NodeKind.TheVariants.{Literal, And, Or}
+use Rattle.state_rules.specs.Graphs.{at_most_one, Node, truth, truth_by, mention, mention_by, apart_at}
+use Rattle.state_rules.proofs.Kids.{at_most_one-tail, not_both}
 use Rattle.minimiser.specs.Costs.{sum_costs, cheapest, cost_at, cost_by, node_cost}
 use Rattle.minimiser.proofs.Costs.{IsCost, IsCost-same, and_is, or_is, true_is, false_is, literal_is}
 

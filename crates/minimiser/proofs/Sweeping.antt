@@ -2,29 +2,29 @@
 use Rattle.std.proofs.Common.{◌≡◌, ◌≢◌, ℕ, zero, suc, ◌+◌, ◌-◌, ◌<◌, ◌≤◌, Bool, true, false, cond, eqb, ◌&&◌, ◌||◌, List, [], ◌∷◌, map, length, get_or, min, All, Option, Some, None, refl, ap, sym, ◌∙◌, subst, arith, inl, inr, ⊎_elim}
 use Rattle.std.specs.Prelude.{◌⊎◌, ◌==◌, slice_get, nat_le, IsSome}
 use Rattle.std.proofs.Math.Seq.{take-length}
-use Rattle.std.proofs.lemmas.Bool.{and_from, cases_lt, eqb-true, eq-eqb, leb-true, le-leb, ltb-true, lt-ltb}
+use Rattle.std.proofs.lemmas.Bool.{and_from, cases_lt, eqb-true, eq-eqb, leb-true, le-leb, ltb-true, lt-ltb, cases_eq}
 use Rattle.std.proofs.lemmas.Option.{slice_get-get_or, slice_get_within, get_or_from_slice_get, same_Some}
-use Rattle.ranking.specs.Bits.{bit_in}
-use Rattle.ranking.specs.Values.{values}
-use Rattle.graph_rules.specs.declared.NodeKind.{NodeKind}
-use Rattle.graph_rules.specs.declared.NodeKind.TheVariants.{Literal, And, Or}
-use Rattle.graph_rules.specs.Graphs.{Node, Graph, true_node, node_at, IsGraph}
-use Rattle.graph_rules.proofs.NodesFit.{fits-get, literal}
+use Rattle.std.proofs.Math.Bool.{or-true}
+use Rattle.state_rules.specs.Bits.{bit_in}
+use Rattle.state_rules.specs.Values.{values}
+use Rattle.state_rules.specs.declared.nodes.NodeKind.{NodeKind}
+use Rattle.state_rules.specs.declared.nodes.NodeKind.TheVariants.{Literal, And, Or}
+use Rattle.state_rules.specs.Graphs.{Node, Graph, true_node, node_at, IsGraph}
+use Rattle.state_rules.proofs.NodesFit.{fits-get, literal}
+use Rattle.state_rules.proofs.Members.{In, AtMost}
 use Rattle.conditioner.specs.Words.{known_of}
 use Rattle.conditioner.specs.Models.{least_under, total_cost}
 use Rattle.minimiser.specs.Costs.{part_cost, known_at, cost_at, sum_costs, node_cost}
 use Rattle.minimiser.specs.inner.Held.{held_cost}
 use Rattle.minimiser.specs.Stored.{cost_in, costs_to, AreLeastCosts}
-use Rattle.minimiser.specs.Suspects.{Suspect, LeastState, OkBelow}
-use Rattle.minimiser.specs.inner.Marked.{IsValue, has_mark, unmarked, IsMarked, is_kid, spread_value, HasMarkedParent, IsSwept, suspect_of, suspect_at}
+use Rattle.minimiser.specs.LeastStates.{Suspect, LeastState, OkBelow}
+use Rattle.minimiser.specs.inner.Swept.{IsValue, has_mark, unmarked, IsMarked, is_kid, spread_value, HasMarkedParent, IsSwept, suspect_of, suspect_at}
 use Rattle.minimiser.proofs.Costs.{fault, from_add, and_left, and_right}
-use Rattle.ranking.proofs.Members.{In, AtMost}
 use Rattle.minimiser.proofs.Sums.{cost_in-some, cost_at-map}
 use Rattle.minimiser.proofs.Whole.{AddHeld, least_is, state_of, assignment_of}
-use Rattle.minimiser.proofs.Passes.{value_small, length-least_costs, kids_below, literal_at}
+use Rattle.minimiser.proofs.OnePass.{value_small, length-least_costs, kids_below, literal_at}
 use Rattle.minimiser.proofs.Derivations.{cheapest-kid, Useful, useful-root, useful-and, useful-or, useful-literal, on-root, descend, costs-at, below, all-below}
-use Rattle.minimiser.proofs.Models.{LeastIs, same_or_not}
-use Rattle.std.proofs.Math.Bool.{or-true}
+use Rattle.minimiser.proofs.Models.{LeastIs}
 
 pub some-least : (o : Option ℕ) → IsSome o → (m : ℕ) × (o ≡ Some m)
 some-least None h = absurd (cc)
@@ -160,7 +160,7 @@ module _ (nodes : List Node) (cs : List ℕ) where
       down = λ k j h g q l i c. ⊎_elim
           (λ (r : k ≡ at). kid-marked j (subst (λ n. is_kid (node_at nodes n).kids j ≡ true) r i) (subst (λ n. get_or cs j 0 ≤ get_or cs n 0) r c))
           (λ (r : k ≢ at). more j l (s.down k j (omega arith) g (old-mark k h g q) l i c))
-          (same_or_not k at);
+          (cases_eq k at);
       up = λ k h q. ⊎_elim
           (λ r. ⊎_elim (λ x. inl x) (λ x. inr (new-parent k x)) (s.up k h r))
           (λ r. inr (newly k h r.0 r.1))
@@ -202,7 +202,7 @@ module _ (graph : Graph) (words costs : List ℕ) (ok : IsGraph graph) (total : 
   pub are-values : All IsValue cs
   are-values k d h = subst IsValue (default cs k d h) (⊎_elim (λ (q : get_or cs k 0 ≡ 4294967295). inr q)
       (λ (ne : get_or cs k 0 ≢ 4294967295). inl (omega (arith, total, value_small graph words costs (length graph.nodes) k cs ok v h ne)))
-      (same_or_not (get_or cs k 0) 4294967295)) where
+      (cases_eq (get_or cs k 0) 4294967295)) where
         default : (xs : List ℕ) (k d : ℕ) → k < length xs → get_or xs k 0 ≡ get_or xs k d
         default [] k d h = absurd (omega arith)
         default (x ∷ xs) zero d h = refl
@@ -339,20 +339,20 @@ module _ (graph : Graph) (words costs : List ℕ) (ok : IsGraph graph) (long : l
 -- ---- the look at all nodes
 
 -- the least of the suspects of so many nodes
-pub record IsFirst (suspect : ℕ → Option ℕ) (parts at first : ℕ) : Type 0 where
+pub record IsLeastSuspect (suspect : ℕ → Option ℕ) (parts at first : ℕ) : Type 0 where
   pub within : first ≤ parts
   pub found : first < parts → (k : ℕ) × (k < at) × (suspect k ≡ Some first)
   pub all : (k part : ℕ) → k < at → suspect k ≡ Some part → first ≤ part
 
 module _ (suspect : ℕ → Option ℕ) (parts : ℕ) where
-  pub first-same : (at first : ℕ) → IsFirst suspect parts at first → suspect at ≡ None → IsFirst suspect parts (at + 1) first
+  pub first-same : (at first : ℕ) → IsLeastSuspect suspect parts at first → suspect at ≡ None → IsLeastSuspect suspect parts (at + 1) first
   first-same at first f none = record {
     within = f.within;
     found = λ h. let x = f.found h in (x.0, omega (arith, x.1), x.2);
-    all = λ k part h e. ⊎_elim (λ (q : k ≡ at). absurd (cc (sym none ∙ ap suspect (sym q), e))) (λ (ne : k ≢ at). f.all k part (omega arith) e) (same_or_not k at);
+    all = λ k part h e. ⊎_elim (λ (q : k ≡ at). absurd (cc (sym none ∙ ap suspect (sym q), e))) (λ (ne : k ≢ at). f.all k part (omega arith) e) (cases_eq k at);
   }
 
-  pub first-less : (at first part next : ℕ) → IsFirst suspect parts at first → suspect at ≡ Some part → next ≡ min first part → IsFirst suspect parts (at + 1) next
+  pub first-less : (at first part next : ℕ) → IsLeastSuspect suspect parts at first → suspect at ≡ Some part → next ≡ min first part → IsLeastSuspect suspect parts (at + 1) next
   first-less at first part next f is e = record {
     within = omega (arith, f.within);
     found = λ h. ⊎_elim
@@ -362,7 +362,7 @@ module _ (suspect : ℕ → Option ℕ) (parts : ℕ) where
     all = λ k other h r. ⊎_elim
         (λ (q : k ≡ at). let same : part ≡ other = same_Some part other (sym is ∙ ap suspect (sym q) ∙ r) in omega arith)
         (λ (ne : k ≢ at). let l = f.all k other (omega arith) r in omega arith)
-        (same_or_not k at);
+        (cases_eq k at);
   }
 
 -- the suspects of so many nodes are flagged
@@ -386,13 +386,13 @@ module _ (graph : Graph) (words costs cs : List ℕ) (ok : IsGraph graph) (long 
         → (k : ℕ) × (k < length graph.nodes) × (suspect_at graph.nodes words (length costs) xs k ≡ Some part)
     is-found dears part lt open_ h is q = let l = some-least (least_under graph words costs) some in suspect-found graph words costs ok long within total l.0 l.1 cs v xs s dears part lt open_ h is q
 
-    pub ok-before : All (λ c. 0 < c) costs → (first at : ℕ) → at ≡ length graph.nodes → IsFirst (suspect_at graph.nodes words (length costs) xs) (length costs) at first → OkBelow graph words costs first
+    pub ok-before : All (λ c. 0 < c) costs → (first at : ℕ) → at ≡ length graph.nodes → IsLeastSuspect (suspect_at graph.nodes words (length costs) xs) (length costs) at first → OkBelow graph words costs first
     ok-before dears first at e f part lt open_ h is = by_bit (bit_in h part) refl where
       by_bit : (b : Bool) → bit_in h part ≡ b → b ≡ true
       by_bit true q = refl
       by_bit false q = let x = is-found dears part (omega (arith, f.within)) open_ h is q in absurd (omega (arith, f.all x.0 part (omega (arith, x.1)) x.2))
 
-    pub first-suspect : (first at : ℕ) → at ≡ length graph.nodes → IsFirst (suspect_at graph.nodes words (length costs) xs) (length costs) at first → first ≢ length costs → Suspect graph words costs first
+    pub first-suspect : (first at : ℕ) → at ≡ length graph.nodes → IsLeastSuspect (suspect_at graph.nodes words (length costs) xs) (length costs) at first → first ≢ length costs → Suspect graph words costs first
     first-suspect first at e f ne = let x = f.found (omega (arith, f.within)) in is-suspect x.0 first (omega (arith, x.1)) x.2
 
     pub flagged : All (λ c. 0 < c) costs → (state : List ℕ) (at : ℕ) → at ≡ length graph.nodes → length state ≡ length costs → AreFlagged (suspect_at graph.nodes words (length costs) xs) state at

@@ -2,15 +2,16 @@
 use Rattle.std.proofs.Common.{◌≡◌, ℕ, zero, suc, ◌+◌, ◌-◌, ◌<◌, ◌≤◌, Bool, true, false, cond, ◌&&◌, List, [], ◌∷◌, ◌++◌, length, take, drop, get_or, Option, Some, None, refl, ap, sym, ◌∙◌, subst, arith, length-append, length-drop, ⊎_elim}
 use Rattle.std.specs.Prelude.{option_map}
 use Rattle.std.proofs.lemmas.Bool.{and_from, cases_lt}
-use Rattle.std.proofs.lemmas.List.{take-append-drop, length-take-le, get_or_append_left, get_or_past}
-use Rattle.ranking.specs.Bits.{bit_in, lists_of_bits}
-use Rattle.ranking.specs.Cases.{agrees_at}
-use Rattle.ranking.specs.Ranking.{cost, least}
-use Rattle.ranking.specs.Assignments.{Assignment, assignment}
-use Rattle.ranking.specs.Values.{values}
-use Rattle.graph_rules.specs.Graphs.{Graph, mentions, is_true, holds, IsGraph}
-use Rattle.ranking.proofs.Members.{In, bits_in, bits_length, any_from, any_in, AtMost, AtMost-le, least-below, least-from}
-use Rattle.graph_rules.proofs.Mentions.{mentioned-range}
+use Rattle.std.proofs.lemmas.List.{take-append-drop, length-take-le, get_or_past}
+use Rattle.state_rules.specs.Bits.{bit_in, lists_of_bits}
+use Rattle.state_rules.specs.Cases.{agrees_at}
+use Rattle.state_rules.specs.Ranking.{cost, least}
+use Rattle.state_rules.specs.Assignments.{Assignment, assignment}
+use Rattle.state_rules.specs.Values.{values}
+use Rattle.state_rules.specs.Graphs.{Graph, mentions, is_true, holds, IsGraph}
+use Rattle.state_rules.proofs.Members.{In, bits_in, bits_length, any_from, any_in, AtMost, AtMost-le, least-below, least-from}
+use Rattle.state_rules.proofs.Mentions.{mentioned-range}
+use Rattle.state_rules.proofs.Bits.{bit_in-front}
 use Rattle.conditioner.specs.Words.{known_of}
 use Rattle.conditioner.specs.Models.{has_model, fits_words, models}
 use Rattle.conditioner.proofs.FittingWords.{fits_words-at, fits_words-from}
@@ -20,9 +21,6 @@ use Rattle.minimiser.proofs.Totals.{total, total-le}
 use Rattle.minimiser.proofs.Costs.{fault, false_is, IsCost, Agrees, faults_in, all_faults, and_left, and_right}
 use Rattle.minimiser.proofs.Nodes.{nodes_are}
 use Rattle.minimiser.proofs.Apart.{decomposed}
-
-pub bit_in-front : (xs ys : List Bool) (i : ℕ) → i < length xs → bit_in (xs ++ ys) i ≡ bit_in xs i
-bit_in-front xs ys i h = get_or_append_left xs ys false i h
 
 -- ---- the cost of a state
 

@@ -1,4 +1,5 @@
 pub mod Costs
 pub mod Stored
-pub mod Suspects
+pub mod LeastStates
+pub mod Listing
 pub mod inner

@@ -1,7 +1,7 @@
 -- Costs as numbers of 32 bits, and those of the first nodes of a graph.
 use Rattle.std.specs.Prelude.{◌≡◌, ℕ, ◌==◌, Option, Some, None, List, map, take, length, if◌then◌else◌}
-use Rattle.ranking.specs.Values.{values}
-use Rattle.graph_rules.specs.Graphs.{Graph}
+use Rattle.state_rules.specs.Values.{values}
+use Rattle.state_rules.specs.Graphs.{Graph}
 use Rattle.minimiser.specs.Costs.{node_cost, known_at, part_cost}
 use Rattle.minimiser.specs.declared.pass.TheConstants.{NONE}
 

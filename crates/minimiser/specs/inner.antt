@@ -1,3 +1,5 @@
 -- What only private contracts cite.
 pub mod Held
-pub mod Marked
+pub mod Swept
+pub mod OpenMarks
+pub mod Fixing

@@ -1,14 +1,14 @@
 ghost use Rattle.std.specs.Prelude.{◌≡◌, ℕ, ◌+◌, ◌-◌, ◌<◌, ◌≤◌, ◌⊎◌, Bool, true, Option, [], ◌∷◌, map, length, All, IfSome};
+ghost use Rattle.state_rules.specs.Graphs.{node_fits};
 ghost use Rattle.conditioner.specs.Models.{least_under, total_cost};
-ghost use Rattle.graph_rules.specs.Graphs.{node_fits};
 ghost use Rattle.minimiser.specs.Costs.{part_cost, known_at, node_cost, literal_cost, cost_at, cost_by, sum_costs, cheapest};
 ghost use Rattle.minimiser.specs.inner.Held.{held_cost};
 ghost use Rattle.minimiser.specs.Stored.{cost_in, AreLeastCosts};
 
 use crate::steps::Steps;
 use conditioner::{Leaf, is_false, leaf};
-use graph_rules::NodeKind;
 use node_store::{Graph, NodeRef};
+use state_rules::NodeKind;
 use std::sync::ledger::Ledger;
 
 /// All parts together cost less than this, so that a cost leaves the highest bit of its number free.

@@ -1,13 +1,13 @@
 ghost use Rattle.std.specs.Prelude.{◌≡◌, ℕ, ◌-◌, ◌<◌, ◌≤◌, ◌↔◌, length, All, IsSome, IfSome, MatchOption, slice_index};
 ghost use Rattle.conditioner.specs.Models.{least_under, total_cost};
 ghost use Rattle.minimiser.specs.Stored.{AreLeastCosts};
-ghost use Rattle.minimiser.specs.Suspects.{Suspect, OkBelow};
-ghost use Rattle.minimiser.specs.inner.Marked.{IsValue, has_mark, spread_value, IsSwept, suspect_of, suspect_at};
+ghost use Rattle.minimiser.specs.LeastStates.{Suspect, OkBelow};
+ghost use Rattle.minimiser.specs.inner.Swept.{IsValue, has_mark, spread_value, IsSwept, suspect_of, suspect_at};
 
 use crate::pass::{NONE, TOTAL_LIMIT};
 use conditioner::is_open;
-use graph_rules::NodeKind;
 use node_store::Graph;
+use state_rules::NodeKind;
 
 /// Marks a node in its value. Costs are below it.
 const MARK: u32 = TOTAL_LIMIT + 1;

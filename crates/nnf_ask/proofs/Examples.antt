@@ -2,7 +2,7 @@
 use Rattle.std.proofs.Common.{◌≡◌, ℕ, List, [], ◌∷◌, map, refl}
 use Rattle.std.specs.Prelude.{Ok, Err, codes}
 use Rattle.std.specs.Fmt.{digits}
-use Rattle.graph_rules.specs.GraphTexts.{Parsed, parsed}
+use Rattle.nnf_text.specs.GraphTexts.{Parsed, parsed}
 use Rattle.session_rules.specs.Items.{Item, line}
 use Rattle.session_rules.specs.Sessions.{replies}
 use Rattle.nnf_ask.specs.declared.names.AskError.TheVariants.{Health, Wires}

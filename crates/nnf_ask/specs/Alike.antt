@@ -1,8 +1,8 @@
 -- What a device's graph is asked, and what the device is.
 use Rattle.std.specs.Prelude.{◌≡◌, ℕ, ◌+◌, ◌-◌, Bool, List, ◌++◌, length, replicate, Option, None}
-use Rattle.ranking.specs.Cases.{Case}
-use Rattle.ranking.specs.Ranking.{rest}
-use Rattle.ranking.specs.Systems.{System, least_cost, all_diagnoses}
+use Rattle.state_rules.specs.Cases.{Case}
+use Rattle.state_rules.specs.Ranking.{rest}
+use Rattle.state_rules.specs.Systems.{System, least_cost, all_diagnoses}
 
 -- a device's case among so many variables, all of which are parts or wires: nothing is seen of those behind the device's wires
 abbrev pub case_among : ℕ → Case → Case

@@ -3,9 +3,9 @@
 use Rattle.std.specs.Prelude.{ℕ, ◌+◌, ◌-◌, ◌/◌, ◌%◌, List, [], ◌∷◌, map, Option, Some, None, Result, Ok, Err, nat_lt, if◌then◌else◌}
 use Rattle.std.specs.List.{range_with_len}
 use Rattle.text_rules.specs.Names.{Name}
-use Rattle.ranking.specs.Ranking.{plain_costs}
-use Rattle.ranking.specs.Systems.{System, no_extras}
-use Rattle.graph_rules.specs.Graphs.{Graph}
+use Rattle.state_rules.specs.Ranking.{plain_costs}
+use Rattle.state_rules.specs.Systems.{System, no_extras}
+use Rattle.state_rules.specs.Graphs.{Graph}
 use Rattle.device_model.specs.declared.limits.TheConstants.{WIRE_LIMIT}
 use Rattle.session_rules.specs.GraphSystems.{Subject, system_of}
 use Rattle.nnf_ask.specs.declared.names.AskError.{AskError}

@@ -1,9 +1,9 @@
 //! A law about the definitions of this crate. It is the contract of a function that does nothing.
 ghost use Rattle.std.specs.Prelude.{◌≡◌, ℕ, List, length, Ok};
-ghost use Rattle.ranking.specs.Cases.{Case};
-ghost use Rattle.ranking.specs.Ranking.{plain_costs};
-ghost use Rattle.graph_rules.specs.Graphs.{Graph};
-ghost use Rattle.graph_rules.specs.GraphTexts.{parsed};
+ghost use Rattle.state_rules.specs.Cases.{Case};
+ghost use Rattle.state_rules.specs.Ranking.{plain_costs};
+ghost use Rattle.state_rules.specs.Graphs.{Graph};
+ghost use Rattle.nnf_text.specs.GraphTexts.{parsed};
 ghost use Rattle.device_model.specs.Devices.{Device, part_costs};
 ghost use Rattle.device_model.specs.Diagnosis.{device_system};
 ghost use Rattle.session_rules.specs.CaseSizes.{IsCaseOf};

@@ -1,7 +1,7 @@
 ghost use Rattle.std.specs.Prelude.{◌≡◌, ◌+◌, ◌<◌, ◌≤◌, length, true, All, IfOk};
 ghost use Rattle.text_rules.specs.Expected.{Fulfils};
 ghost use Rattle.text_rules.specs.Names.{names_rise};
-ghost use Rattle.ranking.specs.Ranking.{plain_costs};
+ghost use Rattle.state_rules.specs.Ranking.{plain_costs};
 ghost use Rattle.conditioner.specs.Models.{total_cost};
 ghost use Rattle.nnf_ask.specs.Asking.{five_digits, variable_names, asked_names, told};
 ghost use Rattle.nnf_ask.specs.declared.names.AskError.TheVariants.{Memory};

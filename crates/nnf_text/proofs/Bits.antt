@@ -1,17 +1,15 @@
 -- Words joined one after the other, and the bit of a variable among some that rise.
-use Rattle.std.proofs.Common.{◌≡◌, ℕ, ◌+◌, ◌*◌, ◌%◌, ◌^◌, ◌<◌, ◌≤◌, Bool, true, false, not, ◌&&◌, ◌||◌, ◌==◌, List, [], ◌∷◌, ◌++◌, map, length, take, get_or, refl, sym, ap, ◌∙◌, arith}
-use Rattle.std.specs.Prelude.{bit_and, bit_or}
+use Rattle.std.proofs.Common.{◌≡◌, ℕ, ◌+◌, ◌*◌, ◌%◌, ◌^◌, ◌<◌, ◌≤◌, Bool, true, false, not, ◌&&◌, ◌||◌, ◌==◌, List, [], ◌∷◌, ◌++◌, map, length, take, get_or, refl, sym, ap, ◌∙◌, arith, inl, inr}
+use Rattle.std.specs.Prelude.{bit_and, bit_or, ◌⊎◌}
 use Rattle.std.specs.List.{list_any}
 use Rattle.std.specs.List.Sorted.{IsStrictlyIncreasing}
 use Rattle.std.proofs.lemmas.Bool.{cases_eq, cases_lt, eq-eqb, ne_eqb}
-use Rattle.std.specs.Prelude.{◌⊎◌}
-use Rattle.std.proofs.Common.{inl, inr}
 use Rattle.std.proofs.lemmas.List.{take_more, map-append, get_or_past}
 use Rattle.std.proofs.lemmas.List.Kept.{AllPairs-from_increasing}
-use Rattle.graph_rules.specs.Graphs.{at_most_one}
-use Rattle.graph_rules.specs.inner.WordBits.{has_bit}
-use Rattle.graph_rules.proofs.WordBits.{has_bit-or, has_bit-and, has_bit-zero, one_bit, joined_more}
-use Rattle.graph_rules.proofs.Kids.{any-push}
+use Rattle.state_rules.specs.Graphs.{at_most_one}
+use Rattle.state_rules.proofs.WordBits.{has_bit-or, has_bit-and, has_bit-zero, one_bit, joined_more}
+use Rattle.state_rules.specs.Bits.{has_bit}
+use Rattle.state_rules.proofs.Lists.{any-push}
 use Rattle.nnf_text.specs.inner.Sharing.{has, IsJoined}
 
 -- ---- one more

@@ -3,12 +3,12 @@ use Rattle.std.proofs.Common.{◌≡◌, ℕ, zero, suc, ◌+◌, ◌*◌, ◌<�
 use Rattle.std.specs.Prelude.{◌⊎◌}
 use Rattle.std.specs.List.{find, filter_map, cons_option, enumerate_from, range_with_len, AllByRecursion}
 use Rattle.std.proofs.lemmas.Bool.{cond-false, cases_Bool, cases_lt, le-ltb, not-false}
-use Rattle.graph_rules.specs.declared.TheConstants.{BITS_LIMIT}
-use Rattle.graph_rules.specs.Graphs.{Node, Graph, node_at, mentions, apart_at, nodes_fit, Decomposable}
-use Rattle.graph_rules.specs.GraphTexts.{Shared, read_unless, shares, shared_at, node_shared, all_shared, checked}
+use Rattle.state_rules.specs.Graphs.{Node, Graph, node_at, mentions, apart_at, nodes_fit, Decomposable, shares}
+use Rattle.state_rules.proofs.Mentions.{IsUsed-shared, IsUsed-range}
+use Rattle.nnf_text.specs.declared.checking.TheConstants.{BITS_LIMIT}
+use Rattle.nnf_text.specs.GraphTexts.{Shared, read_unless, shared_at, node_shared, all_shared, checked}
 use Rattle.nnf_text.specs.inner.Sharing.{AreVariables, first_of, FirstOf}
 use Rattle.nnf_text.proofs.Options.{chosen, none≢some}
-use Rattle.graph_rules.proofs.Mentions.{IsUsed-shared, IsUsed-range}
 use Rattle.nnf_text.proofs.Sparse.{Rises-from, find-sparse}
 
 -- ---- all variables, by those that literals have

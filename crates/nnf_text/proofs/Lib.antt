@@ -1,3 +1,4 @@
+mod Examples
 pub mod Options
 pub mod ReadTexts
 pub mod LineSteps

@@ -5,9 +5,9 @@ use Rattle.std.specs.List.{list_all, filter, filter_map, cons_option, enumerate_
 use Rattle.std.proofs.lemmas.Bool.{cond-true, cond-false, not_from_false}
 use Rattle.std.proofs.lemmas.List.{length-append}
 use Rattle.text_rules.specs.Tokens.{words}
-use Rattle.graph_rules.specs.Graphs.{Node, Graph}
-use Rattle.graph_rules.specs.GraphTexts.{Header, node_of, node_fault, variable_fits, has_words, node_at_line, line_fault, fault_at, edges, differs, LineFault, WrongLine, WrongChild, Refusal, AtLine, Parsed, read_unless, parsed_below, parsed, checked_if, read_graph}
 use Rattle.text_rules.specs.Expected.{IsExpectedFault}
+use Rattle.state_rules.specs.Graphs.{Node, Graph, edges}
+use Rattle.nnf_text.specs.GraphTexts.{Header, node_of, node_fault, variable_fits, has_words, node_at_line, line_fault, fault_at, differs, LineFault, WrongLine, WrongChild, Refusal, AtLine, Parsed, read_unless, parsed_below, parsed, checked_if, read_graph}
 use Rattle.nnf_text.specs.inner.Reading.{filled_from, nodes_behind, if_counted}
 use Rattle.nnf_text.proofs.Options.{none≢some}
 

@@ -3,12 +3,11 @@ use Rattle.std.proofs.Common.{◌≡◌, ℕ, List, [], ◌∷◌, ◌++◌, map
 use Rattle.std.specs.Prelude.{decimal}
 use Rattle.std.specs.List.{flat_map}
 use Rattle.std.proofs.lemmas.List.Folds.{flat_map-map}
-use Rattle.diag_edge.proofs.Added.{spaced-first}
-use Rattle.graph_rules.specs.Graphs.{Node}
-use Rattle.graph_rules.specs.GraphTexts.{edges}
 use Rattle.text_rules.specs.Tokens.{spaced}
-use Rattle.graph_rules.specs.declared.NodeKind.TheVariants.{And, Or}
-use Rattle.graph_rules.specs.WrittenGraphs.{kid_words, kind_words, node_words, graph_text}
+use Rattle.state_rules.specs.Graphs.{Node, edges}
+use Rattle.state_rules.specs.declared.nodes.NodeKind.TheVariants.{And, Or}
+use Rattle.diag_edge.proofs.Added.{spaced-first}
+use Rattle.nnf_text.specs.WrittenGraphs.{kid_words, kind_words, node_words, graph_text}
 
 -- a word, numbers that stand behind a space each, and a line feed
 pub listed-spaced : (w : List ℕ) (ns : List ℕ) → w ++ (flat_map (λ n. 32 ∷ decimal n) ns ++ 10 ∷ []) ≡ spaced (w ∷ map decimal ns)

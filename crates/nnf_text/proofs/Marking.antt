@@ -8,15 +8,14 @@ use Rattle.std.proofs.lemmas.Nat.Bits.{bit_at-trailing_zeros}
 use Rattle.std.proofs.lemmas.List.{get_or-set_same, get_or-set_other, get_or_past, take_all, length-drop}
 use Rattle.std.proofs.Math.Seq.{take-add}
 use Rattle.std.proofs.lemmas.List.Folds.{find-append}
-use Rattle.graph_rules.specs.declared.NodeKind.{NodeKind}
-use Rattle.graph_rules.specs.Graphs.{Node, node_at, mention_by, mentions, nodes_fit}
-use Rattle.graph_rules.specs.GraphTexts.{shares}
-use Rattle.graph_rules.specs.inner.WordBits.{has_bit}
-use Rattle.graph_rules.proofs.NodeValues.{map-below, below-each, value_of-at}
-use Rattle.graph_rules.proofs.NodesFit.{fits-at, apart_at-below}
+use Rattle.state_rules.specs.declared.nodes.NodeKind.{NodeKind}
+use Rattle.state_rules.specs.Graphs.{Node, node_at, mention_by, mentions, nodes_fit, shares}
+use Rattle.state_rules.proofs.NodeValues.{map-below, below-each, value_of-at}
+use Rattle.state_rules.proofs.NodesFit.{fits-at, apart_at-below}
+use Rattle.state_rules.proofs.Mentions.{unshared-0}
+use Rattle.state_rules.proofs.WordBits.{has_bit-zero}
+use Rattle.state_rules.specs.Bits.{has_bit}
 use Rattle.nnf_text.specs.inner.Sharing.{has, IsWord, first_of, IsFirstOf, FirstOf, earlier}
-use Rattle.graph_rules.proofs.Mentions.{unshared-0}
-use Rattle.graph_rules.proofs.WordBits.{has_bit-zero}
 use Rattle.nnf_text.proofs.Sparse.{find-none_at, find-first_at}
 
 -- kids of the node of a number share a variable

@@ -11,11 +11,12 @@ use Rattle.text_rules.specs.TextLines.{all_lines}
 use Rattle.text_rules.specs.Tokens.{words}
 use Rattle.text_rules.proofs.LineLemmas.{length-all_lines}
 use Rattle.text_rules.proofs.NumberLemmas.{number_in-most}
-use Rattle.graph_rules.specs.declared.TheConstants.{BITS_LIMIT, CHILD_LIMIT}
-use Rattle.graph_rules.specs.declared.NodeKind.{NodeKind}
-use Rattle.graph_rules.specs.declared.NodeKind.TheVariants.{Literal, And, Or}
-use Rattle.graph_rules.specs.Graphs.{Node, Graph, kind_fits, node_fits, nodes_fit}
-use Rattle.graph_rules.specs.GraphTexts.{small_number, great_number, numbers, number_before, literal_of, literal_with, counted, or_of, node_of, node_fault, variable_fits, line_fault, fault_at, node_at_line, has_words, filled_lines, edges, Header, header_of, header_from, differs, LineFault, WrongLine, WrongChild, WrongVariable, Refusal, read_unless, parsed_below, parsed_lines, parsed, TooLarge, all_shared, checked}
+use Rattle.state_rules.specs.declared.nodes.TheConstants.{CHILD_LIMIT}
+use Rattle.state_rules.specs.declared.nodes.NodeKind.{NodeKind}
+use Rattle.state_rules.specs.declared.nodes.NodeKind.TheVariants.{Literal, And, Or}
+use Rattle.state_rules.specs.Graphs.{Node, Graph, kind_fits, node_fits, nodes_fit, edges}
+use Rattle.nnf_text.specs.declared.checking.TheConstants.{BITS_LIMIT}
+use Rattle.nnf_text.specs.GraphTexts.{small_number, great_number, numbers, number_before, literal_of, literal_with, counted, or_of, node_of, node_fault, variable_fits, line_fault, fault_at, node_at_line, has_words, filled_lines, Header, header_of, header_from, differs, LineFault, WrongLine, WrongChild, WrongVariable, Refusal, read_unless, parsed_below, parsed_lines, parsed, TooLarge, all_shared, checked}
 use Rattle.nnf_text.proofs.Options.{chosen, none≢some}
 
 -- ---- the node of a line

@@ -12,16 +12,16 @@ use Rattle.text_rules.specs.Tokens.{is_neat}
 use Rattle.text_rules.specs.inner.WordBytes.{is_word_byte}
 use Rattle.text_rules.proofs.TokenLemmas.{is_word}
 use Rattle.text_rules.proofs.PartLemmas.{passes_too}
-use Rattle.graph_rules.specs.declared.NodeKind.{NodeKind}
-use Rattle.graph_rules.specs.declared.NodeKind.TheVariants.{Literal, And, Or}
-use Rattle.graph_rules.specs.Graphs.{Node, Graph, kind_fits, node_fits, nodes_fit, IsGraph}
-use Rattle.graph_rules.specs.GraphTexts.{small_number, great_number, numbers, number_before, literal_of, literal_with, counted, node_of, node_fault, line_fault, fault_at, node_at_line, has_words, filled_lines, edges, header_of, header_from, differs, Refusal, Parsed, read_unless, parsed_below, parsed_lines, parsed}
-use Rattle.graph_rules.specs.WrittenGraphs.{literal_word, kid_words, kind_words, node_words, header_words, graph_text}
-use Rattle.graph_rules.specs.declared.TheConstants.{CHILD_LIMIT}
-use Rattle.graph_rules.proofs.NodeValues.{are_below}
-use Rattle.graph_rules.proofs.NodesFit.{Fits, fits}
 use Rattle.text_rules.proofs.NumberLemmas.{decimal_digits, number_in-decimal}
 use Rattle.text_rules.proofs.SpacedLines.{is_line_word, is_word_line, words_of_lines, lines_are_neat}
+use Rattle.state_rules.specs.declared.nodes.NodeKind.{NodeKind}
+use Rattle.state_rules.specs.declared.nodes.NodeKind.TheVariants.{Literal, And, Or}
+use Rattle.state_rules.specs.Graphs.{Node, Graph, kind_fits, node_fits, nodes_fit, IsGraph, edges}
+use Rattle.state_rules.specs.declared.nodes.TheConstants.{CHILD_LIMIT}
+use Rattle.state_rules.proofs.NodeValues.{are_below}
+use Rattle.state_rules.proofs.NodesFit.{Fits, fits}
+use Rattle.nnf_text.specs.GraphTexts.{small_number, great_number, numbers, number_before, literal_of, literal_with, counted, node_of, node_fault, line_fault, fault_at, node_at_line, has_words, filled_lines, header_of, header_from, differs, Refusal, Parsed, read_unless, parsed_below, parsed_lines, parsed}
+use Rattle.nnf_text.specs.WrittenGraphs.{literal_word, kid_words, kind_words, node_words, header_words, graph_text}
 
 -- ---- numbers
 

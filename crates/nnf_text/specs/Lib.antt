@@ -1,2 +1,5 @@
+pub mod GraphTexts
+pub mod WrittenGraphs
+pub mod StateGraphs
 pub mod Refusals
 pub mod inner

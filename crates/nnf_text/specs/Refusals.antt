@@ -1,7 +1,7 @@
 -- Which refusal of a text an error tells.
 use Rattle.std.specs.Prelude.{Option, Some, None}
-use Rattle.graph_rules.specs.GraphTexts as refusals
-use Rattle.graph_rules.specs.GraphTexts.{Refusal}
+use Rattle.nnf_text.specs.GraphTexts as refusals
+use Rattle.nnf_text.specs.GraphTexts.{Refusal}
 use Rattle.nnf_text.specs.declared.error.NnfError.{NnfError}
 use Rattle.nnf_text.specs.declared.error.NnfError.TheVariants.{Header, Line, Child, Variable, Counts, TooLarge, Shared, Memory}
 

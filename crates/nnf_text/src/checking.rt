@@ -1,15 +1,17 @@
 ghost use Rattle.std.specs.Prelude.{◌≡◌, ◌<◌, ◌≤◌, length, true};
 ghost use Rattle.text_rules.specs.Expected.{Fulfils};
-ghost use Rattle.graph_rules.specs.Graphs.{nodes_fit};
-ghost use Rattle.graph_rules.specs.GraphTexts.{checked};
+ghost use Rattle.state_rules.specs.Graphs.{nodes_fit};
+ghost use Rattle.nnf_text.specs.GraphTexts.{checked};
 ghost use Rattle.nnf_text.specs.Refusals.{told};
 
 use crate::error::NnfError;
 use crate::sharing::first_shared;
-use graph_rules::BITS_LIMIT;
 use node_store::{Graph, Nodes};
 use std::alloc::Global;
 use text_rules::TEXT_LIMIT;
+
+/// The most nodes times variables of a graph that is read from text.
+pub const BITS_LIMIT: u64 = 2_147_483_648;
 
 // Nodes as a graph, where no two children of an And share a variable.
 pub(crate) fn graph_of(alloc: Global, vars: u32, nodes: Nodes) -> Result<Graph, NnfError>

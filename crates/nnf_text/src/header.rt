@@ -1,7 +1,7 @@
 ghost use Rattle.std.specs.Prelude.{◌≡◌};
 ghost use Rattle.std.specs.Option.{option_map};
 ghost use Rattle.text_rules.specs.Tokens.{tokens_left};
-ghost use Rattle.graph_rules.specs.GraphTexts.{header_of, header_from};
+ghost use Rattle.nnf_text.specs.GraphTexts.{header_of, header_from};
 ghost use Rattle.nnf_text.specs.inner.Reading.{said_by};
 
 use crate::numbers::{great_number, small_number};

@@ -12,6 +12,7 @@ mod reading;
 mod sharing;
 mod writing;
 
+pub use checking::BITS_LIMIT;
 pub use error::NnfError;
 pub use lines::{add_header, add_node};
 pub use ranges::add_counted_range;

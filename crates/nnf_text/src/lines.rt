@@ -1,13 +1,13 @@
 ghost use Rattle.std.specs.Prelude.{◌++◌, ◌∷◌, [], length, codes, decimal};
 ghost use Rattle.std.specs.List.{flat_map};
-ghost use Rattle.diag_edge.specs.Edge.{HasCause};
 ghost use Rattle.text_rules.specs.Tokens.{spaced};
-ghost use Rattle.graph_rules.specs.WrittenGraphs.{literal_word, kind_words};
+ghost use Rattle.diag_edge.specs.Edge.{HasCause};
 ghost use Rattle.diag_edge.specs.Adding.{Adds};
+ghost use Rattle.nnf_text.specs.WrittenGraphs.{literal_word, kind_words};
 
 use diag_edge::{Chunk, Sink, WriteFailed};
-use graph_rules::NodeKind;
 use itoa::Integer;
+use state_rules::NodeKind;
 
 /// Adds the line of the numbers of nodes, edges and variables.
 pub fn add_header<O: Sink>(

@@ -3,14 +3,14 @@ ghost use Rattle.std.specs.List.{list_all};
 ghost use Rattle.std.specs.Option.{option_map};
 ghost use Rattle.text_rules.specs.Expected.{Fulfils};
 ghost use Rattle.text_rules.specs.Tokens.{words, tokens_left, is_filled};
-ghost use Rattle.graph_rules.specs.GraphTexts.{small_number, literal_with, literal_of, node_of, variable_fits};
+ghost use Rattle.nnf_text.specs.GraphTexts.{small_number, literal_with, literal_of, node_of, variable_fits};
 ghost use Rattle.nnf_text.specs.Refusals.{told};
 ghost use Rattle.nnf_text.specs.inner.Reading.{node_with, childless, filled_from, nodes_behind};
 
 use crate::error::NnfError;
 use crate::numbers::{over_kids, small_number};
-use graph_rules::NodeKind;
 use node_store::Nodes;
+use state_rules::NodeKind;
 use std::alloc::AllocError;
 use text_rules::Tokens;
 

@@ -1,10 +1,10 @@
 ghost use Rattle.std.specs.Prelude.{◌≡◌, Some, None, IfOk, if◌then◌else◌};
 ghost use Rattle.std.specs.Option.{option_map};
 ghost use Rattle.text_rules.specs.Tokens.{tokens_left};
-ghost use Rattle.graph_rules.specs.GraphTexts.{small_number, great_number, numbers, counted};
+ghost use Rattle.nnf_text.specs.GraphTexts.{small_number, great_number, numbers, counted};
 ghost use Rattle.nnf_text.specs.inner.Reading.{node_with};
 
-use graph_rules::NodeKind;
+use state_rules::NodeKind;
 use std::alloc::AllocError;
 use text_rules::{Tokens, number};
 

@@ -1,7 +1,7 @@
 ghost use Rattle.std.specs.Prelude.{◌≡◌, ◌≢◌, ◌≤◌, ◌+◌, [], length, Some, Ok, Err, IfOk, IfSome, MatchOption, MatchResult};
 ghost use Rattle.text_rules.specs.Expected.{Fulfils};
 ghost use Rattle.text_rules.specs.TextLines.{all_lines};
-ghost use Rattle.graph_rules.specs.GraphTexts.{NoHeader, parsed_below, parsed_lines, read_graph};
+ghost use Rattle.nnf_text.specs.GraphTexts.{NoHeader, parsed_below, parsed_lines, read_graph};
 ghost use Rattle.nnf_text.specs.Refusals.{told};
 ghost use Rattle.nnf_text.specs.inner.Reading.{said_by, filled_from, nodes_behind, if_counted};
 

@@ -1,12 +1,12 @@
 ghost use Rattle.std.specs.Prelude.{◌≡◌, ◌==◌, ◌≤◌, ◌<◌, ℕ, length, slice_index, All, true, IfOk, OnOk};
 ghost use Rattle.std.specs.List.{range_with_len};
 ghost use Rattle.std.specs.List.Sorted.{IsStrictlyIncreasing};
-ghost use Rattle.graph_rules.specs.Graphs.{kind_fits, nodes_fit};
-ghost use Rattle.graph_rules.specs.inner.WordBits.{has_bit};
+ghost use Rattle.state_rules.specs.Graphs.{kind_fits, nodes_fit};
+ghost use Rattle.state_rules.specs.Bits.{has_bit};
 ghost use Rattle.nnf_text.specs.inner.Sharing.{IsJoined, IsWord, AreVariables, AddsVariable, FirstOf, earlier};
 
-use graph_rules::NodeKind;
 use node_store::Nodes;
+use state_rules::NodeKind;
 use std::alloc::{AllocError, Global};
 use text_rules::TEXT_LIMIT;
 

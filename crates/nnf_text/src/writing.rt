@@ -1,11 +1,11 @@
 ghost use Rattle.std.specs.Prelude.{◌≡◌, ◌≤◌, true, Ok};
 ghost use Rattle.std.specs.List.{flat_map};
-ghost use Rattle.diag_edge.specs.Edge.{HasCause, Puts};
 ghost use Rattle.text_rules.specs.Tokens.{spaced, is_neat};
-ghost use Rattle.graph_rules.specs.Graphs.{IsGraph};
-ghost use Rattle.graph_rules.specs.GraphTexts.{parsed};
-ghost use Rattle.graph_rules.specs.WrittenGraphs.{node_words, graph_text};
+ghost use Rattle.state_rules.specs.Graphs.{IsGraph};
+ghost use Rattle.diag_edge.specs.Edge.{HasCause, Puts};
 ghost use Rattle.diag_edge.specs.Adding.{Adds};
+ghost use Rattle.nnf_text.specs.GraphTexts.{parsed};
+ghost use Rattle.nnf_text.specs.WrittenGraphs.{node_words, graph_text};
 
 use crate::lines::{add_header, add_node};
 use diag_edge::{Chunk, Sink, WriteFailed};

@@ -3,15 +3,14 @@ use Rattle.std.proofs.Common.{◌≡◌, ℕ, ◌+◌, ◌<◌, true, List, [], 
 use Rattle.std.specs.Prelude.{slice_get}
 use Rattle.std.proofs.lemmas.Bool.{and_from, lt-ltb}
 use Rattle.std.proofs.lemmas.List.Sums.{sum_by-append}
-use Rattle.graph_rules.specs.declared.NodeKind.TheVariants.{And, Or}
-use Rattle.graph_rules.specs.declared.TheConstants.{CHILD_LIMIT}
-use Rattle.graph_rules.specs.Graphs.{Node, literal_node, apart_at, mentions, AreNodes, node_fits}
-use Rattle.graph_rules.specs.GraphTexts.{edges}
+use Rattle.state_rules.specs.declared.nodes.NodeKind.TheVariants.{And, Or}
+use Rattle.state_rules.specs.declared.nodes.TheConstants.{CHILD_LIMIT}
+use Rattle.state_rules.specs.Graphs.{Node, literal_node, apart_at, mentions, AreNodes, node_fits, edges}
+use Rattle.state_rules.proofs.NodeValues.{are_below-from}
+use Rattle.state_rules.proofs.NodesFit.{AreNodes-push}
+use Rattle.state_rules.proofs.Lists.{slice_get-before}
 use Rattle.node_store.specs.declared.store.TheConstants.{MADE_LIMIT}
 use Rattle.node_store.specs.Stores.{Stored, IsStore, EachOnce, AddsAtMost, literal_place}
-use Rattle.graph_rules.proofs.NodeValues.{are_below-from}
-use Rattle.graph_rules.proofs.NodesFit.{AreNodes-push}
-use Rattle.ranking.proofs.Lists.{slice_get-before}
 
 pub IsStore-add : (old : Stored) (nodes : List Node) (node : Node) → IsStore old → AddsAtMost old.nodes node nodes → EachOnce nodes → node_fits old.vars (length old.nodes) node ≡ true
     → ((v : ℕ) → apart_at (mentions old.nodes v) node.what node.kids ≡ true) → old.made < MADE_LIMIT → length node.kids < CHILD_LIMIT

@@ -7,15 +7,14 @@ use Rattle.std.proofs.lemmas.List.{get_or_append_left, get_or_push, get_or-map, 
 use Rattle.std.proofs.lemmas.Option.{slice_get_within, get_or_from_slice_get, slice_get-get_or}
 use Rattle.std.proofs.lemmas.List.Sums.{sum_by-append, sum_by-take-le}
 use Rattle.std.proofs.Math.ListN.{length-map}
-use Rattle.ranking.specs.Bits.{bit_in}
-use Rattle.ranking.proofs.Lists.{slice_get-before, slice_get-last}
-use Rattle.graph_rules.specs.declared.TheConstants.{CHILD_LIMIT}
-use Rattle.graph_rules.specs.declared.NodeKind.{NodeKind}
-use Rattle.graph_rules.specs.declared.NodeKind.TheVariants.{Literal, And, Or}
-use Rattle.graph_rules.specs.Graphs.{Node, truth_by, mention_by, is_true, mentions, at_most_one, apart_at, kind_fits, node_fits, AreNodes, IsGraph}
-use Rattle.graph_rules.specs.GraphTexts.{edges}
-use Rattle.graph_rules.proofs.NodeValues.{below-each, value_of-get, value_of-last, value_of-before}
-use Rattle.graph_rules.proofs.NodesFit.{fits-get, apart-get, AreNodes-push}
+use Rattle.state_rules.specs.Bits.{bit_in}
+use Rattle.state_rules.proofs.Lists.{slice_get-before, slice_get-last}
+use Rattle.state_rules.specs.declared.nodes.TheConstants.{CHILD_LIMIT}
+use Rattle.state_rules.specs.declared.nodes.NodeKind.{NodeKind}
+use Rattle.state_rules.specs.declared.nodes.NodeKind.TheVariants.{Literal, And, Or}
+use Rattle.state_rules.specs.Graphs.{Node, truth_by, mention_by, is_true, mentions, at_most_one, apart_at, kind_fits, node_fits, AreNodes, IsGraph, edges}
+use Rattle.state_rules.proofs.NodeValues.{below-each, value_of-get, value_of-last, value_of-before}
+use Rattle.state_rules.proofs.NodesFit.{fits-get, apart-get, AreNodes-push}
 use Rattle.node_store.specs.Stores.{Stored, EachOnce, IsStore, IsUsed, is_bare, HasNoBareKid, IsFrozen}
 use Rattle.node_store.specs.inner.Freezing.{AreBefore, IsClosed, IsKidOfMarked, IsBelow, IsCopy, IsCopied}
 use Rattle.node_store.proofs.Marking.{the_at}

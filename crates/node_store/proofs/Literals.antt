@@ -3,19 +3,18 @@ use Rattle.std.proofs.Common.{◌≡◌, ℕ, zero, suc, ◌+◌, ◌-◌, ◌*�
 use Rattle.std.specs.Prelude.{slice_get, nat_le, ◌==◌, ◌⊎◌}
 use Rattle.std.proofs.lemmas.Bool.{and_from, le-leb}
 use Rattle.std.proofs.lemmas.List.Sums.{sum_by-append}
-use Rattle.graph_rules.specs.declared.NodeKind.{NodeKind}
-use Rattle.graph_rules.specs.declared.NodeKind.TheVariants.{Literal, And, Or}
+use Rattle.state_rules.specs.declared.nodes.NodeKind.{NodeKind}
+use Rattle.state_rules.specs.declared.nodes.NodeKind.TheVariants.{Literal, And, Or}
 use mir.Val.{bool_byte}
-use Rattle.ranking.specs.Bits.{same_bit}
-use Rattle.ranking.specs.Assignments.{Assignment}
-use Rattle.ranking.proofs.Lists.{slice_get-before}
-use Rattle.graph_rules.specs.Graphs.{Node, literal_node, truth_by, mention_by, is_true, mentions, AreNodes, node_fits}
-use Rattle.graph_rules.specs.GraphTexts.{edges}
+use Rattle.state_rules.specs.Bits.{same_bit}
+use Rattle.state_rules.specs.Assignments.{Assignment}
+use Rattle.state_rules.proofs.Lists.{slice_get-before}
+use Rattle.state_rules.specs.Graphs.{Node, literal_node, truth_by, mention_by, is_true, mentions, AreNodes, node_fits, edges}
+use Rattle.state_rules.proofs.NodeValues.{value_of-get}
+use Rattle.state_rules.proofs.NodesFit.{fits-get, AreNodes-push}
 use Rattle.node_store.specs.declared.store.TheConstants.{VARIABLE_LIMIT}
 use Rattle.node_store.specs.Stores.{Stored, IsStore, EachOnce, literals, literal_place}
 use Rattle.node_store.specs.inner.Literals.{IsNew}
-use Rattle.graph_rules.proofs.NodeValues.{value_of-get}
-use Rattle.graph_rules.proofs.NodesFit.{fits-get, AreNodes-push}
 
 slice_get-behind : (xs ys : List Node) (i : ℕ) → slice_get (xs ++ ys) (length xs + i) ≡ slice_get ys i
 slice_get-behind [] ys i = ap (slice_get ys) (zero-add i)

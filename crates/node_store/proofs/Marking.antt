@@ -3,8 +3,8 @@ use Rattle.std.proofs.Common.{◌≡◌, ℕ, zero, suc, ◌+◌, ◌<◌, ◌�
 use Rattle.std.specs.Prelude.{slice_get, Contains, ◌⊎◌}
 use Rattle.std.proofs.lemmas.List.{take_all, append-nil}
 use Rattle.std.proofs.Math.ListN.{drop_of_length-le, length-map}
-use Rattle.ranking.specs.Bits.{bit_in}
-use Rattle.graph_rules.specs.Graphs.{Node}
+use Rattle.state_rules.specs.Bits.{bit_in}
+use Rattle.state_rules.specs.Graphs.{Node}
 use Rattle.node_store.specs.declared.store.Kept.{Kept}
 use Rattle.node_store.specs.inner.Keeping.{shown}
 use Rattle.node_store.specs.inner.Freezing.{AreBefore, IsClosedFrom, IsKidOfMarked, Marks}

@@ -1,11 +1,11 @@
 -- What a node means that a store made.
 use Rattle.std.proofs.Common.{◌≡◌, ℕ, List, [], ◌∷◌, ◌++◌, length, Some, refl, ap, sym, ◌∙◌, subst, inl, inr}
 use Rattle.std.specs.Prelude.{slice_get}
-use Rattle.ranking.proofs.Lists.{slice_get-last}
-use Rattle.graph_rules.specs.declared.NodeKind.{NodeKind}
-use Rattle.graph_rules.specs.Graphs.{Node, truth_by, mention_by, is_true, mentions, AreNodes}
-use Rattle.graph_rules.proofs.NodeValues.{value_of-get, value_of-last, value_of-before}
-use Rattle.graph_rules.proofs.NodesFit.{fits-get}
+use Rattle.state_rules.proofs.Lists.{slice_get-last}
+use Rattle.state_rules.specs.declared.nodes.NodeKind.{NodeKind}
+use Rattle.state_rules.specs.Graphs.{Node, truth_by, mention_by, is_true, mentions, AreNodes}
+use Rattle.state_rules.proofs.NodeValues.{value_of-get, value_of-last, value_of-before}
+use Rattle.state_rules.proofs.NodesFit.{fits-get}
 use Rattle.node_store.specs.Stores.{EachOnce, AddsAtMost, Means}
 
 -- A node stands at its number, where the others stay.

@@ -2,10 +2,9 @@
 use Rattle.std.proofs.Common.{◌≡◌, ℕ, zero, suc, ◌<◌, List, [], ◌∷◌, ◌++◌, length, get_or, refl, ap, arith}
 use Rattle.std.specs.List.{sum_by}
 use Rattle.std.proofs.lemmas.List.Sums.{sum_by-cons}
-use Rattle.graph_rules.specs.declared.NodeKind.{NodeKind}
-use Rattle.graph_rules.specs.declared.NodeKind.TheVariants.{And}
-use Rattle.graph_rules.specs.Graphs.{Node, node_at}
-use Rattle.graph_rules.specs.GraphTexts.{edges}
+use Rattle.state_rules.specs.declared.nodes.NodeKind.{NodeKind}
+use Rattle.state_rules.specs.declared.nodes.NodeKind.TheVariants.{And}
+use Rattle.state_rules.specs.Graphs.{Node, node_at, edges}
 use Rattle.node_store.specs.inner.Flat.{nodes_of}
 
 pub length-nodes_of : (kinds : List NodeKind) (lists : List (List ℕ)) → length lists ≡ length kinds → length (nodes_of kinds lists) ≡ length kinds

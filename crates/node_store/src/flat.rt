@@ -1,10 +1,9 @@
 ghost use Rattle.std.specs.Prelude.{◌≡◌, ◌<◌, ◌↔◌, ◌++◌, [], ◌∷◌, length, IsTrue, OnOk, OnErr};
-ghost use Rattle.graph_rules.specs.Graphs.{node_at};
-ghost use Rattle.graph_rules.specs.GraphTexts.{edges};
+ghost use Rattle.state_rules.specs.Graphs.{node_at, edges};
 
 use crate::walk::Walk;
 use flat_lists::FlatLists;
-use graph_rules::NodeKind;
+use state_rules::NodeKind;
 use std::alloc::{AllocError, Global};
 use std::marker::Model;
 
@@ -18,7 +17,7 @@ pub struct Nodes {
 
 impl Model for Nodes {
     ghost use Rattle.std.specs.Prelude.{◌≡◌, List, length};
-    ghost use Rattle.graph_rules.specs.Graphs.{Node};
+    ghost use Rattle.state_rules.specs.Graphs.{Node};
     ghost use Rattle.node_store.specs.inner.Flat.{nodes_of};
 
     ghost Value = { List Node };
@@ -73,7 +72,7 @@ impl Nodes {
         requires { node < length self.now }
         ensures { result.now ≡ (node_at self.now node).kids }
     {
-        self.kids.get(node)
+        self.kids.list(node)
     }
 
     /// Walks the nodes in order.

@@ -1,10 +1,9 @@
 ghost use Rattle.std.specs.Prelude.{◌≡◌, ℕ, ◌<◌, ◌++◌, [], ◌∷◌, true, length, IfOk, IfErr, OnOk, OnErr};
-ghost use Rattle.graph_rules.specs.Graphs.{node_at, mentions, apart_at, node_fits, IsGraph};
-ghost use Rattle.graph_rules.specs.GraphTexts.{edges};
+ghost use Rattle.state_rules.specs.Graphs.{node_at, mentions, apart_at, node_fits, IsGraph, edges};
 
 use crate::flat::Nodes;
 use crate::walk::Walk;
-use graph_rules::NodeKind;
+use state_rules::NodeKind;
 use std::alloc::{AllocError, Global};
 use std::marker::Model;
 
@@ -21,7 +20,7 @@ pub struct Graph {
 }
 
 impl Model for Graph {
-    ghost use Rattle.graph_rules.specs.Graphs.{Graph as Shown, IsGraph};
+    ghost use Rattle.state_rules.specs.Graphs.{Graph as Shown, IsGraph};
 
     ghost Value = { Shown };
 
@@ -103,7 +102,7 @@ pub struct GraphBuilder {
 
 impl Model for GraphBuilder {
     ghost use Rattle.std.specs.Prelude.{◌≤◌, length};
-    ghost use Rattle.graph_rules.specs.Graphs.{Graph as Shown, AreNodes};
+    ghost use Rattle.state_rules.specs.Graphs.{Graph as Shown, AreNodes};
     ghost use Rattle.node_store.specs.declared.graph.TheConstants.{NODE_LIMIT};
 
     ghost Value = { Shown };

@@ -1,8 +1,8 @@
 ghost use Rattle.std.specs.Prelude.{◌≡◌, ℕ, ◌+◌, ◌-◌, ◌*◌, ◌<◌, ◌≤◌, ◌^◌, ◌++◌, [], ◌∷◌, true, map, List, length, slice_get, slice_index, Some, All, IfOk, IfErr, OnOk, OnErr, ◌==◌};
-ghost use Rattle.ranking.specs.Assignments.{Assignment};
-ghost use Rattle.ranking.specs.Bits.{same_bit};
-ghost use Rattle.graph_rules.specs.declared.NodeKind.TheVariants.{And, Or};
-ghost use Rattle.graph_rules.specs.Graphs.{literal_node, at_most_one, is_true, mentions, apart_at, node_fits, AreNodes, IsGraph};
+ghost use Rattle.state_rules.specs.Assignments.{Assignment};
+ghost use Rattle.state_rules.specs.Bits.{same_bit};
+ghost use Rattle.state_rules.specs.declared.nodes.NodeKind.TheVariants.{And, Or};
+ghost use Rattle.state_rules.specs.Graphs.{literal_node, at_most_one, is_true, mentions, apart_at, node_fits, AreNodes, IsGraph};
 ghost use Rattle.node_store.specs.Stores.{IsStore, IsFrozen, Makes, Means, AddsAtMost, EachOnce, literals};
 ghost use Rattle.node_store.specs.inner.Literals.{IsNew};
 ghost use Rattle.node_store.specs.inner.Keeping.{shown};
@@ -11,9 +11,9 @@ ghost use Rattle.node_store.specs.inner.Freezing.{AreBefore, IsBelow, IsClosed, 
 use crate::flat::Nodes;
 use crate::graph::Graph;
 use crate::nearby::Nearby;
-use graph_rules::{CHILD_LIMIT, NodeKind};
 use indexmap::IndexSet;
 use smallvec::SmallVec;
+use state_rules::{CHILD_LIMIT, NodeKind};
 use std::alloc::{AllocError, Global};
 use std::marker::Model;
 

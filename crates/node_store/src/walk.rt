@@ -3,7 +3,7 @@ ghost use Rattle.std.specs.Iterator.{YieldsFirst, item_count};
 ghost use Rattle.node_store.specs.inner.Flat.{nodes_of};
 
 use flat_lists::Lists;
-use graph_rules::NodeKind;
+use state_rules::NodeKind;
 use std::marker::Model;
 
 /// A node, whose children stay where they lie.
@@ -16,7 +16,7 @@ pub struct NodeRef<'a> {
 }
 
 impl<'a> Model for NodeRef<'a> {
-    ghost use Rattle.graph_rules.specs.Graphs.{Node};
+    ghost use Rattle.state_rules.specs.Graphs.{Node};
 
     ghost Value = { Node };
 
@@ -35,7 +35,7 @@ pub struct Walk<'a> {
 
 impl<'a> Model for Walk<'a> {
     ghost use Rattle.std.specs.Prelude.{◌≡◌, List, length};
-    ghost use Rattle.graph_rules.specs.Graphs.{Node};
+    ghost use Rattle.state_rules.specs.Graphs.{Node};
     ghost use Rattle.node_store.specs.inner.Flat.{nodes_of};
 
     ghost Value = { List Node };

@@ -6,14 +6,14 @@ use Rattle.std.specs.Int.{bit_at}
 use Rattle.std.proofs.Math.Bool.{and-false, or-false}
 use Rattle.std.proofs.lemmas.Bool.{cases_lt, cases_eq, lt-ltb, le-ltb, eq-eqb, ne_eqb}
 use Rattle.std.proofs.lemmas.List.{take_more, get_or-set_same, get_or-set_other}
-use Rattle.graph_rules.specs.declared.NodeKind.TheVariants.{Literal}
-use Rattle.graph_rules.specs.Graphs.{Graph, node_at, mention_by, mentions, IsGraph}
-use Rattle.graph_rules.proofs.WordBits.{has_bit-or, one_bit}
-use Rattle.graph_rules.proofs.Kids.{any-push}
+use Rattle.state_rules.specs.declared.nodes.NodeKind.TheVariants.{Literal}
+use Rattle.state_rules.specs.Graphs.{Graph, node_at, mention_by, mentions, IsGraph}
+use Rattle.state_rules.proofs.WordBits.{has_bit-or, one_bit}
+use Rattle.state_rules.proofs.Lists.{any-push}
+use Rattle.scratch_pool.proofs.Counted.{block-below}
 use Rattle.part_sets.specs.Numbers.{has_number, part_words, set_at}
 use Rattle.part_sets.specs.PartSets.{ArePartsOf, ArePartsBelow}
 use Rattle.part_sets.proofs.SetBits.{has-within, same_place}
-use Rattle.scratch_pool.proofs.Counted.{block-below}
 use Rattle.part_sets.proofs.Kids.{kid-below, mention-is}
 use Rattle.part_sets.proofs.Stacks.{set_at-front, set_at-here}
 

@@ -2,10 +2,10 @@
 use Rattle.std.proofs.Common.{◌≡◌, ℕ, zero, suc, ◌<◌, ◌≤◌, Bool, true, List, [], ◌∷◌, map, length, get_or, All, ap, sym, ◌∙◌, subst, arith}
 use Rattle.std.specs.List.{list_any}
 use Rattle.std.proofs.lemmas.Bool.{or_left, or_right}
-use Rattle.graph_rules.specs.declared.NodeKind.TheVariants.{Literal, Or}
-use Rattle.graph_rules.specs.Graphs.{Graph, node_at, mention_by, mentions, kind_fits, IsGraph}
-use Rattle.graph_rules.proofs.NodeValues.{below-each, value_of-at}
-use Rattle.graph_rules.proofs.NodesFit.{fits-at, literal}
+use Rattle.state_rules.specs.declared.nodes.NodeKind.TheVariants.{Literal, Or}
+use Rattle.state_rules.specs.Graphs.{Graph, node_at, mention_by, mentions, kind_fits, IsGraph}
+use Rattle.state_rules.proofs.NodeValues.{below-each, value_of-at}
+use Rattle.state_rules.proofs.NodesFit.{fits-at, literal}
 
 any_at : (f : ℕ → Bool) (kids : List ℕ) (j : ℕ) → j < length kids → f (get_or kids j 0) ≡ true → list_any (λ x. x) (map f kids) ≡ true
 any_at f [] j lt e = absurd (omega arith)

@@ -6,8 +6,8 @@ use Rattle.std.proofs.Math.Bool.{or-false}
 use Rattle.std.proofs.lemmas.Nat.Bits.{bit_at-zero}
 use Rattle.std.proofs.lemmas.Bool.{cases_eq, cases_lt, lt-ltb, le-ltb, eq-eqb, ne_eqb, false≢true}
 use Rattle.std.proofs.lemmas.List.{get_or-set_same, get_or-set_other, get_or_past}
-use Rattle.graph_rules.specs.inner.WordBits.{has_bit}
-use Rattle.graph_rules.proofs.WordBits.{has_bit-or, one_bit}
+use Rattle.state_rules.proofs.WordBits.{has_bit-or, one_bit}
+use Rattle.state_rules.specs.Bits.{has_bit}
 use Rattle.part_sets.specs.Numbers.{has_number}
 
 -- ---- the numbers in a set

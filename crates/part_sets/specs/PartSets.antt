@@ -1,7 +1,7 @@
 -- Sets of parts: those below each node of a graph, and whether the kids of a node lack one.
 use Rattle.std.specs.Prelude.{◌≡◌, ◌↔◌, ℕ, ◌+◌, ◌-◌, ◌*◌, ◌<◌, ◌≤◌, Bool, true, ◌&&◌, List, length, slice_index, nat_lt}
-use Rattle.graph_rules.specs.declared.NodeKind.TheVariants.{Or}
-use Rattle.graph_rules.specs.Graphs.{Graph, node_at, mentions}
+use Rattle.state_rules.specs.declared.nodes.NodeKind.TheVariants.{Or}
+use Rattle.state_rules.specs.Graphs.{Graph, node_at, mentions}
 use Rattle.part_sets.specs.Numbers.{has_number, part_words, set_at}
 
 -- the set of the parts whose variables are among some, parts being counted from 0

@@ -1,14 +1,14 @@
 //! For each node of a graph the parts below it.
 ghost use Rattle.std.specs.Prelude.{◌≡◌, ℕ, ◌+◌, ◌*◌, ◌<◌, ◌≤◌, ◌==◌, length, true, IfOk, slice_index};
 ghost use Rattle.std.specs.List.{list_any};
-ghost use Rattle.graph_rules.specs.Graphs.{mentions};
+ghost use Rattle.state_rules.specs.Graphs.{mentions};
 ghost use Rattle.part_sets.specs.Numbers.{has_number, part_words, set_at};
 ghost use Rattle.part_sets.specs.PartSets.{ArePartsOf, ArePartsBelow, AreBelow};
 
 use crate::kept::PART_LIMIT;
 use crate::numbers::{add_all, add_one, clear, part_words, put_one, set_at};
-use graph_rules::NodeKind;
 use node_store::Graph;
+use state_rules::NodeKind;
 use std::alloc::{AllocError, Global};
 
 // The sets of the parts below the nodes of a graph, and behind them the set of all parts.

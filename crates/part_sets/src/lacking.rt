@@ -1,14 +1,14 @@
 //! Which nodes have a kid that lacks a part.
 ghost use Rattle.std.specs.Prelude.{◌≡◌, ◌↔◌, ℕ, ◌+◌, ◌*◌, ◌<◌, ◌≤◌, false, not, ◌&&◌, length, IfOk};
-ghost use Rattle.graph_rules.specs.declared.NodeKind.TheVariants.{Or};
-ghost use Rattle.graph_rules.specs.Graphs.{node_at};
+ghost use Rattle.state_rules.specs.declared.nodes.NodeKind.TheVariants.{Or};
+ghost use Rattle.state_rules.specs.Graphs.{node_at};
 ghost use Rattle.part_sets.specs.Numbers.{has_number, part_words, set_at};
 ghost use Rattle.part_sets.specs.PartSets.{AreBelow, SameBelow, LacksNone, AreLacking};
 
 use crate::kept::PART_LIMIT;
 use crate::numbers::{next_missing, part_words, set_at};
-use graph_rules::NodeKind;
 use node_store::Graph;
+use state_rules::NodeKind;
 use std::alloc::{AllocError, Global};
 
 // For each node a word that is 0 where it is no or, or no kid of it lacks a part; and behind them one that is 0 where the last node

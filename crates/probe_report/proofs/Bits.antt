@@ -3,8 +3,8 @@ use Rattle.std.proofs.Common.{◌≡◌, ℕ, ◌+◌, ◌-◌, ◌*◌, ◌%◌
 use Rattle.std.specs.Prelude.{◌⊎◌}
 use Rattle.std.proofs.lemmas.Bool.{cases_eq, eq-eqb, ne_eqb}
 use Rattle.std.proofs.lemmas.Nat.Bits.{bit_at_ones}
-use Rattle.graph_rules.specs.inner.WordBits.{has_bit}
-use Rattle.graph_rules.proofs.WordBits.{has_bit-zero, one_bit}
+use Rattle.state_rules.proofs.WordBits.{has_bit-zero, one_bit}
+use Rattle.state_rules.specs.Bits.{has_bit}
 
 -- the greatest word has all bits
 pub has_bit-all : (b : ℕ) → b < 64 → has_bit 18446744073709551615 b ≡ true

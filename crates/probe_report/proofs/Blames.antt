@@ -4,15 +4,15 @@ use Rattle.std.specs.Prelude.{◌↔◌, ◌==◌, slice_get}
 use Rattle.std.specs.List.{list_all, list_any}
 use Rattle.std.proofs.Math.Bool.{and-false}
 use Rattle.std.proofs.lemmas.Bool.{and_from, false≢true, eqb-true, eq-eqb}
-use Rattle.ranking.specs.Bits.{bit_in, same_bit}
-use Rattle.ranking.specs.Ranking.{least, passing, diagnoses}
-use Rattle.ranking.proofs.Lists.{list_any-map}
-use Rattle.ranking.proofs.Members.{In, any_in}
-use Rattle.graph_rules.specs.Graphs.{Graph}
+use Rattle.state_rules.specs.Bits.{bit_in, same_bit}
+use Rattle.state_rules.specs.Ranking.{least, passing, diagnoses}
+use Rattle.state_rules.proofs.Lists.{list_any-map}
+use Rattle.state_rules.proofs.Members.{In, any_in}
+use Rattle.state_rules.specs.Graphs.{Graph}
 use Rattle.conditioner.specs.Models.{has_model, fits_words, models, least_under, diagnoses_under}
-use Rattle.minimiser.specs.Suspects.{Passes, Suspect}
-use Rattle.minimiser.proofs.Models.{Agree, Agree-bit, Passes-agrees, LeastIs, least-some, least-none, diagnosis-in, diagnosis-out}
-use Rattle.diagnosis_lister.proofs.Fixing.{least-passes, passes-least}
+use Rattle.minimiser.specs.LeastStates.{ModelWithin, Suspect}
+use Rattle.minimiser.proofs.Models.{Agree, Agree-bit, ModelWithin-agrees, LeastIs, least-some, least-none, diagnosis-in, diagnosis-out}
+use Rattle.minimiser.proofs.Fixing.{least-passes, passes-least}
 use Rattle.probe_report.specs.declared.verdicts.Blame.{Blame}
 use Rattle.probe_report.specs.declared.verdicts.Blame.TheVariants.{Always, Sometimes, Never, Inconsistent}
 use Rattle.probe_report.specs.Verdicts.{verdict, blame_of}
@@ -64,24 +64,24 @@ module _ (graph : Graph) (words costs : List ℕ) (i most : ℕ) (lt : i < lengt
   faulty state = not (bit_in state i)
 
   -- where it is ok in all, or faulty in all
-  pub all-ok : ((h : List Bool) → Passes graph words costs most h → bit_in h i ≡ true) → Never ≡ blame_of graph words costs i
+  pub all-ok : ((h : List Bool) → ModelWithin graph words costs most h → bit_in h i ≡ true) → Never ≡ blame_of graph words costs i
   all-ok all =
       let some = least-some graph costs within words most e in
       verdict-never faulty ds some.state (diagnosis-in graph words costs most e some.state some.passes) (λ x m. ap not (all x (diagnosis-out graph words costs most e x m)))
 
-  pub all-faulty : ((h : List Bool) → Passes graph words costs most h → bit_in h i ≡ false) → Always ≡ blame_of graph words costs i
+  pub all-faulty : ((h : List Bool) → ModelWithin graph words costs most h → bit_in h i ≡ false) → Always ≡ blame_of graph words costs i
   all-faulty all =
       let some = least-some graph costs within words most e in
       verdict-always faulty ds some.state (diagnosis-in graph words costs most e some.state some.passes) (λ x m. ap not (all x (diagnosis-out graph words costs most e x m)))
 
-  pub some-differ : (h k : List Bool) → Passes graph words costs most h → Passes graph words costs most k → bit_in h i ≡ false → bit_in k i ≡ true → Sometimes ≡ blame_of graph words costs i
+  pub some-differ : (h k : List Bool) → ModelWithin graph words costs most h → ModelWithin graph words costs most k → bit_in h i ≡ false → bit_in k i ≡ true → Sometimes ≡ blame_of graph words costs i
   some-differ h k p q a b = verdict-sometimes faulty ds h k (diagnosis-in graph words costs most e h p) (diagnosis-in graph words costs most e k q) (ap not a) (ap not b)
 
   abbrev HasLeast : Bool → Type 0
   HasLeast bit = least costs (passing (length costs) (has_model graph (λ bits. fits_words words bits && same_bit bit (bit_in bits i)) (length costs))) ≡ Some most
 
   -- a diagnosis that has not the one bit has the other
-  only : (bit : Bool) → (HasLeast (not bit) → ⊥) → (h : List Bool) → Passes graph words costs most h → bit_in h i ≡ bit
+  only : (bit : Bool) → (HasLeast (not bit) → ⊥) → (h : List Bool) → ModelWithin graph words costs most h → bit_in h i ≡ bit
   only bit none h p = by_bit (bit_in h i) refl bit none where
     by_bit : (b : Bool) → bit_in h i ≡ b → (c : Bool) → (HasLeast (not c) → ⊥) → b ≡ c
     by_bit true q true no_other = refl
@@ -111,7 +111,7 @@ module _ (graph : Graph) (words costs : List ℕ) (most : ℕ) (within : length 
   all = diagnoses_under graph words costs
 
   -- the first diagnosis
-  pub first-passes-all : (d : List Bool) → Passes graph words costs most (get_or (diagnoses_under graph words costs) 0 d)
+  pub first-passes-all : (d : List Bool) → ModelWithin graph words costs most (get_or (diagnoses_under graph words costs) 0 d)
   first-passes-all d =
       let some = least-some graph costs within words most e in
       diagnosis-out graph words costs most e _ (first-in all some.state (diagnosis-in graph words costs most e some.state some.passes)) where
@@ -134,16 +134,16 @@ module _ (graph : Graph) (words costs : List ℕ) (i most : ℕ) (lt : i < lengt
     by_word : (w : ℕ) → get_or words i 0 ≡ w → (b : Bool) → (suspect == 1) ≡ b → IsPresumed graph words costs verdicts i
     by_word zero q true t = inr (is.0 (eqb-true suspect 1 t), f ∙ (λ j. Some (presumed (q j) suspect)) ∙ (λ j. Some (cond (t j) Sometimes Never)))
     by_word zero q false t = inl (f ∙ (λ j. Some (presumed (q j) suspect)) ∙ (λ j. Some (cond (t j) Sometimes Never)) ∙ ap Some (all-ok graph words costs i most lt within e ok)) where
-      ok : (h : List Bool) → Passes graph words costs most h → bit_in h i ≡ true
+      ok : (h : List Bool) → ModelWithin graph words costs most h → bit_in h i ≡ true
       ok h p = by_bit (bit_in h i) refl where
         by_bit : (b : Bool) → bit_in h i ≡ b → b ≡ true
         by_bit true r = refl
         by_bit false r = absurd (false≢true (sym t ∙ eq-eqb suspect 1 (is.1 (record { within = lt; open_ = q; state = h; is_least = passes-least graph words costs most h e p; faulty = r }))))
-    by_word (suc zero) q b t = inl (f ∙ (λ j. Some (presumed (q j) suspect)) ∙ ap Some (all-ok graph words costs i most lt within e (λ h p. Agree-bit true (bit_in h i) (subst (λ w. Agree w (bit_in h i)) q (Passes-agrees graph costs within words most h long p i lt)))))
-    by_word (suc (suc n)) q b t = inl (f ∙ (λ j. Some (presumed (q j) suspect)) ∙ ap Some (all-faulty graph words costs i most lt within e (λ h p. Agree-bit false (bit_in h i) (subst (λ w. Agree w (bit_in h i)) q (Passes-agrees graph costs within words most h long p i lt)))))
+    by_word (suc zero) q b t = inl (f ∙ (λ j. Some (presumed (q j) suspect)) ∙ ap Some (all-ok graph words costs i most lt within e (λ h p. Agree-bit true (bit_in h i) (subst (λ w. Agree w (bit_in h i)) q (ModelWithin-agrees graph costs within words most h long p i lt)))))
+    by_word (suc (suc n)) q b t = inl (f ∙ (λ j. Some (presumed (q j) suspect)) ∙ ap Some (all-faulty graph words costs i most lt within e (λ h p. Agree-bit false (bit_in h i) (subst (λ w. Agree w (bit_in h i)) q (ModelWithin-agrees graph costs within words most h long p i lt)))))
 
   -- a part that is ok or not open in some diagnosis needs no pass
-  pub presumed-stays : (verdicts : List Blame) (h : List Bool) → Passes graph words costs most h → (get_or words i 0 ≡ 0 → bit_in h i ≡ true) → IsPresumed graph words costs verdicts i → slice_get verdicts i ≡ Some (blame_of graph words costs i)
+  pub presumed-stays : (verdicts : List Blame) (h : List Bool) → ModelWithin graph words costs most h → (get_or words i 0 ≡ 0 → bit_in h i ≡ true) → IsPresumed graph words costs verdicts i → slice_get verdicts i ≡ Some (blame_of graph words costs i)
   presumed-stays verdicts h p ok (inl f) = f
   presumed-stays verdicts h p ok (inr s) =
       let u = s.0 in

@@ -7,14 +7,14 @@ use Rattle.std.proofs.lemmas.Bool.{eqb-true, eqb-false, eq-eqb, or_parts, falseâ
 use Rattle.std.proofs.lemmas.List.{get_or-set_same, get_or-set_other}
 use Rattle.std.proofs.lemmas.List.Sums.{sum_by-cons}
 use Rattle.std.proofs.lemmas.Option.{slice_get-get_or, slice_get_within}
-use Rattle.ranking.specs.Values.{values}
-use Rattle.ranking.proofs.Members.{In, AtMost, AtMost-le}
-use Rattle.graph_rules.specs.declared.NodeKind.{NodeKind}
-use Rattle.graph_rules.specs.declared.NodeKind.TheVariants.{Literal, And, Or}
-use Rattle.graph_rules.specs.Graphs.{at_most_one, Node, Graph, true_node, node_at, mention_by, mentions, IsGraph}
-use Rattle.graph_rules.proofs.Kids.{at_most_one-tail, not_both}
-use Rattle.graph_rules.proofs.NodeValues.{value_of-get}
-use Rattle.graph_rules.proofs.NodesFit.{fits-get, apart-get, literal}
+use Rattle.state_rules.specs.Values.{values}
+use Rattle.state_rules.proofs.Members.{In, AtMost, AtMost-le}
+use Rattle.state_rules.specs.declared.nodes.NodeKind.{NodeKind}
+use Rattle.state_rules.specs.declared.nodes.NodeKind.TheVariants.{Literal, And, Or}
+use Rattle.state_rules.specs.Graphs.{at_most_one, Node, Graph, true_node, node_at, mention_by, mentions, IsGraph}
+use Rattle.state_rules.proofs.Kids.{at_most_one-tail, not_both}
+use Rattle.state_rules.proofs.NodeValues.{value_of-get}
+use Rattle.state_rules.proofs.NodesFit.{fits-get, apart-get, literal}
 use Rattle.conditioner.specs.Words.{known_of, word_of, leaf_of}
 use Rattle.conditioner.specs.Models.{total_cost}
 use Rattle.conditioner.proofs.FittingWords.{known_of-word_of}
@@ -22,11 +22,11 @@ use Rattle.minimiser.specs.Costs.{part_cost, known_at, cost_at, add_costs, sum_c
 use Rattle.minimiser.specs.Stored.{cost_in, costs_to, AreLeastCosts}
 use Rattle.minimiser.proofs.Costs.{from_add, from_min}
 use Rattle.minimiser.proofs.Sums.{cost_in-some, cost_at-map}
-use Rattle.minimiser.proofs.Passes.{length-least_costs, literal_at, cost_small}
+use Rattle.minimiser.proofs.OnePass.{length-least_costs, literal_at, cost_small}
 use Rattle.minimiser.proofs.Derivations.{any-kid, kid-with, cheapest-kid, costs-at, below, all-below}
 use Rattle.minimiser.proofs.Whole.{from_bounds}
 use Rattle.minimiser.proofs.Sweeping.{node_least, cost_in-is, kid-in, kid-out}
-use Rattle.minimiser.specs.inner.Marked.{is_kid}
+use Rattle.minimiser.specs.inner.Swept.{is_kid}
 use Rattle.probe_report.specs.inner.Outside.{IsLowered, total_value, outside_kid, HasOuterParent, AreOuter, Without, With}
 
 -- ---- costs

@@ -3,9 +3,9 @@ use Rattle.std.proofs.Common.{◌≡◌, ℕ, ◌+◌, ◌-◌, ◌<◌, ◌≤�
 use Rattle.std.specs.Prelude.{◌⊎◌, ◌==◌, nat_le, nat_lt}
 use Rattle.std.proofs.lemmas.Bool.{cases_lt, leb-true, le-leb, ltb-true, lt-ltb}
 use Rattle.std.proofs.lemmas.List.{take_more}
-use Rattle.graph_rules.specs.inner.WordBits.{has_bit}
-use Rattle.graph_rules.proofs.Kids.{any-push}
-use Rattle.minimiser.specs.inner.Marked.{is_kid}
+use Rattle.state_rules.specs.Bits.{has_bit}
+use Rattle.state_rules.proofs.Lists.{any-push}
+use Rattle.minimiser.specs.inner.Swept.{is_kid}
 use Rattle.probe_report.specs.inner.Outside.{lowered, IsLowered, is_left}
 use Rattle.probe_report.specs.inner.Leaving.{LowersBlock}
 

@@ -3,21 +3,20 @@ use Rattle.std.proofs.Common.{◌≡◌, ◌≢◌, ℕ, ◌+◌, ◌-◌, ◌<�
 use Rattle.std.specs.Prelude.{◌⊎◌, ◌==◌}
 use Rattle.std.specs.List.{list_any}
 use Rattle.std.proofs.Math.Bool.{beq}
-use Rattle.std.proofs.lemmas.Bool.{and_from, and_parts, or_cases, or_left, or_right, eqb-true, eq-eqb, false≢true, not-true}
-use Rattle.graph_rules.specs.declared.NodeKind.{NodeKind}
-use Rattle.graph_rules.specs.declared.NodeKind.TheVariants.{Literal, And, Or}
-use Rattle.graph_rules.specs.Graphs.{Node, Graph, node_at, mention_by, mentions, IsGraph}
-use Rattle.graph_rules.specs.inner.WordBits.{has_bit}
-use Rattle.graph_rules.proofs.NodeValues.{map-below, value_of-at}
-use Rattle.graph_rules.proofs.NodesFit.{fits-at}
-use Rattle.graph_rules.proofs.WordBits.{has_bit-zero}
-use Rattle.minimiser.proofs.Models.{same_or_not}
-use Rattle.minimiser.specs.inner.Marked.{is_kid}
+use Rattle.std.proofs.lemmas.Bool.{and_from, and_parts, or_cases, or_left, or_right, eqb-true, eq-eqb, false≢true, not-true, cases_eq}
+use Rattle.state_rules.specs.declared.nodes.NodeKind.{NodeKind}
+use Rattle.state_rules.specs.declared.nodes.NodeKind.TheVariants.{Literal, And, Or}
+use Rattle.state_rules.specs.Graphs.{Node, Graph, node_at, mention_by, mentions, IsGraph}
+use Rattle.state_rules.proofs.NodeValues.{map-below, value_of-at}
+use Rattle.state_rules.proofs.NodesFit.{fits-at}
+use Rattle.state_rules.proofs.WordBits.{has_bit-zero}
+use Rattle.state_rules.specs.Bits.{has_bit}
+use Rattle.minimiser.specs.inner.Swept.{is_kid}
+use Rattle.minimiser.proofs.Sweeping.{kid_before}
 use Rattle.probe_report.specs.inner.Outside.{lowered, IsLowered, AtLiteral, AtKid, Without, With, mark_at, is_left}
 use Rattle.probe_report.specs.inner.Leaving.{IsMarked, LeftKid, LeftNode, LowersBlock}
 use Rattle.probe_report.proofs.Lowering.{lowered-is, lowered-then, lowered-as, is_kid-more, is_left-before, is_left-behind, is_left-in, block-lowered, block-then, block-as, block-none}
 use Rattle.probe_report.proofs.Bits.{has_bit-all}
-use Rattle.minimiser.proofs.Sweeping.{kid_before}
 
 -- ---- one more kid
 
@@ -91,7 +90,7 @@ module _ (graph : Graph) (ok : IsGraph graph) (old new : List ℕ) (first at mar
   marked-more here others node b h small = ⊎_elim
       (λ (e : node ≡ at). ap (λ k. has_bit (mark_at new k) b) e ∙ ap (λ w. has_bit w b) here ∙ mark-right b small ∙ ap (mentions graph.nodes (first + b)) (sym e))
       (λ (ne : node ≢ at). ap (λ w. has_bit w b) (others node ne) ∙ marked node b (omega arith) small)
-      (same_or_not node at)
+      (cases_eq node at)
 
 -- ---- nodes that mention none of the variables
 
@@ -114,7 +113,7 @@ module _ (graph : Graph) (ok : IsGraph graph) (first at : ℕ) (lt : at < length
   none-more none node b h small = ⊎_elim
       (λ (e : node ≡ at). ap (mentions graph.nodes (first + b)) e ∙ node-mentions b small ∙ none b small)
       (λ (ne : node ≢ at). before node b (omega arith) small)
-      (same_or_not node at)
+      (cases_eq node at)
 
   pub none-literal : (var mark : ℕ) (positive : Bool) → Literal positive var ≡ (node_at graph.nodes at).what → ((b : ℕ) → b < 64 → has_bit mark b ≡ (var == first + b)) → mark ≡ 0 → NoneMarked graph.nodes first (at + 1)
   none-literal var mark positive e is none = none-more (λ b small. ap (λ w. mention_by (first + b) w (map (λ (k : ℕ). false) (node_at graph.nodes at).kids)) (sym e) ∙ sym (is b small) ∙ ap (λ m. has_bit m b) none ∙ has_bit-zero b)
@@ -169,7 +168,7 @@ module _ (graph : Graph) (ok : IsGraph graph) (values outers marks : List ℕ) (
       (λ p x h g m. ⊎_elim
       (λ (e : m.0 ≡ at). inr (of_node p x h g (subst (λ k. AtKid graph.nodes values outers (parts + p + 1) k x) e m.2)))
       (λ (ne : m.0 ≢ at). inl (m.0, omega (arith, m.1), m.2))
-      (same_or_not m.0 at)) where
+      (cases_eq m.0 at)) where
         of_node : (p x : ℕ) → start ≤ p → p < start + 64 → AtKid graph.nodes values outers (parts + p + 1) at x → LeftNode graph.nodes values outers marks at start p x
         of_node p x h g k = record {
           or_ = k.or_;
@@ -233,7 +232,7 @@ module _ (nodes : List Node) (outers : List ℕ) (var : ℕ) (bit : Bool) (at : 
   not-here x m = ⊎_elim
       (λ (e : m.0 ≡ at). inr (subst (λ k. AtLiteral nodes outers var bit k x) e m.2))
       (λ (ne : m.0 ≢ at). inl (m.0, omega (arith, m.1), m.2))
-      (same_or_not m.0 at)
+      (cases_eq m.0 at)
 
   pub literal-more : (a b c v : ℕ) (positive : Bool) → at < length nodes → IsLowered (λ x. (node : ℕ) × (node < at) × AtLiteral nodes outers var bit node x) a b → Literal positive v ≡ (node_at nodes at).what → positive ≡ bit
       → c ≡ lowered (v == var) (get_or outers at 0) b → IsLowered (λ x. (node : ℕ) × (node < at + 1) × AtLiteral nodes outers var bit node x) a c

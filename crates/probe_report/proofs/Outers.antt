@@ -1,11 +1,11 @@
 -- One more node gives its kids what they cost outside.
 use Rattle.std.proofs.Common.{◌≡◌, ◌≢◌, ℕ, ◌+◌, ◌-◌, ◌<◌, ◌≤◌, Bool, true, List, length, get_or, refl, ap, sym, ◌∙◌, subst, arith, inl, inr, ⊎_elim}
-use Rattle.graph_rules.specs.declared.NodeKind.{NodeKind}
-use Rattle.graph_rules.specs.declared.NodeKind.TheVariants.{Literal, And, Or}
-use Rattle.graph_rules.specs.Graphs.{Node, Graph, node_at, kind_fits, IsGraph}
-use Rattle.graph_rules.proofs.NodesFit.{fits-at, literal}
-use Rattle.minimiser.proofs.Models.{same_or_not}
-use Rattle.minimiser.specs.inner.Marked.{is_kid}
+use Rattle.std.proofs.lemmas.Bool.{cases_eq}
+use Rattle.state_rules.specs.declared.nodes.NodeKind.{NodeKind}
+use Rattle.state_rules.specs.declared.nodes.NodeKind.TheVariants.{Literal, And, Or}
+use Rattle.state_rules.specs.Graphs.{Node, Graph, node_at, kind_fits, IsGraph}
+use Rattle.state_rules.proofs.NodesFit.{fits-at, literal}
+use Rattle.minimiser.specs.inner.Swept.{is_kid}
 use Rattle.probe_report.specs.inner.Outside.{lowered, IsLowered, outside_kid, outside, HasOuterParent, AreOuter}
 use Rattle.probe_report.proofs.Lowering.{lowered-is}
 
@@ -41,7 +41,7 @@ module _ (nodes : List Node) (values xs ys : List ℕ) (at : ℕ) (lt : at < len
         (λ (ne : p ≢ at).
         let q' : get_or xs p 0 < 2147483647 = subst (λ n. n < 2147483647) (stays p h g) q in
         omega (arith, same p k h g, (moves k l).below, s.down p k (omega arith) g q' l i))
-        (same_or_not p at);
+        (cases_eq p at);
     up = λ k h q. ⊎_elim
         (λ e. ⊎_elim (λ r. inl r)
         (λ (p : HasOuterParent nodes values xs k). inr (record { parent = p.parent; within = p.within; kid = p.kid; cheap = omega (arith, e, less p.parent k p.within, p.cheap) }))

@@ -5,10 +5,10 @@ use Rattle.std.proofs.Math.ListN.{length-set}
 use Rattle.std.proofs.lemmas.Bool.{and_from, ltb-true, eqb-false}
 use Rattle.std.proofs.lemmas.List.{get_or_past}
 use Rattle.std.proofs.lemmas.List.Sums.{sum_by-cons}
-use Rattle.ranking.specs.Bits.{bit_in, same_bit, lists_of_bits}
-use Rattle.ranking.specs.Ranking.{cost, least, states}
-use Rattle.ranking.proofs.Members.{any_from, any_in, AtMost, bits_length, least-below, least-from}
-use Rattle.graph_rules.specs.Graphs.{Node, Graph, holds, IsGraph}
+use Rattle.state_rules.specs.Bits.{bit_in, same_bit, lists_of_bits}
+use Rattle.state_rules.specs.Ranking.{cost, least, states}
+use Rattle.state_rules.proofs.Members.{any_from, any_in, AtMost, bits_length, least-below, least-from}
+use Rattle.state_rules.specs.Graphs.{Node, Graph, holds, IsGraph}
 use Rattle.conditioner.specs.declared.leaves.Leaf.TheVariants.{True, False}
 use Rattle.conditioner.specs.Words.{known_of, word_of, leaf_of}
 use Rattle.conditioner.specs.Models.{has_model, fits_words, least_under, least_with, total_cost}
@@ -17,7 +17,7 @@ use Rattle.minimiser.specs.Stored.{cost_in, AreLeastCosts}
 use Rattle.minimiser.specs.inner.Held.{held_one, held_cost}
 use Rattle.minimiser.proofs.Costs.{and_left, and_right}
 use Rattle.minimiser.proofs.Sums.{cost_in-some}
-use Rattle.minimiser.proofs.Passes.{is_least, value_small, length-least_costs}
+use Rattle.minimiser.proofs.OnePass.{is_least, value_small, length-least_costs}
 use Rattle.minimiser.proofs.Whole.{AddHeld, least_is}
 use Rattle.probe_report.specs.inner.Outside.{IsLowered, AreOuter, Without, With}
 use Rattle.probe_report.specs.inner.Settled.{settled}

@@ -1,23 +1,23 @@
 -- One more bit is asked of the states.
 use Rattle.std.proofs.Common.{◌≡◌, ℕ, zero, suc, ◌-◌, ◌<◌, ◌≤◌, Bool, true, false, not, ◌&&◌, List, [], ◌++◌, length, get_or, set, Option, Some, None, refl, ap, sym, ◌∙◌, subst, arith, ⊎_elim}
 use Rattle.std.proofs.Math.ListN.{length-set}
-use Rattle.std.proofs.lemmas.Bool.{and_from}
+use Rattle.std.proofs.lemmas.Bool.{and_from, cases_eq}
 use Rattle.std.proofs.lemmas.Grind.{same_number_lists}
 use Rattle.std.proofs.lemmas.List.{get_or-set_same, get_or-set_other}
-use Rattle.ranking.specs.Bits.{bit_in, same_bit, lists_of_bits}
-use Rattle.ranking.specs.Ranking.{Test, cost, least, states, passing}
-use Rattle.ranking.proofs.Bits.{same_bit-refl, same_bit-equal}
-use Rattle.ranking.proofs.Members.{In, bits_in, bits_length, any_from, any_in, least-below, least-from, AtMost-le}
-use Rattle.graph_rules.specs.Graphs.{Graph, holds}
+use Rattle.state_rules.specs.Bits.{bit_in, same_bit, lists_of_bits}
+use Rattle.state_rules.specs.Ranking.{Test, cost, least, states, passing}
+use Rattle.state_rules.proofs.Bits.{same_bit-refl, same_bit-equal, bit_in-front}
+use Rattle.state_rules.proofs.Members.{In, bits_in, bits_length, any_from, any_in, least-below, least-from, AtMost-le}
+use Rattle.state_rules.specs.Graphs.{Graph, holds}
 use Rattle.conditioner.specs.declared.leaves.Leaf.TheVariants.{True, False, Open}
 use Rattle.conditioner.specs.Words.{known_of, word_of, leaf_of}
 use Rattle.conditioner.specs.Models.{has_model, fits_words, models, models_with}
 use Rattle.conditioner.proofs.FittingWords.{known_of-word_of, known-at}
 use Rattle.conditioner.proofs.ModelsWith.{with_bit-open, with_bit-known, with_bit-other}
-use Rattle.minimiser.specs.Suspects.{Passes}
+use Rattle.minimiser.specs.LeastStates.{ModelWithin}
 use Rattle.minimiser.proofs.Costs.{and_left, and_right}
-use Rattle.minimiser.proofs.Whole.{bit_in-front, from_bounds}
-use Rattle.minimiser.proofs.Models.{LeastIs, least-low, same_or_not}
+use Rattle.minimiser.proofs.Whole.{from_bounds}
+use Rattle.minimiser.proofs.Models.{LeastIs, least-low}
 
 -- ---- a literal under the words
 
@@ -63,7 +63,7 @@ pub loose-again : (words : List ℕ) (i word : ℕ) → i < length words → get
 loose-again words i word h e = same_number_lists (set (set words i word) i 0) words (length-set (set words i word) i 0 ∙ length-set words i word) (λ k g. ⊎_elim
     (λ q. ap (λ j. get_or (set (set words i word) i 0) j 0) q ∙ get_or-set_same (set words i word) i 0 0 (omega (arith, length-set words i word)) ∙ sym e ∙ ap (λ j. get_or words j 0) (sym q))
     (λ ne. get_or-set_other (set words i word) i k 0 0 ne ∙ get_or-set_other words i k word 0 ne)
-    (same_or_not k i))
+    (cases_eq k i))
 
 -- ---- the diagnoses that have a bit
 
@@ -90,7 +90,7 @@ module _ (graph : Graph) (words costs : List ℕ) (i : ℕ) (bit : Bool) (lt : i
   -- some diagnosis has the bit
   pub record HasBit (most : ℕ) : Type 0 where
     pub state : List Bool
-    pub passes : Passes graph words costs most state
+    pub passes : ModelWithin graph words costs most state
     pub has : bit_in state i ≡ bit
 
   pub bit-out : (most : ℕ) → least costs (passing (length costs) with_bit) ≡ Some most → HasBit most
@@ -100,7 +100,7 @@ module _ (graph : Graph) (words costs : List ℕ) (i : ℕ) (bit : Bool) (lt : i
       let o = with-out s.item long s.passes in
       record { state = s.item; passes = record { long = long; model = o.0; cheap = omega (arith, s.is_size) }; has = o.1 }
 
-  pub bit-in : (most : ℕ) → length costs ≤ graph.vars → LeastIs graph costs words most → (h : List Bool) → Passes graph words costs most h → bit_in h i ≡ bit → least costs (passing (length costs) with_bit) ≡ Some most
+  pub bit-in : (most : ℕ) → length costs ≤ graph.vars → LeastIs graph costs words most → (h : List Bool) → ModelWithin graph words costs most h → bit_in h i ≡ bit → least costs (passing (length costs) with_bit) ≡ Some most
   bit-in most within e h p f = from_bounds _ most
       (AtMost-le _ (cost costs h) most (least-below (cost costs) with_bit h (states (length costs)) (subst (λ n. In h (lists_of_bits n)) p.long (bits_in h)) (with-in h p.long p.model f)) p.cheap)
       (λ k g. let s = least-from (cost costs) with_bit k (states (length costs)) g in

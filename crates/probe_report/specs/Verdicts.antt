@@ -1,8 +1,8 @@
 -- In which diagnoses a part is faulty.
 use Rattle.std.specs.Prelude.{ℕ, Bool, not, List, [], ◌∷◌, map, if◌then◌else◌}
 use Rattle.std.specs.List.{list_all, list_any}
-use Rattle.ranking.specs.Bits.{bit_in}
-use Rattle.graph_rules.specs.Graphs.{Graph}
+use Rattle.state_rules.specs.Bits.{bit_in}
+use Rattle.state_rules.specs.Graphs.{Graph}
 use Rattle.conditioner.specs.Models.{diagnoses_under}
 use Rattle.probe_report.specs.declared.verdicts.Blame.{Blame}
 use Rattle.probe_report.specs.declared.verdicts.Blame.TheVariants.{Always, Sometimes, Never, Inconsistent}

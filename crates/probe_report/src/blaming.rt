@@ -1,16 +1,15 @@
 ghost use Rattle.std.specs.Prelude.{◌≡◌, ◌↔◌, ℕ, ◌+◌, ◌-◌, ◌*◌, ◌<◌, ◌≤◌, length, All, false, true, Some, IsTrue, [], slice_get, slice_index, slice_index_or};
 ghost use Rattle.conditioner.specs.Models.{least_under, least_with, diagnoses_under, total_cost};
-ghost use Rattle.minimiser.specs.Suspects.{Passes};
-ghost use Rattle.diagnosis_lister.specs.Listing.{fault_count};
 ghost use Rattle.conditioner.specs.Words.{bits_of};
+ghost use Rattle.minimiser.specs.LeastStates.{ModelWithin};
+ghost use Rattle.minimiser.specs.Listing.{fault_count};
 ghost use Rattle.probe_report.specs.Verdicts.{blame_of};
 ghost use Rattle.probe_report.specs.inner.Presumed.{presumed, IsPresumed};
 
 use crate::asking::least_where;
 use crate::verdicts::Blame;
 use conditioner::{is_faulty, is_open, known_of};
-use diagnosis_lister::first;
-use minimiser::{Steps, TOTAL_LIMIT, find_suspects, least};
+use minimiser::{Steps, TOTAL_LIMIT, find_suspects, first, least};
 use node_store::Graph;
 use std::sync::ledger::Ledger;
 
@@ -184,7 +183,7 @@ fn confirm<L: Ledger>(
     requires state { length state.now ≡ length costs.now }
     requires verdicts { length verdicts.old ≡ length costs.now }
     requires least { least_under graph.now words.old costs.now ≡ Some fewest }
-    requires diagnosis { Passes graph.now words.old costs.now fewest (bits_of state.now) }
+    requires diagnosis { ModelWithin graph.now words.old costs.now fewest (bits_of state.now) }
     requires presumed { (part : ℕ) → part < length costs.now
         → IsPresumed graph.now words.old costs.now verdicts.old part }
     ensures blame { (part : ℕ) → part < length costs.now

@@ -4,9 +4,9 @@ ghost use Rattle.probe_report.specs.inner.Leaving.{LeftKid, LeftNode, LowersBloc
 
 use crate::marking::{WIDTH, clear_marks, first_marked, has_bit, mark_at, mark_of, set_mark};
 use conditioner::is_open;
-use graph_rules::NodeKind;
 use minimiser::{Steps, TOTAL_LIMIT};
 use node_store::Graph;
+use state_rules::NodeKind;
 use std::sync::ledger::Ledger;
 
 // Lowers the number of each wire that is not seen to the least cost of a derivation without it. The wires' variables are those

@@ -1,11 +1,11 @@
 ghost use Rattle.std.specs.Prelude.{◌≡◌, ◌≢◌, ℕ, ◌+◌, ◌*◌, ◌<◌, ◌≤◌, ◌==◌, length, All, false, map};
 ghost use Rattle.std.specs.List.{list_any};
-ghost use Rattle.graph_rules.specs.Graphs.{node_at, mention_by, mentions};
-ghost use Rattle.graph_rules.specs.inner.WordBits.{has_bit};
+ghost use Rattle.state_rules.specs.Graphs.{node_at, mention_by, mentions};
+ghost use Rattle.state_rules.specs.Bits.{has_bit};
 ghost use Rattle.probe_report.specs.inner.Outside.{mark_at};
 
-use graph_rules::NodeKind;
 use node_store::Graph;
+use state_rules::NodeKind;
 
 /// How many variables have a bit in a mark.
 pub(crate) const WIDTH: u32 = 64;

@@ -1,11 +1,11 @@
 ghost use Rattle.std.specs.Prelude.{◌≡◌, ℕ, ◌+◌, ◌-◌, ◌*◌, ◌^◌, ◌<◌, ◌≤◌, length, All, slice_index};
-ghost use Rattle.graph_rules.specs.Graphs.{node_at};
-ghost use Rattle.minimiser.specs.inner.Marked.{is_kid};
+ghost use Rattle.state_rules.specs.Graphs.{node_at};
+ghost use Rattle.minimiser.specs.inner.Swept.{is_kid};
 ghost use Rattle.probe_report.specs.inner.Outside.{lowered, total_value, outside_kid, AreOuter};
 
-use graph_rules::NodeKind;
 use minimiser::TOTAL_LIMIT;
 use node_store::Graph;
+use state_rules::NodeKind;
 
 // The least cost of a derivation of the root outside of each node, from the values of the nodes: one sweep from the root down.
 pub(crate) fn find_outers(graph: &Graph, values: &[u32], outers: &mut [u32])

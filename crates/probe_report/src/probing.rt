@@ -7,9 +7,9 @@ ghost use Rattle.probe_report.specs.inner.Settled.{settled};
 
 use crate::leaving::lower_without;
 use crate::outside::find_outers;
-use graph_rules::NodeKind;
 use minimiser::{Steps, TOTAL_LIMIT, least};
 use node_store::Graph;
+use state_rules::NodeKind;
 use std::sync::ledger::Ledger;
 
 /// For the wires at once, what [`probe`](crate::probe) gives for one, and the least cost of all states.

@@ -2,8 +2,8 @@
 use Rattle.std.proofs.Common.{◌≡◌, ℕ, true, false, List, [], ◌∷◌, ◌++◌, refl, map}
 use Rattle.std.specs.Prelude.{codes}
 use Rattle.std.specs.Fmt.{digits}
-use Rattle.graph_rules.specs.declared.NodeKind.TheVariants.{And, Or}
-use Rattle.graph_rules.specs.Graphs.{Graph, literal_node, true_node, holds}
+use Rattle.state_rules.specs.declared.nodes.NodeKind.TheVariants.{And, Or}
+use Rattle.state_rules.specs.Graphs.{Graph, literal_node, true_node, holds}
 use Rattle.conditioner.specs.Models.{models}
 use Rattle.projector.specs.Projecting.{projection, projected_text}
 

@@ -3,16 +3,15 @@ use Rattle.std.proofs.Common.{◌≡◌, ℕ, suc, ◌+◌, ◌-◌, ◌<◌, �
 use Rattle.std.specs.List.{list_all, list_any, filter_map, enumerate_from, range_with_len, AllByRecursion}
 use Rattle.std.proofs.lemmas.Bool.{or_cases, or_from, and_from, eqb-true, ne_eqb, le-leb}
 use Rattle.std.proofs.lemmas.List.{get_or_at}
-use Rattle.ranking.specs.Bits.{bit_in, same_bit}
-use Rattle.ranking.specs.Assignments.{Assignment}
-use Rattle.ranking.specs.Cases.{agrees}
-use Rattle.graph_rules.specs.declared.NodeKind.{NodeKind}
-use Rattle.graph_rules.specs.Graphs.{Node, literal_node, true_node, node_at, at_most_one, truth_by, mention_by, apart_at, nodes_fit}
-use Rattle.graph_rules.specs.GraphTexts.{edges}
 use Rattle.std.proofs.lemmas.List.Sums.{sum_by-cons}
-use Rattle.graph_rules.proofs.NodeValues.{are_below, value_of, value_of-at}
+use Rattle.state_rules.specs.Bits.{bit_in, same_bit}
+use Rattle.state_rules.specs.Assignments.{Assignment}
+use Rattle.state_rules.specs.Cases.{agrees}
+use Rattle.state_rules.specs.declared.nodes.NodeKind.{NodeKind}
+use Rattle.state_rules.specs.Graphs.{Node, literal_node, true_node, node_at, at_most_one, truth_by, mention_by, apart_at, nodes_fit, edges}
+use Rattle.state_rules.proofs.NodeValues.{are_below, value_of, value_of-at}
+use Rattle.state_rules.proofs.Kids.{at_most_one-from}
 use Rattle.projector.specs.Projecting.{held_literal}
-use Rattle.graph_rules.proofs.BelowKids.{at_most_one-from}
 
 -- those of parts of which the first has this number
 abbrev pub held_from : ℕ → List (Option Bool) → List Node

@@ -9,12 +9,11 @@ use Rattle.std.proofs.lemmas.List.Folds.{flat_map-map}
 use Rattle.std.proofs.lemmas.List.Concat.{flat_map-append}
 use Rattle.std.proofs.lemmas.List.FromFn.{length-range_with_len, get_or-enumerate_from}
 use Rattle.text_rules.specs.Tokens.{spaced}
-use Rattle.graph_rules.specs.declared.NodeKind.{NodeKind}
-use Rattle.graph_rules.specs.Graphs.{Node, Graph, literal_node}
-use Rattle.graph_rules.specs.GraphTexts.{edges}
-use Rattle.graph_rules.specs.WrittenGraphs.{kind_words, node_words}
-use Rattle.conditioner.specs.Words.{known_of, known}
+use Rattle.state_rules.specs.declared.nodes.NodeKind.{NodeKind}
+use Rattle.state_rules.specs.Graphs.{Node, Graph, literal_node, edges}
+use Rattle.nnf_text.specs.WrittenGraphs.{kind_words, node_words}
 use Rattle.nnf_text.proofs.LineTexts.{header, lines, text-lines, and-spaced}
+use Rattle.conditioner.specs.Words.{known_of, known}
 use Rattle.projector.specs.Projecting.{projected_kind, projected_node, held_literals, root_with, projection, projected_text}
 use Rattle.projector.specs.inner.Lines.{held_line}
 use Rattle.projector.proofs.HeldLiterals.{held_from, held-edges}

@@ -2,14 +2,14 @@
 use Rattle.std.proofs.Common.{◌≡◌, ℕ, suc, ◌-◌, ◌≤◌, Bool, true, false, cond, ◌==◌, ◌&&◌, List, [], length, Option, Some, None, refl, sym, ap, ◌∙◌, arith}
 use Rattle.std.specs.Prelude.{nat_lt, nat_le}
 use Rattle.std.proofs.lemmas.Bool.{and_parts, and_from, eqb-true, le-leb}
-use Rattle.ranking.specs.Bits.{same_bit}
-use Rattle.ranking.specs.Assignments.{Assignment}
-use Rattle.ranking.specs.Cases.{agrees_at}
-use Rattle.ranking.proofs.Bits.{same_bit-swap}
-use Rattle.graph_rules.specs.declared.NodeKind.{NodeKind}
-use Rattle.graph_rules.specs.declared.NodeKind.TheVariants.{Literal, And, Or}
-use Rattle.graph_rules.specs.Graphs.{truth_by, mention_by, kind_fits}
-use Rattle.graph_rules.specs.GraphTexts.{variable_fits}
+use Rattle.state_rules.specs.Bits.{same_bit}
+use Rattle.state_rules.specs.Assignments.{Assignment}
+use Rattle.state_rules.specs.Cases.{agrees_at}
+use Rattle.state_rules.proofs.Bits.{same_bit-swap}
+use Rattle.state_rules.specs.declared.nodes.NodeKind.{NodeKind}
+use Rattle.state_rules.specs.declared.nodes.NodeKind.TheVariants.{Literal, And, Or}
+use Rattle.state_rules.specs.Graphs.{truth_by, mention_by, kind_fits}
+use Rattle.nnf_text.specs.GraphTexts.{variable_fits}
 use Rattle.conditioner.specs.declared.leaves.Leaf.TheVariants.{True, False}
 use Rattle.conditioner.specs.Words.{leaf_of}
 use Rattle.projector.specs.Projecting.{projected_literal}

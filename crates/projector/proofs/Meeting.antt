@@ -4,16 +4,16 @@ use Rattle.std.proofs.Common.{◌≡◌, ℕ, ◌<◌, Bool, true, false, cond, 
 use Rattle.std.specs.Prelude.{nat_lt}
 use Rattle.std.specs.List.{list_all, list_any}
 use Rattle.std.proofs.lemmas.Bool.{and_parts, and_from, or_cases, or_left, or_right, eqb-true, eq-eqb, ltb-true}
-use Rattle.ranking.specs.Bits.{same_bit}
-use Rattle.ranking.specs.Assignments.{Assignment}
-use Rattle.ranking.specs.Cases.{agrees_at}
-use Rattle.ranking.proofs.Bits.{same_bit-equal, same_bit-refl, not_left}
-use Rattle.ranking.proofs.Cases.{usual_bit, usual_bit-agrees, agrees_cond}
-use Rattle.graph_rules.specs.declared.NodeKind.{NodeKind}
-use Rattle.graph_rules.specs.declared.NodeKind.TheVariants.{Literal, And, Or}
-use Rattle.graph_rules.specs.Graphs.{at_most_one, truth_by, mention_by, apart_at}
-use Rattle.graph_rules.proofs.NodeValues.{are_below}
-use Rattle.graph_rules.proofs.Kids.{at_most_one-tail, not_both}
+use Rattle.state_rules.specs.Bits.{same_bit}
+use Rattle.state_rules.specs.Assignments.{Assignment}
+use Rattle.state_rules.specs.Cases.{agrees_at}
+use Rattle.state_rules.proofs.Bits.{same_bit-equal, same_bit-refl, not_left}
+use Rattle.state_rules.proofs.Cases.{usual_bit, usual_bit-agrees, agrees_cond}
+use Rattle.state_rules.specs.declared.nodes.NodeKind.{NodeKind}
+use Rattle.state_rules.specs.declared.nodes.NodeKind.TheVariants.{Literal, And, Or}
+use Rattle.state_rules.specs.Graphs.{at_most_one, truth_by, mention_by, apart_at}
+use Rattle.state_rules.proofs.NodeValues.{are_below}
+use Rattle.state_rules.proofs.Kids.{at_most_one-tail, not_both}
 
 -- what is wanted of a literal's variable allows the literal
 literal_agrees : (k : Option Bool) (positive bit : Bool) → agrees_at k bit ≡ true → same_bit positive bit ≡ true → agrees_at k positive ≡ true

@@ -1,5 +1,5 @@
 -- The projection of a graph is a decomposable graph over the parts, true for the models alone.
-use Rattle.std.proofs.Common.{◌≡◌, ℕ, zero, suc, ◌+◌, ◌-◌, ◌^◌, ◌<◌, ◌≤◌, Bool, true, false, ◌&&◌, List, [], ◌∷◌, ◌++◌, map, length, take, Option, Some, None, get_or, refl, sym, ap, ◌∙◌, subst, arith, inl, inr, append_assoc, length-append}
+use Rattle.std.proofs.Common.{◌≡◌, ℕ, suc, ◌+◌, ◌-◌, ◌^◌, ◌<◌, ◌≤◌, Bool, true, false, ◌&&◌, List, [], ◌∷◌, ◌++◌, map, length, take, Option, Some, None, get_or, refl, sym, ap, ◌∙◌, subst, arith, inl, inr, append_assoc, length-append}
 use Rattle.std.specs.Prelude.{nat_lt, slice_index}
 use Rattle.std.specs.List.{list_any, range_with_len, AllByRecursion}
 use Rattle.std.proofs.lemmas.Bool.{and_parts, and_from, ltb-true, lt-ltb, eq-eqb, cases_lt, false_from_ne_true}
@@ -9,30 +9,30 @@ use Rattle.std.specs.Cmp.{both_ways}
 use Rattle.std.specs.Cmp.Lexicographic.{pointwise}
 use Rattle.std.proofs.Math.Bool.{and-true}
 use Rattle.std.proofs.lemmas.Map.Views.{any-filter_same}
-use Rattle.ranking.specs.Bits.{bit_in, same_bit, lists_of_bits}
-use Rattle.ranking.specs.Assignments.{Assignment, assignment}
-use Rattle.ranking.specs.Cases.{agrees_at, agrees}
-use Rattle.ranking.specs.Ranking.{Test, passing}
-use Rattle.ranking.proofs.Bits.{same_bit-equal, same_bit-refl, pointwise-refl, pointwise-equal}
-use Rattle.ranking.proofs.Lists.{AllByRecursion-append}
-use Rattle.ranking.proofs.Cases.{agrees-at}
-use Rattle.ranking.proofs.Members.{any_from, any_in, bits_in, bits_length}
-use Rattle.graph_rules.specs.declared.TheConstants.{CHILD_LIMIT}
-use Rattle.graph_rules.specs.declared.NodeKind.{NodeKind}
-use Rattle.graph_rules.specs.declared.NodeKind.TheVariants.{Literal, And, Or}
-use Rattle.graph_rules.specs.Graphs.{Node, Graph, true_node, node_at, at_most_one, is_true, truth_by, mention_by, mentions, apart_at, Decomposable, holds, kind_fits, node_fits, nodes_fit, IsGraph}
-use Rattle.graph_rules.specs.GraphTexts.{parsed}
 use Rattle.text_rules.specs.Tokens.{is_neat}
-use Rattle.graph_rules.proofs.NodeValues.{are_below, value_of, value_of-at}
-use Rattle.graph_rules.proofs.NodesFit.{Fits, fits, fits-at, literal, apart-at}
-use Rattle.graph_rules.proofs.Mentions.{mentioned-range}
+use Rattle.state_rules.specs.Bits.{bit_in, same_bit, lists_of_bits}
+use Rattle.state_rules.specs.Assignments.{Assignment, assignment}
+use Rattle.state_rules.specs.Cases.{agrees_at, agrees}
+use Rattle.state_rules.specs.Ranking.{Test, passing}
+use Rattle.state_rules.proofs.Bits.{same_bit-equal, same_bit-refl, pointwise-refl, pointwise-equal}
+use Rattle.state_rules.proofs.Lists.{AllByRecursion-append}
+use Rattle.state_rules.proofs.Cases.{agrees-at}
+use Rattle.state_rules.proofs.Members.{any_from, any_in, bits_in, bits_length}
+use Rattle.state_rules.specs.declared.nodes.TheConstants.{CHILD_LIMIT}
+use Rattle.state_rules.specs.declared.nodes.NodeKind.{NodeKind}
+use Rattle.state_rules.specs.declared.nodes.NodeKind.TheVariants.{Literal, And, Or}
+use Rattle.state_rules.specs.Graphs.{Node, Graph, true_node, node_at, at_most_one, is_true, truth_by, mention_by, mentions, apart_at, Decomposable, holds, kind_fits, node_fits, nodes_fit, IsGraph}
+use Rattle.state_rules.proofs.NodeValues.{are_below, value_of, value_of-at}
+use Rattle.state_rules.proofs.NodesFit.{Fits, fits, fits-at, literal, each_apart}
+use Rattle.state_rules.proofs.Mentions.{mentioned-range}
+use Rattle.state_rules.proofs.Kids.{each_below, any_more, at_most_one-from, at_most_one-less, range-below}
+use Rattle.nnf_text.specs.GraphTexts.{parsed}
+use Rattle.nnf_text.proofs.ReadingBack.{IsList, graph_text-read, graph_text-is_neat}
+use Rattle.nnf_text.specs.StateGraphs.{IsGraphOfStates}
 use Rattle.conditioner.specs.Words.{known_of, known}
 use Rattle.conditioner.specs.Models.{has_model, fits_words, models}
 use Rattle.conditioner.proofs.FittingWords.{known-at, fits_words-at, fits_words-from, fits_words-front}
-use Rattle.nnf_text.proofs.ReadingBack.{IsList, graph_text-read, graph_text-is_neat}
-use Rattle.graph_rules.specs.StateGraphs.{IsGraphOfStates}
 use Rattle.projector.specs.Projecting.{projected_kind, projected_node, held_literals, root_with, projection, projected_text}
-use Rattle.graph_rules.proofs.BelowKids.{each_below, any_more, at_most_one-from, at_most_one-less, range-below}
 use Rattle.projector.proofs.Literals.{wanted_of, literal-truth, literal-mentions, literal-fits}
 use Rattle.projector.proofs.Meeting.{Agrees, Meets, Meets-same, can_by, node_is}
 use Rattle.projector.proofs.HeldLiterals.{length-held, held-alone, held-apart, held-fit, values-alone, held-agrees, held-once, held-known}
@@ -260,7 +260,7 @@ module _ (graph : Graph) (words : List ℕ) (parts : ℕ) (is : IsGraph graph) (
           (λ v. value_of-at (mention_by v) graph.nodes i lt (fits_at i lt).below)
           (value-at (truth_by a) i lt ∙ kind-truth words parts a graph.vars node.what node.kids (fits_at i lt).kind can_be)
           (node_is (wanted words parts a) i (λ k b. is_true graph.nodes k b) (λ k v. mentions graph.nodes v k) can_be earlier node.what node.kids (fits_at i lt).below
-          (λ v. apart-at (mentions graph.nodes v) graph.nodes i (is.nodes.apart v) lt))
+          (λ v. each_apart (mentions graph.nodes v) graph.nodes i (is.nodes.apart v) lt))
 
     root-meets : Meets (wanted words parts a) (λ b. is_true graph.nodes old_root b) (λ v. mentions graph.nodes v old_root) (can_be old_root)
     root-meets = meets old_root (omega (arith, is.some))

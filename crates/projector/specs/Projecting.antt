@@ -1,13 +1,10 @@
 -- The graph of the health states that a graph allows under words, and the text that it is written as.
-use Rattle.std.specs.Prelude.{◌≡◌, ℕ, ◌-◌, Bool, List, [], ◌∷◌, ◌++◌, map, length, take, Option, Some, None, nat_le, slice_index, if◌then◌else◌, Ok, Err}
-use Rattle.std.specs.List.{list_any, filter_map, enumerate_from, range_with_len}
-use Rattle.std.specs.Cmp.Lexicographic.{pointwise}
-use Rattle.ranking.specs.Bits.{same_bit}
-use Rattle.graph_rules.specs.declared.NodeKind.{NodeKind}
-use Rattle.graph_rules.specs.declared.NodeKind.TheVariants.{Literal, And, Or}
-use Rattle.graph_rules.specs.Graphs.{Node, Graph, literal_node, Decomposable, holds}
-use Rattle.graph_rules.specs.GraphTexts.{Parsed}
-use Rattle.graph_rules.specs.WrittenGraphs.{graph_text}
+use Rattle.std.specs.Prelude.{◌≡◌, ℕ, ◌-◌, Bool, List, [], ◌∷◌, ◌++◌, map, length, take, Option, Some, None, nat_le, slice_index, if◌then◌else◌}
+use Rattle.std.specs.List.{filter_map, enumerate_from, range_with_len}
+use Rattle.state_rules.specs.declared.nodes.NodeKind.{NodeKind}
+use Rattle.state_rules.specs.declared.nodes.NodeKind.TheVariants.{Literal, And, Or}
+use Rattle.state_rules.specs.Graphs.{Node, Graph, literal_node}
+use Rattle.nnf_text.specs.WrittenGraphs.{graph_text}
 use Rattle.conditioner.specs.declared.leaves.Leaf.{Leaf}
 use Rattle.conditioner.specs.declared.leaves.Leaf.TheVariants.{True, False, Open}
 use Rattle.conditioner.specs.Words.{known_of, known, leaf_of}

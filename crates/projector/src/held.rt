@@ -1,17 +1,17 @@
 ghost use Rattle.std.specs.Prelude.{◌≡◌, ◌==◌, ◌+◌, ◌^◌, ◌<◌, ◌≤◌, ◌++◌, ◌∷◌, [], not, length, count_by, decimal};
 ghost use Rattle.std.specs.List.{flat_map, enumerate_from, range_with_len};
+ghost use Rattle.text_rules.specs.Tokens.{spaced};
 ghost use Rattle.diag_edge.specs.Adding.{Adds};
 ghost use Rattle.diag_edge.specs.Edge.{HasCause};
-ghost use Rattle.text_rules.specs.Tokens.{spaced};
-ghost use Rattle.graph_rules.specs.WrittenGraphs.{node_words};
+ghost use Rattle.nnf_text.specs.WrittenGraphs.{node_words};
 ghost use Rattle.conditioner.specs.Words.{known};
 ghost use Rattle.projector.specs.Projecting.{root_with};
 ghost use Rattle.projector.specs.inner.Lines.{held_line};
 
 use conditioner::{is_open, known_of};
 use diag_edge::{Chunk, Sink, WriteFailed};
-use graph_rules::NodeKind;
 use nnf_text::{add_counted_range, add_node};
+use state_rules::NodeKind;
 
 // Of how many parts something is known.
 pub(crate) fn held_count(health: &[u32]) -> u32

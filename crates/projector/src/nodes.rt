@@ -1,17 +1,17 @@
 ghost use Rattle.std.specs.Prelude.{◌≡◌, ◌<◌, length, All, true};
 ghost use Rattle.std.specs.List.{flat_map};
+ghost use Rattle.text_rules.specs.Tokens.{spaced};
 ghost use Rattle.diag_edge.specs.Adding.{Adds};
 ghost use Rattle.diag_edge.specs.Edge.{HasCause};
-ghost use Rattle.text_rules.specs.Tokens.{spaced};
-ghost use Rattle.graph_rules.specs.GraphTexts.{variable_fits};
-ghost use Rattle.graph_rules.specs.WrittenGraphs.{node_words};
+ghost use Rattle.nnf_text.specs.GraphTexts.{variable_fits};
+ghost use Rattle.nnf_text.specs.WrittenGraphs.{node_words};
 ghost use Rattle.projector.specs.Projecting.{projected_literal, projected_kind, projected_node};
 
 use conditioner::{Leaf, leaf};
 use diag_edge::{Chunk, Sink, WriteFailed};
-use graph_rules::NodeKind;
 use nnf_text::add_node;
 use node_store::Graph;
+use state_rules::NodeKind;
 
 // What a literal becomes.
 fn projected_literal(parts: u32, var: u32, positive: bool, leaf: Leaf) -> NodeKind

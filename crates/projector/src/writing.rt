@@ -1,10 +1,10 @@
 ghost use Rattle.std.specs.Prelude.{◌≡◌, ◌+◌, ◌^◌, ◌<◌, ◌≤◌, length, All, true};
-ghost use Rattle.diag_edge.specs.Edge.{HasCause, Puts};
 ghost use Rattle.text_rules.specs.Tokens.{is_neat};
-ghost use Rattle.graph_rules.specs.Graphs.{IsGraph};
-ghost use Rattle.graph_rules.specs.GraphTexts.{parsed};
+ghost use Rattle.state_rules.specs.Graphs.{IsGraph};
+ghost use Rattle.diag_edge.specs.Edge.{HasCause, Puts};
+ghost use Rattle.nnf_text.specs.GraphTexts.{parsed};
+ghost use Rattle.nnf_text.specs.StateGraphs.{IsGraphOfStates};
 ghost use Rattle.conditioner.specs.Models.{models};
-ghost use Rattle.graph_rules.specs.StateGraphs.{IsGraphOfStates};
 ghost use Rattle.projector.specs.Projecting.{projected_text};
 
 use crate::held::{add_ends, held_count};

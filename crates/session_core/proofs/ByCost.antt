@@ -1,7 +1,7 @@
 -- Which state comes next by rising cost.
 use Rattle.std.proofs.Common.{◌≡◌, ◌≢◌, ℕ, Bool, true, false, List, [], ◌∷◌, get_or, Option, Some, refl, ap, sym}
 use Rattle.text_rules.specs.Names.{Name}
-use Rattle.ranking.specs.Ranking.{cost}
+use Rattle.state_rules.specs.Ranking.{cost}
 use Rattle.level_lister.specs.declared.levels.LevelStep.{LevelStep}
 use Rattle.level_lister.specs.declared.levels.LevelStep.TheVariants.{Found, End, Inconsistent}
 use Rattle.level_lister.specs.Listing.{level_step}

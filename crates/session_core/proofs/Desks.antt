@@ -1,8 +1,8 @@
 -- What the graph answers under the words on a desk.
 use Rattle.std.proofs.Common.{◌≡◌, ◌∙◌, ◌+◌, ◌<◌, ℕ, Bool, List, length, refl, ap}
-use Rattle.graph_rules.specs.Graphs.{Graph}
+use Rattle.state_rules.specs.Graphs.{Graph}
+use Rattle.state_rules.specs.Systems.{least_cost, all_diagnoses}
 use Rattle.conditioner.specs.Models.{models, least_under, least_with, diagnoses_under}
-use Rattle.ranking.specs.Systems.{least_cost, all_diagnoses}
 use Rattle.session_rules.specs.GraphSystems.{Subject, system_of}
 use Rattle.session_rules.specs.Replies.{least_at, seen_at}
 use Rattle.session_rules.proofs.CaseWords.{models-by_words, least-by_words, diagnoses-by_words}

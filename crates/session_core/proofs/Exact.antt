@@ -3,9 +3,9 @@
 use Rattle.std.proofs.Common.{◌≡◌, ℕ, Bool, true, false, ◌+◌, ◌^◌, ◌<◌, ◌≤◌, List, [], ◌∷◌, ◌++◌, length, Option, Some, None, refl, ap, sym, ◌∙◌, subst, append_assoc}
 use Rattle.std.specs.Prelude.{nat_le, codes, if◌then◌else◌}
 use Rattle.text_rules.specs.Names.{Name}
-use Rattle.ranking.specs.Cases.{Case}
-use Rattle.ranking.specs.Systems.{System, all_diagnoses}
-use Rattle.graph_rules.specs.Graphs.{IsGraph}
+use Rattle.state_rules.specs.Cases.{Case}
+use Rattle.state_rules.specs.Systems.{System, all_diagnoses}
+use Rattle.state_rules.specs.Graphs.{IsGraph}
 use Rattle.script_lang.specs.Script.{Line, Ask, Request, Dnnf, LeastNnf, line_of}
 use Rattle.session_rules.specs.declared.refusal.Refusal.TheVariants.{NoLeast}
 use Rattle.session_rules.specs.Items.{Item, Projected, LeastText, line}
@@ -18,7 +18,7 @@ use Rattle.session_rules.specs.CaseSizes.{HasCasesOf}
 use Rattle.session_rules.proofs.Spellings.{spells_more}
 use Rattle.session_rules.proofs.Whole.{line_moves-whole}
 use Rattle.session_rules.proofs.Keeping.{step-keeps}
-use Rattle.session_rules.proofs.ReplyTexts.{case-spelled, least-spelled}
+use Rattle.session_core.proofs.ReplyTexts.{case-spelled, least-spelled}
 use Rattle.session_core.specs.Services.{Shown, case_text, least_case_text, told_graph, exact_moves, moves_of}
 
 -- A move leads to the table of another, and a text that spells its items spells the other's.

@@ -13,6 +13,7 @@ pub mod Holding
 pub mod Stepping
 pub mod Naming
 pub mod Moving
+pub mod ReplyTexts
 pub mod Exact
 pub mod OneText
 pub mod Declining

@@ -4,18 +4,15 @@ use Rattle.std.specs.Prelude.{decimal, slice_index_or, nat_le, IfSome}
 use Rattle.std.specs.List.{filter}
 use Rattle.std.proofs.lemmas.Bool.{le-leb, cases_lt}
 use Rattle.text_rules.specs.Names.{Name}
-use Rattle.ranking.specs.Ranking.{cost, least, least_with, is_at_most, diagnoses}
-use Rattle.ranking.specs.Systems.{System}
-use Rattle.session_core.specs.inner.Texts.{min_text}
+use Rattle.state_rules.specs.Ranking.{cost, least, least_with, is_at_most, diagnoses}
+use Rattle.state_rules.specs.Systems.{System}
+use Rattle.state_rules.proofs.Lists.{filter-never}
 use Rattle.session_rules.specs.Replies.{faulty_names, min_line}
-
-filter-none : {A : Type 0} (xs : List A) → filter (λ x. false) xs ≡ []
-filter-none [] = refl
-filter-none (x ∷ xs) = filter-none xs
+use Rattle.session_core.specs.inner.Texts.{min_text}
 
 -- where there is no least cost there is no diagnosis
 pub no_diagnosis : (costs : List ℕ) (hs : List (List Bool)) → least costs hs ≡ None → diagnoses costs hs ≡ []
-no_diagnosis costs hs none = ap (λ (o : Option ℕ). filter (λ h. is_at_most (cost costs h) o) hs) none ∙ filter-none hs
+no_diagnosis costs hs none = ap (λ (o : Option ℕ). filter (λ h. is_at_most (cost costs h) o) hs) none ∙ filter-never hs
 
 above_high : (c k m : ℕ) → nat_le c m ≡ false → min c k ≤ m → k ≤ m
 above_high c k m e h = ⊎_elim

@@ -3,8 +3,8 @@ use Rattle.std.proofs.Common.{◌≡◌, ◌∙◌, ◌∷◌, [], ℕ, Bool, Li
 use Rattle.std.specs.Prelude.{nat_le, length}
 use Rattle.text_rules.specs.Names.{Name}
 use Rattle.text_rules.specs.Tokens.{spaced}
+use Rattle.state_rules.specs.Systems.{System}
 use Rattle.diag_edge.specs.Edge.{Puts}
-use Rattle.ranking.specs.Systems.{System}
 use Rattle.script_lang.specs.Script.{asked, Request, Question, Tell, Line, Ask, line_of}
 use Rattle.script_lang.specs.declared.line.Request.{Request as Read}
 use Rattle.script_lang.specs.declared.line.Request.TheVariants as read

@@ -4,10 +4,10 @@ use Rattle.std.specs.Prelude.{nat_le, if◌then◌else◌, codes}
 use Rattle.std.specs.List.{list_all}
 use Rattle.std.specs.Io.KnownBytes.{Appends}
 use Rattle.text_rules.specs.Names.{Name, is_among}
-use Rattle.ranking.specs.Cases.{Case}
-use Rattle.ranking.specs.Ranking.{rest}
-use Rattle.ranking.specs.Levels.{levels, levels_rest}
-use Rattle.ranking.specs.Systems.{System, all_diagnoses}
+use Rattle.state_rules.specs.Cases.{Case}
+use Rattle.state_rules.specs.Ranking.{rest}
+use Rattle.state_rules.specs.Levels.{levels, levels_rest}
+use Rattle.state_rules.specs.Systems.{System, all_diagnoses}
 use Rattle.device_model.specs.Devices.{place_of}
 use Rattle.script_lang.specs.Script.{Line, Blank, Refused, Ask, Request, Start, Stop, Note, Tell, Next, Several, After, Dnnf, Level, Levels, LeastNnf, line_of}
 use Rattle.session_rules.specs.declared.refusal.Refusal.{Refusal}

@@ -4,10 +4,10 @@ use Rattle.std.specs.Prelude.{is_some, slice_get, if◌then◌else◌}
 use Rattle.std.specs.List.{list_all, list_any}
 use Rattle.std.proofs.lemmas.List.{drop_more}
 use Rattle.text_rules.specs.Names.{Name}
-use Rattle.ranking.specs.Bits.{bit_in}
-use Rattle.ranking.specs.Cases.{Case}
-use Rattle.ranking.specs.Ranking.{cost, least, least_with, least_of, diagnoses}
-use Rattle.ranking.specs.Systems.{System}
+use Rattle.state_rules.specs.Bits.{bit_in}
+use Rattle.state_rules.specs.Cases.{Case}
+use Rattle.state_rules.specs.Ranking.{cost, least, least_with, least_of, diagnoses}
+use Rattle.state_rules.specs.Systems.{System}
 use Rattle.probe_report.specs.declared.verdicts.Blame.{Blame}
 use Rattle.probe_report.specs.Verdicts.{verdict}
 use Rattle.session_rules.specs.Replies.{inconsistent, seen_at, probe_line, probe_lines, blame_word, blame_lines, if_any}

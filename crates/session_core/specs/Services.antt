@@ -1,12 +1,11 @@
 -- What contracts see of a service.
 use Rattle.std.specs.Prelude.{◌≡◌, ◌+◌, ◌*◌, ◌^◌, ◌<◌, ◌≤◌, ℕ, true, List, [], ◌∷◌, length, Option, Some, None, codes, if◌then◌else◌}
 use Rattle.text_rules.specs.Names.{Name}
-use Rattle.ranking.specs.Cases.{Case}
-use Rattle.graph_rules.specs.Graphs.{Graph, IsGraph}
-use Rattle.graph_rules.specs.GraphTexts.{edges}
+use Rattle.state_rules.specs.Cases.{Case}
+use Rattle.state_rules.specs.Graphs.{Graph, IsGraph, edges}
+use Rattle.projector.specs.Projecting.{projected_text}
 use Rattle.level_lister.specs.Listing.{cost_words}
 use Rattle.level_lister.specs.declared.levels.TheConstants.{TOP_LIMIT}
-use Rattle.projector.specs.Projecting.{projected_text}
 use Rattle.smooth_nnf.specs.Layouts.{least_text}
 use Rattle.smooth_nnf.specs.Sizes.{drawing_bits}
 use Rattle.script_lang.specs.Script.{Line, Blank, Refused, Ask, Dnnf, LeastNnf, line_of}

@@ -19,7 +19,7 @@ mod telling;
 
 pub use laws::{one_text, told_alone};
 pub use limits::{SERVED_BITS, SERVED_NODES, SERVED_VARIABLES, SESSION_LIMIT};
-pub use ranking::Extras;
 pub use replies::put_faulty;
 pub use service::Service;
 pub use serving::{READ_LIMIT, ServeEnd};
+pub use state_rules::Extras;

@@ -8,7 +8,8 @@ use std::marker::Model;
 /// One byte more than the longest line has.
 const ROOM: usize = LINE_LIMIT + 1;
 
-/// The beginning of a line, up to one byte past the longest line. What is past that is dropped.
+/// The beginning of a line, up to one byte past the longest line. What is past that is dropped:
+/// one byte more is enough for the line to be refused.
 #[derive(Drop)]
 pub struct LineBuffer {
     bytes: Vec<u8>,

@@ -1,7 +1,7 @@
 ghost use Rattle.std.specs.Prelude.{◌≡◌, ◌≤◌, ◌<◌, ◌+◌, [], length, true, All, IfOk, IfSome};
 ghost use Rattle.text_rules.specs.Names.{names_rise};
-ghost use Rattle.conditioner.specs.Models.{total_cost};
 ghost use Rattle.diag_edge.specs.Edge.{HasCause};
+ghost use Rattle.conditioner.specs.Models.{total_cost};
 ghost use Rattle.script_lang.specs.Script.{line_of};
 ghost use Rattle.session_rules.specs.Carrying.{CarriesOut};
 ghost use Rattle.session_core.specs.Services.{moves_of, ChangesTable, CanList, CanDraw, IsRefused, IsSound};
@@ -14,7 +14,7 @@ use device_model::{Name, PART_LIMIT, WIRE_LIMIT};
 use diag_edge::{Memory, Sink, WriteFailed};
 use minimiser::TOTAL_LIMIT;
 use node_store::Graph;
-use ranking::Extras;
+use state_rules::Extras;
 use std::alloc::Global;
 use std::marker::Model;
 

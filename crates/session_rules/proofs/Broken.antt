@@ -1,7 +1,7 @@
 -- Moves that are made, and moves that break off.
 use Rattle.std.proofs.Common.{◌≡◌, ℕ, List, [], ◌∷◌, ◌++◌, Option, Result, Ok, Err, refl, sym, ◌∙◌, ap, subst, append_assoc, append-nil}
+use Rattle.state_rules.specs.Systems.{System}
 use Rattle.session_rules.specs.Items.{Item}
-use Rattle.ranking.specs.Systems.{System}
 use Rattle.session_rules.specs.Sessions.{Table, Step, replies}
 use Rattle.session_rules.specs.Moves.{said, left_by, line_moves, script_moves}
 use Rattle.session_rules.specs.Spelling.{Writes, WritesPart, Replies}

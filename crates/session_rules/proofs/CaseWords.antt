@@ -3,11 +3,11 @@ use Rattle.std.proofs.Common.{◌≡◌, ℕ, zero, suc, ◌+◌, ◌-◌, ◌�
 use Rattle.std.proofs.Math.Seq.{drop-append_seam, take-append_seam}
 use Rattle.std.proofs.lemmas.List.{length-map, length-set, length-replicate, length-drop, length-take-le, map-set, set-append_left, replicate-append-replicate}
 use Rattle.std.proofs.lemmas.List.Elements.{All-replicate, All-set}
-use Rattle.ranking.specs.Cases.{Case, empty_case}
-use Rattle.ranking.specs.Ranking.{least, diagnoses}
-use Rattle.ranking.specs.Systems.{least_cost, all_diagnoses}
 use Rattle.text_rules.specs.Names.{Name}
-use Rattle.graph_rules.specs.Graphs.{Graph}
+use Rattle.state_rules.specs.Cases.{Case, empty_case}
+use Rattle.state_rules.specs.Ranking.{least, diagnoses}
+use Rattle.state_rules.specs.Systems.{least_cost, all_diagnoses}
+use Rattle.state_rules.specs.Graphs.{Graph}
 use Rattle.conditioner.specs.Words.{known_of, word_of_known}
 use Rattle.conditioner.specs.Models.{models, least_under, diagnoses_under}
 use Rattle.session_rules.specs.GraphSystems.{case_words, graph_system}

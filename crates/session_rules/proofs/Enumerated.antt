@@ -2,10 +2,10 @@
 use Rattle.std.proofs.Common.{◌≡◌, ℕ, zero, suc, ◌+◌, Bool, true, false, ◌&&◌, List, [], ◌∷◌, ◌++◌, length, refl, arith}
 use Rattle.std.specs.List.{list_any}
 use Rattle.std.proofs.Math.Bool.{or-false}
-use Rattle.ranking.specs.Bits.{lists_of_bits}
-use Rattle.ranking.specs.Ranking.{Test, passing}
-use Rattle.ranking.proofs.Bits.{any-suc}
-use Rattle.ranking.proofs.Members.{bits_length, filter_same, any_same}
+use Rattle.state_rules.specs.Bits.{lists_of_bits}
+use Rattle.state_rules.specs.Ranking.{Test, passing}
+use Rattle.state_rules.proofs.Bits.{any-suc}
+use Rattle.state_rules.proofs.Members.{bits_length, filter_same, any_same}
 
 -- two tests agree on every list of so many bits
 abbrev pub Agree : ℕ → Test → Test → Type 0

@@ -2,6 +2,7 @@
 use Rattle.std.proofs.Common.{◌≡◌, ℕ, false, Some, List, [], ◌∷◌, ◌++◌, refl, map}
 use Rattle.std.specs.Prelude.{codes}
 use Rattle.std.specs.Fmt.{digits}
+use Rattle.state_rules.specs.Systems.{with_extras}
 use Rattle.device_model.specs.declared.component.Component.{Component}
 use Rattle.device_model.specs.declared.component.Kind.{Kind}
 use Rattle.device_model.specs.declared.component.Kind.TheVariants.{Gate as OfGate, Table}
@@ -9,7 +10,6 @@ use Rattle.device_model.specs.declared.gates.Gate.{Gate}
 use Rattle.device_model.specs.declared.gates.Gate.TheVariants.{Nand, Buff}
 use Rattle.device_model.specs.Devices.{Device}
 use Rattle.device_model.specs.Diagnosis.{device_system}
-use Rattle.ranking.specs.Systems.{with_extras}
 use Rattle.session_rules.specs.Items.{Item, Plain, Projected, LeastText, Whole, line}
 use Rattle.session_rules.specs.Sessions.{replies}
 

@@ -2,12 +2,12 @@
 use Rattle.std.proofs.Common.{◌≡◌, true, false, [], ◌∷◌, map, Some, None, refl}
 use Rattle.std.specs.Prelude.{codes}
 use Rattle.std.specs.Fmt.{digits}
-use Rattle.graph_rules.specs.declared.NodeKind.TheVariants.{And, Or}
-use Rattle.graph_rules.specs.Graphs.{Graph, literal_node}
+use Rattle.state_rules.specs.declared.nodes.NodeKind.TheVariants.{And, Or}
+use Rattle.state_rules.specs.Graphs.{Graph, literal_node}
+use Rattle.state_rules.specs.GraphsOver.{holds_for}
 use Rattle.device_model.specs.declared.component.Kind.TheVariants.{Gate as OfGate}
 use Rattle.device_model.specs.declared.gates.Gate.TheVariants.{Buff}
 use Rattle.device_model.specs.Devices.{Device}
-use Rattle.graph_rules.specs.GraphsOver.{holds_for}
 use Rattle.conditioner.specs.Models.{models}
 use Rattle.session_rules.specs.Items.{line, Projected}
 use Rattle.session_rules.specs.Sessions.{replies}

@@ -1,13 +1,13 @@
 -- Over a graph that is true where bits fit every script has the replies that it has over what fits, and the moves; so it is with devices.
 use Rattle.std.proofs.Common.{◌≡◌, ℕ, Bool, List, length}
 use Rattle.text_rules.specs.Names.{Name}
-use Rattle.ranking.specs.declared.extras.Extras.{Extras}
-use Rattle.ranking.specs.Systems.{System, with_extras}
-use Rattle.graph_rules.specs.Graphs.{Graph}
+use Rattle.state_rules.specs.declared.extras.Extras.{Extras}
+use Rattle.state_rules.specs.Systems.{System, with_extras}
+use Rattle.state_rules.specs.Graphs.{Graph}
+use Rattle.state_rules.specs.GraphsOver.{IsGraphOver}
 use Rattle.device_model.specs.Devices.{Device, part_names, part_costs, fits}
 use Rattle.device_model.specs.Diagnosis.{fitting_system, device_system}
 use Rattle.session_rules.specs.Spelling.{IsGraphOf}
-use Rattle.graph_rules.specs.GraphsOver.{IsGraphOver}
 use Rattle.session_rules.specs.Sessions.{Table, replies}
 use Rattle.session_rules.specs.Moves.{line_moves, script_moves}
 use Rattle.session_rules.specs.CaseSizes.{HasCasesOf}

@@ -10,12 +10,12 @@ use Rattle.std.proofs.lemmas.Cmp.{nat_list_cmp_total}
 use Rattle.std.proofs.lemmas.List.{length-set, length-replicate}
 use Rattle.text_rules.specs.Names.{Name, same_name, is_among}
 use Rattle.text_rules.proofs.NameLemmas.{equal_if_same}
+use Rattle.state_rules.specs.Cases.{Case}
+use Rattle.state_rules.specs.Systems.{System, all_diagnoses}
 use Rattle.device_model.specs.Devices.{place_of}
 use Rattle.script_lang.specs.Script.{Line, Blank, Refused, Ask, Request, Start, Stop, Note, Tell, Next, Several, After, Dnnf, Level, Levels, LeastNnf}
 use Rattle.script_lang.specs.declared.line.Noted.{Noted}
 use Rattle.script_lang.specs.declared.line.Noted.TheVariants.{Wire, Part}
-use Rattle.ranking.specs.Cases.{Case}
-use Rattle.ranking.specs.Systems.{System, all_diagnoses}
 use Rattle.session_rules.specs.declared.refusal.Refusal.{Refusal}
 use Rattle.session_rules.specs.declared.refusal.Refusal.TheVariants.{Full, NoPart, NoLevels, NoLeast}
 use Rattle.session_rules.specs.Items.{LeastText, line}

@@ -2,7 +2,6 @@ pub mod Spellings
 pub mod Whole
 pub mod Begun
 pub mod Broken
-pub mod ReplyTexts
 pub mod LineFronts
 pub mod Enumerated
 pub mod Meaning

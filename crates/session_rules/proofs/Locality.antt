@@ -8,8 +8,8 @@ use Rattle.std.proofs.lemmas.Cmp.{nat_list_cmp_total}
 use Rattle.std.proofs.lemmas.Map.Text.{is_eq-slice_cmp}
 use Rattle.text_rules.specs.Names.{Name, same_name}
 use Rattle.text_rules.proofs.NameLemmas.{equal_if_same, same_if_equal}
+use Rattle.state_rules.specs.Systems.{System}
 use Rattle.script_lang.specs.Script.{Line, Blank, Refused, Ask, Request, Start}
-use Rattle.ranking.specs.Systems.{System}
 use Rattle.session_rules.specs.declared.refusal.Refusal.TheVariants.{Full}
 use Rattle.session_rules.specs.Sessions.{Table, Entry, Change, Stays, Becomes, Ends, Outcome, Declined, Done, changed, carried, step, entry_of, outcome, outcome_in, becomes, new_entry}
 use Rattle.session_rules.specs.Alone.{names_session, LooksSame, IsItsOwn}

@@ -4,17 +4,17 @@ use Rattle.std.specs.List.{list_any}
 use Rattle.std.proofs.Math.Bool.{and-true, and_assoc}
 use Rattle.std.proofs.lemmas.List.{map-append, length-map}
 use Rattle.text_rules.specs.Names.{Name}
-use Rattle.ranking.specs.Bits.{lists_of_bits}
-use Rattle.ranking.specs.Cases.{Case, agrees_at, agrees}
-use Rattle.ranking.specs.Ranking.{Test}
-use Rattle.graph_rules.specs.Graphs.{Graph, holds}
+use Rattle.state_rules.specs.Bits.{lists_of_bits}
+use Rattle.state_rules.specs.Cases.{Case, agrees_at, agrees}
+use Rattle.state_rules.specs.Ranking.{Test}
+use Rattle.state_rules.specs.Graphs.{Graph, holds}
+use Rattle.state_rules.specs.GraphsOver.{IsGraphOver}
 use Rattle.device_model.specs.declared.component.Component.{Component}
 use Rattle.device_model.specs.Devices.{Device, part_names, part_costs, fits}
 use Rattle.device_model.specs.Diagnosis.{is_consistent, fitting_system, device_system}
-use Rattle.session_rules.specs.Spelling.{IsGraphOf}
-use Rattle.graph_rules.specs.GraphsOver.{IsGraphOver}
 use Rattle.conditioner.specs.Words.{known_of, word_of_known}
 use Rattle.conditioner.specs.Models.{has_model, fits_words}
+use Rattle.session_rules.specs.Spelling.{IsGraphOf}
 use Rattle.session_rules.specs.GraphSystems.{case_words, graph_system, compiled_system}
 use Rattle.session_rules.specs.CaseSizes.{IsCaseOf}
 use Rattle.session_rules.proofs.Enumerated.{Agree, passing-same, any-same, any-split, any-and}

@@ -2,8 +2,8 @@
 use Rattle.std.proofs.Common.{◌≡◌, ℕ, Bool, true, false, List, [], ◌∷◌, Option, Some, None, map, refl}
 use Rattle.std.specs.Prelude.{codes}
 use Rattle.std.specs.Fmt.{digits}
-use Rattle.ranking.specs.Cases.{empty_case}
-use Rattle.ranking.specs.Systems.{System, no_extras, with_extras}
+use Rattle.state_rules.specs.Cases.{empty_case}
+use Rattle.state_rules.specs.Systems.{System, no_extras, with_extras}
 use Rattle.session_rules.specs.Items.{line, LeastText}
 use Rattle.session_rules.specs.Sessions.{Table, Step}
 use Rattle.session_rules.specs.Moves.{left_by, line_moves, script_moves}

@@ -2,10 +2,10 @@
 use Rattle.std.proofs.Common.{◌≡◌, ℕ, ◌+◌, ◌-◌, ◌≤◌, ◌<◌, Bool, true, false, ◌&&◌, List, ◌++◌, map, length, get_or, not, replicate, refl, ap, ap₂, sym, ◌∙◌, subst, Option, Some, None, arith, set}
 use Rattle.std.proofs.lemmas.List.{get_or-append-add, get_or_append_left}
 use Rattle.text_rules.specs.Names.{Name}
-use Rattle.ranking.specs.Bits.{bit_in, same_bit}
-use Rattle.ranking.specs.Cases.{Case}
-use Rattle.ranking.specs.Ranking.{Test, passing, least}
-use Rattle.graph_rules.specs.Graphs.{Graph}
+use Rattle.state_rules.specs.Bits.{bit_in, same_bit}
+use Rattle.state_rules.specs.Cases.{Case}
+use Rattle.state_rules.specs.Ranking.{Test, passing, least}
+use Rattle.state_rules.specs.Graphs.{Graph}
 use Rattle.conditioner.specs.Words.{known, known_of, word_of_known}
 use Rattle.conditioner.specs.Models.{has_model, fits_words, models, least_with}
 use Rattle.conditioner.proofs.ModelsWith.{with_bit-open, with_bit-known, with_bit-other}

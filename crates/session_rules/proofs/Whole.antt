@@ -2,7 +2,7 @@
 use Rattle.std.proofs.Common.{◌≡◌, ℕ, suc, Bool, List, [], ◌∷◌, ◌++◌, map, refl, ap, ap₂, sym, ◌∙◌, Option, Some, None, append_assoc, append-nil}
 use Rattle.std.specs.Prelude.{nat_le, length}
 use Rattle.text_rules.specs.Names.{Name}
-use Rattle.ranking.specs.Systems.{System}
+use Rattle.state_rules.specs.Systems.{System}
 use Rattle.script_lang.specs.Script.{Line, Ask, Several, Levels, line_of}
 use Rattle.session_rules.specs.declared.refusal.Refusal.TheVariants.{NoSession, NoLevels}
 use Rattle.session_rules.specs.Replies.{Found, listing, point_after}

@@ -1,7 +1,7 @@
 -- A session among others: what it is answered is what it would be answered alone.
 use Rattle.std.specs.Prelude.{◌≡◌, ℕ, Bool, true, false, List, [], ◌∷◌, ◌++◌, map, length, nat_le, codes, if◌then◌else◌}
 use Rattle.text_rules.specs.Names.{Name, same_name}
-use Rattle.ranking.specs.Systems.{System}
+use Rattle.state_rules.specs.Systems.{System}
 use Rattle.script_lang.specs.Script.{Line, Ask, Start, Stop, line_of}
 use Rattle.session_rules.specs.Items.{Item, line}
 use Rattle.session_rules.specs.Sessions.{Table, entry_of, step}

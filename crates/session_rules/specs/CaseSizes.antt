@@ -1,8 +1,8 @@
 -- Cases that fit a system.
 use Rattle.std.specs.Prelude.{◌≡◌, length, Some}
 use Rattle.text_rules.specs.Names.{Name}
-use Rattle.ranking.specs.Cases.{Case}
-use Rattle.ranking.specs.Systems.{System}
+use Rattle.state_rules.specs.Cases.{Case}
+use Rattle.state_rules.specs.Systems.{System}
 use Rattle.session_rules.specs.Sessions.{Entry, Table, entry_of}
 
 -- The case has a place for each wire and each part of the system.

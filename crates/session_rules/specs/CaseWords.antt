@@ -1,6 +1,6 @@
 -- A session's case, kept as one word for each variable of the graph.
 use Rattle.std.specs.Prelude.{◌≡◌, ℕ, ◌+◌, ◌≤◌, ◌<◌, List, take, drop, length, All}
-use Rattle.ranking.specs.Cases.{Case}
+use Rattle.state_rules.specs.Cases.{Case}
 use Rattle.conditioner.specs.Words.{known}
 use Rattle.session_rules.specs.GraphSystems.{case_words}
 

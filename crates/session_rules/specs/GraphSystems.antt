@@ -1,11 +1,10 @@
 -- A system whose consistent states are the models of a graph. Its variables are the parts, then the wires, then inner ones.
 use Rattle.std.specs.Prelude.{◌≡◌, ℕ, ◌+◌, ◌-◌, ◌*◌, ◌^◌, ◌<◌, All, List, ◌++◌, map, length, replicate}
 use Rattle.text_rules.specs.Names.{Name}
-use Rattle.ranking.specs.Cases.{Case}
-use Rattle.ranking.specs.declared.extras.Extras.{Extras}
-use Rattle.ranking.specs.Systems.{System, no_extras, with_extras}
-use Rattle.graph_rules.specs.Graphs.{Graph}
-use Rattle.graph_rules.specs.GraphTexts.{edges}
+use Rattle.state_rules.specs.Cases.{Case}
+use Rattle.state_rules.specs.declared.extras.Extras.{Extras}
+use Rattle.state_rules.specs.Systems.{System, no_extras, with_extras}
+use Rattle.state_rules.specs.Graphs.{Graph, edges}
 use Rattle.device_model.specs.Devices.{Device, part_names, part_costs}
 use Rattle.conditioner.specs.Words.{word_of_known}
 use Rattle.conditioner.specs.Models.{models}

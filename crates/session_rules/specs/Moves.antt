@@ -1,7 +1,7 @@
 -- A line's step, reply by reply.
 use Rattle.std.specs.Prelude.{ℕ, suc, Bool, List, [], ◌∷◌, ◌++◌, map, Option, Some, None}
 use Rattle.text_rules.specs.Names.{Name}
-use Rattle.ranking.specs.Systems.{System, all_diagnoses}
+use Rattle.state_rules.specs.Systems.{System, all_diagnoses}
 use Rattle.script_lang.specs.Script.{Line, Ask, Several, Levels, line_of}
 use Rattle.session_rules.specs.declared.refusal.Refusal.TheVariants.{NoSession}
 use Rattle.session_rules.specs.Items.{Item}

@@ -3,11 +3,11 @@ use Rattle.std.specs.Prelude.{ℕ, zero, suc, ◌+◌, Bool, true, false, not, L
 use Rattle.std.specs.Fmt.{decimal}
 use Rattle.std.specs.List.{list_any, list_all}
 use Rattle.text_rules.specs.Names.{Name}
-use Rattle.ranking.specs.Bits.{bit_in}
-use Rattle.ranking.specs.Cases.{Case}
-use Rattle.ranking.specs.Ranking.{cost, rest}
-use Rattle.ranking.specs.Levels.{levels, levels_rest}
-use Rattle.ranking.specs.Systems.{System, least_cost, all_diagnoses}
+use Rattle.state_rules.specs.Bits.{bit_in}
+use Rattle.state_rules.specs.Cases.{Case}
+use Rattle.state_rules.specs.Ranking.{cost, rest}
+use Rattle.state_rules.specs.Levels.{levels, levels_rest}
+use Rattle.state_rules.specs.Systems.{System, least_cost, all_diagnoses}
 use Rattle.device_model.specs.Devices.{place_of}
 use Rattle.script_lang.specs.Script.{Question, Min, Probe, Probes, Blame}
 use Rattle.session_rules.specs.declared.refusal.Refusal.{Refusal}

@@ -6,10 +6,10 @@ use Rattle.std.specs.Cmp.Lexicographic.{slice_cmp}
 use Rattle.std.specs.List.{list_all, filter}
 use Rattle.std.specs.FinMap.{find, put}
 use Rattle.text_rules.specs.Names.{Name, same_name, is_among}
-use Rattle.ranking.specs.Cases.{Case, empty_case}
+use Rattle.state_rules.specs.Cases.{Case, empty_case}
+use Rattle.state_rules.specs.Systems.{System, all_diagnoses}
 use Rattle.device_model.specs.Devices.{place_of}
 use Rattle.script_lang.specs.Script.{Line, Blank, Refused, Ask, Request, Start, Stop, Note, Tell, Next, Several, After, Dnnf, Level, Levels, LeastNnf, line_of}
-use Rattle.ranking.specs.Systems.{System, all_diagnoses}
 use Rattle.script_lang.specs.declared.line.Noted.{Noted}
 use Rattle.script_lang.specs.declared.line.Noted.TheVariants.{Wire, Part}
 use Rattle.script_lang.specs.Refusals as line_refusals

@@ -2,12 +2,12 @@
 use Rattle.std.specs.Prelude.{◌≡◌, ◌≤◌, ℕ, true, List, [], ◌∷◌, ◌++◌, length, Option, Result, MatchResult, Ok, Err}
 use Rattle.std.specs.Io.KnownBytes.{Appends}
 use Rattle.text_rules.specs.Tokens.{is_neat}
-use Rattle.graph_rules.specs.Graphs.{Graph, Decomposable}
-use Rattle.graph_rules.specs.GraphTexts.{Parsed, parsed}
-use Rattle.graph_rules.specs.WrittenGraphs.{graph_text}
-use Rattle.graph_rules.specs.StateGraphs.{IsGraphOfStates, IsSmoothGraphOfStates}
+use Rattle.state_rules.specs.Graphs.{Graph, Decomposable}
+use Rattle.state_rules.specs.GraphsOver.{IsGraphOver}
+use Rattle.nnf_text.specs.GraphTexts.{Parsed, parsed}
+use Rattle.nnf_text.specs.WrittenGraphs.{graph_text}
+use Rattle.nnf_text.specs.StateGraphs.{IsGraphOfStates, IsSmoothGraphOfStates}
 use Rattle.device_model.specs.Devices.{Device, fits}
-use Rattle.graph_rules.specs.GraphsOver.{IsGraphOver}
 use Rattle.session_rules.specs.Items.{Item, Plain, Projected, LeastText, Whole}
 
 -- a graph is true exactly where the device fits

@@ -1,15 +1,15 @@
 //! Laws about the definitions of this crate. Each is the contract of a function that does nothing.
 ghost use Rattle.std.specs.Prelude.{◌≡◌, ℕ, Bool, List, length};
 ghost use Rattle.text_rules.specs.Names.{Name};
-ghost use Rattle.ranking.specs.Cases.{Case};
-ghost use Rattle.ranking.specs.Systems.{System, with_extras};
-ghost use Rattle.ranking.specs.declared.extras.Extras.{Extras};
-ghost use Rattle.graph_rules.specs.Graphs.{Graph};
+ghost use Rattle.state_rules.specs.Cases.{Case};
+ghost use Rattle.state_rules.specs.Systems.{System, with_extras};
+ghost use Rattle.state_rules.specs.declared.extras.Extras.{Extras};
+ghost use Rattle.state_rules.specs.Graphs.{Graph};
+ghost use Rattle.state_rules.specs.GraphsOver.{IsGraphOver};
 ghost use Rattle.device_model.specs.Devices.{Device};
 ghost use Rattle.device_model.specs.Diagnosis.{fitting_system, device_system};
-ghost use Rattle.session_rules.specs.Spelling.{IsGraphOf};
-ghost use Rattle.graph_rules.specs.GraphsOver.{IsGraphOver};
 ghost use Rattle.script_lang.specs.Script.{Line};
+ghost use Rattle.session_rules.specs.Spelling.{IsGraphOf};
 ghost use Rattle.session_rules.specs.Alone.{AreAnsweredAlone, IsItsOwn};
 ghost use Rattle.session_rules.specs.CaseSizes.{IsCaseOf, HasCasesOf};
 ghost use Rattle.session_rules.specs.GraphSystems.{graph_system, compiled_system};

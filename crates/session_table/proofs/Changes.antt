@@ -10,7 +10,7 @@ use Rattle.std.proofs.lemmas.List.{length-map}
 use Rattle.std.proofs.lemmas.List.Edits.{length-insert, length-remove}
 use Rattle.std.proofs.lemmas.Option.{slice_get-map, slice_get_within, slice_get_read, some_pair_parts, none-some}
 use Rattle.text_rules.specs.Names.{Name, same_name}
-use Rattle.ranking.specs.Cases.{empty_case}
+use Rattle.state_rules.specs.Cases.{empty_case}
 use Rattle.scratch_pool.specs.Pools.{Blocks, IsOut, IsFree, IsSound, block_words, taken, given}
 use Rattle.scratch_pool.proofs.Laws.{taken-zeroed, taken-out, taken-free, given-free}
 use Rattle.session_rules.specs.Sessions.{Entry, Table, entry_of, with_entry, without}

@@ -4,7 +4,7 @@ use Rattle.std.specs.Prelude.{All}
 use Rattle.std.proofs.Math.Seq.{take-set-lt}
 use Rattle.std.proofs.lemmas.List.{length-set, length-replicate, take-set-le, drop-set-lt, take-replicate, drop-replicate, get_or-replicate}
 use Rattle.std.proofs.lemmas.List.Elements.{All-replicate}
-use Rattle.ranking.specs.Cases.{Case, empty_case}
+use Rattle.state_rules.specs.Cases.{Case, empty_case}
 use Rattle.conditioner.specs.Words.{word_of_known}
 use Rattle.script_lang.specs.declared.line.Noted.{Noted}
 use Rattle.script_lang.specs.declared.line.Noted.TheVariants.{Wire, Part}

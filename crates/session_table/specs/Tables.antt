@@ -1,7 +1,7 @@
 -- What contracts see of the open sessions.
 use Rattle.std.specs.Prelude.{◌≡◌, ℕ, length, Some, None, slice_get}
 use Rattle.text_rules.specs.Names.{Name}
-use Rattle.ranking.specs.Cases.{empty_case}
+use Rattle.state_rules.specs.Cases.{empty_case}
 use Rattle.script_lang.specs.declared.line.Noted.{Noted}
 use Rattle.script_lang.specs.declared.line.Noted.TheVariants.{Wire, Part}
 use Rattle.session_rules.specs.Sessions.{Entry, Table, entry_of, with_entry}

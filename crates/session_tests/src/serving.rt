@@ -1,9 +1,9 @@
 ghost use Rattle.std.specs.Prelude.{◌≡◌, ◌<◌, length, IfOk};
 
 use diag_edge::{MemSink, MemSource};
-use graph_rules::NodeKind;
 use node_store::{Graph, GraphBuilder};
 use session_core::{Extras, ServeEnd, Service};
+use state_rules::NodeKind;
 use std::alloc::Global;
 use std::test::Fail;
 

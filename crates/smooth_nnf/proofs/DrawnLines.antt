@@ -6,22 +6,22 @@ use Rattle.std.proofs.lemmas.Bool.{and_from, and_parts, lt-ltb, ltb-true, le-leb
 use Rattle.std.proofs.lemmas.List.{length-map, get_or_at}
 use Rattle.std.proofs.lemmas.List.FromFn.{length-range_with_len}
 use Rattle.std.proofs.lemmas.Option.{slice_get-get_or, same_Some}
-use Rattle.ranking.specs.Bits.{same_bit}
-use Rattle.ranking.specs.Assignments.{Assignment}
-use Rattle.ranking.specs.Values.{values}
-use Rattle.ranking.proofs.Members.{In}
-use Rattle.ranking.proofs.Lists.{length-filter-le}
-use Rattle.graph_rules.specs.declared.TheConstants.{CHILD_LIMIT}
-use Rattle.graph_rules.specs.declared.NodeKind.{NodeKind}
-use Rattle.graph_rules.specs.declared.NodeKind.TheVariants.{Literal, And, Or}
-use Rattle.graph_rules.specs.Graphs.{at_most_one, Node, Graph, true_node, false_node, truth_by, mention_by, mentions, is_true, IsGraph}
-use Rattle.graph_rules.proofs.NodeValues.{are_below, value_of}
-use Rattle.graph_rules.proofs.NodesFit.{Fits, fits-get, literal}
+use Rattle.state_rules.specs.Bits.{same_bit}
+use Rattle.state_rules.specs.Assignments.{Assignment}
+use Rattle.state_rules.specs.Values.{values}
+use Rattle.state_rules.proofs.Members.{In}
+use Rattle.state_rules.proofs.Lists.{length-filter-le}
+use Rattle.state_rules.specs.declared.nodes.TheConstants.{CHILD_LIMIT}
+use Rattle.state_rules.specs.declared.nodes.NodeKind.{NodeKind}
+use Rattle.state_rules.specs.declared.nodes.NodeKind.TheVariants.{Literal, And, Or}
+use Rattle.state_rules.specs.Graphs.{at_most_one, Node, Graph, true_node, false_node, truth_by, mention_by, mentions, is_true, IsGraph}
+use Rattle.state_rules.proofs.NodeValues.{are_below, value_of}
+use Rattle.state_rules.proofs.NodesFit.{Fits, fits-get, literal}
+use Rattle.state_rules.proofs.Kids.{at_most_one-from, at_most_one-less, range-below}
+use Rattle.nnf_text.specs.StateGraphs.{all_same}
 use Rattle.minimiser.specs.Costs.{part_cost, known_at, cost_at, sum_costs, cheapest, node_cost}
 use Rattle.minimiser.proofs.Costs.{from_add, from_min}
 use Rattle.minimiser.proofs.Derivations.{mention-at, apart-kids, costs-at, all-below}
-use Rattle.graph_rules.proofs.BelowKids.{at_most_one-from, at_most_one-less, range-below}
-use Rattle.graph_rules.specs.StateGraphs.{all_same}
 use Rattle.smooth_nnf.specs.Layouts.{Layout, layout_of, own_line, literal_pairs, literal_line, literal_kids, filling, fillers, costs_just, cheapest_kids, lines_before, lines_to, own_lines, kid_line, or_behind, or_lines, lines_by, lines_at, node_lines, and_over}
 use Rattle.smooth_nnf.proofs.Standing.{value_of-front, value_of-there, values-behind, Stand, MayFollow, stand-behind}
 use Rattle.smooth_nnf.proofs.Meaning.{is_part, Means, NodeMeans, filled, part-means, other-means, and-means, or-means, kid-inside, cheapest-in, cheapest-is}

@@ -7,13 +7,12 @@ use Rattle.std.proofs.lemmas.List.Sums.{sum_by-cons, sum_by-append}
 use Rattle.std.proofs.lemmas.List.Concat.{flat_map-append}
 use Rattle.std.proofs.lemmas.List.FromFn.{length-range_with_len}
 use Rattle.text_rules.specs.Tokens.{spaced}
-use Rattle.graph_rules.specs.Graphs.{Node}
-use Rattle.graph_rules.specs.GraphTexts.{edges}
-use Rattle.graph_rules.specs.WrittenGraphs.{node_words, graph_text}
+use Rattle.state_rules.specs.Graphs.{Node, edges}
+use Rattle.nnf_text.specs.WrittenGraphs.{node_words, graph_text}
+use Rattle.nnf_text.proofs.LineTexts.{header, lines, text-lines}
 use Rattle.minimiser.specs.Costs.{cost_at}
 use Rattle.minimiser.specs.Stored.{cost_in}
 use Rattle.minimiser.proofs.Sums.{cost_in-some}
-use Rattle.nnf_text.proofs.LineTexts.{header, lines, text-lines}
 use Rattle.smooth_nnf.specs.Layouts.{Layout, literal_pair, literal_pairs, costs_just, cheapest_kids, kid_line, or_behind, or_lines, node_lines, last_at, last_line, all_lines}
 use Rattle.smooth_nnf.specs.inner.Drawings.{Drawing, shown, filled_line}
 use Rattle.smooth_nnf.specs.inner.Texts.{lines_text, kid_edges}

@@ -3,9 +3,9 @@ use Rattle.std.proofs.Common.{◌≡◌, ℕ, true, false, List, [], ◌∷◌, 
 use Rattle.std.specs.Prelude.{codes}
 use Rattle.std.specs.Fmt.{digits}
 use Rattle.std.specs.List.{filter}
-use Rattle.ranking.specs.Bits.{lists_of_bits}
-use Rattle.graph_rules.specs.declared.NodeKind.TheVariants.{Or}
-use Rattle.graph_rules.specs.Graphs.{Graph, literal_node, true_node, holds}
+use Rattle.state_rules.specs.Bits.{lists_of_bits}
+use Rattle.state_rules.specs.declared.nodes.NodeKind.TheVariants.{Or}
+use Rattle.state_rules.specs.Graphs.{Graph, literal_node, true_node, holds}
 use Rattle.conditioner.specs.Models.{diagnoses_under}
 use Rattle.smooth_nnf.specs.Layouts.{least_graph, least_text}
 

@@ -6,14 +6,14 @@ use Rattle.std.proofs.lemmas.List.{map-append}
 use Rattle.std.proofs.lemmas.List.Concat.{flat_map-append}
 use Rattle.std.proofs.lemmas.List.Elements.{filter-append}
 use Rattle.std.proofs.lemmas.List.FromFn.{get_or-range_with_len}
-use Rattle.diag_edge.specs.Adding.{Grown}
 use Rattle.text_rules.specs.Tokens.{spaced}
-use Rattle.graph_rules.specs.WrittenGraphs.{node_words}
-use Rattle.graph_rules.specs.inner.WordBits.{has_bit}
-use Rattle.graph_rules.proofs.WordBits.{has_bit-zero}
+use Rattle.state_rules.proofs.WordBits.{has_bit-zero}
+use Rattle.state_rules.specs.Bits.{has_bit}
+use Rattle.diag_edge.specs.Adding.{Grown}
+use Rattle.nnf_text.specs.WrittenGraphs.{node_words}
 use Rattle.nnf_text.proofs.LineTexts.{and-spaced}
-use Rattle.smooth_nnf.specs.Layouts.{filler, fillers}
 use Rattle.part_sets.specs.Numbers.{part_words}
+use Rattle.smooth_nnf.specs.Layouts.{filler, fillers}
 use Rattle.smooth_nnf.specs.inner.Sets.{part_at}
 use Rattle.smooth_nnf.specs.inner.Drawings.{Drawing, missing_in, filled_line}
 use Rattle.smooth_nnf.specs.inner.Texts.{numbers_text, bit_text, word_text}

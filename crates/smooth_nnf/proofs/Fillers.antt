@@ -4,17 +4,17 @@ use Rattle.std.specs.Prelude.{nat_le}
 use Rattle.std.specs.List.{list_all, list_any, filter, flat_map, range_with_len, AllByRecursion}
 use Rattle.std.specs.Cmp.{both_ways}
 use Rattle.std.proofs.lemmas.Bool.{and_parts, and_from, le-leb, leb-true, eqb-true, eq-eqb, ne_eqb, cases_lt}
-use Rattle.ranking.specs.Bits.{same_bit}
-use Rattle.ranking.specs.Assignments.{Assignment}
-use Rattle.ranking.proofs.Bits.{same_bit-equal, same_bit-refl}
-use Rattle.ranking.proofs.Members.{In, In-filter, In-filtered}
-use Rattle.graph_rules.specs.declared.NodeKind.{NodeKind}
-use Rattle.graph_rules.specs.declared.NodeKind.TheVariants.{Literal}
-use Rattle.graph_rules.specs.Graphs.{Node, literal_node, node_at, at_most_one, truth_by, mention_by, is_true, mentions}
-use Rattle.graph_rules.proofs.NodeValues.{are_below, value_of, value_of-at}
+use Rattle.state_rules.specs.Bits.{same_bit}
+use Rattle.state_rules.specs.Assignments.{Assignment}
+use Rattle.state_rules.proofs.Bits.{same_bit-equal, same_bit-refl}
+use Rattle.state_rules.proofs.Members.{In, In-filter, In-filtered}
+use Rattle.state_rules.specs.declared.nodes.NodeKind.{NodeKind}
+use Rattle.state_rules.specs.declared.nodes.NodeKind.TheVariants.{Literal}
+use Rattle.state_rules.specs.Graphs.{Node, literal_node, node_at, at_most_one, truth_by, mention_by, is_true, mentions}
+use Rattle.state_rules.proofs.NodeValues.{are_below, value_of, value_of-at}
+use Rattle.state_rules.proofs.Kids.{at_most_one-from}
 use Rattle.minimiser.specs.Costs.{known_at}
 use Rattle.minimiser.proofs.Derivations.{any-kid, kid-with}
-use Rattle.graph_rules.proofs.BelowKids.{at_most_one-from}
 use Rattle.smooth_nnf.specs.Layouts.{literal_pair, literal_pairs, literal_line, filling, filler, fillers}
 use Rattle.smooth_nnf.proofs.Standing.{MayFollow, Stand, stand-none, stand-behind}
 

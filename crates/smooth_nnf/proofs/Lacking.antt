@@ -1,13 +1,14 @@
 -- What is kept of a graph, as a drawing has it: sets of parts, and nodes below which nothing is missing.
-use Rattle.std.proofs.Common.{◌≡◌, ℕ, ◌+◌, ◌*◌, ◌/◌, ◌%◌, ◌<◌, ◌≤◌, Bool, true, false, not, ◌&&◌, List, [], ◌∷◌, map, length, drop, get_or, Option, Some, None, refl, ap, sym, ◌∙◌, arith, ⊎_elim}
+use Rattle.std.proofs.Common.{◌≡◌, ℕ, ◌+◌, ◌*◌, ◌/◌, ◌%◌, ◌<◌, ◌≤◌, Bool, true, false, not, ◌&&◌, List, [], map, length, drop, get_or, Option, Some, None, refl, ap, sym, ◌∙◌, arith, ⊎_elim}
 use Rattle.std.specs.Prelude.{◌==◌, nat_lt, nat_le}
 use Rattle.std.specs.Int.{bit_at}
-use Rattle.std.specs.List.{filter, range_with_len}
+use Rattle.std.specs.List.{range_with_len}
 use Rattle.std.proofs.lemmas.Bool.{cases_lt, lt-ltb, le-ltb, le-leb, lt-leb}
 use Rattle.std.proofs.lemmas.List.{get_or-take, get_or-drop}
-use Rattle.ranking.proofs.Members.{filter_same}
-use Rattle.graph_rules.specs.Graphs.{node_at, mentions, IsGraph}
-use Rattle.graph_rules.specs.inner.WordBits.{has_bit}
+use Rattle.state_rules.proofs.Members.{filter_same}
+use Rattle.state_rules.specs.Graphs.{node_at, mentions, IsGraph}
+use Rattle.state_rules.specs.Bits.{has_bit}
+use Rattle.state_rules.proofs.Lists.{filter-never}
 use Rattle.part_sets.specs.Numbers.{part_words, set_at}
 use Rattle.part_sets.specs.PartSets.{ArePartsOf}
 use Rattle.smooth_nnf.specs.Layouts.{filler, fillers}
@@ -44,10 +45,7 @@ none-of_or d is o zero node part under low high =
 -- then no part is filled in
 pub no-fillers : (d : Drawing) (over : Option ℕ) (node : ℕ) → ((part : ℕ) → 1 ≤ part → part ≤ d.parts → missing_in d over node part ≡ false) → fillers d.words d.parts (missing_in d over node) ≡ []
 no-fillers d over node none =
-    ap (map (filler d.words)) (filter_same (missing_in d over node) (λ p. false) (range_with_len 1 d.parts) (λ p m. let r = in_range 1 d.parts p m in none p r.0 (omega (arith, r.1))) ∙ never (range_with_len 1 d.parts)) where
-      never : (xs : List ℕ) → filter (λ p. false) xs ≡ []
-      never [] = refl
-      never (x ∷ xs) = never xs
+    ap (map (filler d.words)) (filter_same (missing_in d over node) (λ p. false) (range_with_len 1 d.parts) (λ p m. let r = in_range 1 d.parts p m in none p r.0 (omega (arith, r.1))) ∙ filter-never (range_with_len 1 d.parts))
 
 -- what is below such a node is among what its line is filled in up to
 pub under-wider : (d : Drawing) → IsDrawing d → IsGraph d.graph → (over : Option ℕ) (node : ℕ) → IsUnder d over node → (part : ℕ) → mentions d.graph.nodes part node ≡ true → is_over d.graph.nodes over part ≡ true

@@ -8,17 +8,17 @@ use Rattle.std.proofs.lemmas.List.Concat.{flat_map-append}
 use Rattle.std.proofs.lemmas.List.Folds.{flat_map-map}
 use Rattle.std.proofs.lemmas.List.FromFn.{get_or-enumerate_from, get_or-range_with_len}
 use Rattle.text_rules.specs.Tokens.{spaced}
-use Rattle.graph_rules.specs.declared.TheConstants.{CHILD_LIMIT}
-use Rattle.graph_rules.specs.declared.NodeKind.{NodeKind}
-use Rattle.graph_rules.specs.declared.NodeKind.TheVariants.{Literal, Or}
-use Rattle.graph_rules.specs.Graphs.{Node, true_node, node_at, mention_by, mentions, kind_fits, IsGraph}
-use Rattle.graph_rules.proofs.NodeValues.{are_below, below-each, value_of-at}
-use Rattle.graph_rules.proofs.NodesFit.{Fits, fits-at, literal}
-use Rattle.graph_rules.specs.WrittenGraphs.{node_words}
+use Rattle.state_rules.specs.declared.nodes.TheConstants.{CHILD_LIMIT}
+use Rattle.state_rules.specs.declared.nodes.NodeKind.{NodeKind}
+use Rattle.state_rules.specs.declared.nodes.NodeKind.TheVariants.{Literal, Or}
+use Rattle.state_rules.specs.Graphs.{Node, true_node, node_at, mention_by, mentions, kind_fits, IsGraph}
+use Rattle.state_rules.proofs.NodeValues.{are_below, below-each, value_of-at}
+use Rattle.state_rules.proofs.NodesFit.{Fits, fits-at, literal}
+use Rattle.nnf_text.specs.WrittenGraphs.{node_words}
+use Rattle.nnf_text.proofs.LineTexts.{and-spaced, or-spaced}
 use Rattle.minimiser.specs.Costs.{cost_at}
 use Rattle.minimiser.specs.Stored.{cost_in}
 use Rattle.minimiser.proofs.Sums.{cost_in-some}
-use Rattle.nnf_text.proofs.LineTexts.{and-spaced, or-spaced}
 use Rattle.smooth_nnf.specs.Layouts.{and_over, own_line, costs_just, cheapest_kids, kid_line, or_behind, or_lines, lines_before, lines_to, own_lines, last_at, last_line}
 use Rattle.smooth_nnf.specs.inner.Drawings.{Drawing, IsDrawing, IsUnder, shown, filled_line}
 use Rattle.smooth_nnf.specs.inner.Texts.{numbers_text, lines_text, kid_text}

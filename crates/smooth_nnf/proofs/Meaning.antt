@@ -3,15 +3,15 @@ use Rattle.std.proofs.Common.{◌≡◌, ℕ, zero, suc, ◌<◌, ◌≤◌, Boo
 use Rattle.std.specs.Prelude.{slice_get, nat_le}
 use Rattle.std.specs.List.{list_all, list_any}
 use Rattle.std.proofs.lemmas.Bool.{and_from, and_parts, or_cases, or_left, or_right, eqb-true, eq-eqb, leb-true}
-use Rattle.ranking.specs.Bits.{same_bit}
-use Rattle.ranking.specs.Cases.{agrees_at}
-use Rattle.ranking.specs.Assignments.{Assignment}
-use Rattle.ranking.specs.Values.{values}
-use Rattle.ranking.proofs.Bits.{same_bit-equal, same_bit-refl}
-use Rattle.ranking.proofs.Members.{In, In-filter, In-filtered, AtMost}
-use Rattle.graph_rules.specs.declared.NodeKind.TheVariants.{Literal, And, Or}
-use Rattle.graph_rules.specs.Graphs.{at_most_one, Graph, truth, mention, mentions, is_true, IsGraph}
-use Rattle.graph_rules.proofs.Kids.{at_most_one-tail, not_both}
+use Rattle.state_rules.specs.Bits.{same_bit}
+use Rattle.state_rules.specs.Cases.{agrees_at}
+use Rattle.state_rules.specs.Assignments.{Assignment}
+use Rattle.state_rules.specs.Values.{values}
+use Rattle.state_rules.proofs.Bits.{same_bit-equal, same_bit-refl}
+use Rattle.state_rules.proofs.Members.{In, In-filter, In-filtered, AtMost}
+use Rattle.state_rules.specs.declared.nodes.NodeKind.TheVariants.{Literal, And, Or}
+use Rattle.state_rules.specs.Graphs.{at_most_one, Graph, truth, mention, mentions, is_true, IsGraph}
+use Rattle.state_rules.proofs.Kids.{at_most_one-tail, not_both}
 use Rattle.minimiser.specs.Costs.{part_cost, known_at, cost_at, sum_costs, node_cost}
 use Rattle.minimiser.proofs.Totals.{add-le-total}
 use Rattle.minimiser.proofs.Costs.{fault, Agrees, faults_in, faults_in-le, all_faults, apart_sum, joins, from_add}

@@ -2,16 +2,16 @@
 use Rattle.std.proofs.Common.{◌≡◌, ℕ, ◌+◌, ◌<◌, ◌≤◌, Bool, true, false, List, [], ◌∷◌, ◌++◌, map, length, refl, ap, sym, ◌∙◌, subst, arith, append_assoc, append-nil, length-append}
 use Rattle.std.specs.List.{range_with_len, AllByRecursion}
 use Rattle.std.proofs.lemmas.Bool.{and_parts, and_from}
-use Rattle.ranking.specs.Bits.{bit_in}
-use Rattle.ranking.specs.Values.{values}
-use Rattle.ranking.proofs.Lists.{AllByRecursion-append}
-use Rattle.ranking.proofs.Values.{length-values_after, values_after-append, values_after-keeps}
-use Rattle.graph_rules.specs.declared.NodeKind.{NodeKind}
-use Rattle.graph_rules.specs.declared.NodeKind.TheVariants.{Literal, And, Or}
-use Rattle.graph_rules.specs.Graphs.{Node, mention_by, mentions, apart_at, kind_fits, node_fits, nodes_fit, AreNodes}
-use Rattle.graph_rules.proofs.NodeValues.{are_below, are_below-from, below-each, map-below, value, value_of, value_of-last}
-use Rattle.graph_rules.proofs.NodesFit.{fits, apart_at-below, AreNodes-push}
-use Rattle.graph_rules.specs.StateGraphs.{all_same, smooth_at, Smooth}
+use Rattle.state_rules.specs.Bits.{bit_in}
+use Rattle.state_rules.specs.Values.{values}
+use Rattle.state_rules.proofs.Lists.{AllByRecursion-append}
+use Rattle.state_rules.proofs.Values.{length-values_after, values_after-append, values_after-keeps}
+use Rattle.state_rules.specs.declared.nodes.NodeKind.{NodeKind}
+use Rattle.state_rules.specs.declared.nodes.NodeKind.TheVariants.{Literal, And, Or}
+use Rattle.state_rules.specs.Graphs.{Node, mention_by, mentions, apart_at, kind_fits, node_fits, nodes_fit, AreNodes}
+use Rattle.state_rules.proofs.NodeValues.{are_below, are_below-from, below-each, map-below, value, value_of, value_of-last}
+use Rattle.state_rules.proofs.NodesFit.{fits, apart_at-below, AreNodes-push}
+use Rattle.nnf_text.specs.StateGraphs.{all_same, smooth_at, Smooth}
 
 -- ---- what nodes are worth
 

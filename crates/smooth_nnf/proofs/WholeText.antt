@@ -8,29 +8,29 @@ use Rattle.std.proofs.Math.Bool.{and-true}
 use Rattle.std.proofs.lemmas.Bool.{and_from, and_parts, le-leb, leb-true, false≢true}
 use Rattle.std.proofs.lemmas.List.{ext_get_or}
 use Rattle.std.proofs.lemmas.List.Sums.{sum_by-cons}
+use Rattle.std.proofs.Math.Seq.{take-length}
 use Rattle.text_rules.specs.Tokens.{is_neat}
-use Rattle.ranking.specs.Bits.{bit_in, same_bit}
-use Rattle.ranking.specs.Assignments.{Assignment, assignment}
-use Rattle.ranking.specs.Ranking.{cost, is_at_most}
-use Rattle.ranking.specs.Values.{values}
-use Rattle.ranking.proofs.Bits.{pointwise-refl, pointwise-equal}
-use Rattle.ranking.proofs.Members.{In, In-filter, any_from, any_in}
-use Rattle.graph_rules.specs.declared.NodeKind.{NodeKind}
-use Rattle.graph_rules.specs.declared.NodeKind.TheVariants.{Literal, And, Or}
-use Rattle.graph_rules.specs.Graphs.{Node, Graph, truth_by, mention_by, mentions, is_true, holds, IsGraph}
-use Rattle.graph_rules.specs.GraphTexts.{edges, parsed}
-use Rattle.graph_rules.proofs.NodeValues.{value_of}
+use Rattle.state_rules.specs.Bits.{bit_in, same_bit}
+use Rattle.state_rules.specs.Assignments.{Assignment, assignment}
+use Rattle.state_rules.specs.Ranking.{cost, is_at_most}
+use Rattle.state_rules.specs.Values.{values}
+use Rattle.state_rules.proofs.Bits.{pointwise-refl, pointwise-equal}
+use Rattle.state_rules.proofs.Members.{In, In-filter, any_from, any_in}
+use Rattle.state_rules.specs.declared.nodes.NodeKind.{NodeKind}
+use Rattle.state_rules.specs.declared.nodes.NodeKind.TheVariants.{Literal, And, Or}
+use Rattle.state_rules.specs.Graphs.{Node, Graph, truth_by, mention_by, mentions, is_true, holds, IsGraph, edges}
+use Rattle.state_rules.proofs.NodeValues.{value_of}
+use Rattle.state_rules.proofs.Lists.{length-filter-le}
+use Rattle.nnf_text.specs.GraphTexts.{parsed}
+use Rattle.nnf_text.proofs.ReadingBack.{IsList, edges-le, graph_text-read, graph_text-is_neat}
+use Rattle.nnf_text.specs.StateGraphs.{IsSmoothGraphOfStates}
 use Rattle.conditioner.specs.Models.{models, least_under, diagnoses_under}
 use Rattle.minimiser.specs.Costs.{part_cost, known_at, cost_at, node_cost}
 use Rattle.minimiser.specs.inner.Held.{held_cost}
 use Rattle.minimiser.proofs.Whole.{AddHeld, least_is, state_of, assignment_of}
 use Rattle.minimiser.proofs.Models.{diagnosis-in, diagnosis-out}
-use Rattle.nnf_text.proofs.ReadingBack.{IsList, edges-le, graph_text-read, graph_text-is_neat}
-use Rattle.graph_rules.specs.StateGraphs.{IsSmoothGraphOfStates}
-use Rattle.smooth_nnf.specs.Layouts.{Layout, own_lines, layout_of, literal_pairs, lines_before, lines_to, node_lines, last_at, last_line, all_lines, least_graph, least_text}
 use Rattle.minimiser.specs.Stored.{cost_in, costs_to, AreLeastCosts}
-use Rattle.std.proofs.Math.Seq.{take-length}
-use Rattle.ranking.proofs.Lists.{length-filter-le}
+use Rattle.smooth_nnf.specs.Layouts.{Layout, own_lines, layout_of, literal_pairs, lines_before, lines_to, node_lines, last_at, last_line, all_lines, least_graph, least_text}
 use Rattle.smooth_nnf.specs.inner.Drawings.{lines_after}
 use Rattle.smooth_nnf.proofs.LinePlaces.{lines_after-le}
 use Rattle.smooth_nnf.proofs.Standing.{value_of-there, Stand, MayFollow, stand-behind}

@@ -10,13 +10,13 @@ use Rattle.std.proofs.lemmas.List.{length-take-le, length-drop, get_or-take, get
 use Rattle.std.proofs.lemmas.List.FromFn.{length-range_with_len}
 use Rattle.std.proofs.lemmas.List.Elements.{filter-append}
 use lib.Count.{ones_step}
-use Rattle.graph_rules.specs.Graphs.{mentions}
+use Rattle.state_rules.specs.Graphs.{mentions}
+use Rattle.state_rules.proofs.Bits.{half-below}
+use Rattle.state_rules.proofs.Members.{filter_same}
+use Rattle.state_rules.proofs.Lists.{length-filter-le, filter-never, filter-all}
+use Rattle.state_rules.proofs.WordBits.{has_bit-and}
+use Rattle.state_rules.specs.Bits.{has_bit}
 use Rattle.scratch_pool.proofs.Counted.{block-below}
-use Rattle.ranking.proofs.Bits.{half-below}
-use Rattle.ranking.proofs.Members.{filter_same}
-use Rattle.ranking.proofs.Lists.{length-filter-le}
-use Rattle.graph_rules.specs.inner.WordBits.{has_bit}
-use Rattle.graph_rules.proofs.WordBits.{has_bit-and}
 use Rattle.part_sets.specs.Numbers.{part_words}
 use Rattle.smooth_nnf.specs.inner.Sets.{part_at}
 use Rattle.smooth_nnf.specs.inner.Drawings.{Drawing, IsDrawing, word_parts, set_parts, part_count}
@@ -95,10 +95,7 @@ all-words test parts n le =
       none : (s d : ℕ) → parts < s → filter (λ p. nat_le p parts && test p) (range_with_len s d) ≡ []
       none s d lt = filter_same (λ p. nat_le p parts && test p) (λ p. false) (range_with_len s d) (λ p m.
           let range = in_range s d p m in
-          ap (λ b. b && test p) (false_from_ne_true (nat_le p parts) (λ e. let le = leb-true p parts e in absurd (omega (arith, range.0))))) ∙ never (range_with_len s d) where
-            never : (xs : List ℕ) → filter (λ p. false) xs ≡ []
-            never [] = refl
-            never (x ∷ xs) = never xs
+          ap (λ b. b && test p) (false_from_ne_true (nat_le p parts) (λ e. let le = leb-true p parts e in absurd (omega (arith, range.0))))) ∙ filter-never (range_with_len s d)
 
 -- what passes one test and not another that passes no more
 pub left-over : (o m : ℕ → Bool) → ((p : ℕ) → m p ≡ true → o p ≡ true) → (xs : List ℕ) → length (filter (λ p. o p && not (m p)) xs) + length (filter m xs) ≡ length (filter o xs)
@@ -112,10 +109,7 @@ left-over o m wider (x ∷ xs) = by (left-over o m wider xs) (o x) (m x) refl re
   by more false false e f = more
 
 pub all-count : (n : ℕ) → length (filter (λ p. true) (range_with_len 1 n)) ≡ n
-all-count n = ap length (keep (range_with_len 1 n)) ∙ length-range_with_len 1 n where
-  keep : (xs : List ℕ) → filter (λ p. true) xs ≡ xs
-  keep [] = refl
-  keep (x ∷ xs) = ap (λ ys. x ∷ ys) (keep xs)
+all-count n = ap length (filter-all (range_with_len 1 n)) ∙ length-range_with_len 1 n
 
 -- ---- the parts of a set
 

@@ -1,11 +1,11 @@
 -- The graph of the diagnoses that a graph allows under words, line by line, and its text.
 use Rattle.std.specs.Prelude.{ℕ, ◌+◌, ◌-◌, ◌*◌, ◌==◌, Bool, true, false, not, ◌&&◌, List, [], ◌∷◌, ◌++◌, map, length, Option, Some, None, nat_le, slice_index, if◌then◌else◌}
 use Rattle.std.specs.List.{filter, flat_map, enumerate_from, range_with_len}
-use Rattle.ranking.specs.Values.{values}
-use Rattle.graph_rules.specs.declared.NodeKind.{NodeKind}
-use Rattle.graph_rules.specs.declared.NodeKind.TheVariants.{Literal, And, Or}
-use Rattle.graph_rules.specs.Graphs.{Node, Graph, literal_node, false_node, mentions}
-use Rattle.graph_rules.specs.WrittenGraphs.{graph_text}
+use Rattle.state_rules.specs.Values.{values}
+use Rattle.state_rules.specs.declared.nodes.NodeKind.{NodeKind}
+use Rattle.state_rules.specs.declared.nodes.NodeKind.TheVariants.{Literal, And, Or}
+use Rattle.state_rules.specs.Graphs.{Node, Graph, literal_node, false_node, mentions}
+use Rattle.nnf_text.specs.WrittenGraphs.{graph_text}
 use Rattle.minimiser.specs.Costs.{cost_at, part_cost, known_at, node_cost}
 
 abbrev pub and_over : List ℕ → Node

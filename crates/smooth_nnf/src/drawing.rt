@@ -1,11 +1,11 @@
 //! What a text is drawn from.
 ghost use Rattle.std.specs.Prelude.{◌≡◌, ℕ, ◌*◌, ◌^◌, ◌<◌, ◌≤◌, ◌&&◌, true, false, not, nat_le, map, length, slice_index};
+ghost use Rattle.std.specs.List.{filter, range_with_len};
+ghost use Rattle.state_rules.specs.Bits.{has_bit};
 ghost use Rattle.minimiser.specs.Costs.{cost_at};
 ghost use Rattle.minimiser.specs.Stored.{cost_in};
-ghost use Rattle.smooth_nnf.specs.Layouts.{fillers, filler, literal_line};
-ghost use Rattle.std.specs.List.{filter, range_with_len};
-ghost use Rattle.graph_rules.specs.inner.WordBits.{has_bit};
 ghost use Rattle.part_sets.specs.Numbers.{part_words};
+ghost use Rattle.smooth_nnf.specs.Layouts.{fillers, filler, literal_line};
 ghost use Rattle.smooth_nnf.specs.inner.Sets.{part_at};
 ghost use Rattle.smooth_nnf.specs.inner.Drawings.{IsDrawing, IsNodeOf, IsUnder, is_over, missing_in, part_count, set_parts};
 

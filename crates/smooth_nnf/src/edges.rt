@@ -1,16 +1,13 @@
 //! How many edges the lines have.
-ghost use Rattle.std.specs.Prelude.{◌≡◌, ◌≢◌, ℕ, ◌+◌, ◌*◌, ◌^◌, ◌<◌, ◌≤◌, true, Some, map, length, slice_index, sum_by, All};
-ghost use Rattle.graph_rules.specs.Graphs.{node_at, IsGraph};
-ghost use Rattle.graph_rules.specs.GraphTexts.{edges};
-ghost use Rattle.minimiser.specs.Costs.{cost_at};
-ghost use Rattle.minimiser.specs.Stored.{cost_in};
+ghost use Rattle.std.specs.Prelude.{◌≡◌, ◌≢◌, ◌+◌, ◌*◌, ◌^◌, ◌<◌, ◌≤◌, true, Some, length, sum_by, All};
+ghost use Rattle.state_rules.specs.Graphs.{node_at, IsGraph, edges};
 ghost use Rattle.smooth_nnf.specs.Layouts.{all_lines, last_line, lines_by, node_lines};
 ghost use Rattle.smooth_nnf.specs.inner.Drawings.{IsUnder, shown};
 ghost use Rattle.smooth_nnf.specs.inner.Texts.{kid_edges};
 
 use crate::drawing::Drawing;
-use graph_rules::NodeKind;
 use minimiser::NONE;
+use state_rules::NodeKind;
 
 // The number of children of all lines.
 pub(crate) fn edge_count(drawing: &Drawing<'_>) -> u64

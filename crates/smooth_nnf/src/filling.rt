@@ -1,21 +1,21 @@
 //! Lines that are filled in with parts.
 ghost use Rattle.std.specs.Prelude.{◌≡◌, ℕ, ◌+◌, ◌<◌, ◌≤◌, ◌++◌, ◌∷◌, [], true, length, slice_index, decimal};
 ghost use Rattle.std.specs.List.{flat_map, range_with_len};
+ghost use Rattle.text_rules.specs.Tokens.{spaced};
+ghost use Rattle.state_rules.specs.Bits.{has_bit};
 ghost use Rattle.diag_edge.specs.Adding.{Adds};
 ghost use Rattle.diag_edge.specs.Edge.{HasCause};
-ghost use Rattle.text_rules.specs.Tokens.{spaced};
-ghost use Rattle.graph_rules.specs.WrittenGraphs.{node_words};
-ghost use Rattle.graph_rules.specs.inner.WordBits.{has_bit};
-ghost use Rattle.smooth_nnf.specs.Layouts.{fillers};
+ghost use Rattle.nnf_text.specs.WrittenGraphs.{node_words};
 ghost use Rattle.part_sets.specs.Numbers.{part_words};
+ghost use Rattle.smooth_nnf.specs.Layouts.{fillers};
 ghost use Rattle.smooth_nnf.specs.inner.Sets.{part_at};
 ghost use Rattle.smooth_nnf.specs.inner.Drawings.{IsNodeOf, IsUnder, missing_in, filled_line};
 ghost use Rattle.smooth_nnf.specs.inner.Texts.{numbers_text, bit_text, word_text};
 
 use crate::drawing::Drawing;
 use diag_edge::{Chunk, Sink, WriteFailed};
-use graph_rules::NodeKind;
 use nnf_text::add_node;
+use state_rules::NodeKind;
 
 // Adds the line of a node, with the parts that are missing filled in.
 pub(crate) fn add_filled<O: Sink>(

@@ -1,24 +1,24 @@
 //! The lines of nodes.
-ghost use Rattle.std.specs.Prelude.{◌≡◌, ◌≢◌, ℕ, ◌+◌, ◌*◌, ◌^◌, ◌<◌, ◌≤◌, ◌++◌, ◌∷◌, [], true, false, Some, map, length, slice_index, decimal, All};
+ghost use Rattle.std.specs.Prelude.{◌≡◌, ◌≢◌, ◌+◌, ◌*◌, ◌^◌, ◌<◌, ◌≤◌, ◌++◌, ◌∷◌, [], true, false, Some, map, length, slice_index, decimal, All};
 ghost use Rattle.std.specs.List.{flat_map, enumerate_from, range_with_len};
+ghost use Rattle.text_rules.specs.Tokens.{spaced};
+ghost use Rattle.state_rules.specs.Graphs.{node_at, literal_node};
 ghost use Rattle.diag_edge.specs.Adding.{Adds};
 ghost use Rattle.diag_edge.specs.Edge.{HasCause};
-ghost use Rattle.text_rules.specs.Tokens.{spaced};
-ghost use Rattle.graph_rules.specs.Graphs.{node_at, literal_node, IsGraph};
-ghost use Rattle.graph_rules.specs.WrittenGraphs.{node_words};
+ghost use Rattle.nnf_text.specs.WrittenGraphs.{node_words};
 ghost use Rattle.minimiser.specs.Costs.{cost_at};
 ghost use Rattle.minimiser.specs.Stored.{cost_in};
-ghost use Rattle.smooth_nnf.specs.Layouts.{and_over, literal_pair, lines_by, literal_kids, cheapest_kids, kid_line, or_behind, or_lines, node_lines, last_line};
+ghost use Rattle.smooth_nnf.specs.Layouts.{and_over, literal_pair, lines_by, literal_kids, cheapest_kids, or_behind, node_lines, last_line};
 ghost use Rattle.smooth_nnf.specs.inner.Drawings.{IsUnder, shown};
-ghost use Rattle.smooth_nnf.specs.inner.Texts.{numbers_text, lines_text, kid_text};
+ghost use Rattle.smooth_nnf.specs.inner.Texts.{lines_text, kid_text};
 
 use crate::drawing::{Drawing, literal_line};
 use crate::filling::add_filled;
 use crate::places::cheapest_count;
 use diag_edge::{Chunk, Sink, WriteFailed};
-use graph_rules::NodeKind;
 use minimiser::NONE;
 use nnf_text::{add_counted_range, add_node};
+use state_rules::NodeKind;
 
 // Adds the lines of the parts' literals.
 pub(crate) fn add_literals<O: Sink>(

@@ -1,12 +1,12 @@
 ghost use Rattle.std.specs.Prelude.{◌≡◌, ◌≢◌, ◌+◌, ◌*◌, ◌^◌, ◌<◌, ◌≤◌, map, length, All};
-ghost use Rattle.graph_rules.specs.GraphTexts.{edges};
+ghost use Rattle.state_rules.specs.Graphs.{edges};
 ghost use Rattle.minimiser.specs.Stored.{cost_in};
 ghost use Rattle.smooth_nnf.specs.Layouts.{cheapest_kids, lines_to, own_lines};
 ghost use Rattle.smooth_nnf.specs.inner.Drawings.{lines_after};
 
-use graph_rules::NodeKind;
 use minimiser::NONE;
 use node_store::Graph;
+use state_rules::NodeKind;
 
 // The own line of each node, and how many lines there are up to the last of them.
 pub(crate) fn place_lines(graph: &Graph, parts: u32, values: &[u32], lines: &mut [u32]) -> u32

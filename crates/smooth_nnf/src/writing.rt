@@ -1,15 +1,15 @@
 ghost use Rattle.std.specs.Prelude.{◌≡◌, ◌+◌, ◌*◌, ◌^◌, ◌<◌, ◌≤◌, [], length, All, true};
-ghost use Rattle.diag_edge.specs.Edge.{HasCause, Puts};
 ghost use Rattle.text_rules.specs.Tokens.{is_neat};
-ghost use Rattle.graph_rules.specs.Graphs.{IsGraph};
-ghost use Rattle.graph_rules.specs.GraphTexts.{edges, parsed};
-ghost use Rattle.graph_rules.specs.WrittenGraphs.{graph_text};
+ghost use Rattle.state_rules.specs.Graphs.{IsGraph, edges};
+ghost use Rattle.diag_edge.specs.Edge.{HasCause, Puts};
+ghost use Rattle.nnf_text.specs.GraphTexts.{parsed};
+ghost use Rattle.nnf_text.specs.WrittenGraphs.{graph_text};
+ghost use Rattle.nnf_text.specs.StateGraphs.{IsSmoothGraphOfStates};
 ghost use Rattle.conditioner.specs.Models.{diagnoses_under, total_cost};
 ghost use Rattle.scratch_pool.specs.Regions.{free_words};
-ghost use Rattle.graph_rules.specs.StateGraphs.{IsSmoothGraphOfStates};
+ghost use Rattle.part_sets.specs.PartSets.{AreFor};
 ghost use Rattle.smooth_nnf.specs.Layouts.{all_lines, least_text};
 ghost use Rattle.smooth_nnf.specs.inner.Drawings.{shown};
-ghost use Rattle.part_sets.specs.PartSets.{AreFor};
 ghost use Rattle.smooth_nnf.specs.Sizes.{drawing_words};
 
 use crate::drawing::Drawing;

@@ -1,6 +1,6 @@
 -- What becomes of words where readings are noted in them.
 use Rattle.std.specs.Prelude.{◌≡◌, ℕ, List, length}
-use Rattle.ranking.specs.Cases.{Case}
+use Rattle.state_rules.specs.Cases.{Case}
 use Rattle.device_model.specs.Devices.{Device}
 use Rattle.session_rules.specs.CaseWords.{case_of_words, AreWords}
 use Rattle.adder_load.specs.Readings.{Reading, with_readings}

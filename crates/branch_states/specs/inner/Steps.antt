@@ -1,14 +1,14 @@
 -- What the steps from one level to the next say to each other. Only private contracts cite it.
 use Rattle.std.specs.Prelude.{◌≡◌, ℕ, ◌+◌, ◌-◌, ◌/◌, ◌^◌, ◌<◌, ◌≤◌, Bool, true, false, not, ◌&&◌, ◌||◌, List, [], ◌∷◌, ◌++◌, map, length, drop, replicate, min, max, slice_index, slice_index_or, take, ◌⊎◌, All, ◌==◌, ℤ, count_by, if◌then◌else◌}
 use Rattle.std.specs.List.{filter, list_any, range_with_len}
-use Rattle.ranking.specs.Bits.{bit_in}
+use Rattle.state_rules.specs.Bits.{bit_in}
 use Rattle.clause_encoder.specs.Clauses.{Clause, ClauseList, var_of, is_clause_list}
+use Rattle.clause_encoder.specs.declared.limits.TheConstants.{CLAUSE_LIMIT}
 use Rattle.branch_states.specs.Branches.{order, place, has_true, is_touched, is_covered}
 use Rattle.branch_states.specs.declared.walk.Span.{Span}
 use Rattle.branch_states.specs.declared.walk.Entry.{Entry}
 use Rattle.branch_states.specs.declared.walk.Event.{Event}
 use Rattle.branch_states.specs.declared.walk.Row.{Row}
-use Rattle.clause_encoder.specs.declared.limits.TheConstants.{CLAUSE_LIMIT}
 use Rattle.branch_states.specs.declared.order.TheConstants.{UNMET}
 use Rattle.branch_states.specs.declared.counts.TheConstants.{BLOCK}
 

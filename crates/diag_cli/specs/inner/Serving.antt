@@ -1,20 +1,20 @@
 -- The services that devices are served by, and graphs.
 use Rattle.std.specs.Prelude.{◌≡◌, ◌<◌, ◌≤◌, ℕ, true, [], length, Option, Some, None, IfSome}
-use Rattle.ranking.specs.declared.extras.Extras.{Extras}
-use Rattle.graph_rules.specs.Graphs.{Graph, IsGraph}
-use Rattle.ranking.specs.Ranking.{plain_costs}
+use Rattle.state_rules.specs.declared.extras.Extras.{Extras}
+use Rattle.state_rules.specs.Graphs.{Graph, IsGraph}
+use Rattle.state_rules.specs.Ranking.{plain_costs}
+use Rattle.state_rules.specs.GraphsOver.{IsGraphOver}
 use Rattle.device_model.specs.Devices.{Device, part_names, part_costs}
 use Rattle.bench_reader.specs.declared.sequential.Sequential.{Sequential}
 use Rattle.frame_unroller.specs.declared.unrolling.UnrollError.{UnrollError}
 use Rattle.frame_unroller.specs.declared.unrolling.UnrollError.TheVariants.{Memory as NoMemory}
 use Rattle.frame_unroller.specs.Diagnosis.{frame_wires, fits_over}
 use Rattle.session_rules.specs.Spelling.{IsGraphOf}
-use Rattle.graph_rules.specs.GraphsOver.{IsGraphOver}
-use Rattle.diag_cli.specs.declared.words.ServeOptions.{ServeOptions}
-use Rattle.device_files.specs.Output.{Output}
-use Rattle.diag_cli.specs.Frames.{not_unrolled}
 use Rattle.session_core.specs.declared.limits.TheConstants.{SERVED_VARIABLES, SERVED_NODES}
 use Rattle.session_core.specs.Services.{Shown, CanList, CanDraw}
+use Rattle.device_files.specs.Output.{Output}
+use Rattle.diag_cli.specs.declared.words.ServeOptions.{ServeOptions}
+use Rattle.diag_cli.specs.Frames.{not_unrolled}
 
 -- A graph is true exactly where the device fits, and such as a service takes.
 pub record IsServable (device : Device) (graph : Graph) : Type 0 where

@@ -1,7 +1,7 @@
 -- What stays while nodes are made, and what one node says of a literal and another node.
 use Rattle.std.specs.Prelude.{◌≡◌, ℕ, ◌+◌, ◌<◌, ◌≤◌, Bool, true, false, ◌&&◌, List, length, slice_get, Some}
-use Rattle.ranking.specs.Assignments.{Assignment}
-use Rattle.graph_rules.specs.Graphs.{Node, is_true, mentions}
+use Rattle.state_rules.specs.Assignments.{Assignment}
+use Rattle.state_rules.specs.Graphs.{Node, is_true, mentions}
 use Rattle.node_store.specs.Stores.{Stored, IsStore, is_bare, HasNoBareKid}
 
 -- Nodes that were there mean what they meant.

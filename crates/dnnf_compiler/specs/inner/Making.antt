@@ -1,9 +1,8 @@
 -- Nodes that are made of a variable's bits and nodes below.
-use Rattle.std.specs.Prelude.{◌≡◌, ℕ, ◌+◌, ◌*◌, ◌<◌, ◌≤◌, Bool, true, false, ◌&&◌, ◌||◌, List, [], length, Option, Some, None, IfSome, slice_get, slice_index, ◌==◌}
-use Rattle.ranking.specs.Bits.{same_bit}
-use Rattle.ranking.specs.Assignments.{Assignment}
-use Rattle.graph_rules.specs.declared.NodeKind.TheVariants.{Or}
-use Rattle.graph_rules.specs.Graphs.{Node, true_node, is_true, mentions}
+use Rattle.std.specs.Prelude.{◌≡◌, ℕ, ◌+◌, ◌*◌, ◌<◌, ◌≤◌, Bool, true, false, ◌&&◌, ◌||◌, List, length, Option, Some, None, IfSome, slice_get, slice_index, ◌==◌}
+use Rattle.state_rules.specs.Bits.{same_bit}
+use Rattle.state_rules.specs.Assignments.{Assignment}
+use Rattle.state_rules.specs.Graphs.{Node, true_node, is_true, mentions, false_node}
 use Rattle.node_store.specs.Stores.{IsStore, HasNoBareKid}
 use Rattle.branch_states.specs.declared.forks.Fork.{Fork}
 use Rattle.dnnf_compiler.specs.declared.maker.Maker.{Maker}
@@ -15,7 +14,7 @@ pub record IsMaker (m : Maker) : Type 0 where
   pub yes : IsConstant m.store.nodes true m.yes
   pub no : IsConstant m.store.nodes false m.no
   pub yes_node : slice_get m.store.nodes m.yes ≡ Some true_node
-  pub no_node : slice_get m.store.nodes m.no ≡ Some (record { what = Or; kids = [] })
+  pub no_node : slice_get m.store.nodes m.no ≡ Some false_node
   pub bare : HasNoBareKid m.store.nodes
 
 -- a variable that has literals

@@ -1,9 +1,9 @@
 -- What is left of clauses when the first variables of their order have bits, and what a node says of it.
 use Rattle.std.specs.Prelude.{◌≡◌, ℕ, ◌<◌, Bool, false, not, ◌&&◌, List, length, nat_lt}
 use Rattle.std.specs.List.{list_any}
-use Rattle.ranking.specs.Bits.{same_bit}
-use Rattle.ranking.specs.Assignments.{Assignment}
-use Rattle.graph_rules.specs.Graphs.{Node, is_true, mentions}
+use Rattle.state_rules.specs.Bits.{same_bit}
+use Rattle.state_rules.specs.Assignments.{Assignment}
+use Rattle.state_rules.specs.Graphs.{Node, is_true, mentions}
 use Rattle.clause_encoder.specs.Clauses.{Clause, var_of, is_positive}
 use Rattle.branch_states.specs.Branches.{order, place, some_passes}
 

@@ -1,8 +1,8 @@
 -- What was made of a literal and other nodes.
 use Rattle.std.specs.Prelude.{◌≡◌, ℕ, ◌+◌, ◌<◌, Bool, List, length, Some, slice_get, ◌==◌}
-use Rattle.ranking.specs.Bits.{same_bit}
-use Rattle.ranking.specs.Assignments.{Assignment}
-use Rattle.graph_rules.specs.Graphs.{Node, is_true, mentions}
+use Rattle.state_rules.specs.Bits.{same_bit}
+use Rattle.state_rules.specs.Assignments.{Assignment}
+use Rattle.state_rules.specs.Graphs.{Node, is_true, mentions}
 use Rattle.dnnf_compiler.specs.declared.ands.Ands.{Ands}
 use Rattle.dnnf_compiler.specs.inner.Joining.{IsBoth}
 

@@ -1,10 +1,10 @@
 -- The nodes of the living lists of a level, and the node of all clauses.
 use Rattle.std.specs.Prelude.{◌≡◌, ℕ, ◌+◌, ◌*◌, ◌<◌, ◌≤◌, Bool, List, length, slice_get, Some}
-use Rattle.ranking.specs.Assignments.{Assignment}
-use Rattle.graph_rules.specs.Graphs.{Node, is_true}
+use Rattle.state_rules.specs.Assignments.{Assignment}
+use Rattle.state_rules.specs.Graphs.{Node, is_true}
+use Rattle.node_store.specs.Stores.{Stored, HasNoBareKid}
 use Rattle.clause_encoder.specs.Clauses.{Clause, ClauseList, all_hold}
 use Rattle.branch_states.specs.Branches.{living, sum_of}
-use Rattle.node_store.specs.Stores.{Stored, HasNoBareKid}
 use Rattle.dnnf_compiler.specs.inner.Meaning.{IsNodeOf}
 
 -- each living list of a level has its node

@@ -1,7 +1,7 @@
 -- Which nodes stand on derivations of least cost.
 use Rattle.std.specs.Prelude.{◌≡◌, ℕ, ◌-◌, ◌<◌, ◌≤◌, ◌⊎◌, true, ◌&&◌, List, length, slice_index, if◌then◌else◌}
-use Rattle.graph_rules.specs.Graphs.{Node, node_at}
-use Rattle.minimiser.specs.inner.Marked.{is_kid}
+use Rattle.state_rules.specs.Graphs.{Node, node_at}
+use Rattle.minimiser.specs.inner.Swept.{is_kid}
 use Rattle.fault_graph.specs.inner.Rows.{keeps}
 use Rattle.fault_graph.specs.declared.distilling.TheConstants.{MARKED}
 

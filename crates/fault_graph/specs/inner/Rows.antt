@@ -1,7 +1,7 @@
 -- What stands for a node among the nodes of the smaller graph.
 use Rattle.std.specs.Prelude.{◌≡◌, ◌≢◌, ℕ, ◌-◌, Bool, ◌&&◌, ◌⊎◌, List, [], ◌∷◌, ◌++◌, map, length, slice_index, nat_le, nat_lt}
 use Rattle.std.specs.List.{filter}
-use Rattle.graph_rules.specs.Graphs.{Node, Graph, node_at}
+use Rattle.state_rules.specs.Graphs.{Node, Graph, node_at}
 
 -- what costs nothing is true, and left out; what costs more is not on a derivation of least cost
 abbrev pub keeps : List ℕ → ℕ → ℕ → Bool

@@ -2,7 +2,7 @@
 -- number of 64 bits.
 use Rattle.std.specs.Prelude.{ℕ, ◌+◌, max, List, map, length, drop, Option, Some, None, fold, nat_lt, nat_eq, slice_index_or, if◌then◌else◌}
 use Rattle.text_rules.specs.Names.{Name}
-use Rattle.ranking.specs.Values.{values}
+use Rattle.state_rules.specs.Values.{values}
 use Rattle.device_model.specs.declared.limits.TheConstants.{PART_LIMIT, WIRE_LIMIT, NAME_LIMIT}
 use Rattle.component_lang.specs.declared.design.UsedKind.{UsedKind}
 use Rattle.component_lang.specs.declared.design.UsedKind.TheVariants.{Gate, Shape as OfShape, Block as OfBlock}

@@ -1,7 +1,7 @@
 -- Sets of costs, and what the set of a node says.
 use Rattle.std.specs.Prelude.{◌≡◌, ℕ, zero, suc, ◌+◌, ◌-◌, ◌*◌, ◌<◌, Bool, true, not, ◌&&◌, List, [], ◌∷◌, length, slice_index, nat_le, if◌then◌else◌}
-use Rattle.ranking.specs.Assignments.{Assignment}
-use Rattle.ranking.specs.Cases.{agrees_at}
+use Rattle.state_rules.specs.Assignments.{Assignment}
+use Rattle.state_rules.specs.Cases.{agrees_at}
 use Rattle.minimiser.specs.Costs.{known_at}
 use Rattle.part_sets.specs.Numbers.{has_number}
 

@@ -1,7 +1,7 @@
 -- The sets of the costs at which, besides, an open part of a group is faulty.
 use Rattle.std.specs.Prelude.{◌≡◌, ℕ, ◌-◌, ◌*◌, ◌<◌, Bool, true, List, length}
-use Rattle.ranking.specs.Assignments.{Assignment}
-use Rattle.graph_rules.specs.Graphs.{Graph, is_true, mentions}
+use Rattle.state_rules.specs.Assignments.{Assignment}
+use Rattle.state_rules.specs.Graphs.{Graph, is_true, mentions}
 use Rattle.part_sets.specs.Numbers.{has_number, set_at}
 use Rattle.level_lister.specs.declared.pairs.Groups.{Groups}
 use Rattle.level_lister.specs.inner.CostSets.{Follows, cost_among, IsCostSet}

@@ -1,6 +1,6 @@
 -- The sets of the costs that the nodes of a graph can have, where some of them are skipped.
 use Rattle.std.specs.Prelude.{ℕ, ◌-◌, ◌<◌, ◌≤◌, true, List, length}
-use Rattle.graph_rules.specs.Graphs.{Graph, is_true, mentions}
+use Rattle.state_rules.specs.Graphs.{Graph, is_true, mentions}
 use Rattle.part_sets.specs.Numbers.{set_at}
 use Rattle.level_lister.specs.Listing.{Kept, cost_words}
 use Rattle.level_lister.specs.inner.CostSets.{IsCostSet}

@@ -1,9 +1,8 @@
 -- What two words tell of a node: its costs, where few are listed, and at which of them a part of a group is faulty.
 use Rattle.std.specs.Prelude.{◌≡◌, ℕ, ◌+◌, ◌-◌, ◌*◌, ◌/◌, ◌<◌, ◌≤◌, Bool, true, false, ◌&&◌, List, length, slice_index, nat_le, ◌==◌}
-use Rattle.ranking.specs.Assignments.{Assignment}
-use Rattle.ranking.specs.Bits.{bit_in}
-use Rattle.graph_rules.specs.Graphs.{Graph, is_true, mentions}
-use Rattle.graph_rules.specs.inner.WordBits.{has_bit}
+use Rattle.state_rules.specs.Assignments.{Assignment}
+use Rattle.state_rules.specs.Bits.{bit_in, has_bit}
+use Rattle.state_rules.specs.Graphs.{Graph, is_true, mentions}
 use Rattle.level_lister.specs.declared.pairs.Pair.{Pair}
 use Rattle.level_lister.specs.declared.pairs.Groups.{Groups}
 pub use Rattle.level_lister.specs.Passes.{group_count}

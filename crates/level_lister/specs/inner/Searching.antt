@@ -1,12 +1,12 @@
--- What holds while the lister fixes one part after the other.
+-- What holds while one part after the other is fixed, to find a state of one cost.
 use Rattle.std.specs.Prelude.{◌≡◌, ◌≢◌, ℕ, ◌+◌, ◌<◌, ◌≤◌, Bool, true, false, List, length, ◌⊎◌, Option, Some, None, MatchOption, slice_index}
-use Rattle.ranking.specs.Bits.{bit_in}
-use Rattle.ranking.specs.Ranking.{cost, is_before}
-use Rattle.graph_rules.specs.Graphs.{Graph}
+use Rattle.state_rules.specs.Bits.{bit_in, AlikeBelow}
+use Rattle.state_rules.specs.Ranking.{cost, is_before}
+use Rattle.state_rules.specs.Graphs.{Graph}
+use Rattle.state_rules.specs.Levels.{is_level_before}
 use Rattle.conditioner.specs.Words.{word_of}
 use Rattle.conditioner.specs.Models.{has_model, fits_words}
-use Rattle.diagnosis_lister.specs.inner.Working.{AlikeBelow, fixed_bits}
-use Rattle.ranking.specs.Levels.{is_level_before}
+use Rattle.minimiser.specs.inner.Fixing.{fixed_bits}
 use Rattle.level_lister.specs.Listing.{Kept}
 
 -- a state of the parts that the graph allows under the words, of just so much cost

@@ -1,9 +1,9 @@
 -- Nodes that the passes skip, and what is left of a graph without them.
 use Rattle.std.specs.Prelude.{◌≡◌, ℕ, ◌+◌, ◌-◌, ◌<◌, ◌≤◌, true, List, [], ◌∷◌, length, slice_index, nat_lt, ◌==◌, if◌then◌else◌}
-use Rattle.ranking.specs.Assignments.{Assignment}
-use Rattle.graph_rules.specs.declared.NodeKind.{NodeKind}
-use Rattle.graph_rules.specs.declared.NodeKind.TheVariants.{Literal, And, Or}
-use Rattle.graph_rules.specs.Graphs.{Graph, Node, false_node, node_at, is_true}
+use Rattle.state_rules.specs.Assignments.{Assignment}
+use Rattle.state_rules.specs.declared.nodes.NodeKind.{NodeKind}
+use Rattle.state_rules.specs.declared.nodes.NodeKind.TheVariants.{Literal, And, Or}
+use Rattle.state_rules.specs.Graphs.{Graph, Node, false_node, node_at, is_true}
 use Rattle.level_lister.specs.inner.CostSets.{Follows, cost_among}
 
 -- the nodes, of which those that are skipped are never true

@@ -2,9 +2,9 @@
 use Rattle.std.specs.Prelude.{ℕ, List, [], ◌++◌, map, length}
 use Rattle.std.specs.List.{filter, filter_map, enumerate_from}
 use Rattle.text_rules.specs.Tokens.{words}
-use Rattle.graph_rules.specs.declared.NodeKind.{NodeKind}
-use Rattle.graph_rules.specs.Graphs.{Node}
-use Rattle.graph_rules.specs.GraphTexts.{Header, Parsed, read_unless, has_words, node_at_line, line_fault, edges, differs}
+use Rattle.state_rules.specs.declared.nodes.NodeKind.{NodeKind}
+use Rattle.state_rules.specs.Graphs.{Node, edges}
+use Rattle.nnf_text.specs.GraphTexts.{Header, Parsed, read_unless, has_words, node_at_line, line_fault, differs}
 use Rattle.nnf_text.specs.declared.header.Header.{Header as DeclaredHeader}
 
 -- a node over these kids

@@ -2,11 +2,10 @@
 use Rattle.std.specs.Prelude.{◌≡◌, ℕ, ◌<◌, Bool, not, List, [], ◌∷◌, ◌++◌, map, length, Option, Some, None, slice_index, nat_lt, if◌then◌else◌, MatchOption}
 use Rattle.std.specs.List.{find, list_any, Contains}
 use Rattle.std.specs.List.Sorted.{IsStrictlyIncreasing}
-use Rattle.graph_rules.specs.declared.NodeKind.{NodeKind}
-use Rattle.graph_rules.specs.declared.NodeKind.TheVariants.{Literal, And, Or}
-use Rattle.graph_rules.specs.Graphs.{Node, node_at, at_most_one, mention_by, apart_at}
-use Rattle.graph_rules.specs.GraphTexts.{shares}
-use Rattle.graph_rules.specs.inner.WordBits.{has_bit}
+use Rattle.state_rules.specs.declared.nodes.NodeKind.{NodeKind}
+use Rattle.state_rules.specs.declared.nodes.NodeKind.TheVariants.{Literal, And, Or}
+use Rattle.state_rules.specs.Graphs.{Node, node_at, at_most_one, mention_by, apart_at, shares}
+use Rattle.state_rules.specs.Bits.{has_bit}
 
 -- the variable of a literal was added
 abbrev pub AddsVariable : List ℕ → NodeKind → List ℕ → Type 0

@@ -1,7 +1,7 @@
 -- Nodes whose kinds stand in one list, and their kids in another.
 use Rattle.std.specs.Prelude.{ℕ, List, [], ◌∷◌}
-use Rattle.graph_rules.specs.declared.NodeKind.{NodeKind}
-use Rattle.graph_rules.specs.Graphs.{Node}
+use Rattle.state_rules.specs.declared.nodes.NodeKind.{NodeKind}
+use Rattle.state_rules.specs.Graphs.{Node}
 
 -- the nodes of these kinds, each over the kids that stand at its place
 abbrev pub nodes_of : List NodeKind → List (List ℕ) → List Node

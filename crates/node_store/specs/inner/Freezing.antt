@@ -1,9 +1,8 @@
 -- The nodes below a root, and their copies.
 use Rattle.std.specs.Prelude.{◌≡◌, ℕ, ◌+◌, ◌<◌, ◌≤◌, ◌⊎◌, Bool, true, List, length, map, take, slice_get, slice_index, Some, All, Contains}
-use Rattle.ranking.specs.Bits.{bit_in}
-use Rattle.ranking.specs.Assignments.{Assignment}
-use Rattle.graph_rules.specs.Graphs.{Node, is_true, mentions, AreNodes}
-use Rattle.graph_rules.specs.GraphTexts.{edges}
+use Rattle.state_rules.specs.Bits.{bit_in}
+use Rattle.state_rules.specs.Assignments.{Assignment}
+use Rattle.state_rules.specs.Graphs.{Node, is_true, mentions, AreNodes, edges}
 
 -- kids come before their parents
 abbrev pub AreBefore : List Node → Type 0

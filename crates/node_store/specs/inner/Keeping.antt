@@ -1,5 +1,5 @@
 -- How a store keeps a node.
-use Rattle.graph_rules.specs.Graphs.{Node}
+use Rattle.state_rules.specs.Graphs.{Node}
 use Rattle.node_store.specs.declared.store.Kept.{Kept}
 
 abbrev pub shown : Kept → Node

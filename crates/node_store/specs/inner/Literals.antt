@@ -1,6 +1,6 @@
 -- What literals are looked for.
 use Rattle.std.specs.Prelude.{◌≡◌, ℕ, List, slice_get, Some}
-use Rattle.graph_rules.specs.Graphs.{Node}
+use Rattle.state_rules.specs.Graphs.{Node}
 
 -- no node is this one
 abbrev pub IsNew : List Node → Node → Type 0

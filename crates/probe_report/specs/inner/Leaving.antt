@@ -1,9 +1,9 @@
 -- Wires that are left, 64 at a time.
 use Rattle.std.specs.Prelude.{◌≡◌, ℕ, ◌+◌, ◌-◌, ◌<◌, ◌≤◌, ◌⊎◌, true, false, List, length, slice_index}
-use Rattle.graph_rules.specs.declared.NodeKind.TheVariants.{Or}
-use Rattle.graph_rules.specs.Graphs.{Node, node_at, mentions}
-use Rattle.graph_rules.specs.inner.WordBits.{has_bit}
-use Rattle.minimiser.specs.inner.Marked.{is_kid}
+use Rattle.state_rules.specs.declared.nodes.NodeKind.TheVariants.{Or}
+use Rattle.state_rules.specs.Graphs.{Node, node_at, mentions}
+use Rattle.state_rules.specs.Bits.{has_bit}
+use Rattle.minimiser.specs.inner.Swept.{is_kid}
 use Rattle.probe_report.specs.inner.Outside.{IsLowered, mark_at}
 
 -- the marks of the nodes before one say which of the variables from the first on they mention

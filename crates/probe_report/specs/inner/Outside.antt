@@ -1,10 +1,10 @@
 -- What a derivation of the root costs outside of a node, and where it leaves the nodes that mention a variable.
 use Rattle.std.specs.Prelude.{◌≡◌, ℕ, ◌+◌, ◌-◌, ◌*◌, ◌<◌, ◌≤◌, ◌⊎◌, min, Bool, true, false, not, ◌&&◌, nat_le, nat_lt, List, length, sum_by, slice_index, if◌then◌else◌}
-use Rattle.graph_rules.specs.declared.NodeKind.{NodeKind}
-use Rattle.graph_rules.specs.declared.NodeKind.TheVariants.{Literal, And, Or}
-use Rattle.graph_rules.specs.Graphs.{Node, node_at, mentions}
-use Rattle.graph_rules.specs.inner.WordBits.{has_bit}
-use Rattle.minimiser.specs.inner.Marked.{is_kid}
+use Rattle.state_rules.specs.declared.nodes.NodeKind.{NodeKind}
+use Rattle.state_rules.specs.declared.nodes.NodeKind.TheVariants.{Literal, And, Or}
+use Rattle.state_rules.specs.Graphs.{Node, node_at, mentions}
+use Rattle.state_rules.specs.Bits.{has_bit}
+use Rattle.minimiser.specs.inner.Swept.{is_kid}
 
 -- ---- numbers that are lowered
 

@@ -1,7 +1,7 @@
 -- What is thought of the parts before those are asked for that are faulty in the first diagnosis.
 use Rattle.std.specs.Prelude.{◌≡◌, ℕ, zero, suc, ◌==◌, List, ◌⊎◌, Some, slice_get, if◌then◌else◌}
-use Rattle.graph_rules.specs.Graphs.{Graph}
-use Rattle.minimiser.specs.Suspects.{Suspect}
+use Rattle.state_rules.specs.Graphs.{Graph}
+use Rattle.minimiser.specs.LeastStates.{Suspect}
 use Rattle.probe_report.specs.declared.verdicts.Blame.{Blame}
 use Rattle.probe_report.specs.declared.verdicts.Blame.TheVariants.{Always, Sometimes, Never}
 use Rattle.probe_report.specs.Verdicts.{blame_of}

@@ -1,8 +1,8 @@
 -- The lines of the literals of held parts.
 use Rattle.std.specs.Prelude.{ℕ, Bool, List, [], Option, Some, None}
 use Rattle.text_rules.specs.Tokens.{spaced}
-use Rattle.graph_rules.specs.Graphs.{literal_node}
-use Rattle.graph_rules.specs.WrittenGraphs.{node_words}
+use Rattle.state_rules.specs.Graphs.{literal_node}
+use Rattle.nnf_text.specs.WrittenGraphs.{node_words}
 
 -- the line of a part of which something or nothing is known
 abbrev pub held_line : ℕ × Option Bool → List ℕ

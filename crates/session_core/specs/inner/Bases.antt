@@ -2,13 +2,13 @@
 use Rattle.std.specs.Prelude.{◌≡◌, ℕ, ◌+◌, ◌*◌, ◌<◌, ◌≤◌, Bool, Option, None, IfSome, is_some, List, length, All, true}
 use Rattle.std.specs.Option.{option_map}
 use Rattle.text_rules.specs.Names.{Name, names_rise}
-use Rattle.ranking.specs.Cases.{Case}
+use Rattle.state_rules.specs.Cases.{Case}
+use Rattle.state_rules.specs.Graphs.{Graph, IsGraph}
 use Rattle.device_model.specs.declared.limits.TheConstants.{PART_LIMIT, WIRE_LIMIT}
-use Rattle.graph_rules.specs.Graphs.{Graph, IsGraph}
 use Rattle.conditioner.specs.Models.{total_cost}
 use Rattle.minimiser.specs.declared.pass.TheConstants.{TOTAL_LIMIT}
-use Rattle.level_lister.specs.Listing.{Kept, IsFor, cost_words}
 use Rattle.part_sets.specs.PartSets.{Kept as Sets, AreFor}
+use Rattle.level_lister.specs.Listing.{Kept, IsFor, cost_words}
 use Rattle.session_rules.specs.GraphSystems.{Subject}
 use Rattle.session_rules.specs.CaseWords.{case_of_words, AreWords}
 use Rattle.session_core.specs.declared.limits.TheConstants.{SERVED_VARIABLES, SERVED_NODES}

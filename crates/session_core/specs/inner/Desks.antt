@@ -1,9 +1,9 @@
 -- What answers are worked out with.
 use Rattle.std.specs.Prelude.{◌≡◌, ℕ, ◌*◌, ◌<◌, Bool, not, List, [], map, length, All, Option, Some, None}
-use Rattle.ranking.specs.Bits.{bit_in}
-use Rattle.ranking.specs.Cases.{Case}
-use Rattle.ranking.specs.Levels.{levels, levels_rest}
-use Rattle.ranking.specs.Systems.{least_cost, all_diagnoses}
+use Rattle.state_rules.specs.Bits.{bit_in}
+use Rattle.state_rules.specs.Cases.{Case}
+use Rattle.state_rules.specs.Levels.{levels, levels_rest}
+use Rattle.state_rules.specs.Systems.{least_cost, all_diagnoses}
 use Rattle.probe_report.specs.Verdicts.{verdict}
 use Rattle.probe_report.specs.declared.verdicts.Blame.{Blame}
 use Rattle.fault_graph.specs.Distilled.{Kept, Serves}

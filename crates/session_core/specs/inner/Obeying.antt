@@ -1,10 +1,10 @@
 -- What a request does with the sessions.
-use Rattle.std.specs.Prelude.{◌≡◌, ℕ, ◌<◌, Bool, true, is_some, List, [], ◌∷◌, length, map, Option, Some, Result, IfOk}
+use Rattle.std.specs.Prelude.{◌≡◌, ℕ, ◌<◌, Bool, true, is_some, List, [], ◌∷◌, length, map, Option, Result, IfOk}
 use Rattle.text_rules.specs.Names.{Name}
-use Rattle.ranking.specs.Ranking.{rest}
-use Rattle.ranking.specs.Systems.{all_diagnoses}
-use Rattle.diagnosis_lister.specs.declared.listing.Step.{Step as Answer}
-use Rattle.diagnosis_lister.specs.Listing.{step_of}
+use Rattle.state_rules.specs.Ranking.{rest}
+use Rattle.state_rules.specs.Systems.{all_diagnoses}
+use Rattle.minimiser.specs.declared.listing.Step.{Step as Answer}
+use Rattle.minimiser.specs.Listing.{step_of}
 use Rattle.level_lister.specs.declared.levels.LevelStep.{LevelStep}
 use Rattle.level_lister.specs.Listing.{level_step}
 use Rattle.script_lang.specs.Script.{Request, Ask}

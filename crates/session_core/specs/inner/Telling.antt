@@ -1,8 +1,8 @@
 -- What is told of a case that stays as it is.
 use Rattle.std.specs.Prelude.{◌≡◌, ℕ, ◌<◌, Bool, Option, Result, Ok, Err, List, [], ◌∷◌, ◌++◌, map, length, codes, is_some, true, false}
 use Rattle.text_rules.specs.Names.{Name}
-use Rattle.ranking.specs.Cases.{Case}
-use Rattle.ranking.specs.Systems.{System}
+use Rattle.state_rules.specs.Cases.{Case}
+use Rattle.state_rules.specs.Systems.{System}
 use Rattle.probe_report.specs.Probed.{probed}
 use Rattle.probe_report.specs.declared.verdicts.Blame.{Blame as Verdict}
 use Rattle.session_rules.specs.declared.refusal.Refusal.{Refusal}

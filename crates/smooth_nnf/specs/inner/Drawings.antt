@@ -1,14 +1,13 @@
 -- What a text is drawn from, as it is kept.
 use Rattle.std.specs.Prelude.{◌≡◌, ℕ, ◌*◌, ◌+◌, ◌-◌, ◌^◌, ◌<◌, ◌≤◌, Bool, true, not, ◌&&◌, List, [], ◌∷◌, ◌++◌, map, length, slice_index, Option, Some, None, All}
 use Rattle.std.specs.List.{filter, range_with_len}
-use Rattle.graph_rules.specs.declared.NodeKind.TheVariants.{Or}
-use Rattle.graph_rules.specs.Graphs.{Node, Graph, node_at, mentions}
-use Rattle.graph_rules.specs.GraphTexts.{edges}
-use Rattle.graph_rules.specs.inner.WordBits.{has_bit}
+use Rattle.state_rules.specs.declared.nodes.NodeKind.TheVariants.{Or}
+use Rattle.state_rules.specs.Graphs.{Node, Graph, node_at, mentions, edges}
+use Rattle.state_rules.specs.Bits.{has_bit}
 use Rattle.minimiser.specs.Costs.{cost_at}
 use Rattle.minimiser.specs.Stored.{cost_in}
-use Rattle.smooth_nnf.specs.Layouts.{Layout, and_over, fillers, lines_to, own_lines}
 use Rattle.part_sets.specs.PartSets.{AreBelow, AreLacking}
+use Rattle.smooth_nnf.specs.Layouts.{Layout, and_over, fillers, lines_to, own_lines}
 
 -- a layout, with its costs as numbers, the sets of the parts below each node, and whether a kid lacks one
 pub record Drawing : Type 0 where

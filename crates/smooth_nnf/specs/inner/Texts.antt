@@ -2,9 +2,9 @@
 use Rattle.std.specs.Prelude.{ℕ, ◌+◌, ◌*◌, ◌&&◌, Option, List, [], ◌∷◌, map, length, nat_le, decimal, if◌then◌else◌}
 use Rattle.std.specs.List.{filter, flat_map, range_with_len}
 use Rattle.text_rules.specs.Tokens.{spaced}
-use Rattle.graph_rules.specs.Graphs.{Node}
-use Rattle.graph_rules.specs.WrittenGraphs.{node_words}
-use Rattle.graph_rules.specs.inner.WordBits.{has_bit}
+use Rattle.state_rules.specs.Graphs.{Node}
+use Rattle.state_rules.specs.Bits.{has_bit}
+use Rattle.nnf_text.specs.WrittenGraphs.{node_words}
 use Rattle.minimiser.specs.Costs.{cost_at}
 use Rattle.minimiser.specs.Stored.{cost_in}
 use Rattle.smooth_nnf.specs.Layouts.{filler, costs_just, kid_line}

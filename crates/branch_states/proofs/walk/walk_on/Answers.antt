@@ -1,10 +1,10 @@
 use Rattle.std.proofs.Common.{◌≡◌, ◌+◌, ◌++◌, not, false, Bool, List, length, take, drop, get_or, replicate, refl, ap, sym, ◌∙◌, subst, arith}
 use Rattle.std.specs.List.{filter}
+use Rattle.state_rules.proofs.Lists.{length-filter-le}
 use Rattle.branch_states.specs.declared.walk.Entry.{Entry}
 use Rattle.branch_states.specs.declared.walk.Event.{Event}
 use Rattle.branch_states.specs.Branches.{words_of, bits_of, some_passes}
 use Rattle.branch_states.specs.inner.Steps.{was_open, goes_on, still_left, plain, spread}
-use Rattle.ranking.proofs.Lists.{length-filter-le}
 use Rattle.branch_states.proofs.Walking.{Gone, gone-run, gone-on, gone-off, gone-dead, spread-at, spread-more, spread-all, run-room, event-room, rest-room, byte-few}
 use Rattle.branch_states.proofs.walk.walk_on.Goals as goal
 use Rattle.branch_states.proofs.walk.walk_on.Goals.{then-not-entry, else-not-entry+else-left, After-copy_bits, After-copy_bits-2}

@@ -1,6 +1,6 @@
 use Rattle.std.proofs.Common.{◌≡◌, ◌-◌, ◌^◌, ◌++◌, map, length}
 use Rattle.std.specs.List.{range_with_len}
-use Rattle.ranking.specs.Bits.{same_bit, has_odd_ones}
+use Rattle.state_rules.specs.Bits.{same_bit, has_odd_ones}
 use Rattle.clause_encoder.specs.Encoding.{parity_clauses, tidy, row_clause, row_bits}
 use Rattle.clause_encoder.proofs.gates.push_parity.Given as goal
 

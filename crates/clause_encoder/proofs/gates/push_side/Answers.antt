@@ -1,6 +1,6 @@
 use Rattle.std.specs.Prelude.{if◌then◌else◌}
 use Rattle.std.proofs.Common.{◌<◌, ◌^◌, ◌++◌, [], ◌∷◌, not, length, arith, ap, sym, ◌∙◌}
-use Rattle.device_model.specs.Devices.{is_set}
+use Rattle.state_rules.specs.Bits.{has_bit}
 use Rattle.clause_encoder.specs.Clauses.{literal}
 use Rattle.clause_encoder.specs.Encoding.{tidy, row_bits, blocking_literals}
 use Rattle.clause_encoder.proofs.Writing.{passed, row_below, kept-written, kept-skipped}
@@ -20,12 +20,12 @@ loop-row-preserved c =
     let first = passed c.literal-other.result (not c.args.ok) c.args.health c.requires.health c.literal-other.ensures in
     elim c.if-not-allows.branch [
       | then-not-allows+in_ok-begin_row+in_ok-end w ↦
-          kept-written c.loop-row.writer.clauses c.if-not-allows.writer.clauses _ (λ r. literal (not c.args.ok) c.args.health ∷ blocking_literals ports (row_bits r ports)) (λ r. not (is_set allowed r)) row (2 ^ length ports) lt
+          kept-written c.loop-row.writer.clauses c.if-not-allows.writer.clauses _ (λ r. literal (not c.args.ok) c.args.health ∷ blocking_literals ports (row_bits r ports)) (λ r. not (has_bit allowed r)) row (2 ^ length ports) lt
           (ap not (sym c.allows.ensures ∙ w.if-not-allows.true))
           (ap (λ v. v.clauses) w.writer-is ∙ w.in_ok-end.ensures
           ∙ (λ i. w.in_ok-begin_row.ensures.clauses i ++ tidy ((w.in_ok-begin_row.ensures.raw ∙ (λ j. first j ∷ blocking_literals ports (row_bits row ports))) i ∷ [])))
           c.loop-row.invariant
       | else-not-allows w ↦
-          kept-skipped c.loop-row.writer.clauses c.if-not-allows.writer.clauses _ (λ r. literal (not c.args.ok) c.args.health ∷ blocking_literals ports (row_bits r ports)) (λ r. not (is_set allowed r)) row (2 ^ length ports) lt
+          kept-skipped c.loop-row.writer.clauses c.if-not-allows.writer.clauses _ (λ r. literal (not c.args.ok) c.args.health ∷ blocking_literals ports (row_bits r ports)) (λ r. not (has_bit allowed r)) row (2 ^ length ports) lt
           (ap not (sym c.allows.ensures ∙ w.if-not-allows.false)) (ap (λ v. v.clauses) w.writer-is) c.loop-row.invariant
     ]

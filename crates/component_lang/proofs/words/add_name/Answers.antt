@@ -1,8 +1,8 @@
 use Rattle.std.proofs.Common.{◌≡◌, true, not, map, Bor, ap, sym, ◌∙◌, Ok}
-use Rattle.component_lang.specs.Designs.{is_plain_name}
 use Rattle.text_rules.specs.Names.{Name, same_name, is_among}
+use Rattle.state_rules.proofs.Lists.{list_any-map}
+use Rattle.component_lang.specs.Designs.{is_plain_name}
 use Rattle.component_lang.specs.inner.NameSets.{names_in}
-use Rattle.ranking.proofs.Lists.{list_any-map}
 use Rattle.component_lang.proofs.NameLists.{bytes, keys-insert, with_name-plain}
 use Rattle.component_lang.proofs.words.add_name.Goals as goal
 

@@ -1,6 +1,6 @@
 use Rattle.std.proofs.Common.{◌≡◌, ◌∙◌, ap}
 use Rattle.std.specs.Prelude.{decimal}
-use Rattle.graph_rules.specs.declared.TheConstants.{BITS_LIMIT}
+use Rattle.nnf_text.specs.declared.checking.TheConstants.{BITS_LIMIT}
 use Rattle.device_files.specs.declared.graph_fault.GraphFault.TheVariants.{Bits}
 use Rattle.device_files.specs.GraphFaults.{graph_fault_row}
 use Rattle.device_files.proofs.refusal.put_bits.Goals as goal

@@ -2,14 +2,14 @@ use Rattle.std.proofs.Common.{◌≡◌, ℕ, [], Ok, IfSome, length, ap, refl, 
 use Rattle.std.specs.Result.{result_and}
 use Rattle.std.proofs.lemmas.Result.{err_from_is_err_and}
 use Rattle.text_rules.specs.Expected.{IsExpectedFault}
-use Rattle.ranking.specs.Ranking.{plain_costs}
+use Rattle.state_rules.specs.Ranking.{plain_costs}
 use Rattle.session_core.specs.Services.{CanList, CanDraw}
-use Rattle.diag_cli.specs.Besides.{in_few_bits}
 use Rattle.device_files.specs.Orders.{list_by}
 use Rattle.device_files.specs.Weighing.{within}
 use Rattle.device_files.specs.Refusals.{told_by}
-use Rattle.diag_cli.proofs.FewBits.{fault_through}
 use Rattle.device_files.proofs.Ordering.{by_any, ordered_vars, ordered_alike}
+use Rattle.diag_cli.specs.Besides.{in_few_bits}
+use Rattle.diag_cli.proofs.FewBits.{fault_through}
 use Rattle.diag_cli.proofs.ServedFrames.{not_unrolled_told, unrolled_gives, many_parts, many_costs, frame_service}
 use Rattle.diag_cli.proofs.framing.service_within.Goals as goal
 

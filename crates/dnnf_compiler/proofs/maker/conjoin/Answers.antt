@@ -1,5 +1,5 @@
 use Rattle.std.proofs.Common.{◌<◌, [], ◌∷◌, length, arith}
-use Rattle.graph_rules.specs.declared.NodeKind.TheVariants.{And}
+use Rattle.state_rules.specs.declared.nodes.NodeKind.TheVariants.{And}
 use Rattle.dnnf_compiler.specs.inner.Joining.{IsPlain}
 use Rattle.dnnf_compiler.proofs.Growing.{made_both}
 use Rattle.dnnf_compiler.proofs.Making.{kept_in}

@@ -1,6 +1,6 @@
 use Rattle.std.proofs.Common.{◌≡◌, ◌+◌, ◌-◌, ◌<◌, ℕ, List, [], ◌∷◌, ◌++◌, length, get_or, ap, sym, ◌∙◌, subst, arith}
 use Rattle.std.proofs.lemmas.Option.{slice_get-get_or}
-use Rattle.graph_rules.specs.Graphs.{Node, true_node, node_at}
+use Rattle.state_rules.specs.Graphs.{Node, true_node, node_at}
 use Rattle.fault_graph.proofs.Roots.{IsWhole, free-root}
 use Rattle.fault_graph.proofs.Building.{IsBuilt, built-past, built-added, root-added}
 use Rattle.fault_graph.proofs.distilling.distil.Goals as goal

@@ -1,5 +1,5 @@
 use Rattle.std.proofs.Common.{◌≡◌, drop}
-use Rattle.ranking.specs.Values.{values_after, values}
+use Rattle.state_rules.specs.Values.{values_after, values}
 use Rattle.flattener.specs.inner.Counting.{counts_of_block}
 use Rattle.flattener.proofs.counting.counts_of.Given as goal
 

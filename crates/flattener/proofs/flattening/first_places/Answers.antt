@@ -1,6 +1,6 @@
 use Rattle.std.proofs.Common.{arith}
 use Rattle.std.proofs.lemmas.Grind.{common_steps}
-use Rattle.ranking.proofs.Lists.{range_more}
+use Rattle.state_rules.proofs.Lists.{range_more}
 use Rattle.flattener.proofs.flattening.first_places.Goals as goal
 
 pub loop-place-preserved : goal.loop-place-preserved

@@ -1,7 +1,7 @@
 use Rattle.std.proofs.Common.{◌≡◌, ◌+◌, ◌++◌, [], ◌∷◌, map, length, get_or, ap, ◌∙◌, subst, arith}
 use Rattle.std.specs.Prelude.{IfOk}
 use Rattle.std.specs.List.{range_with_len}
-use Rattle.ranking.specs.Assignments.{Assignment}
+use Rattle.state_rules.specs.Assignments.{Assignment}
 use Rattle.clause_encoder.specs.Clauses.{ClauseList, all_hold}
 use Rattle.clause_encoder.specs.Replacing.{variable_for}
 use Rattle.frame_unroller.specs.Unrolling.{shared_variables}

@@ -1,5 +1,5 @@
 use Rattle.std.proofs.Common.{◌≡◌, ℕ, ◌-◌, ◌*◌, ◌<◌, Bool, true, not, ◌&&◌, length}
-use Rattle.ranking.specs.Assignments.{Assignment}
+use Rattle.state_rules.specs.Assignments.{Assignment}
 use Rattle.part_sets.specs.Numbers.{has_number}
 use Rattle.part_sets.specs.PartSets.{ArePartsOf}
 use Rattle.level_lister.specs.inner.CostSets.{IsCostSet}

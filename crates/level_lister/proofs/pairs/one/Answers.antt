@@ -1,4 +1,4 @@
-use Rattle.graph_rules.proofs.WordBits.{one_bit}
+use Rattle.state_rules.proofs.WordBits.{one_bit}
 use Rattle.level_lister.proofs.pairs.one.Goals as goal
 
 pub returns-then-number-lt-BITS : goal.returns-then-number-lt-BITS

@@ -1,5 +1,5 @@
 use Rattle.std.proofs.Common.{◌≡◌, ◌≤◌, ◌+◌, drop}
-use Rattle.ranking.specs.Ranking.{cost}
+use Rattle.state_rules.specs.Ranking.{cost}
 use Rattle.conditioner.specs.Models.{total_cost}
 use Rattle.conditioner.specs.Words.{bits_of}
 use Rattle.level_lister.proofs.states.state_cost.Given as goal

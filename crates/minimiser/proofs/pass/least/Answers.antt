@@ -1,5 +1,5 @@
 use Rattle.std.proofs.Common.{◌-◌, ap, arith}
-use Rattle.minimiser.proofs.Passes.{root_small, root_none, root_some}
+use Rattle.minimiser.proofs.OnePass.{root_small, root_none, root_some}
 use Rattle.minimiser.proofs.pass.least.Goals as goal
 
 pub overflow_add-result : goal.overflow_add-result

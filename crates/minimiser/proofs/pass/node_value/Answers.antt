@@ -1,9 +1,9 @@
 use Rattle.std.proofs.Common.{◌≡◌, ◌<◌, ◌∷◌, [], true, map, length, ap, sym, ◌∙◌, subst, arith}
 use Rattle.std.specs.Prelude.{IfSome, slice_index}
-use Rattle.graph_rules.specs.Graphs.{Node, node_fits}
-use Rattle.graph_rules.specs.declared.NodeKind.TheVariants.{And}
-use Rattle.graph_rules.proofs.NodeValues.{below-each}
-use Rattle.graph_rules.proofs.NodesFit.{fits}
+use Rattle.state_rules.specs.Graphs.{Node, node_fits}
+use Rattle.state_rules.specs.declared.nodes.NodeKind.TheVariants.{And}
+use Rattle.state_rules.proofs.NodeValues.{below-each}
+use Rattle.state_rules.proofs.NodesFit.{fits}
 use Rattle.minimiser.specs.Costs.{cost_at, cost_by, node_cost, known_at, part_cost, sum_costs}
 use Rattle.minimiser.specs.Stored.{cost_in}
 use Rattle.minimiser.proofs.Sums.{two_kids}

@@ -1,7 +1,7 @@
 use Rattle.std.proofs.Common.{◌<◌, length, sym, ◌∙◌, arith}
 use Rattle.std.proofs.lemmas.List.{length-take-le}
 use Rattle.std.proofs.lemmas.Option.{slice_get_within}
-use Rattle.minimiser.proofs.Passes.{walked, fits_here, and_fits, goes_on, written, all_valued, none_yet}
+use Rattle.minimiser.proofs.OnePass.{walked, fits_here, and_fits, goes_on, written, all_valued, none_yet}
 use Rattle.minimiser.proofs.pass.put_least_costs.Goals as goal
 
 pub loop-node-init : goal.loop-node-init

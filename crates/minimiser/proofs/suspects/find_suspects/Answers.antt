@@ -1,5 +1,5 @@
 use Rattle.std.proofs.Common.{arith}
-use Rattle.minimiser.proofs.Passes.{length-least_costs}
+use Rattle.minimiser.proofs.OnePass.{length-least_costs}
 use Rattle.minimiser.proofs.Sweeping.{are-values, root-fits, flagged}
 use Rattle.minimiser.proofs.suspects.find_suspects.Goals as goal
 

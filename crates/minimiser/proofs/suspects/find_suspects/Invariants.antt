@@ -1,4 +1,4 @@
-use Rattle.minimiser.specs.inner.Marked.{suspect_at}
+use Rattle.minimiser.specs.inner.Swept.{suspect_at}
 use Rattle.minimiser.proofs.Sweeping.{AreFlagged}
 use Rattle.minimiser.proofs.suspects.find_suspects.Given as goal
 

@@ -1,7 +1,7 @@
 use Rattle.std.proofs.Common.{◌+◌, sym, ◌∙◌, subst, arith}
-use Rattle.minimiser.specs.Suspects.{OkBelow}
-use Rattle.minimiser.proofs.Passes.{length-least_costs}
-use Rattle.minimiser.proofs.Sweeping.{IsFirst, are-values, root-fits, ok-before, first-suspect, first-same, first-less}
+use Rattle.minimiser.specs.LeastStates.{OkBelow}
+use Rattle.minimiser.proofs.OnePass.{length-least_costs}
+use Rattle.minimiser.proofs.Sweeping.{IsLeastSuspect, are-values, root-fits, ok-before, first-suspect, first-same, first-less}
 use Rattle.minimiser.proofs.suspects.first_suspect.Goals as goal
 use Rattle.minimiser.proofs.suspects.first_suspect.Goals.{in-Some, in_default}
 
@@ -20,7 +20,7 @@ suspect_at-requires-clause-room c = omega (arith, c.sweep.auto.values, length-le
 pub loop-at-preserved : goal.loop-at-preserved
 loop-at-preserved c = elim c.match-suspect_at.branch [
   | in-Some w ↦ first-less _ _ c.loop-at.at c.loop-at.first w.in-Some.part c.match-suspect_at.first c.loop-at.invariant (sym w.in-Some.ensures.suspect) (w.first-is ∙ w.min-first.ensures)
-  | in_default w ↦ subst (IsFirst _ _ (c.loop-at.at + 1)) (sym w.first-is) (first-same _ _ c.loop-at.at c.loop-at.first c.loop-at.invariant (sym c.suspect_at.ensures.suspect ∙ w.in_default.is))
+  | in_default w ↦ subst (IsLeastSuspect _ _ (c.loop-at.at + 1)) (sym w.first-is) (first-same _ _ c.loop-at.at c.loop-at.first c.loop-at.invariant (sym c.suspect_at.ensures.suspect ∙ w.in_default.is))
 ]
 
 pub returns-then-first-parts : goal.returns-then-first-parts

@@ -1,7 +1,7 @@
-use Rattle.minimiser.specs.inner.Marked.{suspect_at}
-use Rattle.minimiser.proofs.Sweeping.{IsFirst}
+use Rattle.minimiser.specs.inner.Swept.{suspect_at}
+use Rattle.minimiser.proofs.Sweeping.{IsLeastSuspect}
 use Rattle.minimiser.proofs.suspects.first_suspect.Given as goal
 
 -- the nodes so far
 abbrev pub invariant-loop-at : goal.invariant-loop-at
-invariant-loop-at l = IsFirst (suspect_at l.graph.nodes l.words l.parts l.values) l.parts l.at l.first
+invariant-loop-at l = IsLeastSuspect (suspect_at l.graph.nodes l.words l.parts l.values) l.parts l.at l.first

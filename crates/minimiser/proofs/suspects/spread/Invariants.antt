@@ -1,5 +1,5 @@
 use Rattle.std.proofs.Common.{◌≡◌, ℕ, ◌<◌, take, length, get_or}
-use Rattle.minimiser.specs.inner.Marked.{spread_value}
+use Rattle.minimiser.specs.inner.Swept.{spread_value}
 use Rattle.minimiser.proofs.suspects.spread.Given as goal
 
 -- the kids so far

@@ -1,5 +1,5 @@
 use Rattle.std.proofs.Common.{refl}
-use Rattle.minimiser.proofs.Passes.{the_node, literal_at}
+use Rattle.minimiser.proofs.OnePass.{the_node, literal_at}
 use Rattle.minimiser.proofs.suspects.suspect_at.Goals as goal
 
 pub suspect_of-requires-clause-var : goal.suspect_of-requires-clause-var

@@ -1,4 +1,4 @@
-use Rattle.minimiser.specs.inner.Marked.{IsSwept}
+use Rattle.minimiser.specs.inner.Swept.{IsSwept}
 use Rattle.minimiser.proofs.suspects.sweep.Given as goal
 
 -- the nodes from one on were met

@@ -1,6 +1,6 @@
 use Rattle.std.proofs.Common.{◌≡◌, ◌*◌, ◌≤◌, Ok, length, subst, sym, ap, ◌∙◌, arith}
 use Rattle.std.specs.List.{range_with_len}
-use Rattle.graph_rules.specs.declared.TheConstants.{BITS_LIMIT}
+use Rattle.nnf_text.specs.declared.checking.TheConstants.{BITS_LIMIT}
 use Rattle.nnf_text.specs.inner.Sharing.{FirstOf}
 use Rattle.nnf_text.proofs.FirstShared.{Decomposable-none, checked-none, checked-shared}
 use Rattle.nnf_text.proofs.checking.graph_of.Goals as goal

@@ -1,7 +1,7 @@
 use Rattle.std.proofs.Common.{ap, sym, ◌∙◌}
 use Rattle.text_rules.specs.Tokens.{spaced}
-use Rattle.graph_rules.specs.WrittenGraphs.{kind_words}
 use Rattle.diag_edge.proofs.Added.{adds_same}
+use Rattle.nnf_text.specs.WrittenGraphs.{kind_words}
 use Rattle.nnf_text.proofs.LineTexts.{and-spaced, or-spaced}
 use Rattle.nnf_text.proofs.lines.add_node.Goals as goal
 

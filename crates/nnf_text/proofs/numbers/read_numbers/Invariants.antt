@@ -1,7 +1,7 @@
 use Rattle.std.proofs.Common.{◌≡◌, ◌++◌}
 use Rattle.std.specs.Option.{option_map}
 use Rattle.text_rules.specs.Tokens.{tokens_left}
-use Rattle.graph_rules.specs.GraphTexts.{numbers}
+use Rattle.nnf_text.specs.GraphTexts.{numbers}
 use Rattle.nnf_text.proofs.numbers.read_numbers.Given as goal
 
 -- the numbers of all words are those so far, and then those of the words that are left

@@ -1,7 +1,7 @@
 use Rattle.std.proofs.Common.{◌≡◌, ◌+◌, ◌≤◌, length}
 use Rattle.text_rules.specs.declared.text_lines.TheConstants.{TEXT_LIMIT}
 use Rattle.text_rules.specs.TextLines.{all_lines}
-use Rattle.graph_rules.specs.GraphTexts.{parsed_lines}
+use Rattle.nnf_text.specs.GraphTexts.{parsed_lines}
 use Rattle.nnf_text.specs.inner.Reading.{filled_from}
 use Rattle.nnf_text.proofs.reading.first_header.Given as goal
 

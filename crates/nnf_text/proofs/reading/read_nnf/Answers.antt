@@ -3,7 +3,7 @@ use Rattle.std.proofs.lemmas.Result.{err_from_is_err_and}
 use Rattle.text_rules.specs.Expected.{IsExpectedFault}
 use Rattle.text_rules.specs.TextLines.{all_lines}
 use Rattle.text_rules.proofs.LineLemmas.{length-all_lines}
-use Rattle.graph_rules.specs.GraphTexts.{parsed, parsed_below, parsed_lines, checked_if}
+use Rattle.nnf_text.specs.GraphTexts.{parsed, parsed_below, parsed_lines, checked_if}
 use Rattle.nnf_text.specs.Refusals.{told}
 use Rattle.nnf_text.specs.inner.Reading.{said_by, filled_from}
 use Rattle.nnf_text.proofs.LineSteps.{read-line, read-counts, parsed-is}

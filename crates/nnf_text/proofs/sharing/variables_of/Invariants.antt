@@ -1,7 +1,7 @@
 use Rattle.std.proofs.Common.{◌≡◌, ℕ, ◌<◌, Bool, length}
 use Rattle.std.specs.List.{Contains}
-use Rattle.graph_rules.specs.declared.NodeKind.TheVariants.{Literal}
-use Rattle.graph_rules.specs.Graphs.{node_at}
+use Rattle.state_rules.specs.declared.nodes.NodeKind.TheVariants.{Literal}
+use Rattle.state_rules.specs.Graphs.{node_at}
 use Rattle.nnf_text.proofs.sharing.variables_of.Given as goal
 
 -- those of the literals before this node are there

@@ -1,8 +1,8 @@
 use Rattle.std.proofs.Common.{rules, ◌<◌, length, arith}
 use Rattle.text_rules.specs.Tokens.{spaced}
-use Rattle.graph_rules.specs.WrittenGraphs.{kind_words, node_words}
-use Rattle.graph_rules.specs.Graphs.{true_node}
+use Rattle.state_rules.specs.Graphs.{true_node}
 use Rattle.diag_edge.proofs.Added.{each_more, each_part}
+use Rattle.nnf_text.specs.WrittenGraphs.{kind_words, node_words}
 use Rattle.nnf_text.proofs.writing.add_nodes.Goals as goal
 
 pub returns-in_err-add_node-clause-bytes : goal.returns-in_err-add_node-clause-bytes

@@ -1,8 +1,8 @@
 use Rattle.std.proofs.Common.{◌≡◌, take, length}
 use Rattle.std.specs.List.{flat_map}
 use Rattle.text_rules.specs.Tokens.{spaced}
-use Rattle.graph_rules.specs.WrittenGraphs.{node_words}
 use Rattle.diag_edge.specs.Adding.{Grown}
+use Rattle.nnf_text.specs.WrittenGraphs.{node_words}
 use Rattle.nnf_text.proofs.writing.add_nodes.Given as goal
 
 -- the lines of the nodes before this one were added

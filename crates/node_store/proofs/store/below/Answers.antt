@@ -1,6 +1,6 @@
 use Rattle.std.proofs.Common.{◌≡◌, ◌⊎◌, ℕ, ◌<◌, ◌-◌, ◌++◌, Bool, List, true, All, Some, length, get_or, take, drop, map, ap, sym, ◌∙◌, subst, arith}
 use Rattle.std.specs.Prelude.{slice_get}
-use Rattle.ranking.specs.Bits.{bit_in}
+use Rattle.state_rules.specs.Bits.{bit_in}
 use Rattle.node_store.specs.inner.Keeping.{shown}
 use Rattle.node_store.specs.inner.Freezing.{IsClosedFrom, IsKidOfMarked}
 use Rattle.node_store.proofs.Marking.{shown_get, length-shown, written_bits, marks_more, only_more}

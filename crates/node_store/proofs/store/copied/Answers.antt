@@ -1,6 +1,6 @@
 use Rattle.std.proofs.Common.{◌≡◌, ◌<◌, ◌+◌, ◌++◌, ◌∷◌, [], All, Some, length, map, ap, sym, ◌∙◌, subst, arith}
 use Rattle.std.specs.Prelude.{slice_get, slice_index}
-use Rattle.graph_rules.specs.Graphs.{Node}
+use Rattle.state_rules.specs.Graphs.{Node}
 use Rattle.node_store.specs.inner.Keeping.{shown}
 use Rattle.node_store.specs.inner.Freezing.{IsCopied}
 use Rattle.node_store.proofs.Copying.{before, left_out, taken}

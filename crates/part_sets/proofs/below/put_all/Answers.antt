@@ -1,9 +1,9 @@
 use Rattle.std.proofs.Common.{◌≡◌, ◌*◌, ◌++◌, ◌∙◌, [], true, length, sym, ap, subst, arith, length-append}
-use Rattle.graph_rules.specs.Graphs.{mentions}
 use Rattle.std.proofs.lemmas.List.{append-nil}
+use Rattle.state_rules.specs.Graphs.{mentions}
+use Rattle.scratch_pool.proofs.Counted.{block-below}
 use Rattle.part_sets.specs.Numbers.{part_words, set_at}
 use Rattle.part_sets.specs.PartSets.{ArePartsOf}
-use Rattle.scratch_pool.proofs.Counted.{block-below}
 use Rattle.part_sets.proofs.Stacks.{set_at-front, set_at-here}
 use Rattle.part_sets.proofs.below.put_all.Goals as goal
 

@@ -1,7 +1,6 @@
-use Rattle.std.proofs.Common.{◌*◌, ◌∙◌, length, refl, sym, ap, arith}
+use Rattle.std.proofs.Common.{◌*◌, ◌∙◌, length, refl, sym, ap, arith, map}
+use Rattle.state_rules.specs.Graphs.{mention_by, mentions}
 use Rattle.part_sets.proofs.Kids.{literal-fits}
-use Rattle.graph_rules.specs.Graphs.{mention_by, mentions}
-use Rattle.std.proofs.Common.{map}
 use Rattle.part_sets.proofs.Joining.{kids_room, joined_parts, variable_parts, one_has}
 use Rattle.part_sets.proofs.below.put_node.Goals as goal
 

@@ -1,8 +1,8 @@
 use Rattle.std.proofs.Common.{◌≡◌, ◌+◌, ◌<◌, ◌≤◌, ℕ, false, not, ◌&&◌, List, length, get_or, refl, ap, sym, ◌∙◌, subst, arith, ⊎_elim}
 use Rattle.std.proofs.lemmas.Bool.{cases_lt, false≢true}
-use Rattle.graph_rules.specs.Graphs.{mentions}
-use Rattle.part_sets.specs.Numbers.{has_number, part_words, set_at}
+use Rattle.state_rules.specs.Graphs.{mentions}
 use Rattle.scratch_pool.proofs.Counted.{block-below}
+use Rattle.part_sets.specs.Numbers.{has_number, part_words, set_at}
 use Rattle.part_sets.proofs.Kids.{kid-below, kid-mentions}
 use Rattle.part_sets.specs.PartSets.{SameBelow}
 use Rattle.part_sets.proofs.Flags.{same_parts, none_lacking}

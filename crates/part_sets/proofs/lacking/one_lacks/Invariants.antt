@@ -1,5 +1,5 @@
 use Rattle.std.proofs.Common.{◌≡◌, ℕ, ◌<◌, ◌≤◌, get_or}
-use Rattle.graph_rules.specs.Graphs.{mentions}
+use Rattle.state_rules.specs.Graphs.{mentions}
 use Rattle.part_sets.proofs.lacking.one_lacks.Given as goal
 
 -- the kids before the place lack no part

@@ -1,9 +1,9 @@
 use Rattle.std.proofs.Common.{◌≡◌, ℕ, ◌+◌, ◌-◌, ◌<◌, true, false, not, ◌&&◌, length, get_or, set, refl, ap, sym, ◌∙◌, subst, arith}
 use Rattle.std.proofs.Math.ListN.{length-set}
 use Rattle.std.proofs.lemmas.List.{get_or-set_same, get_or-set_other}
-use Rattle.graph_rules.specs.Graphs.{mentions}
-use Rattle.part_sets.specs.Numbers.{has_number, part_words, set_at}
+use Rattle.state_rules.specs.Graphs.{mentions}
 use Rattle.scratch_pool.proofs.Counted.{block-below}
+use Rattle.part_sets.specs.Numbers.{has_number, part_words, set_at}
 use Rattle.part_sets.proofs.Flags.{same_parts, none_lacking, flags_more}
 use Rattle.part_sets.proofs.lacking.put_lacking.Goals as goal
 

@@ -1,5 +1,5 @@
 use Rattle.std.proofs.Common.{◌-◌, set, ap, sym, ◌∙◌, arith}
-use Rattle.ranking.specs.Ranking.{least}
+use Rattle.state_rules.specs.Ranking.{least}
 use Rattle.conditioner.specs.Words.{word_of}
 use Rattle.conditioner.specs.Models.{least_under}
 use Rattle.probe_report.proofs.With.{with-true, with-false, with-open, leaf-open, loose-again}

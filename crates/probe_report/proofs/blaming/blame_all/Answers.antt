@@ -3,10 +3,10 @@ use Rattle.std.specs.Prelude.{slice_get}
 use Rattle.std.proofs.lemmas.List.{get_or-replicate, length-replicate}
 use Rattle.std.proofs.lemmas.Option.{slice_get-get_or}
 use Rattle.conditioner.specs.Models.{diagnoses_under}
-use Rattle.minimiser.specs.Suspects.{Passes}
-use Rattle.diagnosis_lister.specs.Listing.{fault_count}
 use Rattle.conditioner.specs.Words.{bits_of}
-use Rattle.diagnosis_lister.proofs.Faults.{faults-few}
+use Rattle.minimiser.specs.LeastStates.{ModelWithin}
+use Rattle.minimiser.specs.Listing.{fault_count}
+use Rattle.minimiser.proofs.Faults.{faults-few}
 use Rattle.probe_report.specs.declared.verdicts.Blame.TheVariants.{Inconsistent}
 use Rattle.probe_report.specs.inner.Presumed.{IsPresumed}
 use Rattle.probe_report.proofs.Blames.{first-passes-all, first-same, presumed-right, is-inconsistent}
@@ -26,8 +26,8 @@ confirm-requires-clause-diagnosis g c =
     let costs = c.args.costs.now in
     let most = c.in-Some.fewest in
     let passes = first-passes-all graph c.args.words.now costs most c.requires.parts (sym c.in-Some.ensures.least) (bits_of c.find_suspects.new.state) in
-    subst (λ (ws : List ℕ). Passes graph ws costs most (bits_of c.first.new.state)) (sym c.first.ensures.words)
-    (subst (λ (h : List Bool). Passes graph c.args.words.now costs most h) (sym c.first.ensures.first) passes)
+    subst (λ (ws : List ℕ). ModelWithin graph ws costs most (bits_of c.first.new.state)) (sym c.first.ensures.words)
+    (subst (λ (h : List Bool). ModelWithin graph c.args.words.now costs most h) (sym c.first.ensures.first) passes)
 
 pub confirm-requires-clause-presumed : goal.confirm-requires-clause-presumed
 confirm-requires-clause-presumed g c = λ part lt.

@@ -2,11 +2,11 @@ use Rattle.std.proofs.Common.{◌≡◌, ℕ, ◌+◌, ◌-◌, ◌<◌, List, t
 use Rattle.std.specs.Prelude.{slice_get}
 use Rattle.std.proofs.lemmas.List.Sums.{count_by_more_yes, sum_by_more, sum_by-take-le}
 use borrow.Author.Count.{below_more}
-use Rattle.ranking.specs.Bits.{bit_in}
+use Rattle.state_rules.specs.Bits.{bit_in}
 use Rattle.conditioner.specs.Words.{bits_of}
 use Rattle.conditioner.specs.Models.{least_with}
 use Rattle.conditioner.proofs.StateBits.{is_ok, is_faulty, faulty_word, ok_word}
-use Rattle.diagnosis_lister.proofs.Marking.{length-bits}
+use Rattle.minimiser.proofs.OpenMarks.{length-bits}
 use Rattle.probe_report.specs.Verdicts.{blame_of}
 use Rattle.probe_report.proofs.With.{bit-in}
 use Rattle.probe_report.proofs.Blames.{presumed-stays}

@@ -1,7 +1,7 @@
 use Rattle.std.proofs.Common.{◌≡◌, ℕ, ◌<◌, ◌≤◌, ◌+◌, take, Some}
 use Rattle.std.specs.Prelude.{slice_get}
-use Rattle.diagnosis_lister.specs.Listing.{fault_count}
 use Rattle.conditioner.specs.Words.{bits_of}
+use Rattle.minimiser.specs.Listing.{fault_count}
 use Rattle.probe_report.specs.Verdicts.{blame_of}
 use Rattle.probe_report.proofs.blaming.confirm.Given as goal
 

@@ -1,7 +1,7 @@
 use Rattle.std.proofs.Common.{◌∙◌, ap}
 use Rattle.std.specs.Prelude.{bit_or}
-use Rattle.graph_rules.specs.inner.WordBits.{has_bit}
-use Rattle.graph_rules.proofs.WordBits.{joined_more}
+use Rattle.state_rules.proofs.WordBits.{joined_more}
+use Rattle.state_rules.specs.Bits.{has_bit}
 use Rattle.probe_report.specs.inner.Outside.{mark_at}
 use Rattle.probe_report.proofs.marking.joined.Goals as goal
 

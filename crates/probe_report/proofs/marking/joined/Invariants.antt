@@ -1,6 +1,6 @@
 use Rattle.std.proofs.Common.{◌≡◌, ℕ, map, take}
 use Rattle.std.specs.List.{list_any}
-use Rattle.graph_rules.specs.inner.WordBits.{has_bit}
+use Rattle.state_rules.specs.Bits.{has_bit}
 use Rattle.probe_report.specs.inner.Outside.{mark_at}
 use Rattle.probe_report.proofs.marking.joined.Given as goal
 

@@ -1,5 +1,5 @@
 use Rattle.std.proofs.Common.{◌≡◌, ℕ, ◌<◌, ◌-◌, take, length, get_or}
-use Rattle.minimiser.specs.inner.Marked.{is_kid}
+use Rattle.minimiser.specs.inner.Swept.{is_kid}
 use Rattle.probe_report.specs.inner.Outside.{lowered}
 use Rattle.probe_report.proofs.outside.lower_beside.Given as goal
 

@@ -1,5 +1,5 @@
 use Rattle.std.proofs.Common.{arith}
-use Rattle.minimiser.proofs.Passes.{the_node, few_kids}
+use Rattle.minimiser.proofs.OnePass.{the_node, few_kids}
 use Rattle.minimiser.proofs.Sweeping.{kids_before}
 use Rattle.probe_report.proofs.Outers.{no-kids}
 use Rattle.probe_report.proofs.outside.lower_kids.Goals as goal

@@ -1,6 +1,6 @@
 use Rattle.std.proofs.Common.{◌+◌, ◌<◌, ℕ, length, get_or, refl, sym, ◌∙◌, subst, ap, arith}
+use Rattle.minimiser.proofs.OnePass.{the_node, literal_at}
 use Rattle.probe_report.specs.inner.Outside.{IsLowered, AtLiteral}
-use Rattle.minimiser.proofs.Passes.{the_node, literal_at}
 use Rattle.probe_report.proofs.Marks.{literal-more, literal-same, literal-all, beq-true, beq-false, same_sign}
 use Rattle.probe_report.proofs.probing.lower_with.Goals as goal
 use Rattle.probe_report.proofs.probing.lower_with.Goals.{in-Literal+then-positive-bit, in-Literal+else-positive-bit, in_default}

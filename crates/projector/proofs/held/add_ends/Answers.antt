@@ -1,10 +1,10 @@
 use Rattle.std.specs.List.{flat_map, enumerate_from}
 use Rattle.text_rules.specs.Tokens.{spaced}
-use Rattle.graph_rules.specs.WrittenGraphs.{node_words}
+use Rattle.diag_edge.proofs.Added.{adds_first, adds_second, adds_same}
+use Rattle.nnf_text.specs.WrittenGraphs.{node_words}
 use Rattle.conditioner.specs.Words.{known}
 use Rattle.projector.specs.Projecting.{root_with}
 use Rattle.projector.specs.inner.Lines.{held_line}
-use Rattle.diag_edge.proofs.Added.{adds_first, adds_second, adds_same}
 use Rattle.projector.proofs.Lines.{root-text}
 use Rattle.projector.proofs.held.add_ends.Goals as goal
 

@@ -1,13 +1,13 @@
 use Rattle.std.proofs.Common.{rules, ◌<◌, length, ◌∙◌, arith}
 use Rattle.text_rules.specs.Tokens.{spaced}
-use Rattle.graph_rules.specs.Graphs.{true_node, node_at}
-use Rattle.graph_rules.specs.GraphTexts.{variable_fits}
-use Rattle.graph_rules.specs.WrittenGraphs.{kind_words, node_words}
+use Rattle.state_rules.specs.Graphs.{true_node, node_at}
+use Rattle.state_rules.proofs.NodesFit.{fits-at}
 use Rattle.diag_edge.proofs.Added.{each_more, each_part}
+use Rattle.nnf_text.specs.GraphTexts.{variable_fits}
+use Rattle.nnf_text.specs.WrittenGraphs.{kind_words, node_words}
 use Rattle.projector.specs.Projecting.{projected_node}
 use Rattle.projector.proofs.Lines.{projected-line}
 use Rattle.projector.proofs.Literals.{variable_fits-from}
-use Rattle.graph_rules.proofs.NodesFit.{fits-at}
 use Rattle.projector.proofs.nodes.add_nodes.Goals as goal
 
 pub projected_kind-kind-requires-clause-fits : goal.projected_kind-kind-requires-clause-fits

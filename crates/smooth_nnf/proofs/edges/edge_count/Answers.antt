@@ -2,8 +2,7 @@ use Rattle.std.proofs.Common.{◌≡◌, ◌+◌, ◌<◌, length, take, ap, ari
 use Rattle.std.specs.List.{flat_map, enumerate_from}
 use Rattle.std.proofs.lemmas.List.{take_all}
 use Rattle.std.proofs.lemmas.List.FromFn.{length-enumerate_from}
-use Rattle.graph_rules.specs.Graphs.{true_node}
-use Rattle.graph_rules.specs.GraphTexts.{edges}
+use Rattle.state_rules.specs.Graphs.{true_node, edges}
 use Rattle.smooth_nnf.specs.Layouts.{node_lines, last_line}
 use Rattle.smooth_nnf.specs.inner.Drawings.{shown}
 use Rattle.smooth_nnf.proofs.LineLemmas.{numbered}

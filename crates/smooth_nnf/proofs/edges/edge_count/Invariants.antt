@@ -1,6 +1,6 @@
 use Rattle.std.proofs.Common.{◌≡◌, ◌+◌, length, take}
 use Rattle.std.specs.List.{flat_map, enumerate_from}
-use Rattle.graph_rules.specs.GraphTexts.{edges}
+use Rattle.state_rules.specs.Graphs.{edges}
 use Rattle.smooth_nnf.specs.Layouts.{last_line, node_lines}
 use Rattle.smooth_nnf.specs.inner.Drawings.{shown}
 use Rattle.smooth_nnf.proofs.edges.edge_count.Given as goal

@@ -1,5 +1,5 @@
 use Rattle.std.proofs.Common.{◌-◌, length, ap, ◌∙◌, arith}
-use Rattle.graph_rules.specs.Graphs.{Graph}
+use Rattle.state_rules.specs.Graphs.{Graph}
 use Rattle.smooth_nnf.proofs.EdgeLemmas.{last-kids}
 use Rattle.smooth_nnf.proofs.edges.last_edges.Goals as goal
 

@@ -1,8 +1,8 @@
 use Rattle.std.proofs.Common.{◌+◌, ◌∷◌, ap, sym, arith}
 use Rattle.text_rules.specs.Tokens.{spaced}
-use Rattle.graph_rules.specs.declared.NodeKind.TheVariants.{And}
-use Rattle.graph_rules.specs.WrittenGraphs.{kind_words}
+use Rattle.state_rules.specs.declared.nodes.NodeKind.TheVariants.{And}
 use Rattle.diag_edge.proofs.Added.{adds_same}
+use Rattle.nnf_text.specs.WrittenGraphs.{kind_words}
 use Rattle.smooth_nnf.proofs.FilledTexts.{filled-text}
 use Rattle.smooth_nnf.proofs.Lacking.{no-fillers}
 use Rattle.smooth_nnf.proofs.filling.add_filled.Goals as goal

@@ -1,5 +1,5 @@
 use Rattle.std.proofs.Common.{◌-◌, length, ap, ◌∙◌}
-use Rattle.graph_rules.specs.Graphs.{Graph}
+use Rattle.state_rules.specs.Graphs.{Graph}
 use Rattle.diag_edge.proofs.Added.{adds_same}
 use Rattle.smooth_nnf.proofs.LineLemmas.{last-text}
 use Rattle.smooth_nnf.proofs.lines.add_last.Goals as goal

@@ -1,10 +1,10 @@
 use Rattle.std.proofs.Common.{◌≡◌, ℕ, List, sym, ap, ◌∙◌, subst}
-use Rattle.graph_rules.specs.declared.NodeKind.{NodeKind}
-use Rattle.graph_rules.specs.Graphs.{Graph, Node, node_at, IsGraph}
+use Rattle.state_rules.specs.declared.nodes.NodeKind.{NodeKind}
+use Rattle.state_rules.specs.Graphs.{Graph, Node, node_at, IsGraph}
+use Rattle.diag_edge.proofs.Added.{adds_same}
 use Rattle.smooth_nnf.specs.Layouts.{lines_by}
 use Rattle.smooth_nnf.specs.inner.Drawings.{shown}
 use Rattle.smooth_nnf.specs.inner.Texts.{lines_text}
-use Rattle.diag_edge.proofs.Added.{adds_same}
 use Rattle.smooth_nnf.proofs.LineLemmas.{kids-inside, few-kids-of, line-room, literal-low, and-text, or-lines-text}
 use Rattle.smooth_nnf.proofs.lines.add_lines_by.Goals as goal
 

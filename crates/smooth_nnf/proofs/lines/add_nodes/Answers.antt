@@ -1,7 +1,7 @@
 use Rattle.std.proofs.Common.{rules, ◌<◌, ◌≤◌, ap, length, arith}
 use Rattle.std.specs.List.{enumerate_from}
 use Rattle.std.proofs.lemmas.List.FromFn.{length-enumerate_from}
-use Rattle.graph_rules.specs.Graphs.{true_node, node_at}
+use Rattle.state_rules.specs.Graphs.{true_node, node_at}
 use Rattle.diag_edge.proofs.Added.{each_more, each_part, each_all}
 use Rattle.smooth_nnf.specs.Layouts.{node_lines}
 use Rattle.smooth_nnf.specs.inner.Drawings.{shown}

@@ -2,9 +2,9 @@ use Rattle.std.proofs.Common.{◌≡◌, ◌+◌, ◌-◌, map, length, ap, ◌�
 use Rattle.std.specs.Prelude.{slice_index}
 use Rattle.std.specs.List.{flat_map}
 use Rattle.text_rules.specs.Tokens.{spaced}
-use Rattle.graph_rules.specs.WrittenGraphs.{node_words}
-use Rattle.minimiser.specs.Stored.{cost_in}
 use Rattle.diag_edge.proofs.Added.{adds_first, adds_second, adds_same}
+use Rattle.nnf_text.specs.WrittenGraphs.{node_words}
+use Rattle.minimiser.specs.Stored.{cost_in}
 use Rattle.smooth_nnf.specs.Layouts.{cheapest_kids, or_behind}
 use Rattle.smooth_nnf.specs.inner.Texts.{kid_text}
 use Rattle.smooth_nnf.proofs.lines.add_or.Goals as goal

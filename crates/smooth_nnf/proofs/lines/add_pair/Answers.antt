@@ -1,8 +1,8 @@
 use Rattle.std.proofs.Common.{true, false, [], ◌++◌, sym, append-nil}
 use Rattle.text_rules.specs.Tokens.{spaced}
-use Rattle.graph_rules.specs.Graphs.{literal_node}
-use Rattle.graph_rules.specs.WrittenGraphs.{node_words}
+use Rattle.state_rules.specs.Graphs.{literal_node}
 use Rattle.diag_edge.proofs.Added.{adds_first, adds_second, adds_same}
+use Rattle.nnf_text.specs.WrittenGraphs.{node_words}
 use Rattle.smooth_nnf.proofs.lines.add_pair.Goals as goal
 
 pub returns-in_err-add_node-clause-bytes : goal.returns-in_err-add_node-clause-bytes

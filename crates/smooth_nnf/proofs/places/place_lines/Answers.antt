@@ -1,8 +1,8 @@
 use Rattle.std.proofs.Common.{◌≡◌, ◌+◌, ◌*◌, ◌^◌, ◌<◌, [], ◌∷◌, ◌++◌, map, length, get_or, sym, ◌∙◌, subst, arith}
 use Rattle.std.proofs.lemmas.List.{length-set, take_more_set}
-use Rattle.graph_rules.specs.Graphs.{node_at}
-use Rattle.graph_rules.proofs.NodeValues.{below-each}
-use Rattle.graph_rules.proofs.NodesFit.{fits-at}
+use Rattle.state_rules.specs.Graphs.{node_at}
+use Rattle.state_rules.proofs.NodeValues.{below-each}
+use Rattle.state_rules.proofs.NodesFit.{fits-at}
 use Rattle.minimiser.specs.Stored.{cost_in}
 use Rattle.minimiser.specs.Costs.{cost_at}
 use Rattle.minimiser.proofs.Sums.{cost_at-map}

@@ -1,8 +1,8 @@
 use Rattle.std.proofs.Common.{◌≡◌, ◌++◌, [], ap, ◌∙◌, append-nil, append_assoc}
 use Rattle.std.specs.List.{flat_map, enumerate_from, range_with_len}
 use Rattle.text_rules.specs.Tokens.{spaced}
-use Rattle.graph_rules.specs.WrittenGraphs.{node_words, graph_text}
 use Rattle.diag_edge.proofs.Added.{grown_more, part_more, put_all, put_part}
+use Rattle.nnf_text.specs.WrittenGraphs.{node_words, graph_text}
 use Rattle.nnf_text.proofs.LineTexts.{header}
 use Rattle.smooth_nnf.specs.Layouts.{literal_pair, node_lines, last_line, all_lines}
 use Rattle.smooth_nnf.specs.inner.Drawings.{shown}

@@ -1,6 +1,6 @@
 use Rattle.std.proofs.Common.{map, ap, subst, arith, length}
 use Rattle.diag_edge.specs.Edge.{Puts}
-use Rattle.graph_rules.specs.WrittenGraphs.{graph_text}
+use Rattle.nnf_text.specs.WrittenGraphs.{graph_text}
 use Rattle.minimiser.specs.Stored.{cost_in}
 use Rattle.smooth_nnf.specs.Layouts.{Layout, all_lines}
 use Rattle.smooth_nnf.proofs.WholeText.{laid, counted, edges-fit, count-fits}

@@ -1,7 +1,7 @@
 use Rattle.std.proofs.Common.{◌/◌, ◌+◌, [], get_or, ap, ◌∙◌, arith}
+use Rattle.state_rules.proofs.Lists.{length-filter-le}
 use Rattle.branch_states.specs.Branches.{size}
 use Rattle.branch_states.specs.inner.Steps.{was_open}
-use Rattle.ranking.proofs.Lists.{length-filter-le}
 use Rattle.branch_states.proofs.Walking.{kept-open, kept-few}
 use Rattle.branch_states.proofs.branches.Branches.words.Goals as goal
 

@@ -1,5 +1,5 @@
 use Rattle.std.proofs.Common.{◌≡◌, ◌∙◌, List, Bool, get_or, refl, ap, sym, subst}
-use Rattle.ranking.specs.Ranking.{diagnoses}
+use Rattle.state_rules.specs.Ranking.{diagnoses}
 use Rattle.conditioner.specs.Words.{bits_of}
 use Rattle.fault_graph.proofs.Keeping.{known-distilled, no-models}
 use Rattle.fault_graph.proofs.distiller.Distiller.first.Goals as goal

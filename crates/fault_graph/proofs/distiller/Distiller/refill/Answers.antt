@@ -2,7 +2,7 @@ use Rattle.std.proofs.Common.{◌≡◌, ℕ, List, length, Some, refl, ap, sym,
 use Rattle.std.specs.Prelude.{Option, IsSome}
 use Rattle.std.specs.Vec.{with_items}
 use Rattle.std.proofs.lemmas.List.{with_items_is}
-use Rattle.graph_rules.specs.Graphs.{Graph}
+use Rattle.state_rules.specs.Graphs.{Graph}
 use Rattle.conditioner.specs.Models.{least_under}
 use Rattle.fault_graph.specs.Distilled.{Kept, Serves}
 use Rattle.fault_graph.proofs.Keeping.{serves-now}

@@ -1,5 +1,5 @@
 use Rattle.std.proofs.Common.{◌≡◌, ◌+◌, ◌-◌, ◌<◌, true, length, get_or, refl, sym, ◌∙◌, subst, arith}
-use Rattle.graph_rules.specs.Graphs.{is_true, mentions}
+use Rattle.state_rules.specs.Graphs.{is_true, mentions}
 use Rattle.part_sets.specs.Numbers.{part_words, set_at}
 use Rattle.part_sets.specs.PartSets.{ArePartsOf}
 use Rattle.level_lister.specs.inner.Skips.{living}

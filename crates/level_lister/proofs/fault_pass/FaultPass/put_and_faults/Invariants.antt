@@ -1,6 +1,6 @@
 use Rattle.std.proofs.Common.{map, take}
 use Rattle.std.specs.List.{list_all, list_any}
-use Rattle.graph_rules.specs.Graphs.{is_true, mentions}
+use Rattle.state_rules.specs.Graphs.{is_true, mentions}
 use Rattle.level_lister.specs.inner.Skips.{living}
 use Rattle.level_lister.specs.inner.FaultSets.{in_first, AreBothSets}
 use Rattle.level_lister.proofs.fault_pass.FaultPass.put_and_faults.Given as goal

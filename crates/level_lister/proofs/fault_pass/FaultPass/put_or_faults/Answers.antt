@@ -1,7 +1,7 @@
 use Rattle.std.proofs.Common.{◌*◌, ◌<◌, length, get_or, sym, ◌∙◌, ap, subst, arith}
-use Rattle.graph_rules.specs.Graphs.{is_true, mentions}
-use Rattle.part_sets.specs.Numbers.{set_at}
+use Rattle.state_rules.specs.Graphs.{is_true, mentions}
 use Rattle.scratch_pool.proofs.Counted.{block-below}
+use Rattle.part_sets.specs.Numbers.{set_at}
 use Rattle.part_sets.proofs.Kids.{kid-below, kid-mentions}
 use Rattle.level_lister.specs.inner.Skips.{living}
 use Rattle.level_lister.specs.inner.NodeSets.{IsNodeSet}

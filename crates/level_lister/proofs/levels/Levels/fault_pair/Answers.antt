@@ -1,7 +1,7 @@
 use Rattle.std.proofs.Common.{◌≡◌, ◌+◌, ◌*◌, ◌-◌, ◌≤◌, length, get_or, ap, sym, ◌∙◌, arith}
 use Rattle.std.specs.Prelude.{◌==◌}
 use Rattle.std.proofs.lemmas.List.{get_or_past}
-use Rattle.graph_rules.proofs.WordBits.{has_bit-zero, one_bit}
+use Rattle.state_rules.proofs.WordBits.{has_bit-zero, one_bit}
 use Rattle.level_lister.specs.inner.Pairs.{group_count, group_in}
 use Rattle.level_lister.proofs.Telling.{tells_faulty}
 use Rattle.level_lister.proofs.PairNodes.{none_marked}

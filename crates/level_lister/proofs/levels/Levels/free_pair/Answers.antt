@@ -1,6 +1,6 @@
 use Rattle.std.proofs.Common.{◌≡◌, ℕ, zero, suc, ◌+◌, ◌<◌, Bool, true, false, ◌||◌, not, length, get_or, Some, None, refl, sym, ap, ◌∙◌, arith}
+use Rattle.state_rules.specs.Bits.{same_bit}
 use Rattle.conditioner.specs.Words.{known_of}
-use Rattle.ranking.specs.Bits.{same_bit}
 use Rattle.level_lister.specs.inner.Pairs.{group_count, group_in}
 use Rattle.level_lister.proofs.Telling.{tells_same, tells_known, tells_ok}
 use Rattle.level_lister.proofs.PairNodes.{on_parts, allowed_ok, said}

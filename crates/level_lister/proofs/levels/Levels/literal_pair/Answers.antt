@@ -1,7 +1,7 @@
 use Rattle.std.proofs.Common.{◌≡◌, ◌+◌, ◌-◌, true, false, length, sym, subst, arith}
 use Rattle.std.specs.Prelude.{◌==◌}
-use Rattle.ranking.specs.Bits.{same_bit}
-use Rattle.ranking.specs.Cases.{agrees_at}
+use Rattle.state_rules.specs.Bits.{same_bit}
+use Rattle.state_rules.specs.Cases.{agrees_at}
 use Rattle.minimiser.specs.Costs.{known_at}
 use Rattle.level_lister.specs.inner.Pairs.{Tells, group_count, group_in}
 use Rattle.level_lister.proofs.Telling.{tells_ok}

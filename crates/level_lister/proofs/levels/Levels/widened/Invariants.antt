@@ -1,5 +1,5 @@
 use Rattle.std.proofs.Common.{◌≡◌, ℕ, ◌-◌, ◌*◌, ◌<◌, Bool, true, length}
-use Rattle.ranking.specs.Assignments.{Assignment}
+use Rattle.state_rules.specs.Assignments.{Assignment}
 use Rattle.part_sets.specs.PartSets.{ArePartsOf}
 use Rattle.level_lister.specs.inner.Pairs.{Tells, group_count, group_in}
 use Rattle.level_lister.proofs.Growing.{grown, is_missing}

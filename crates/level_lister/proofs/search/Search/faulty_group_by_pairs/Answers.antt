@@ -1,6 +1,6 @@
 use Rattle.std.proofs.Common.{◌≡◌, ◌+◌, ◌*◌, ◌<◌, ◌≤◌, true, sym, ◌∙◌, subst, arith, ⊎_elim}
 use Rattle.std.proofs.lemmas.Bool.{cases_lt, false≢true}
-use Rattle.graph_rules.specs.inner.WordBits.{has_bit}
+use Rattle.state_rules.specs.Bits.{has_bit}
 use Rattle.level_lister.specs.inner.Pairs.{FaultOf}
 use Rattle.level_lister.proofs.Telling.{step_below}
 use Rattle.level_lister.proofs.PairWhole.{group_sound, group_whole}

@@ -1,5 +1,5 @@
 use Rattle.std.proofs.Common.{refl, arith}
-use Rattle.ranking.specs.Ranking.{cost}
+use Rattle.state_rules.specs.Ranking.{cost}
 use Rattle.level_lister.proofs.Finding.{listed-has, first-from}
 use Rattle.level_lister.proofs.search.Search.find_from.Goals as goal
 

@@ -4,12 +4,12 @@ use Rattle.std.proofs.lemmas.Bool.{false≢true, eqb-true, eqb-false}
 use Rattle.std.proofs.lemmas.Grind.{same_number_lists}
 use Rattle.std.proofs.lemmas.List.{get_or-set_same, get_or-set_other}
 use Rattle.std.proofs.lemmas.List.Elements.{All-set}
-use Rattle.ranking.specs.Bits.{bit_in}
+use Rattle.state_rules.specs.Bits.{bit_in}
 use Rattle.conditioner.specs.Words.{bits_of}
 use Rattle.conditioner.proofs.StateBits.{is_ok, is_faulty, faulty_word, ok_word}
-use Rattle.diagnosis_lister.specs.Listing.{fault_count}
-use Rattle.diagnosis_lister.proofs.Faults.{faults-at, faults-back, faults-all}
-use Rattle.diagnosis_lister.proofs.Marking.{length-bits}
+use Rattle.minimiser.specs.Listing.{fault_count}
+use Rattle.minimiser.proofs.Faults.{faults-at, faults-back, faults-all}
+use Rattle.minimiser.proofs.OpenMarks.{length-bits}
 use Rattle.level_lister.proofs.Leaving.{GoesBack, back_start, back_next, none-held, kept, none-tried, leaves-tried}
 use Rattle.level_lister.proofs.Skips.{enough_more}
 use Rattle.level_lister.proofs.search.Search.leave.Goals as goal

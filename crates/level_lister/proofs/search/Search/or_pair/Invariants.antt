@@ -1,6 +1,6 @@
 use Rattle.std.proofs.Common.{map, take, length}
 use Rattle.std.specs.List.{list_any}
-use Rattle.graph_rules.specs.Graphs.{is_true, mentions}
+use Rattle.state_rules.specs.Graphs.{is_true, mentions}
 use Rattle.level_lister.specs.inner.Skips.{living}
 use Rattle.level_lister.specs.inner.Pairs.{Tells, group_count, group_in}
 use Rattle.level_lister.proofs.search.Search.or_pair.Given as goal

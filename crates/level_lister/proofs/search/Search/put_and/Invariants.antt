@@ -1,6 +1,6 @@
 use Rattle.std.proofs.Common.{List, ℕ, map, take, length}
 use Rattle.std.specs.List.{list_all, list_any}
-use Rattle.graph_rules.specs.Graphs.{is_true, mentions}
+use Rattle.state_rules.specs.Graphs.{is_true, mentions}
 use Rattle.level_lister.specs.inner.Skips.{living}
 use Rattle.level_lister.specs.inner.CostSets.{IsCostSet}
 use Rattle.level_lister.specs.inner.NodeSets.{AreNodeSets}

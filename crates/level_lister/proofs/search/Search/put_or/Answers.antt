@@ -1,12 +1,12 @@
 use Rattle.std.proofs.Common.{◌≡◌, ◌<◌, ◌+◌, ◌*◌, List, ℕ, length, get_or, sym, ◌∙◌, ap, subst, arith}
-use Rattle.graph_rules.specs.Graphs.{is_true, mentions}
-use Rattle.level_lister.specs.inner.Skips.{living}
-use Rattle.level_lister.specs.inner.CostSets.{IsCostSet}
+use Rattle.state_rules.specs.Graphs.{is_true, mentions}
+use Rattle.scratch_pool.proofs.Counted.{block-below}
 use Rattle.part_sets.specs.Numbers.{part_words, set_at}
 use Rattle.part_sets.specs.PartSets.{ArePartsOf}
-use Rattle.level_lister.proofs.Reaching.{empty_is}
-use Rattle.scratch_pool.proofs.Counted.{block-below}
 use Rattle.part_sets.proofs.Kids.{kid-below, kid-mentions}
+use Rattle.level_lister.specs.inner.Skips.{living}
+use Rattle.level_lister.specs.inner.CostSets.{IsCostSet}
+use Rattle.level_lister.proofs.Reaching.{empty_is}
 use Rattle.level_lister.proofs.Kids.{or_more, or_all}
 use Rattle.level_lister.proofs.search.Search.put_or.Goals as goal
 

@@ -1,10 +1,10 @@
 use Rattle.std.proofs.Common.{◌≡◌, ◌+◌, ◌-◌, ◌<◌, true, length, get_or, sym, ap, refl, subst, arith, ◌∙◌}
-use Rattle.graph_rules.specs.Graphs.{is_true, mentions}
+use Rattle.state_rules.specs.Graphs.{is_true, mentions}
+use Rattle.scratch_pool.proofs.Counted.{block-below}
 use Rattle.part_sets.specs.Numbers.{part_words, set_at}
 use Rattle.part_sets.specs.PartSets.{ArePartsOf}
 use Rattle.level_lister.specs.inner.Skips.{living}
 use Rattle.level_lister.specs.inner.Pairs.{TellsNode, pair_at}
-use Rattle.scratch_pool.proofs.Counted.{block-below}
 use Rattle.level_lister.proofs.PairNodes.{nodes_more, whole_full}
 use Rattle.level_lister.proofs.search.Search.put_pairs.Goals as goal
 

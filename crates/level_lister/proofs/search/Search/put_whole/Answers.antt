@@ -1,10 +1,10 @@
 use Rattle.std.proofs.Common.{◌≡◌, ◌+◌, ◌-◌, ◌<◌, List, ℕ, true, length, get_or, ap, sym, ◌∙◌, refl, subst, arith}
-use Rattle.graph_rules.specs.Graphs.{is_true, mentions}
+use Rattle.state_rules.specs.Graphs.{is_true, mentions}
+use Rattle.part_sets.specs.Numbers.{part_words, set_at}
+use Rattle.part_sets.specs.PartSets.{ArePartsOf}
 use Rattle.level_lister.specs.inner.Skips.{living}
 use Rattle.level_lister.specs.inner.CostSets.{IsCostSet}
 use Rattle.level_lister.specs.inner.NodeSets.{IsNodeSet, IsWholeSet}
-use Rattle.part_sets.specs.Numbers.{part_words, set_at}
-use Rattle.part_sets.specs.PartSets.{ArePartsOf}
 use Rattle.level_lister.proofs.FaultNodes.{whole_set_full}
 use Rattle.level_lister.proofs.search.Search.put_whole.Goals as goal
 

@@ -1,5 +1,5 @@
 use Rattle.std.proofs.Common.{ap, sym, ◌∙◌}
-use Rattle.graph_rules.specs.GraphTexts.{edges}
+use Rattle.state_rules.specs.Graphs.{edges}
 use Rattle.node_store.proofs.Zipped.{edges-nodes_of}
 use Rattle.node_store.proofs.flat.Nodes.edges.Goals as goal
 

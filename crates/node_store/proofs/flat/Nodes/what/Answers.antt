@@ -1,7 +1,7 @@
 use Rattle.std.proofs.Common.{◌<◌, length, ap, arith, ◌∙◌, sym}
 use Rattle.std.proofs.lemmas.List.{get_or_read}
-use Rattle.graph_rules.specs.Graphs.{Node, node_at}
-use Rattle.graph_rules.specs.declared.NodeKind.TheVariants.{And}
+use Rattle.state_rules.specs.Graphs.{Node, node_at}
+use Rattle.state_rules.specs.declared.nodes.NodeKind.TheVariants.{And}
 use Rattle.node_store.proofs.Zipped.{length-nodes_of, nodes_of-at}
 use Rattle.node_store.proofs.flat.Nodes.what.Goals as goal
 

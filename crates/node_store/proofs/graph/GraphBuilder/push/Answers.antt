@@ -1,6 +1,6 @@
 use Rattle.std.proofs.Common.{◌≡◌, ◌++◌, ◌∷◌, [], true, ap, arith, subst, sym, length, length-append}
-use Rattle.graph_rules.specs.Graphs.{Graph, Node, apart_at, mentions, AreNodes, node_fits}
-use Rattle.graph_rules.proofs.NodesFit.{AreNodes-push}
+use Rattle.state_rules.specs.Graphs.{Graph, Node, apart_at, mentions, AreNodes, node_fits}
+use Rattle.state_rules.proofs.NodesFit.{AreNodes-push}
 use Rattle.node_store.proofs.graph.GraphBuilder.push.Goals as goal
 
 pub invariant_of-self-2 : goal.invariant_of-self-2

@@ -1,5 +1,5 @@
 use Rattle.std.proofs.Common.{◌≡◌, ◌<◌, length, map, true, subst, sym}
-use Rattle.graph_rules.specs.Graphs.{Node, apart_at, mentions, node_fits}
+use Rattle.state_rules.specs.Graphs.{Node, apart_at, mentions, node_fits}
 use Rattle.node_store.specs.declared.store.TheConstants.{MADE_LIMIT}
 use Rattle.node_store.specs.Stores.{Stored, Means}
 use Rattle.node_store.specs.inner.Keeping.{shown}

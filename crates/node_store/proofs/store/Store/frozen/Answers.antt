@@ -1,5 +1,5 @@
 use Rattle.std.proofs.Common.{◌≡◌, ◌<◌, Bool, List, length, map, ap, sym, subst}
-use Rattle.graph_rules.specs.Graphs.{Node}
+use Rattle.state_rules.specs.Graphs.{Node}
 use Rattle.node_store.specs.Stores.{Stored, IsFrozen}
 use Rattle.node_store.specs.inner.Keeping.{shown}
 use Rattle.node_store.specs.inner.Freezing.{AreBefore, IsBelow, IsCopied}

@@ -1,6 +1,6 @@
 use Rattle.std.proofs.Common.{◌≡◌, true, false, ◌+◌, map, ap, sym, ◌∙◌, arith, subst, ◌∷◌, [], ◌++◌}
+use Rattle.state_rules.specs.Graphs.{literal_node}
 use Rattle.node_store.specs.inner.Keeping.{shown}
-use Rattle.graph_rules.specs.Graphs.{literal_node}
 use Rattle.node_store.specs.Stores.{literals}
 use Rattle.node_store.specs.inner.Literals.{IsNew}
 use Rattle.node_store.proofs.Literals.{first_new, second_new, literals_more, literals_store}

@@ -1,6 +1,6 @@
 use Rattle.std.proofs.Common.{◌∙◌, ◌<◌, ℕ, List, Bool, Some, not, map, length, ap, sym, subst, arith}
 use Rattle.std.specs.Prelude.{slice_get}
-use Rattle.ranking.specs.Bits.{bit_in}
+use Rattle.state_rules.specs.Bits.{bit_in}
 use Rattle.probe_report.specs.declared.verdicts.Blame.{Blame}
 use Rattle.probe_report.specs.Verdicts.{verdict}
 use Rattle.session_core.specs.inner.Desks.{OnDesk, blame_asked}

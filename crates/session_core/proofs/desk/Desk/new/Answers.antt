@@ -1,9 +1,9 @@
 use Rattle.std.proofs.Common.{◌∙◌, ◌<◌, ℕ, List, All, length, replicate, ap, sym, subst, arith}
 use Rattle.std.proofs.lemmas.List.{length-replicate}
 use Rattle.std.proofs.lemmas.List.Elements.{All-replicate}
-use Rattle.graph_rules.specs.Graphs.{Graph}
-use Rattle.scratch_pool.specs.Regions.{Carved}
+use Rattle.state_rules.specs.Graphs.{Graph}
 use Rattle.fault_graph.specs.Distilled.{Serves}
+use Rattle.scratch_pool.specs.Regions.{Carved}
 use Rattle.session_rules.proofs.CaseWords.{zeros-are}
 use Rattle.session_core.specs.inner.Bases.{AreEnough, AreKnown}
 use Rattle.session_core.proofs.desk.Desk.new.Goals as goal

@@ -1,9 +1,9 @@
 use Rattle.std.proofs.Common.{◌≡◌, ℕ, List, Bool, Option, [], get_or, sym, subst}
 use Rattle.std.specs.Option.{option_map}
 use denote.Ref.{Bor}
-use Rattle.ranking.specs.Ranking.{rest}
-use Rattle.diagnosis_lister.specs.Listing.{step_of}
+use Rattle.state_rules.specs.Ranking.{rest}
 use Rattle.conditioner.specs.Words.{bits_of}
+use Rattle.minimiser.specs.Listing.{step_of}
 use Rattle.session_core.specs.inner.Desks.{OnDesk, agreeing, diagnoses_asked}
 use Rattle.session_core.proofs.desk.Desk.next.Goals as goal
 

@@ -1,7 +1,7 @@
 use Rattle.std.proofs.Common.{◌≡◌, ◌∙◌, ◌<◌, ℕ, List, Bool, Bor, Option, Some, [], All, get_or, length, refl, sym, ap, subst}
 use Rattle.std.specs.Prelude.{IfSome}
 use Rattle.std.specs.Option.{option_map}
-use Rattle.ranking.specs.Levels.{levels, levels_rest}
+use Rattle.state_rules.specs.Levels.{levels, levels_rest}
 use Rattle.conditioner.specs.Models.{models}
 use Rattle.conditioner.specs.Words.{bits_of}
 use Rattle.level_lister.specs.Listing.{Kept, IsFor, level_step, later_levels, point_if}

@@ -1,5 +1,5 @@
 use Rattle.std.proofs.Common.{◌≡◌, ◌∙◌, ap, subst, sym}
-use Rattle.ranking.specs.Cases.{Case}
+use Rattle.state_rules.specs.Cases.{Case}
 use Rattle.script_lang.specs.Script.{question_of, Tell}
 use Rattle.session_rules.specs.GraphSystems.{system_of}
 use Rattle.session_rules.specs.Replies.{told}

@@ -1,6 +1,6 @@
 use Rattle.std.proofs.Common.{◌∷◌, [], ℕ, List, Option, codes, length, refl, sym, ap, subst}
 use Rattle.std.specs.Prelude.{nat_le}
-use Rattle.ranking.specs.Cases.{Case}
+use Rattle.state_rules.specs.Cases.{Case}
 use Rattle.script_lang.specs.Script.{Dnnf}
 use Rattle.session_rules.specs.GraphSystems.{Subject, system_of}
 use Rattle.session_rules.specs.Items.{Item, Plain, line}

@@ -1,8 +1,8 @@
 use Rattle.std.proofs.Common.{◌≡◌, ◌∙◌, ◌∷◌, [], ℕ, Bool, true, false, List, Option, Some, codes, length, refl, sym, ap, subst}
 use Rattle.std.specs.Prelude.{nat_le, if◌then◌else◌}
 use Rattle.text_rules.specs.Names.{Name}
-use Rattle.ranking.specs.Cases.{Case}
-use Rattle.ranking.specs.Systems.{System, all_diagnoses}
+use Rattle.state_rules.specs.Cases.{Case}
+use Rattle.state_rules.specs.Systems.{System, all_diagnoses}
 use Rattle.script_lang.specs.Script.{Ask, LeastNnf}
 use Rattle.session_rules.specs.declared.refusal.Refusal.TheVariants.{NoLeast}
 use Rattle.session_rules.specs.GraphSystems.{Subject, system_of}

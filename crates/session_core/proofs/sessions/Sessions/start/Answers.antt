@@ -1,8 +1,8 @@
 use Rattle.std.proofs.Common.{◌≡◌, ◌∙◌, Bool, true, false, None, length, subst, refl, sym, codes, arith}
 use Rattle.std.proofs.lemmas.Bool.Decides.{nat_tests}
-use Rattle.text_rules.specs.Names.{Name}
-use Rattle.ranking.specs.Cases.{empty_case}
 use Rattle.std.specs.Prelude.{nat_le, if◌then◌else◌}
+use Rattle.text_rules.specs.Names.{Name}
+use Rattle.state_rules.specs.Cases.{empty_case}
 use Rattle.script_lang.specs.Script.{Start}
 use Rattle.session_rules.specs.declared.refusal.Refusal.TheVariants.{Full}
 use Rattle.session_rules.specs.GraphSystems.{system_of}

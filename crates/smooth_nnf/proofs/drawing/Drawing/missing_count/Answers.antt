@@ -1,7 +1,7 @@
 use Rattle.std.proofs.Common.{length, ap, sym, subst, arith}
 use Rattle.std.specs.List.{filter, range_with_len}
 use Rattle.std.proofs.lemmas.List.{length-map}
-use Rattle.graph_rules.specs.Graphs.{mentions, IsGraph}
+use Rattle.state_rules.specs.Graphs.{mentions, IsGraph}
 use Rattle.smooth_nnf.specs.Layouts.{filler}
 use Rattle.smooth_nnf.specs.inner.Drawings.{Drawing, IsDrawing, is_over, missing_in}
 use Rattle.smooth_nnf.proofs.WordParts.{left-over}

@@ -1,6 +1,0 @@
-pub mod Order
-pub mod Faults
-pub mod Marking
-pub mod Fixing
-pub mod Points
-pub mod Answering

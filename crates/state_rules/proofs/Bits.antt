@@ -1,0 +1,89 @@
+-- Bits and lists of bits.
+use Rattle.std.proofs.Common.{◌≡◌, ℕ, zero, suc, ◌+◌, ◌*◌, ◌/◌, ◌^◌, ◌<◌, ◌≤◌, Bool, true, false, cond, not, ◌&&◌, ◌||◌, List, [], ◌∷◌, ◌++◌, map, length, take, get_or, refl, sym, ap, ◌∙◌, arith}
+use Rattle.std.specs.List.{list_any}
+use Rattle.std.specs.Cmp.Lexicographic.{pointwise}
+use Rattle.std.proofs.lemmas.Bool.{false≢true, and_parts, and_from}
+use Rattle.std.proofs.lemmas.List.Folds.{list_any-append}
+use Rattle.std.proofs.lemmas.Grind.{pow_more}
+use Rattle.std.proofs.lemmas.List.{get_or_append_left}
+use Rattle.state_rules.specs.Bits.{same_bit, bit_in, number_of_bit, row_number, lists_of_bits}
+use Rattle.state_rules.proofs.Lists.{list_any-map}
+
+-- ---- one bit
+
+pub same_bit-swap : (x y : Bool) → same_bit x y ≡ same_bit y x
+same_bit-swap true true = refl
+same_bit-swap true false = refl
+same_bit-swap false true = refl
+same_bit-swap false false = refl
+
+pub same_bit-refl : (x : Bool) → same_bit x x ≡ true
+same_bit-refl true = refl
+same_bit-refl false = refl
+
+pub same_bit-equal : (x y : Bool) → same_bit x y ≡ true → x ≡ y
+same_bit-equal true true e = refl
+same_bit-equal true false e = sym e
+same_bit-equal false true e = e
+same_bit-equal false false e = refl
+
+-- where not both are 1 and the second is, the first is not
+pub not_left : (x y : Bool) → (x && y) ≡ false → y ≡ true → x ≡ false
+not_left true y e f = sym f ∙ e
+not_left false y e f = refl
+
+-- two are alike only where a first one is
+pub and-not_alike : (p x y : Bool) → (p ≡ true → x ≡ y) → (p && not x) ≡ (p && not y)
+and-not_alike true x y h = ap not (h refl)
+and-not_alike false x y h = refl
+
+-- what counts where the negated bit is 1 counts where the bit is 0
+pub cond-not : (b : Bool) (n : ℕ) → cond (not b) n 0 ≡ cond b 0 n
+cond-not true n = refl
+cond-not false n = refl
+
+-- ---- a list of bits
+
+pub bit_in-front : (xs ys : List Bool) (i : ℕ) → i < length xs → bit_in (xs ++ ys) i ≡ bit_in xs i
+bit_in-front xs ys i h = get_or_append_left xs ys false i h
+
+pub pointwise-refl : (bits : List Bool) → pointwise same_bit bits bits ≡ true
+pointwise-refl [] = refl
+pointwise-refl (b ∷ bits) = and_from _ _ (same_bit-refl b) (pointwise-refl bits)
+
+pub pointwise-equal : (bits others : List Bool) → pointwise same_bit bits others ≡ true → bits ≡ others
+pointwise-equal [] [] e = refl
+pointwise-equal [] (c ∷ others) e = absurd (false≢true e)
+pointwise-equal (b ∷ bits) [] e = absurd (false≢true e)
+pointwise-equal (b ∷ bits) (c ∷ others) e =
+    let parts = and_parts (same_bit b c) (pointwise same_bit bits others) e in
+    λ i. same_bit-equal b c parts.0 i ∷ pointwise-equal bits others parts.1 i
+
+-- a bit of a list that is made of the first numbers of another
+pub bit_in-map : (f : ℕ → Bool) (xs : List ℕ) (n i : ℕ) → i < n → n ≤ length xs → bit_in (map f (take n xs)) i ≡ f (get_or xs i 0)
+bit_in-map f xs zero i lt h = absurd (omega arith)
+bit_in-map f [] (suc n) i lt h = absurd (omega arith)
+bit_in-map f (x ∷ xs) (suc n) zero lt h = refl
+bit_in-map f (x ∷ xs) (suc n) (suc i) lt h = bit_in-map f xs n i (omega arith) (omega arith)
+
+-- ---- a list of bits as a number
+
+-- half of a number has one bit less
+pub half-below : (r n : ℕ) → r < 2 ^ suc n → r / 2 < 2 ^ n
+half-below r n h = omega arith
+
+pub row_number-half : (b : Bool) (n : ℕ) → (number_of_bit b + 2 * n) / 2 ≡ n
+row_number-half true n = omega arith
+row_number-half false n = omega arith
+
+pub row_number-push : (bits : List Bool) (b : Bool) → row_number (bits ++ b ∷ []) ≡ row_number bits + number_of_bit b * 2 ^ length bits
+row_number-push [] b = omega arith
+row_number-push (c ∷ bits) b = grind (arith, row_number-push bits b, pow_more 2 (length bits))
+
+-- ---- all lists of so many bits
+
+-- a test of lists of one bit more, by their first bit
+pub any-suc : (p : List Bool → Bool) (n : ℕ) → list_any p (lists_of_bits (suc n)) ≡ (list_any (λ bits. p (false ∷ bits)) (lists_of_bits n) || list_any (λ bits. p (true ∷ bits)) (lists_of_bits n))
+any-suc p n =
+    list_any-append p (map (λ bits. false ∷ bits) (lists_of_bits n)) (map (λ bits. true ∷ bits) (lists_of_bits n))
+    ∙ (λ i. list_any-map p (λ bits. false ∷ bits) (lists_of_bits n) i || list_any-map p (λ bits. true ∷ bits) (lists_of_bits n) i)

@@ -1,0 +1,70 @@
+-- Kids of a node: which of them are true, and that at most one is. What holds of the nodes below a number, one after the other.
+use Rattle.std.proofs.Common.{◌≡◌, ℕ, zero, suc, ◌+◌, ◌<◌, ◌≤◌, Bool, true, false, not, ◌&&◌, List, [], ◌∷◌, map, refl, ap, sym, arith, ⊎_elim}
+use Rattle.std.specs.Prelude.{nat_lt}
+use Rattle.std.specs.List.{list_any, range_with_len}
+use Rattle.std.proofs.lemmas.Bool.{false≢true, not-true, and_parts, and_from, lt-ltb, ltb-true, cases_lt, or_cases, or_left, or_right}
+use Rattle.state_rules.specs.Graphs.{at_most_one}
+use Rattle.state_rules.proofs.NodeValues.{are_below}
+
+-- where a fact holds of a number as soon as it holds of those below it, it holds of all below n
+pub each_below : (P : ℕ → Type 0) (n : ℕ) → ((i : ℕ) → i < n → ((k : ℕ) → k < i → P k) → P i) → (m : ℕ) → m ≤ n → (k : ℕ) → k < m → P k
+each_below P n step zero most k h = absurd (omega arith)
+each_below P n step (suc m) most k h = ⊎_elim
+    (λ (p : k < m). each_below P n step m (omega arith) k p)
+    (λ (p : m ≤ k). step k (omega arith) (λ j g. each_below P n step m (omega arith) j (omega arith)))
+    (cases_lt k m)
+
+-- ---- any of them
+
+-- where f is true of a kid, g is, and something else holds
+pub any_more : (Q : Type 0) (f g : ℕ → Bool) (own : ℕ) (kids : List ℕ) → are_below own kids ≡ true → ((k : ℕ) → k < own → f k ≡ true → (g k ≡ true) × Q)
+    → list_any (λ b. b) (map f kids) ≡ true → (list_any (λ b. b) (map g kids) ≡ true) × Q
+any_more Q f g own [] below more any = absurd (let no : false ≡ true = any in cc)
+any_more Q f g own (kid ∷ kids) below more any =
+    let parts = and_parts (nat_lt kid own) (are_below own kids) below in ⊎_elim
+    (λ h. let r = more kid (ltb-true kid own parts.0) h in (or_left _ _ r.0, r.1))
+    (λ h. let r = any_more Q f g own kids parts.1 more h in (or_right _ _ r.0, r.1))
+    (or_cases (f kid) (list_any (λ b. b) (map f kids)) any)
+
+-- ---- at most one of them
+
+pub at_most_one-none : (bs : List Bool) → list_any (λ b. b) bs ≡ false → at_most_one bs ≡ true
+at_most_one-none [] none = refl
+at_most_one-none (true ∷ bs) none = absurd (false≢true (sym none))
+at_most_one-none (false ∷ bs) none = at_most_one-none bs none
+
+pub at_most_one-tail : (b : Bool) (bs : List Bool) → at_most_one (b ∷ bs) ≡ true → at_most_one bs ≡ true
+at_most_one-tail true bs e = at_most_one-none bs (not-true _ e)
+at_most_one-tail false bs e = e
+
+pub not_both : (b : Bool) (bs : List Bool) → at_most_one (b ∷ bs) ≡ true → (b && list_any (λ x. x) bs) ≡ false
+not_both true bs e = not-true _ e
+not_both false bs e = refl
+
+pub at_most_one-from : (b : Bool) (bs : List Bool) → (list_any (λ x. x) bs ≡ true → b ≡ false) → at_most_one bs ≡ true → at_most_one (b ∷ bs) ≡ true
+at_most_one-from true bs h e = ap not (off (list_any (λ x. x) bs) h) where
+  off : (x : Bool) → (x ≡ true → true ≡ false) → x ≡ false
+  off true h = absurd (let no : true ≡ false = h refl in cc)
+  off false h = refl
+at_most_one-from false bs h e = e
+
+-- fewer are true
+pub at_most_one-less : (f g : ℕ → Bool) (own : ℕ) (kids : List ℕ) → are_below own kids ≡ true → ((k : ℕ) → k < own → f k ≡ true → g k ≡ true)
+    → at_most_one (map g kids) ≡ true → at_most_one (map f kids) ≡ true
+at_most_one-less f g own [] below less e = refl
+at_most_one-less f g own (kid ∷ kids) below less e =
+    let parts = and_parts (nat_lt kid own) (are_below own kids) below in
+    at_most_one-from (f kid) (map f kids)
+    (λ any. off (f kid) (g kid) _ (less kid (ltb-true kid own parts.0)) (any_more (Unit {0}) f g own kids parts.1 (λ k h t. (less k h t, tt)) any).0 (not_both (g kid) (map g kids) e))
+    (at_most_one-less f g own kids parts.1 less (at_most_one-tail (g kid) (map g kids) e)) where
+      off : (a b x : Bool) → (a ≡ true → b ≡ true) → x ≡ true → (b && x) ≡ false → a ≡ false
+      off false b x h e f = refl
+      off true true true h e f = absurd (let no : true ≡ false = f in cc)
+      off true true false h e f = absurd (let no : false ≡ true = e in cc)
+      off true false x h e f = absurd (let no : false ≡ true = h refl in cc)
+
+-- ---- numbers that follow each other
+
+pub range-below : (start len end : ℕ) → start + len ≤ end → are_below end (range_with_len start len) ≡ true
+range-below start zero end few = refl
+range-below start (suc len) end few = and_from _ _ (lt-ltb start end (omega (arith, few))) (range-below (start + 1) len end (omega (arith, few)))

@@ -1,0 +1,69 @@
+-- Values of nodes: each is by the node's kind and the values of its kids.
+use Rattle.std.proofs.Common.{◌≡◌, ℕ, suc, ◌<◌, Bool, true, false, List, [], ◌∷◌, ◌++◌, map, length, take, get_or, Some, All, refl, ap, sym, subst, ◌∙◌, arith, length-append}
+use Rattle.std.specs.Prelude.{nat_lt, slice_get}
+use Rattle.std.specs.List.{list_all}
+use Rattle.std.proofs.lemmas.Bool.{and_parts, and_from, ltb-true, lt-ltb}
+use Rattle.std.proofs.lemmas.List.{get_or_at}
+use Rattle.std.proofs.lemmas.Option.{get_or_from_slice_get, slice_get_within}
+use Rattle.std.proofs.Math.Seq.{take-append_seam}
+use Rattle.state_rules.specs.Bits.{bit_in}
+use Rattle.state_rules.specs.Values.{values}
+use Rattle.state_rules.proofs.Values.{values-at, values-before}
+use Rattle.state_rules.specs.declared.nodes.NodeKind.{NodeKind}
+use Rattle.state_rules.specs.Graphs.{Node, true_node, node_at}
+use Rattle.state_rules.proofs.Lists.{list_all-at}
+
+abbrev pub are_below : ℕ → List ℕ → Bool
+are_below own kids = list_all (λ kid. nat_lt kid own) kids
+
+pub are_below-from : (own : ℕ) (kids : List ℕ) → All (λ k. k < own) kids → are_below own kids ≡ true
+are_below-from own [] all = refl
+are_below-from own (kid ∷ kids) all = and_from _ _ (lt-ltb kid own (all 0 0 (omega arith))) (are_below-from own kids (λ k d h. all (suc k) d (omega arith)))
+
+pub below-each : (own : ℕ) (kids : List ℕ) → are_below own kids ≡ true → All (λ k. k < own) kids
+below-each own kids below k d h = ltb-true (get_or kids k d) own (list_all-at (λ kid. nat_lt kid own) kids k d below h)
+
+-- where two functions agree below a number, they agree on kids that are below it
+pub map-below : {A : Type 0} (f g : ℕ → A) (own : ℕ) (kids : List ℕ) → are_below own kids ≡ true → ((k : ℕ) → k < own → f k ≡ g k) → map f kids ≡ map g kids
+map-below f g own [] below same = refl
+map-below f g own (kid ∷ kids) below same =
+    let parts = and_parts (nat_lt kid own) (are_below own kids) below in
+    λ i. same kid (ltb-true kid own parts.0) i ∷ map-below f g own kids parts.1 same i
+
+pub node_at-last : (nodes : List Node) (node : Node) → node_at (nodes ++ node ∷ []) (length nodes) ≡ node
+node_at-last nodes node = get_or_at nodes node [] true_node (length nodes) refl
+
+module _ (by_kind : NodeKind → List Bool → Bool) where
+  abbrev pub value : Node → List Bool → Bool
+  value node earlier = by_kind node.what (map (bit_in earlier) node.kids)
+
+  -- the value of the node with this number
+  abbrev pub value_of : List Node → ℕ → Bool
+  value_of nodes k = bit_in (values value nodes) k
+
+  pub value_of-at : (nodes : List Node) (i : ℕ) → i < length nodes → are_below i (node_at nodes i).kids ≡ true
+      → value_of nodes i ≡ by_kind (node_at nodes i).what (map (value_of nodes) (node_at nodes i).kids)
+  value_of-at nodes i inside below =
+      values-at value nodes i true_node inside false
+      ∙ ap (by_kind (node_at nodes i).what) (map-below (bit_in (values value (take i nodes))) (value_of nodes) i (node_at nodes i).kids below (λ k h. values-before value nodes i true_node inside k false h))
+
+  pub value_of-get : (nodes : List Node) (i : ℕ) (node : Node) → slice_get nodes i ≡ Some node → are_below i node.kids ≡ true
+      → value_of nodes i ≡ by_kind node.what (map (value_of nodes) node.kids)
+  value_of-get nodes i node there below =
+      let same = get_or_from_slice_get nodes i node true_node there in
+      value_of-at nodes i (slice_get_within nodes i node there) (subst (λ (n : Node). are_below i n.kids ≡ true) (sym same) below)
+      ∙ ap (λ (n : Node). by_kind n.what (map (value_of nodes) n.kids)) same
+
+  -- that of a last node is by those before it
+  pub value_of-last : (nodes : List Node) (node : Node) → value_of (nodes ++ node ∷ []) (length nodes) ≡ value node (values value nodes)
+  value_of-last nodes node =
+      let inside : length nodes < length (nodes ++ node ∷ []) = omega (arith, length-append nodes (node ∷ [])) in
+      values-at value (nodes ++ node ∷ []) (length nodes) true_node inside false
+      ∙ (λ i. value (node_at-last nodes node i) (values value (take-append_seam nodes (node ∷ []) i)))
+
+  -- and those before it stay
+  pub value_of-before : (nodes : List Node) (node : Node) (k : ℕ) → k < length nodes → value_of (nodes ++ node ∷ []) k ≡ value_of nodes k
+  value_of-before nodes node k h =
+      let inside : length nodes < length (nodes ++ node ∷ []) = omega (arith, length-append nodes (node ∷ [])) in
+      sym (values-before value (nodes ++ node ∷ []) (length nodes) true_node inside k false h)
+      ∙ ap (λ ns. value_of ns k) (take-append_seam nodes (node ∷ []))

@@ -1,0 +1,44 @@
+-- Values of items, each by the values of the items before.
+use Rattle.std.proofs.Common.{◌≡◌, ℕ, ◌+◌, ◌<◌, List, [], ◌∷◌, ◌++◌, length, get_or, take, drop, refl, sym, ap, ◌∙◌, arith}
+use Rattle.std.proofs.lemmas.List.{length_push, get_or_push, get_or_append_left, drop_more, take-append-drop, length-take-le}
+use Rattle.state_rules.specs.Values.{values_after, values}
+
+module _ {N A : Type 0} (f : N → List A → A) where
+  pub length-values_after : (es : List A) (ns : List N) → length (values_after f es ns) ≡ length es + length ns
+  length-values_after es [] = omega arith
+  length-values_after es (n ∷ ns) = omega (arith, length-values_after (es ++ f n es ∷ []) ns, length_push es (f n es))
+
+  pub values_after-append : (es : List A) (ms ns : List N) → values_after f es (ms ++ ns) ≡ values_after f (values_after f es ms) ns
+  values_after-append es [] ns = refl
+  values_after-append es (m ∷ ms) ns = values_after-append (es ++ f m es ∷ []) ms ns
+
+  pub values_after-keeps : (es : List A) (ns : List N) (k : ℕ) (d : A) → k < length es → get_or (values_after f es ns) k d ≡ get_or es k d
+  values_after-keeps es [] k d l = refl
+  values_after-keeps es (n ∷ ns) k d l =
+      values_after-keeps (es ++ f n es ∷ []) ns k d (omega (arith, length_push es (f n es))) ∙ get_or_append_left es (f n es ∷ []) d k l
+
+  module _ (ns : List N) (k : ℕ) (x : N) (l : k < length ns) where
+    before : List A
+    before = values f (take k ns)
+
+    split : values f ns ≡ values_after f (values f (take k ns)) (get_or ns k x ∷ drop (k + 1) ns)
+    split = ap (values f) (sym (take-append-drop k ns)) ∙ values_after-append [] (take k ns) (drop k ns)
+        ∙ ap (values_after f (values f (take k ns))) (drop_more ns k x l)
+
+    length-before : length (values f (take k ns)) ≡ k
+    length-before = length-values_after [] (take k ns) ∙ (let e = length-take-le k ns (omega arith) in omega arith)
+
+    -- a value is by the values before it
+    pub values-at : (d : A) → get_or (values f ns) k d ≡ f (get_or ns k x) (values f (take k ns))
+    values-at d =
+        let es = values f (take k ns) in
+        let y = f (get_or ns k x) es in
+        ap (λ vs. get_or vs k d) split
+        ∙ values_after-keeps (es ++ y ∷ []) (drop (k + 1) ns) k d (omega (arith, length_push es y, length-before))
+        ∙ get_or_push es y d k length-before
+
+    -- and those are the same in the whole list
+    pub values-before : (j : ℕ) (d : A) → j < k → get_or (values f (take k ns)) j d ≡ get_or (values f ns) j d
+    values-before j d m =
+        let es = values f (take k ns) in
+        sym (values_after-keeps es (get_or ns k x ∷ drop (k + 1) ns) j d (omega (arith, length-before))) ∙ ap (λ vs. get_or vs j d) (sym split)

@@ -1,0 +1,55 @@
+-- The bits of what is made of words: of ands and ors of them, and of a word of one bit.
+use Rattle.std.proofs.Common.{◌≡◌, ℕ, zero, suc, ◌+◌, ◌*◌, ◌%◌, ◌^◌, ◌<◌, min, max, false, ◌&&◌, ◌||◌, ◌==◌, List, [], ◌∷◌, map, length, take, get_or, refl, sym, ap, ◌∙◌, arith, ⊎_elim}
+use Rattle.std.specs.Prelude.{bit_and, bit_or}
+use Rattle.std.specs.Int.{bit_at}
+use Rattle.std.specs.List.{list_any}
+use Rattle.std.proofs.lemmas.Bool.{cases_eq, eq-eqb, ne_eqb}
+use Rattle.std.proofs.lemmas.Nat.{one_shl}
+use Rattle.std.proofs.lemmas.Nat.Bits.{bit_at_and, bit_at_or, bit_at-lt, bit_at-zero, bit_at-pow_same, bit_at-pow_other}
+use Rattle.std.proofs.lemmas.List.{take_more, map-append}
+use Rattle.state_rules.specs.Bits.{has_bit}
+use Rattle.state_rules.proofs.Lists.{any-push}
+
+or-bits : (m n : ℕ) → m < 2 → n < 2 → (max m n == 1) ≡ ((m == 1) || (n == 1))
+or-bits zero zero h g = refl
+or-bits zero (suc zero) h g = refl
+or-bits (suc zero) zero h g = refl
+or-bits (suc zero) (suc zero) h g = refl
+or-bits zero (suc (suc n)) h g = absurd (omega arith)
+or-bits (suc zero) (suc (suc n)) h g = absurd (omega arith)
+or-bits (suc (suc m)) n h g = absurd (omega arith)
+
+and-bits : (m n : ℕ) → m < 2 → n < 2 → (min m n == 1) ≡ ((m == 1) && (n == 1))
+and-bits zero zero h g = refl
+and-bits zero (suc zero) h g = refl
+and-bits (suc zero) zero h g = refl
+and-bits (suc zero) (suc zero) h g = refl
+and-bits zero (suc (suc n)) h g = absurd (omega arith)
+and-bits (suc zero) (suc (suc n)) h g = absurd (omega arith)
+and-bits (suc (suc m)) n h g = absurd (omega arith)
+
+pub has_bit-or : (x y b : ℕ) → has_bit (bit_or x y) b ≡ (has_bit x b || has_bit y b)
+has_bit-or x y b = ap (λ n. n == 1) (bit_at_or x y b) ∙ or-bits (bit_at x b) (bit_at y b) (bit_at-lt x b) (bit_at-lt y b)
+
+pub has_bit-and : (x y b : ℕ) → has_bit (bit_and x y) b ≡ (has_bit x b && has_bit y b)
+has_bit-and x y b = ap (λ n. n == 1) (bit_at_and x y b) ∙ and-bits (bit_at x b) (bit_at y b) (bit_at-lt x b) (bit_at-lt y b)
+
+pub has_bit-zero : (b : ℕ) → has_bit 0 b ≡ false
+has_bit-zero b = ap (λ n. n == 1) (bit_at-zero b)
+
+-- one bit alone, in a word of so many bits
+pub one_bit : (width k b : ℕ) → k < width → has_bit (1 * 2 ^ k % 2 ^ width) b ≡ (b == k)
+one_bit width k b lt = ap (λ w. has_bit w b) (one_shl k width lt) ∙ ⊎_elim
+    (λ e. ap (has_bit (2 ^ k)) e ∙ ap (λ n. n == 1) (bit_at-pow_same k) ∙ sym (eq-eqb b k e))
+    (λ ne. ap (λ n. n == 1) (bit_at-pow_other k b ne) ∙ sym (ne_eqb b k ne))
+    (cases_eq b k)
+
+-- ---- the words of some kids, joined
+
+-- the words of the kids before a place were joined, and then one more
+pub joined_more : (word : ℕ → ℕ) (kids : List ℕ) (i any b : ℕ) → i < length kids → has_bit any b ≡ list_any (λ x. x) (map (λ k. has_bit (word k) b) (take i kids))
+    → has_bit (bit_or any (word (get_or kids i 0))) b ≡ list_any (λ x. x) (map (λ k. has_bit (word k) b) (take (i + 1) kids))
+joined_more word kids i any b lt joined =
+    has_bit-or any (word (get_or kids i 0)) b ∙ ap (λ x. x || has_bit (word (get_or kids i 0)) b) joined
+    ∙ sym (any-push (λ x. x) (map (λ k. has_bit (word k) b) (take i kids)) (has_bit (word (get_or kids i 0)) b))
+    ∙ ap (list_any (λ x. x)) (sym (ap (map (λ k. has_bit (word k) b)) (take_more kids i 0 lt) ∙ map-append (λ k. has_bit (word k) b) (take i kids) (get_or kids i 0 ∷ [])))

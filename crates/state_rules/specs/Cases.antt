@@ -1,0 +1,23 @@
+-- What a session has seen and holds.
+use Rattle.std.specs.Prelude.{ℕ, Bool, true, ◌&&◌, List, [], ◌∷◌, replicate, Option, Some, None}
+use Rattle.state_rules.specs.Bits.{same_bit}
+
+-- for each wire the bit that was seen, and for each part whether it is held to be ok (1) or faulty (0)
+pub record Case : Type 0 where
+  pub seen : List (Option Bool)
+  pub held : List (Option Bool)
+
+-- nothing is known of so many wires and parts
+abbrev pub empty_case : ℕ → ℕ → Case
+empty_case wires parts = record { seen = replicate wires None; held = replicate parts None }
+
+-- whether a bit is what is known of it
+abbrev pub agrees_at : Option Bool → Bool → Bool
+agrees_at None bit = true
+agrees_at (Some known) bit = same_bit known bit
+
+-- each bit is what is known of it
+abbrev pub agrees : List (Option Bool) → List Bool → Bool
+agrees [] bits = true
+agrees (known ∷ rest) [] = true
+agrees (known ∷ rest) (bit ∷ bits) = agrees_at known bit && agrees rest bits

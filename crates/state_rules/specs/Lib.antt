@@ -1,0 +1,9 @@
+pub mod Bits
+pub mod Cases
+pub mod Ranking
+pub mod Levels
+pub mod Assignments
+pub mod Values
+pub mod Systems
+pub mod Graphs
+pub mod GraphsOver

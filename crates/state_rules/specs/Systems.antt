@@ -1,0 +1,28 @@
+-- What sessions are asked over. Everything that a session is told follows from a system.
+use Rattle.std.specs.Prelude.{ℕ, Bool, false, List, Option, None}
+use Rattle.state_rules.specs.declared.extras.Extras.{Extras}
+use Rattle.state_rules.specs.Cases.{Case}
+use Rattle.state_rules.specs.Ranking.{least, diagnoses}
+
+abbrev pub no_extras : Extras
+no_extras = record { levels = None; least = false }
+
+-- the names of parts and wires, what the failure of each part costs, the health states that agree with a case, and what is told
+-- besides
+pub record System : Type 0 where
+  pub parts : List (List ℕ)
+  pub wires : List (List ℕ)
+  pub costs : List ℕ
+  pub consistent : Case → List (List Bool)
+  pub extras : Extras
+
+-- the same with these extras
+abbrev pub with_extras : Extras → System → System
+with_extras extras system = record system { extras = extras }
+
+-- the least cost of a state that agrees with a case, and the states that have it
+abbrev pub least_cost : System → Case → Option ℕ
+least_cost system known = least system.costs (system.consistent known)
+
+abbrev pub all_diagnoses : System → Case → List (List Bool)
+all_diagnoses system known = diagnoses system.costs (system.consistent known)

@@ -62,17 +62,13 @@ _diag() {
   fi
   [ -n "$endings" ] || return
   if [ "$COMP_CWORD" -eq 2 ]; then
-    # Folders, and files with an ending that the form takes.
+    # Folders, and files with an ending that the form takes. As names of files they are quoted where they have to be, and a folder alone
+    # is gone into.
+    compopt -o filenames 2>/dev/null
     local path
-    while read -r path; do
-      if [ -d "$path" ]; then
-        COMPREPLY+=("$path/")
-      elif [[ $path == *.* && " $endings" == *" .${path##*.} "* ]]; then
-        COMPREPLY+=("$path")
-      fi
+    while IFS= read -r path; do
+      if [ -d "${path/#\~\//$HOME/}" ] || [[ $path == *.* && " $endings" == *" .${path##*.} "* ]]; then COMPREPLY+=("$path"); fi
     done < <(compgen -f -- "$word")
-    # A folder alone is gone into, and no blank put behind it.
-    if [[ ${#COMPREPLY[@]} -eq 1 && ${COMPREPLY[0]} == */ ]]; then compopt -o nospace 2>/dev/null; fi
     return
   fi
   # A number, as HEALTH behind the file of `ask`, and that behind an option, nobody but the user knows.

@@ -41,9 +41,10 @@ def draw(words: argparse.Namespace, service: Service) -> int:
     with contextlib.ExitStack() as stack:
         script = None
         if words.script == "-":
+            sys.stdin.reconfigure(encoding="utf-8", errors="surrogateescape", newline="\n")  # type: ignore[union-attr]
             script = sys.stdin
         elif words.script is not None:
-            script = stack.enter_context(open(words.script, encoding="utf-8", errors="surrogateescape"))
+            script = stack.enter_context(open(words.script, encoding="utf-8", errors="surrogateescape", newline="\n"))
         text = picture.picture(service, script, words.session, words.most)
     if words.output is None:
         sys.stdout.write(text)

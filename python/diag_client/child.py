@@ -85,20 +85,34 @@ class Child:
 
     def ask(self, requests: Sequence[Request]) -> None:
         """Asks all of these at once, and waits for their replies."""
-        if not requests:
-            return
-        text = "".join(f"{request.line}\n" for request in requests).encode("utf-8", "surrogateescape")
+        if requests:
+            with self._lock:
+                self.send(requests)
+                self._run_until(requests[-1])
+
+    def send(self, requests: Sequence[Request]) -> None:
+        """Asks all of these at once. Their replies are taken when they come."""
+        text = "".join(request.sent for request in requests).encode("utf-8", "surrogateescape")
         with self._lock:
             if not self._in_step:
                 self.stop()
+            if self._over is None and self._input.closed:
+                # Nothing more can be asked, and what still comes answers nothing of this.
+                while not self._is_out():
+                    self._turn()
+                self._finish()
             if self._over is not None:
                 raise self.ended()
             with self._a_step():
                 self._unsent += text
                 self._awaited.extend(requests)
-                if not self._input.closed:
-                    self._watch(self._input, selectors.EVENT_WRITE)
-            self._run_until(requests[-1])
+                self._watch(self._input, selectors.EVENT_WRITE)
+
+    def catch_up(self) -> None:
+        """Waits for what an interrupt left to be answered."""
+        with self._lock:
+            if self._awaited and self._in_step and self._over is None:
+                self._run_until(self._awaited[-1])
 
     def close(self) -> int:
         """Ends the script, waits for what is still to be answered and for the end, and gives the exit status."""

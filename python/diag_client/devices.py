@@ -88,7 +88,8 @@ class Device:
 def read_device(path: str | os.PathLike[str]) -> Device:
     """The device in a file, which the program has read without a fault."""
     path = pathlib.Path(path)
-    text = path.read_text(encoding="utf-8", errors="surrogateescape")
+    # A line ends at a line feed alone, and a carriage return is a blank.
+    text = path.read_bytes().decode("utf-8", "surrogateescape")
     device = read_design(text) if path.suffix == ".dev" else read_netlist(text)
     device.parts.sort(key=lambda part: part.name)
     device.wires.sort()
@@ -127,7 +128,7 @@ def read_design(text: str) -> Device:
     block = _Block([], [], [])
     device = Device([], [])
     for line in text.split("\n"):
-        match line.split("#")[0].split():
+        match re.findall(r"[^ \t\r]+", line.split("#")[0]):
             case ["type", name, *ports]:
                 ports_of[name] = tuple(ports)
             case ["block", name, *ports]:

@@ -13,7 +13,7 @@ import subprocess
 from collections.abc import Iterable, Mapping
 
 from .devices import FLIP_FLOP, GATES, Device, Part, Reduction, read_device
-from .errors import DiagError, Inconsistent, Refused
+from .errors import DiagError, Inconsistent
 from .replies import Verdict
 from .service import Service, Session
 
@@ -32,12 +32,16 @@ HELD = {"ok": "#1a7f37", "bad": "#b30000"}
 
 @dataclasses.dataclass(frozen=True)
 class Case:
-    """What is drawn over a device: what was seen and held, and what the diagnoses say of the parts; cost None where there are none."""
+    """What is drawn over a device: what was seen and held, and what the diagnoses say of the parts; cost None where there are none.
+
+    With `has_times` the names that were seen are those of wires at times, as `w@0001`.
+    """
 
     seen: Mapping[str, int]
     held: Mapping[str, str]
     verdicts: Mapping[str, Verdict]
     cost: int | None
+    has_times: bool = False
 
     @classmethod
     def of(cls, session: Session) -> Case:
@@ -47,7 +51,14 @@ class Case:
             verdicts = {row.part: row.verdict for row in session.blame()}
         except Inconsistent:
             cost, verdicts = None, {}
-        return cls(dict(session.seen), dict(session.held), verdicts, cost)
+        return cls(dict(session.seen), dict(session.held), verdicts, cost, session.service.frames is not None)
+
+    def wire_of(self, name: str) -> tuple[str, str]:
+        """The wire that a name speaks of, and at which time; no time where there is but one."""
+        if not self.has_times:
+            return name, ""
+        wire, _, time = name.rpartition("@")
+        return wire, time.lstrip("0")
 
     def suspects(self) -> list[str]:
         """The parts that are faulty in some diagnosis, those first that are so in all."""
@@ -97,7 +108,7 @@ class Drawing:
         self.drawn = self._nearest(most)
         self.nodes: dict[str, list[str]] = collections.defaultdict(list)
         self.edges: list[str] = []
-        self.readings = _by_wire(case.seen, device.wires)
+        self.readings = _by_wire(case, device.wires)
 
     def text(self, title: str) -> str:
         """The whole text."""
@@ -127,8 +138,7 @@ class Drawing:
         by_name = {part.name: part for part in self.device.parts}
         if len(by_name) <= most:
             return frozenset(by_name)
-        # Seen at one of several times, a wire's name ends in the time.
-        seen = {wire for name in self.case.seen for wire in (name, name.rpartition("@")[0])}
+        seen = {self.case.wire_of(name)[0] for name in self.case.seen}
         begun = self.case.suspects() or [part.name for part in self.device.parts if seen.intersection(part.wires)] or list(by_name)
         found = dict.fromkeys(begun[:most])
         queue = collections.deque(found)
@@ -216,15 +226,14 @@ class Drawing:
         return lines
 
 
-def _by_wire(seen: Mapping[str, int], wires: Iterable[str]) -> dict[str, dict[str, int]]:
-    """What was seen of each wire: once, or at some times, which stand behind the wire's name as in `w@0001`."""
+def _by_wire(case: Case, wires: Iterable[str]) -> dict[str, dict[str, int]]:
+    """What was seen of each wire, by the time."""
     readings: dict[str, dict[str, int]] = {wire: {} for wire in wires}
-    for name, bit in sorted(seen.items()):
-        wire, _, time = name.rpartition("@")
-        if name in readings:
-            readings[name][""] = bit
-        elif wire in readings:
-            readings[wire][time.lstrip("0")] = bit
+    for name, bit in sorted(case.seen.items()):
+        wire, time = case.wire_of(name)
+        # The file may have been changed since it was served.
+        if wire in readings:
+            readings[wire][time] = bit
     return readings
 
 
@@ -269,32 +278,27 @@ def dot_text(device: Device, case: Case, title: str, most: int = MOST) -> str:
 
 
 def replay(service: Service, script: Iterable[str], name: str | None = None) -> Session:
-    """Carries out the lines of a script that open and close sessions and change what they know, and passes over all questions.
+    """Carries out the lines of a script that open and close one session and change what it knows, and passes over all questions.
 
-    Gives the session of this name, else the one that was spoken of last; lines that close it behind its last change are passed over.
-    Raises `Refused` at the first line that is refused.
+    That is the session of this name, else the one that was spoken of last, as if it were alone; lines that close it behind its last
+    change are passed over. Raises `Refused` at the first of its lines that is refused.
     """
-    lines = [words for words in (line.split() for line in script) if words and re.fullmatch("open|close|(un)?(see|hold)", words[0])]
-    about = name or next((words[1] for words in reversed(lines) if len(words) > 1), None)
-    last = max((number for number, words in enumerate(lines) if words[1:2] == [about] and words[0] != "close"), default=-1)
-    sessions: dict[str, Session] = {}
-    for command, *words in lines[:last + 1]:
-        session = sessions.get(words[0]) if words else None
-        if command == "open" and session is None and len(words) == 1:
-            sessions[words[0]] = service.session(words[0])
-        elif command == "close" and session is not None and len(words) == 1:
-            sessions.pop(words[0]).close()
-        elif session is not None and command not in ("open", "close"):
-            session.ask(command, *words[1:])
-        else:
-            # It is refused, or no line for a session that is open: the program says why.
-            line = " ".join([command, *words])
-            said = re.search(r"error ([0-9]+) (.+)", service.ask(line)[0])
-            if said is not None:
-                raise Refused(int(said[1]), said[2], line)
-    if about is None or about not in sessions:
+    rows = (re.findall(r"[^ \t\r\n]+", line) for line in script)
+    lines = [words for words in rows if len(words) > 1 and re.fullmatch("open|close|(un)?(see|hold)", words[0])]
+    about = name or (lines[-1][1] if lines else None)
+    own = [words for words in lines if words[1] == about]
+    while own and own[-1][0] == "close":
+        own.pop()
+    if about is None or not own or own[0][0] != "open":
         raise DiagError(f"the script opens no session {about}" if about else "the script opens no session")
-    return sessions[about]
+    session = Session(service, about)
+    try:
+        for command, _, *words in own:
+            session.change(command, *words)
+    except BaseException:
+        session.close()
+        raise
+    return session
 
 
 def render(text: str, path: str | os.PathLike[str]) -> pathlib.Path:

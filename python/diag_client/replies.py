@@ -112,13 +112,18 @@ class Request:
         self.is_answered = False
         self.refused: Refused | None = None
 
+    @property
+    def sent(self) -> str:
+        """What is written for it."""
+        return f"{self.line}\n"
+
     def take(self, line: str) -> bool:
         """Takes the next line of the reply, and says whether it was the last one."""
         raise NotImplementedError
 
     def refuse(self, line: str) -> bool:
         """Whether a line refuses the request: as the session's own reply, or as that to a line that names none."""
-        said = REFUSAL.fullmatch(line.removeprefix(f"{self.session} "))
+        said = REFUSAL.fullmatch(line) or REFUSAL.fullmatch(line.removeprefix(f"{self.session} "))
         if said is not None:
             self.refused = Refused(int(said[1]), said[2], self.line)
         return said is not None
@@ -221,8 +226,13 @@ class AnyLine(Request):
     """Any line of a script that has a reply, whatever its command: with a mark behind it, whose reply ends that to the line."""
 
     def __init__(self, line: str, session: str = "") -> None:
-        super().__init__(session, f"{line}\n{MARK}")
+        super().__init__(session, line)
         self.lines: list[str] = []
+
+    @property
+    def sent(self) -> str:
+        """The line, and the mark."""
+        return f"{self.line}\n{MARK}\n"
 
     def take(self, line: str) -> bool:
         # Only the first line of a reply can be a refusal that names no session.

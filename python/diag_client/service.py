@@ -2,6 +2,8 @@
 
 from __future__ import annotations
 
+import contextlib
+import functools
 import itertools
 import os
 import pathlib
@@ -12,7 +14,7 @@ from typing import TYPE_CHECKING
 
 from . import advice
 from .child import Child
-from .errors import Inconsistent, NotBuilt
+from .errors import Ended, Inconsistent, NotBuilt
 from .replies import AnyLine, Blame, Change, Diagnosis, Graph, GraphText, Level, Listing, Minimum, Probe, Ready, Request, Verdict
 
 if TYPE_CHECKING:
@@ -98,6 +100,7 @@ class Service:
         given = {"narrow": narrow, "budget": budget, "sessions": sessions, "frames": frames, "levels": levels, "least": least}
         words += option_words({**given, **options})
         self.file = pathlib.Path(file)
+        self.frames = frames
         self._numbers = itertools.count(1)
         self._given: set[str] = set()
         self._names: tuple[tuple[str, ...], tuple[str, ...]] | None = None
@@ -145,7 +148,8 @@ class Service:
     def parts(self) -> tuple[str, ...]:
         """The names of all parts, in name order. They are asked once, in a session that is opened for it and closed again.
 
-        Raises `Inconsistent` where no bits of the wires fit the device at all, since the program then names nothing.
+        Raises `Inconsistent` where no bits of the wires fit the device at all, since the program then names nothing, and `Refused` 8
+        where as many sessions are open as may be.
         """
         return self._all_names()[0]
 
@@ -169,7 +173,13 @@ class Service:
         else:
             self._given.add(name)
         session = Session(self, name)
-        session.open()
+        try:
+            session.open()
+        except KeyboardInterrupt:
+            # Nobody has it, so it is closed as soon as it is open.
+            with contextlib.suppress(Ended):
+                self._child.send([session._closing()])
+            raise
         return session
 
     def ask(self, line: str) -> list[str]:
@@ -193,6 +203,10 @@ class Service:
     def carry_out(self, requests: Sequence[Request]) -> None:
         """Asks all of these at once, and waits for their replies. Raises `Ended` where the program ends before."""
         self._child.ask(requests)
+
+    def catch_up(self) -> None:
+        """Waits for what an interrupt left to be answered, so that each session knows what the program knows of it."""
+        self._child.catch_up()
 
     def close(self) -> None:
         """Ends the program, once all that was asked is answered. Raises `Ended` where it ends with another status than 0.
@@ -238,11 +252,9 @@ class Session:
         self._seen: dict[str, int] = {}
         self._held: dict[str, str] = {}
         self._is_open = False
-        # How often the case was changed; where `diagnoses` and `levels` begin; and where the program's own point stands.
+        # How often the case was changed; and where `diagnoses` and `levels` begin.
         self._changes = 0
         self._start: tuple[str, ...] | None = None
-        self._point: tuple[str, ...] | None = None
-        self._is_point_known = True
 
     def __enter__(self) -> Session:
         return self
@@ -263,12 +275,18 @@ class Session:
         """How parts are held, `ok` or `bad`. It cannot be changed but by `hold` and `unhold`."""
         return types.MappingProxyType(self._held)
 
+    @property
+    def is_open(self) -> bool:
+        """Whether it is open, as far as was told."""
+        return self._is_open
+
     def open(self) -> None:
         """Opens the session. `Service.session` has done so."""
         self._carry_out([self._opening()])
 
     def close(self) -> None:
         """Closes the session, and what it knew is gone. Does nothing where it, or the service, is closed."""
+        self.service.catch_up()
         if self._is_open and self.service.is_running:
             self._carry_out([self._closing()])
 
@@ -366,8 +384,11 @@ class Session:
         ...     list(session.diagnoses())
         [Diagnosis(faulty=('22',))]
         """
-        self._carry_out(self._placing(faulty))
-        self._start = faulty
+
+        def note() -> None:
+            self._start = faulty
+
+        self._carry_out([self._noting("after", faulty, note)])
 
     def probe(self, wire: str) -> Probe:
         """The least cost where the wire is seen as 0 too, and where it is seen as 1 too.
@@ -466,13 +487,22 @@ class Session:
         if command in ("open", "close") or command.startswith("#"):
             raise ValueError(f"not a command of a session that is open: {command!r}")
         if command in ("see", "unsee", "hold", "unhold"):
-            change = self._change(command, *words)
-            self._carry_out([change])
+            self.change(command, *words)
             return [f"{self.name} ok"]
         request = AnyLine(self._line(command, *words), self.name)
-        self._is_point_known = False
         self._carry_out([request])
         return request.lines
+
+    def change(self, command: str, *words: str) -> None:
+        """Carries out a line of a script that opens or closes the session, or changes its case: `see`, `unsee`, `hold` or `unhold`.
+
+        >>> with Service("examples/c17.bench") as service, service.session() as session:
+        ...     session.change("see", "22=1")
+        ...     dict(session.seen)
+        {'22': 1}
+        """
+        request = {"open": self._opening, "close": self._closing}.get(command, functools.partial(self._change, command))
+        self._carry_out([request(*words)])
 
     def probe_each(self, wires: Iterable[str]) -> list[Probe]:
         """`probe` of each of these wires, all asked at once."""
@@ -518,6 +548,7 @@ class Session:
 
     def _listed(self, command: str, limit: int | None) -> Iterator[list[str]]:
         """What a command lists, page by page: of each line the words behind the first."""
+        self.service.catch_up()
         changes, point, page = self._changes, self._start, FIRST_PAGE
         left = limit
         while left is None or left > 0:
@@ -536,15 +567,11 @@ class Session:
             page = min(2 * page, LARGEST_PAGE)
 
     def _page(self, command: str, point: tuple[str, ...] | None, size: int) -> list[list[str]]:
-        """The next lines behind a point, at most so many."""
+        """The next lines behind a point, at most so many. It is placed for each page, since other listings move the program's own too."""
         word, _ = LISTINGS[command]
-        placing = [] if self._is_point_known and self._point == point else self._placing(point)
         page = Listing(self.name, self._line(command, str(size)), last="end inconsistent", more=word, most=size)
-        self._is_point_known = False
-        self._carry_out([*placing, page])
-        told = self._rows(page, word)
-        self._note_point(self._faulty(command, told[-1]) if told else point)
-        return told
+        self._carry_out([*self._placing(point), page])
+        return self._rows(page, word)
 
     @staticmethod
     def _faulty(command: str, row: list[str]) -> tuple[str, ...]:
@@ -553,13 +580,17 @@ class Session:
     def _placing(self, point: tuple[str, ...] | None) -> list[Request]:
         """Lines that put the program's point somewhere, or take it back, and change nothing else."""
         if point is not None:
-            return [self._noting("after", point, lambda: self._note_point(point))]
+            return [self._answered("after", *point)]
         for wire, bit in self._seen.items():
-            return [self._noting("see", [f"{wire}={bit}"], lambda: self._note_point(None))]
+            return [self._answered("see", f"{wire}={bit}")]
         for part, mode in self._held.items():
-            return [self._noting("hold", [f"{part}={mode}"], lambda: self._note_point(None))]
-        # Nothing is known, so nothing is lost.
-        return [self._closing(), self._opening()]
+            return [self._answered("hold", f"{part}={mode}")]
+        # Nothing is known, so nothing is lost. A session that is closed stays so.
+        return [self._answered("close", reply="closed"), self._answered("open", reply="open")] if self._is_open else []
+
+    def _answered(self, command: str, *words: str, reply: str = "ok") -> Request:
+        """A line whose reply is one word, of which nothing is noted."""
+        return Listing(self.name, self._line(command, *words), last=reply)
 
     def _change(self, command: str, *words: str) -> Change:
         """A line that changes the case."""
@@ -576,31 +607,27 @@ class Session:
                 self._held.pop(name, None)
             self._changes += 1
             self._start = None
-            self._note_point(None)
 
         return self._noting(command, words, note)
 
-    def _opening(self) -> Change:
+    def _opening(self, *words: str) -> Change:
         def note() -> None:
             self._is_open = True
-            self._note_point(None)
 
-        return self._noting("open", [], note, "open")
+        return self._noting("open", words, note, "open")
 
-    def _closing(self) -> Change:
+    def _closing(self, *words: str) -> Change:
         def note() -> None:
             self._is_open = False
             self._seen.clear()
             self._held.clear()
+            self._changes += 1
+            self._start = None
 
-        return self._noting("close", [], note, "closed")
+        return self._noting("close", words, note, "closed")
 
     def _noting(self, command: str, words: Iterable[str], note: Callable[[], None], reply: str = "ok") -> Change:
         return Change(self.name, self._line(command, *words), reply, note)
-
-    def _note_point(self, point: tuple[str, ...] | None) -> None:
-        self._point = point
-        self._is_point_known = True
 
 
 def _word(text: str) -> str:

@@ -97,6 +97,7 @@ class Shell(cmd.Cmd):
 
     def do_case(self, _: str) -> bool:
         """What was seen and held."""
+        self.service.catch_up()
         print("seen:", " ".join(f"{wire}={bit}" for wire, bit in self.session.seen.items()) or "nothing")
         print("held:", " ".join(f"{part}={mode}" for part, mode in self.session.held.items()) or "nothing")
         return False
@@ -162,13 +163,16 @@ class Shell(cmd.Cmd):
     def _why(self, refused: Refused) -> str:
         """A refusal in words, and of a name that is not known what looks like it."""
         told = f"{refused.text} (error {refused.number})"
-        command, _, *words = refused.line.split("\n")[0].split() + [""]
-        names = [word.partition("=")[0] for word in words if word]
-        known = {"wire": self.service.wires, "part": self.service.parts}.get(refused.text.split()[-1])
-        if known is None:
+        command, _, *words = refused.line.split() + [""]
+        if refused.text not in ("no wire", "no part"):
             usage = self.commands.get(command)
             return f"{told}: {command}; ? tells the commands" if usage is None else f"{told}; it is {' '.join([command, *usage.words])}"
-        missing = next((name for name in names if name not in known), "")
+        try:
+            known = self.service.wires if refused.text == "no wire" else self.service.parts
+        except (Inconsistent, Refused):
+            # The program names nothing, or has no room for a session in which it would.
+            return told
+        missing = next((name for name in (word.partition("=")[0] for word in words if word) if name not in known), "")
         near = difflib.get_close_matches(missing, known, NEAR)
         return f"{told}: {missing}" + (f"; near it: {', '.join(near)}" if near else "")
 

@@ -12,8 +12,39 @@ def say(text, end="\n"):
     sys.stdout.flush()
 
 
+def lists():
+    """Sessions over one wire and nine parts, of which each alone explains whatever is seen. A page takes its time."""
+    say("ready 9 1")
+    points = {}
+    for line in sys.stdin:
+        command, name, *words = line.split() + [""]
+        if command == "open":
+            points[name] = 0
+            say(f"{name} open")
+        elif command not in ("close", "see", "after", "list"):
+            say("error 1 unknown command")
+        elif name not in points:
+            say(f"{name} error 6 no session")
+        elif command == "close":
+            del points[name]
+            say(f"{name} closed")
+        elif command == "list":
+            time.sleep(0.2)
+            for number in range(points[name] + 1, points[name] + 1 + int(words[0])):
+                say(f"{name} diag p{number}" if number <= 9 else f"{name} end")
+                if number > 9:
+                    break
+            points[name] = min(9, points[name] + int(words[0]))
+        else:
+            points[name] = int(words[0].removeprefix("p")) if command == "after" else 0
+            say(f"{name} ok")
+    return 0
+
+
 def main():
     how = sys.argv[1]
+    if how == "lists":
+        return lists()
     if how == "greets":
         say("hello")
         return 0
@@ -35,8 +66,9 @@ def main():
         if how == "breaks" and number == 2:
             say(f"{session} o", end="")
             os.kill(os.getpid(), signal.SIGKILL)
-        if how == "strays" and number == 2:
+        if how.startswith("strays") and number == 2:
             say("something else")
+            time.sleep(0.3 if how == "strays slowly" else 0)
         if how == "sleeps" and command == "min":
             say(f"{session} ", end="")
             time.sleep(1)

@@ -7,6 +7,7 @@ import shutil
 import subprocess
 import tempfile
 import unittest
+from unittest import mock
 
 from support import TOP
 
@@ -64,12 +65,17 @@ class Completion(unittest.TestCase):
         self.forms = {entry.head.split()[1]: entry for entry in entries if entry.head.startswith("diag ")}
 
     def complete(self, *words, folder=TOP, completion=COMPLETION):
-        script = 'source "$1"; shift; COMP_WORDS=(diag "$@"); COMP_CWORD=$#; _diag; printf "%s\\n" "${COMPREPLY[@]}"'
-        done = subprocess.run(
-            ["bash", "-c", script, "bash", str(completion), *words], capture_output=True, text=True, check=True, cwd=folder
+        """What is offered; `offered_as` is how, where that is asked for."""
+        script = (
+            'compopt() { printf "%s\\n" "$*" >&3; }; source "$1"; shift; COMP_WORDS=(diag "$@"); COMP_CWORD=$#; _diag 3>asked; '
+            'printf "%s\\n" "${COMPREPLY[@]}"'
         )
+        with tempfile.NamedTemporaryFile("r") as asked:
+            words = ["bash", "-c", script.replace("3>asked", f"3>{asked.name}"), "bash", str(completion), *words]
+            done = subprocess.run(words, capture_output=True, text=True, check=True, cwd=folder)
+            self.offered_as = asked.read().strip()
         self.assertEqual(done.stderr, "")
-        return sorted(done.stdout.split())
+        return sorted(filter(None, done.stdout.split("\n")))
 
     def test_forms(self):
         self.assertEqual(self.complete(""), sorted(self.forms))
@@ -96,13 +102,18 @@ class Completion(unittest.TestCase):
         notes = [entry.notes for entry in self.forms.values() if entry.notes]
         self.assertEqual([re.findall(r"\.[a-z]+", note) for note in notes], [[".bench", ".dev"], [".nnf"]])
         with tempfile.TemporaryDirectory() as folder:
-            for name in ("a.bench", "b.dev", "c.nnf", "d.txt"):
+            pathlib.Path(folder, "deep folder").mkdir()
+            for name in ("a.bench", "b.dev", "b b.dev", "c.nnf", "d.txt", "deep folder/a.bench"):
                 open(f"{folder}/{name}", "w").close()
             for form in ("serve", "plan", "compile"):
-                self.assertEqual(self.complete(form, "", folder=folder), ["a.bench", "b.dev"])
+                self.assertEqual(self.complete(form, "", folder=folder), ["a.bench", "b b.dev", "b.dev", "deep folder"])
+                # So bash quotes what has blanks, and goes on in a folder.
+                self.assertEqual(self.offered_as, "-o filenames")
             for form in ("check", "ask"):
-                self.assertEqual(self.complete(form, "", folder=folder), ["c.nnf"])
-        self.assertIn("examples/", self.complete("serve", "ex"))
+                self.assertEqual(self.complete(form, "", folder=folder), ["c.nnf", "deep folder"])
+            with mock.patch.dict(os.environ, HOME=folder):
+                self.assertEqual(self.complete("serve", "~/d"), ["~/deep folder"])
+        self.assertIn("examples", self.complete("serve", "ex"))
 
     def test_a_further_form(self):
         """A form that the help tells is completed as the others are."""
@@ -116,7 +127,7 @@ class Completion(unittest.TestCase):
             launcher.write_text(f"#!/usr/bin/env bash\ncat {folder}/c.nnf\n")
             launcher.chmod(0o755)
             for words, wanted in (
-                ("t", ["tell"]), ("tell c", ["c.nnf", "completions/"]), ("tell c.nnf ", []), ("tell c.nnf 1 ", ["--narrow", "--wide"]),
+                ("t", ["tell"]), ("tell c", ["c.nnf", "completions"]), ("tell c.nnf ", []), ("tell c.nnf 1 ", ["--narrow", "--wide"]),
                 ("tell c.nnf 1 --wide ", []), ("tell c.nnf 1 --wide 2 ", ["--narrow"]), ("tell c.nnf 1 --narrow ", ["--wide"]),
             ):
                 self.assertEqual(self.complete(*words.split(" "), folder=folder, completion=completion), wanted, words)

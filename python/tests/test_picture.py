@@ -28,6 +28,13 @@ class Devices(unittest.TestCase):
         self.assertEqual(device.parts, [Part("y", "NAND", ("a", "b", "y")), Part("b", "BUFF", ("a", "b")), Part("q", "DFF", ("y", "q"))])
         self.assertEqual((device.inputs, device.outputs), ({"a"}, {"y"}))
 
+    def test_carriage_returns_are_blanks(self):
+        with tempfile.NamedTemporaryFile(suffix=".bench") as file:
+            file.write(b"INPUT(\ra)# old\rINPUT(b)\r\ny =\rNOT(a)\r\n")
+            file.flush()
+            device = read_device(file.name)
+        self.assertEqual((device.wires, device.parts), (["a", "y"], [Part("y", "NOT", ("a", "y"))]))
+
     def test_design(self):
         device = read_device(EXAMPLES / "adder.dev")
         self.assertEqual(device.blocks, {"first": "HALF", "second": "HALF"})
@@ -73,9 +80,15 @@ class Texts(unittest.TestCase):
 
     def test_times(self):
         device = read_netlist("INPUT(d)\nq = DFF(d)\n")
-        text = picture.dot_text(device, picture.Case({"d@0001": 0, "q@0001": 1, "q@0002": 1}, {}, {}, 1), "t")
+        text = picture.dot_text(device, picture.Case({"d@0001": 0, "q@0001": 1, "q@0002": 1}, {}, {}, 1, True), "t")
         self.assertIn('[label="q\\n@1 = 1\\n@2 = 1"', text)
         self.assertIn('[label="d @1 = 0"', text)
+
+    def test_names_that_look_like_times(self):
+        device = read_netlist("INPUT(a)\na@0001 = NOT(a)\n")
+        rows = (("a@0001", False, "a@0001 = 1"), ("a@0001", True, "a @1 = 1"), ("a@0001@0002", True, "a@0001 @2 = 1"))
+        for seen, has_times, label in rows:
+            self.assertIn(f'[label="{label}"', picture.dot_text(device, picture.Case({seen: 1}, {}, {}, 0, has_times), "t"))
 
     def test_large(self):
         # 300 buffers in a row, the 200th suspect: those next to it are drawn, and that is said.
@@ -157,13 +170,22 @@ class Served(unittest.TestCase):
             lines = ["open S", "see S 1=0", "open T", "see T 1=1", "close T", "min S", "# see", ""]
             with picture.replay(served, lines) as session:
                 self.assertEqual((session.name, dict(session.seen)), ("T", {"1": 1}))
-            served.ask("close S")
             with picture.replay(served, lines, "S") as session:
                 self.assertEqual(dict(session.seen), {"1": 0})
+            # Of more sessions than may be open, and of lines of others that are refused, one is drawn as if it were alone.
+            many = [f"open T{number}" for number in range(20)] + ["open S", "see S 99=1", "see T7 1=1", "open S"]
+            with picture.replay(served, many, "T7") as session:
+                self.assertEqual(dict(session.seen), {"1": 1})
             for wrong in (["see S 1=0"], ["open S", "see S 99=0"], ["open S", "see S"], ["open S", "see T 1=0"], ["open"]):
                 with self.subTest(wrong), self.assertRaises((Refused, DiagError)):
                     picture.replay(served, wrong).close()
-                served.ask("close S")
+            # A session that the service has open itself stays as it is.
+            with served.session("S") as own:
+                own.see({"1": 0})
+                for wrong in (["see S 2=0"], ["close S", "open S"], ["open S", "see S 2=0"]):
+                    with self.subTest(wrong), self.assertRaises((Refused, DiagError)):
+                        picture.replay(served, wrong)
+                self.assertEqual(own.probe("1").if_one, None)
 
     def test_inconsistent(self):
         lines = [*SCRIPT, "hold S 10=ok", "hold S 22=ok", "hold S 23=ok"]

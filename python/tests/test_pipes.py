@@ -2,19 +2,26 @@
 
 import contextlib
 import io
+import os
 import signal
 import threading
 import unittest
 
 from support import C17, EXAMPLES, needs_program, stand_in
 
-from diag_client import Ended, NotBuilt, Service
+from diag_client import Ended, NotBuilt, Refused, Service
+from diag_client.replies import Listing
 
 RIPPLE = EXAMPLES / "ripple_64.bench"
 
 
 def served(how):
     return Service("any.bench", program=stand_in(how))
+
+
+def page_of(session):
+    """A listing of one state, which the stand-in that lists takes its time for."""
+    return Listing(session.name, session._line("list", "1"), last="end", more="diag", most=1)
 
 
 def quietly():
@@ -105,6 +112,30 @@ class Pipes(unittest.TestCase):
 class Interrupts(unittest.TestCase):
     """An interrupt leaves the client and the program in step."""
 
+    def interrupt(self, ask, seconds=0.1):
+        """Interrupts a call after so many seconds: it is repeated until the interrupt comes."""
+        with self.assertRaises(KeyboardInterrupt):
+            threading.Timer(seconds, signal.pthread_kill, [threading.get_ident(), signal.SIGINT]).start()
+            while True:
+                ask()
+
+    def test_while_it_lists(self):
+        """The page that was not waited for moves the program's point, and the next listing begins where it should all the same."""
+        with served("lists") as service, service.session("S") as session:
+            for begin in (lambda: session.see(a=1), lambda: None, lambda: session.after("p3")):
+                begin()
+                first = [str(diagnosis) for diagnosis in session.diagnoses(3)]
+                self.interrupt(lambda: list(session.diagnoses(3)))
+                self.assertEqual([str(diagnosis) for diagnosis in session.diagnoses(3)], first)
+            self.assertEqual(first, ["p4", "p5", "p6"])
+
+    def test_what_was_seen_stays(self):
+        """A reading whose reply was not waited for is known to the next listing."""
+        with served("lists") as service, service.session("S") as session, service.session("T") as other:
+            self.interrupt(lambda: session._carry_out([page_of(other), session._change("see", "a=1")]))
+            self.assertEqual([str(diagnosis) for diagnosis in session.diagnoses(1)], ["p1"])
+            self.assertEqual(dict(session.seen), {"a": 1})
+
     def test_while_it_waits(self):
         with served("sleeps") as service, service.session("S") as session:
             alarm = threading.Timer(0.2, signal.pthread_kill, [threading.get_ident(), signal.SIGINT])
@@ -116,6 +147,30 @@ class Interrupts(unittest.TestCase):
             session.see(a=1)
             self.assertEqual(session.minimum().cost, 0)
             self.assertEqual(dict(session.seen), {"a": 1})
+
+    def test_while_it_opens_or_closes(self):
+        """A session whose opening was not waited for is nobody's, and takes no place; one is closed again as often as one likes."""
+        with served("lists") as service, service.session("S") as session:
+
+            def opened():
+                session._carry_out([page_of(session)])
+                service.session("T").close()
+
+            self.interrupt(opened, 0.3)
+            service.session("T").close()
+            self.interrupt(lambda: session._carry_out([page_of(session), session._closing(), session._opening()]))
+            session.close()
+            session.close()
+            self.assertFalse(session.is_open)
+
+    def test_behind_a_stray_line(self):
+        """What still comes of a program that strayed is no answer to what is asked then."""
+        with served("strays slowly") as service, service.session("S") as session:
+            self.interrupt(lambda: session.see(a=0, b=1, c=1))
+            with self.assertRaises(Ended):
+                session.see(d=1)
+            self.assertNotIn("d", session.seen)
+            service._child.stop()
 
     @needs_program
     def test_at_any_time(self):
@@ -141,10 +196,50 @@ class Interrupts(unittest.TestCase):
                 session.see(a=1)
 
     def test_at_the_terminal_is_not_for_the_program(self):
-        with served("is good") as service, service.session("S") as session:
-            with contextlib.suppress(KeyboardInterrupt):
-                signal.raise_signal(signal.SIGINT)
-            session.see(a=0)
+        """An interrupt at the terminal goes to all of a group of processes."""
+        with served("is good") as service:
+            self.assertNotEqual(os.getpgid(service._child._process.pid), os.getpgrp())
+
+
+class Closed(unittest.TestCase):
+    """A session that was closed stays so, and one that is opened again begins anew."""
+
+    def test_asked(self):
+        with served("lists") as service, service.session("S") as session:
+            session.see(a=1)
+            session.close()
+            for _ in range(2):
+                with self.assertRaises(Refused) as caught:
+                    list(session.diagnoses(2))
+                self.assertEqual((caught.exception.number, caught.exception.line), (6, "list S 2"))
+
+    def test_opened_again(self):
+        with served("lists") as service, service.session("S") as session:
+            session.after("p5")
+            session.close()
+            session.open()
+            self.assertEqual([str(diagnosis) for diagnosis in session.diagnoses(1)], ["p1"])
+
+    def test_within_a_listing(self):
+        with served("lists") as service, service.session("S") as session:
+            rows = session.diagnoses()
+            next(rows)
+            session.close()
+            session.open()
+            with self.assertRaises(RuntimeError):
+                list(rows)
+
+    def test_a_name_like_a_refusal(self):
+        with served("lists") as service, service.session("error") as session:
+            with self.assertRaises(Refused) as caught:
+                session.ask("dance")
+            self.assertEqual(caught.exception.number, 1)
+            self.assertEqual(len(list(session.diagnoses(2))), 2)
+
+    def test_the_line_is_told(self):
+        with served("lists") as service, service.session("S") as session, self.assertRaises(Refused) as caught:
+            session.ask("dance")
+        self.assertEqual((caught.exception.line, str(caught.exception)), ("dance S", "unknown command (error 1): dance S"))
 
 
 if __name__ == "__main__":

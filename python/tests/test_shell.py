@@ -77,6 +77,16 @@ class Lines(unittest.TestCase):
         self.assertEqual(self.say("min"), ["inconsistent"])
         self.assertEqual(self.say("best"), ["no set of faulty parts explains what was seen and held"])
 
+    def test_nothing_fits(self):
+        """Where no bits of the wires fit the device at all, no names are there to be looked through."""
+        with tempfile.NamedTemporaryFile("w", suffix=".dev") as file:
+            file.write("type A x\nok 1\nbad 1\nend\ntype B x\nok 0\nbad 0\nend\nblock D x\npart a A x\npart b B x\nend\ntop D\n")
+            file.flush()
+            with Service(file.name) as service, service.session("S") as session:
+                self.shell = shell.Shell(service, session)
+                self.assertEqual(self.say("see y=1"), ["refused: no wire (error 9)"])
+                self.assertEqual(self.say("min"), ["inconsistent"])
+
     def test_help(self):
         told = self.say("?")
         for name in [*manual.usages(manual.read_help()), *shell.MORE]:

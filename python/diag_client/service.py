@@ -311,7 +311,8 @@ class Session:
         self._carry_out([self._change("unsee", wire) for wire in wires])
 
     def hold(self, held: Mapping[str, str] | None = None, /, **parts: str) -> None:
-        """Parts are held to be `ok` or `bad`, as where one was replaced or tested by itself. Names and refusals are as those of `see`.
+        """Parts were `ok` or `bad` when the readings were taken, as where one was tested by itself; the board after a repair is another
+        session. Names and refusals are as those of `see`.
 
         >>> with Service("examples/full_adder.bench") as service, service.session() as session:
         ...     session.see(a=0, b=0, carry_in=0, sum=1)

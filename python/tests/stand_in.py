@@ -13,14 +13,20 @@ def say(text, end="\n"):
 
 
 def lists():
-    """Sessions over one wire and nine parts, of which each alone explains whatever is seen. A page takes its time."""
+    """Sessions over one wire and nine parts, of which each alone explains whatever is seen. `interrupt` interrupts whoever asks it."""
     say("ready 9 1")
     points = {}
     for line in sys.stdin:
         command, name, *words = line.split() + [""]
         if command == "open":
-            points[name] = 0
-            say(f"{name} open")
+            say(f"{name} error 7 open already" if name in points else f"{name} open")
+            points.setdefault(name, 0)
+        elif command == "interrupt":
+            # Whoever asked waits for the reply by now, and for those to the lines behind it.
+            time.sleep(0.1)
+            os.kill(os.getppid(), signal.SIGINT)
+            time.sleep(0.2)
+            say(f"{name} end")
         elif command not in ("close", "see", "after", "list"):
             say("error 1 unknown command")
         elif name not in points:
@@ -29,7 +35,6 @@ def lists():
             del points[name]
             say(f"{name} closed")
         elif command == "list":
-            time.sleep(0.2)
             for number in range(points[name] + 1, points[name] + 1 + int(words[0])):
                 say(f"{name} diag p{number}" if number <= 9 else f"{name} end")
                 if number > 9:
@@ -68,7 +73,10 @@ def main():
             os.kill(os.getpid(), signal.SIGKILL)
         if how.startswith("strays") and number == 2:
             say("something else")
-            time.sleep(0.3 if how == "strays slowly" else 0)
+            if how == "strays slowly":
+                time.sleep(0.1)
+                os.kill(os.getppid(), signal.SIGINT)
+                time.sleep(0.2)
         if how == "sleeps" and command == "min":
             say(f"{session} ", end="")
             time.sleep(1)

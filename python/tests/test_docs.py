@@ -41,10 +41,10 @@ class Examples(unittest.TestCase):
             self.assertEqual(doctest.DocTestRunner(optionflags=FLAGS).run(example).failed, 0)
 
     def test_each_call_has_an_example(self):
-        """Every method of a session is tried in its docstring, but for those that the docstring of another one tries."""
-        told_by_others = {"open", "close", "unsee", "unhold", "probes", "probe_each", "rank_probes", "diagnoses_with"}
+        """Every method of a session is tried in its docstring, but for some, which other tests try."""
+        tried_elsewhere = {"open", "close", "unsee", "unhold", "probes", "probe_each", "rank_probes", "diagnoses_with"}
         for name, method in vars(diag_client.Session).items():
-            if inspect.isfunction(method) and not name.startswith("_") and name not in told_by_others:
+            if inspect.isfunction(method) and not name.startswith("_") and name not in tried_elsewhere:
                 self.assertIn(">>>", method.__doc__, name)
 
 

@@ -20,8 +20,13 @@ def served(how):
 
 
 def page_of(session):
-    """A listing of one state, which the stand-in that lists takes its time for."""
+    """A listing of one state."""
     return Listing(session.name, session._line("list", "1"), last="end", more="diag", most=1)
+
+
+def pause_of(session):
+    """A line for which the stand-in that lists interrupts us, and whose reply comes later."""
+    return Listing(session.name, session._line("interrupt"), last="end")
 
 
 def quietly():
@@ -112,12 +117,10 @@ class Pipes(unittest.TestCase):
 class Interrupts(unittest.TestCase):
     """An interrupt leaves the client and the program in step."""
 
-    def interrupt(self, ask, seconds=0.1):
-        """Interrupts a call after so many seconds: it is repeated until the interrupt comes."""
+    def interrupted(self, ask):
+        """A call that the program interrupts."""
         with self.assertRaises(KeyboardInterrupt):
-            threading.Timer(seconds, signal.pthread_kill, [threading.get_ident(), signal.SIGINT]).start()
-            while True:
-                ask()
+            ask()
 
     def test_while_it_lists(self):
         """The page that was not waited for moves the program's point, and the next listing begins where it should all the same."""
@@ -125,14 +128,14 @@ class Interrupts(unittest.TestCase):
             for begin in (lambda: session.see(a=1), lambda: None, lambda: session.after("p3")):
                 begin()
                 first = [str(diagnosis) for diagnosis in session.diagnoses(3)]
-                self.interrupt(lambda: list(session.diagnoses(3)))
+                self.interrupted(lambda: session._carry_out([pause_of(session), *session._placing(("p7",)), page_of(session)]))
                 self.assertEqual([str(diagnosis) for diagnosis in session.diagnoses(3)], first)
             self.assertEqual(first, ["p4", "p5", "p6"])
 
     def test_what_was_seen_stays(self):
         """A reading whose reply was not waited for is known to the next listing."""
         with served("lists") as service, service.session("S") as session, service.session("T") as other:
-            self.interrupt(lambda: session._carry_out([page_of(other), session._change("see", "a=1")]))
+            self.interrupted(lambda: session._carry_out([pause_of(other), session._change("see", "a=1")]))
             self.assertEqual([str(diagnosis) for diagnosis in session.diagnoses(1)], ["p1"])
             self.assertEqual(dict(session.seen), {"a": 1})
 
@@ -153,12 +156,12 @@ class Interrupts(unittest.TestCase):
         with served("lists") as service, service.session("S") as session:
 
             def opened():
-                session._carry_out([page_of(session)])
-                service.session("T").close()
+                service._child.send([pause_of(session)])
+                service.session("T")
 
-            self.interrupt(opened, 0.3)
+            self.interrupted(opened)
             service.session("T").close()
-            self.interrupt(lambda: session._carry_out([page_of(session), session._closing(), session._opening()]))
+            self.interrupted(lambda: session._carry_out([pause_of(session), session._closing(), session._opening()]))
             session.close()
             session.close()
             self.assertFalse(session.is_open)
@@ -166,7 +169,7 @@ class Interrupts(unittest.TestCase):
     def test_behind_a_stray_line(self):
         """What still comes of a program that strayed is no answer to what is asked then."""
         with served("strays slowly") as service, service.session("S") as session:
-            self.interrupt(lambda: session.see(a=0, b=1, c=1))
+            self.interrupted(lambda: session.see(a=0, b=1, c=1))
             with self.assertRaises(Ended):
                 session.see(d=1)
             self.assertNotIn("d", session.seen)

@@ -173,8 +173,8 @@ class Served(unittest.TestCase):
             with picture.replay(served, lines, "S") as session:
                 self.assertEqual(dict(session.seen), {"1": 0})
             # Of more sessions than may be open, and of lines of others that are refused, one is drawn as if it were alone.
-            many = [f"open T{number}" for number in range(20)] + ["open S", "see S 99=1", "see T7 1=1", "open S"]
-            with picture.replay(served, many, "T7") as session:
+            many = [f"open case{number}" for number in range(20)] + ["open S", "see S 99=1", "see case7 1=1", "open S"]
+            with picture.replay(served, many, "case7") as session:
                 self.assertEqual(dict(session.seen), {"1": 1})
             for wrong in (["see S 1=0"], ["open S", "see S 99=0"], ["open S", "see S"], ["open S", "see T 1=0"], ["open"]):
                 with self.subTest(wrong), self.assertRaises((Refused, DiagError)):

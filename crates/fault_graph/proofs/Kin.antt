@@ -13,7 +13,7 @@ use Rattle.state_rules.specs.Graphs.{at_most_one, Graph, truth_by, is_true, ment
 use Rattle.state_rules.proofs.Kids.{at_most_one-tail, not_both}
 use Rattle.conditioner.specs.Words.{leaf_of}
 use Rattle.minimiser.specs.Costs.{part_cost, known_at, sum_costs, literal_cost}
-use Rattle.minimiser.proofs.Costs.{IsCost, from_add, true_is}
+use Rattle.minimiser.proofs.Costs.{IsCost, as_cost, from_add, true_is}
 use Rattle.minimiser.proofs.Whole.{part_cost-none}
 use Rattle.minimiser.proofs.Derivations.{C, is_cost, true-at, mention-at, costs-at, apart-kids, kids-cost, Apart, apart-tail, apart-both, cheapest-kid}
 use Rattle.minimiser.proofs.Sweeping.{sum-kid}
@@ -89,7 +89,7 @@ module _ (graph : Graph) (words costs : List ℕ) (ok : IsGraph graph) (keep : �
   -- each kid of an and costs no more than it
   ands : (kids : List ℕ) (c : ℕ) → Apart graph words costs ok kids → KidsStand kids c → ((j d : ℕ) → In j kids → C graph words costs ok j ≡ Some d → d ≤ c) → (s : ℕ) → sum_costs (map (C graph words costs ok) kids) ≡ Some s
       → StandsFor kn price n (λ a. list_all (λ b. b) (map (T a) kids)) (λ v. list_any (λ b. b) (map (M v) kids)) s (λ a. list_all (λ b. b) (map (λ p. U p a) (map place (filter keep kids))))
-  ands [] c apart h low s e = subst (λ m. StandsFor kn price n (λ a. true) (λ v. false) m (λ a. true)) (same_Some 0 s e) (stands-free kn price n (part_cost-none costs) (λ a. true) (λ v. false) (true_is kn price n))
+  ands [] c apart h low s e = subst (λ m. StandsFor kn price n (λ a. true) (λ v. false) m (λ a. true)) (same_Some 0 s e) (stands-free kn price n (part_cost-none costs) (λ a. true) (λ v. false) (as_cost kn price n _ _ _ (true_is kn price n)))
   ands (j ∷ kids) c apart h low s e =
       let sum = from_add (C graph words costs ok j) (sum_costs (map (C graph words costs ok) kids)) s e in
       let later = apart-tail graph words costs ok j kids apart in
@@ -144,7 +144,7 @@ module _ (graph : Graph) (words costs : List ℕ) (ok : IsGraph graph) (keep : �
   unfolding Apart
   node-stands k c (Literal positive var) kids e is dear h =
       let s = says (kn var) (price var) c positive (sym (costs-at graph words costs ok k _ e) ∙ is) dear in
-      StandsFor-same kn price n (λ a. true-at graph words costs ok k _ e a ∙ ap (λ p. same_bit p (a var)) s.0) (λ v. mention-at graph words costs ok k _ e v) s.1 (λ a. ap (λ p. same_bit p (a var)) s.0) (stands-literal kn price n var)
+      StandsFor-same kn price n (λ a. true-at graph words costs ok k _ e a ∙ ap (λ p. same_bit p (a var)) s.0) (λ v. mention-at graph words costs ok k _ e v) s.1 (λ a. ap (λ p. same_bit p (a var)) s.0) (stands-literal kn price n (part_cost-none costs) var)
   node-stands k c And kids e is dear h =
       let sum = sym (costs-at graph words costs ok k _ e) ∙ is in
       StandsFor-same kn price n (λ a. true-at graph words costs ok k _ e a) (λ v. mention-at graph words costs ok k _ e v) refl (λ a. refl)

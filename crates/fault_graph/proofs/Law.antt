@@ -13,7 +13,8 @@ use Rattle.state_rules.specs.Graphs.{Graph, is_true, mentions, IsGraph}
 use Rattle.conditioner.specs.Models.{has_model, fits_words, models, least_under, diagnoses_under}
 use Rattle.minimiser.specs.Costs.{part_cost, known_at}
 use Rattle.minimiser.specs.inner.Held.{held_cost}
-use Rattle.minimiser.proofs.Totals.{total, total-le}
+use Rattle.node_costs.specs.Costs.{total}
+use Rattle.node_costs.proofs.Totals.{total-le}
 use Rattle.minimiser.proofs.Costs.{fault, all_faults, and_left, and_right}
 use Rattle.minimiser.proofs.Whole.{AddHeld, least_is, state_of, assignment_of}
 use Rattle.minimiser.proofs.Derivations.{C}

@@ -1,18 +1,18 @@
 -- What stands for a node costs what the node does.
-use Rattle.std.proofs.Common.{◌≡◌, ℕ, ◌≤◌, Bool, true, cond, List, length, Option, Some, subst, arith}
+use Rattle.std.proofs.Common.{◌≡◌, ℕ, ◌≤◌, Bool, true, List, length, Option, Some, refl, subst, arith}
 use Rattle.state_rules.specs.Assignments.{Assignment}
 use Rattle.state_rules.proofs.Members.{AtMost, AtMost-le}
 use Rattle.state_rules.specs.Graphs.{Graph, is_true, mentions, IsGraph}
 use Rattle.minimiser.specs.Costs.{part_cost, known_at}
-use Rattle.minimiser.proofs.Totals.{total-le}
-use Rattle.minimiser.proofs.Costs.{fault, Agrees, faults_in, all_faults}
-use Rattle.minimiser.proofs.Whole.{from_bounds, le_cond}
+use Rattle.node_costs.proofs.Totals.{total-le}
+use Rattle.minimiser.proofs.Costs.{fault, Agrees, faults_in, faults_in-le, all_faults}
+use Rattle.minimiser.proofs.Whole.{from_bounds}
 use Rattle.minimiser.proofs.Derivations.{C, is_cost}
 use Rattle.fault_graph.proofs.Standing.{StandsFor}
 
 -- what is among some variables is no more than what is among all
 pub faults_in-all : (known : ℕ → Option Bool) (cost : ℕ → ℕ) (parts : ℕ) (m : ℕ → Bool) (a : Assignment) → faults_in known cost parts m a ≤ all_faults known cost parts a
-faults_in-all known cost parts m a = total-le (λ v. cond (m v) (fault (known v) (cost v) (a v)) 0) (λ v. fault (known v) (cost v) (a v)) (λ v. le_cond (m v) (fault (known v) (cost v) (a v))) 1 parts
+faults_in-all known cost parts m a = faults_in-le known cost parts m (λ v. true) a (λ v p. refl)
 
 module _ (graph small : Graph) (words costs : List ℕ) (ok : IsGraph graph) (sound : IsGraph small) (k p c : ℕ) (is : C graph words costs ok k ≡ Some c)
     (stands : StandsFor (known_at words) (part_cost costs) (length costs) (λ a. is_true graph.nodes k a) (λ v. mentions graph.nodes v k) c (λ a. is_true small.nodes p a)) where

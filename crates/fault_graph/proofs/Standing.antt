@@ -1,18 +1,12 @@
 -- What stands for a node that is true at its least cost: literal by literal, one of two, both of two.
-use Rattle.std.proofs.Common.{◌≡◌, ℕ, ◌+◌, ◌<◌, ◌≤◌, Bool, true, false, cond, ◌&&◌, ◌||◌, Option, Some, None, refl, ap, sym, ◌∙◌, subst, arith, eqb, ⊎_elim}
-use Rattle.std.proofs.lemmas.Bool.{and_from, or_cases, or_left, or_right, eqb-true, eq-eqb, cases_lt}
+use Rattle.std.proofs.Common.{◌≡◌, ℕ, ◌+◌, ◌<◌, ◌≤◌, Bool, true, false, ◌&&◌, ◌||◌, Option, Some, None, refl, ap, sym, ◌∙◌, subst, arith, eqb, ⊎_elim}
+use Rattle.std.proofs.lemmas.Bool.{and_from, or_cases, or_left, or_right, eq-eqb}
 use Rattle.state_rules.specs.Bits.{same_bit}
 use Rattle.state_rules.specs.Assignments.{Assignment}
-use Rattle.state_rules.proofs.Bits.{not_left}
-use Rattle.state_rules.proofs.Cases.{usual_bit, usual_bit-agrees, agrees_cond}
 use Rattle.state_rules.proofs.Members.{AtMost}
-use Rattle.minimiser.proofs.Totals.{total-le, total-le-add, add-le-total, total-one, le-total}
-use Rattle.minimiser.proofs.Costs.{fault, fault_cond, cond-le, usual_bit-fault, IsCost, Agrees, faults_in, all_faults, and_left, and_right, apart_sum, wider, wider_right}
-
-fault_free : (k : Option Bool) (b : Bool) → fault k 0 b ≤ 0
-fault_free None true = omega arith
-fault_free None false = omega arith
-fault_free (Some x) b = omega arith
+use Rattle.node_costs.specs.Costs.{Prices}
+use Rattle.node_costs.proofs.Weighing.{weigh-le, weigh-one, weigh-apart, join, joined-le, trim}
+use Rattle.minimiser.proofs.Costs.{fault, opens, ends, free, IsCost, Agrees, faults_in, all_faults, and_left, and_right}
 
 fault_most : (k : Option Bool) (w : ℕ) (b : Bool) → fault k w b ≤ w
 fault_most None w true = omega arith
@@ -21,6 +15,9 @@ fault_most (Some x) w b = omega arith
 
 -- what is known of each variable, what it costs where it is false, and how many variables there are whose cost may not be 0
 module _ (known : ℕ → Option Bool) (cost : ℕ → ℕ) (parts : ℕ) where
+  abbrev g : Prices
+  g = opens known cost parts
+
   -- one that makes a node true at a cost, with no faults but those of another
   pub record Within (t : Assignment → Bool) (c : ℕ) (b : Assignment) : Type 0 where
     pub by : Assignment
@@ -38,7 +35,7 @@ module _ (known : ℕ → Option Bool) (cost : ℕ → ℕ) (parts : ℕ) where
   pub StandsFor-same : {t s u w : Assignment → Bool} {m o : ℕ → Bool} {c d : ℕ} → ((a : Assignment) → s a ≡ t a) → ((v : ℕ) → o v ≡ m v) → c ≡ d → ((a : Assignment) → w a ≡ u a)
       → StandsFor t m c u → StandsFor s o d w
   StandsFor-same {m = m} {o = o} {c = c} p q e r is = record {
-    onto = λ a ag h few. r a ∙ is.onto a ag (sym (p a) ∙ h) (omega (arith, few, e, total-le (λ v. cond (m v) (fault (known v) (cost v) (a v)) 0) (λ v. cond (o v) (fault (known v) (cost v) (a v)) 0) (λ v. cond-le (m v) (o v) (fault (known v) (cost v) (a v)) (λ h. q v ∙ h)) 1 parts));
+    onto = λ a ag h few. r a ∙ is.onto a ag (sym (p a) ∙ h) (omega (arith, few, e, weigh-le g m o a (λ v h. q v ∙ h)));
     back = λ b ag h. let x = is.back b ag (sym (r b) ∙ h) in record { by = x.by; agrees = x.agrees; holds = p x.by ∙ x.holds; cheap = omega (arith, x.cheap, e); fewer = x.fewer };
   }
 
@@ -46,48 +43,25 @@ module _ (known : ℕ → Option Bool) (cost : ℕ → ℕ) (parts : ℕ) where
   pub stands-free : (none : (v : ℕ) → ((1 ≤ v) → (v < 1 + parts) → ⊥) → cost v ≡ 0) (t : Assignment → Bool) (m : ℕ → Bool) → IsCost known cost parts t m (Some 0) → StandsFor t m 0 (λ a. true)
   stands-free none t m is = record {
     onto = λ a ag h few. refl;
-    back = λ b ag h. let r = is.reached 0 refl in record { by = r.by; agrees = r.agrees; holds = r.holds; cheap = r.cheap; fewer = λ v. omega (arith, free r.by r.cheap v) };
+    back = λ b ag h. let r = is.reached 0 refl in record { by = r.by; agrees = r.agrees; holds = r.holds; cheap = r.cheap; fewer = λ v. omega (arith, no_fault r.by r.cheap v) };
   } where
-    free : (a : Assignment) → all_faults known cost parts a ≤ 0 → (v : ℕ) → fault (known v) (cost v) (a v) ≤ 0
-    free a few v = ⊎_elim
-        (λ (p : v < 1). outside (none v (λ x y. omega arith)))
-        (λ (p : 1 ≤ v). ⊎_elim
-        (λ (q : v < 1 + parts). omega (arith, few, le-total (λ u. fault (known u) (cost u) (a u)) v 1 parts p q))
-        (λ (q : 1 + parts ≤ v). outside (none v (λ x y. omega arith)))
-        (cases_lt v (1 + parts)))
-        (cases_lt v 1) where
-          outside : cost v ≡ 0 → fault (known v) (cost v) (a v) ≤ 0
-          outside e = subst (λ w. fault (known v) w (a v) ≤ 0) (sym e) (fault_free (known v) (a v))
+    no_fault : (a : Assignment) → all_faults known cost parts a ≤ 0 → (v : ℕ) → fault (known v) (cost v) (a v) ≤ 0
+    no_fault a few v = omega (arith, few, weigh-le g (λ u. eqb v u) (λ u. true) a (λ u h. refl), weigh-one g (ends known cost parts none) v a)
 
   -- an open literal that says faulty
-  pub stands-literal : (var : ℕ) → StandsFor (λ a. same_bit false (a var)) (λ v. eqb var v) (cost var) (λ a. same_bit false (a var))
-  stands-literal var = record {
+  pub stands-literal : (none : (v : ℕ) → ((1 ≤ v) → (v < 1 + parts) → ⊥) → cost v ≡ 0) (var : ℕ) → StandsFor (λ a. same_bit false (a var)) (λ v. eqb var v) (cost var) (λ a. same_bit false (a var))
+  stands-literal none var = record {
     onto = λ a ag h few. h;
-    back = λ b ag h. record {
-      by = alone b;
-      agrees = λ v. agrees_cond (known v) (eqb var v) (b v) (usual_bit (known v)) (ag v) (usual_bit-agrees (known v));
-      holds = ap (same_bit false) (at b) ∙ h;
-      cheap = omega (arith, total-le (λ v. fault (known v) (cost v) (alone b v)) (λ v. cond (eqb var v) (cost var) 0) (most b) 1 parts, total-one var (cost var) 1 parts);
-      fewer = fewer b;
-    };
-  } where
-    alone : Assignment → Assignment
-    alone b v = cond (eqb var v) (b v) (usual_bit (known v))
-
-    at : (b : Assignment) → alone b var ≡ b var
-    at b = ap (λ x. cond x (b var) (usual_bit (known var))) (eq-eqb var var refl)
-
-    most : (b : Assignment) (v : ℕ) → fault (known v) (cost v) (alone b v) ≤ cond (eqb var v) (cost var) 0
-    most b v = by_test (eqb var v) refl where
-      by_test : (x : Bool) → eqb var v ≡ x → fault (known v) (cost v) (cond x (b v) (usual_bit (known v))) ≤ cond x (cost var) 0
-      by_test true e = subst (λ u. fault (known u) (cost u) (b u) ≤ cost var) (eqb-true _ _ e) (fault_most (known var) (cost var) (b var))
-      by_test false e = usual_bit-fault (known v) (cost v)
-
-    fewer : (b : Assignment) (v : ℕ) → fault (known v) (cost v) (alone b v) ≤ fault (known v) (cost v) (b v)
-    fewer b v = by_test (eqb var v) where
-      by_test : (x : Bool) → fault (known v) (cost v) (cond x (b v) (usual_bit (known v))) ≤ fault (known v) (cost v) (b v)
-      by_test true = omega arith
-      by_test false = omega (arith, usual_bit-fault (known v) (cost v))
+    back = λ b ag h.
+        let x = trim g (free known cost parts) (λ v. eqb var v) b ag in
+        record {
+          by = x.by;
+          agrees = x.agrees;
+          holds = ap (same_bit false) (x.same var (eq-eqb var var refl)) ∙ h;
+          cheap = omega (arith, x.cost_is (λ v. true) (λ v p. refl), weigh-one g (ends known cost parts none) var b, fault_most (known var) (cost var) (b var));
+          fewer = x.fewer;
+        };
+  }
 
   -- what is never true
   pub stands-never : (c : ℕ) → StandsFor (λ a. false) (λ v. false) c (λ a. false)
@@ -95,10 +69,10 @@ module _ (known : ℕ → Option Bool) (cost : ℕ → ℕ) (parts : ℕ) where
 
   module _ (t s : Assignment → Bool) (m o : ℕ → Bool) where
     left-le : (a : Assignment) → faults_in known cost parts m a ≤ faults_in known cost parts (λ v. m v || o v) a
-    left-le a = total-le (λ v. cond (m v) (fault (known v) (cost v) (a v)) 0) (λ v. cond (m v || o v) (fault (known v) (cost v) (a v)) 0) (λ v. wider (m v) (o v) (fault (known v) (cost v) (a v))) 1 parts
+    left-le a = weigh-le g m (λ v. m v || o v) a (λ v p. or_left _ _ p)
 
     right-le : (a : Assignment) → faults_in known cost parts o a ≤ faults_in known cost parts (λ v. m v || o v) a
-    right-le a = total-le (λ v. cond (o v) (fault (known v) (cost v) (a v)) 0) (λ v. cond (m v || o v) (fault (known v) (cost v) (a v)) 0) (λ v. wider_right (m v) (o v) (fault (known v) (cost v) (a v))) 1 parts
+    right-le a = weigh-le g o (λ v. m v || o v) a (λ v p. or_right _ _ p)
 
     -- one of two of the same cost
     pub stands-or : (c : ℕ) (u w : Assignment → Bool) → StandsFor t m c u → StandsFor s o c w → StandsFor (λ a. t a || s a) (λ v. m v || o v) c (λ a. u a || w a)
@@ -135,31 +109,20 @@ module _ (known : ℕ → Option Bool) (cost : ℕ → ℕ) (parts : ℕ) where
           let q : s a ≡ true = and_right (t a) _ h in
           let low_t : c ≤ faults_in known cost parts m a = is_t.bound a ag p in
           let low_s : d ≤ faults_in known cost parts o a = is_s.bound a ag q in
-          and_from _ _ (x.onto a ag p (omega (arith, few, low_s, both a))) (y.onto a ag q (omega (arith, few, low_t, both a)));
+          let both = weigh-apart g m o a apart in
+          and_from _ _ (x.onto a ag p (omega (arith, few, low_s, both))) (y.onto a ag q (omega (arith, few, low_t, both)));
       back = λ b ag h.
           let r = x.back b ag (and_left _ _ h) in
           let q = y.back b ag (and_right (u b) _ h) in
+          let z = join g m o apart r.by q.by r.agrees q.agrees in
           record {
-            by = joined r.by q.by;
-            agrees = λ v. agrees_cond (known v) (m v) (r.by v) (q.by v) (r.agrees v) (q.agrees v);
-            holds = and_from _ _ (is_t.local (joined r.by q.by) r.by (on_left r.by q.by) ∙ r.holds) (is_s.local (joined r.by q.by) q.by (on_right r.by q.by) ∙ q.holds);
-            cheap = omega (arith, r.cheap, q.cheap, total-le-add (λ v. fault (known v) (cost v) (joined r.by q.by v)) (λ v. fault (known v) (cost v) (r.by v)) (λ v. fault (known v) (cost v) (q.by v)) (λ v. fault_cond (known v) (cost v) (m v) (r.by v) (q.by v)) 1 parts);
-            fewer = λ v. either (m v) (known v) (cost v) (r.by v) (q.by v) (b v) (r.fewer v) (q.fewer v);
+            by = z.by;
+            agrees = z.agrees;
+            holds = and_from _ _ (is_t.local z.by r.by z.as_left ∙ r.holds) (is_s.local z.by q.by z.as_right ∙ q.holds);
+            cheap = omega (arith, r.cheap, q.cheap, joined-le g m o (λ v. true) r.by q.by z);
+            fewer = λ v. ⊎_elim
+                (λ (e : z.by v ≡ r.by v). subst (λ y. fault (known v) (cost v) y ≤ fault (known v) (cost v) (b v)) (sym e) (r.fewer v))
+                (λ (e : z.by v ≡ q.by v). subst (λ y. fault (known v) (cost v) y ≤ fault (known v) (cost v) (b v)) (sym e) (q.fewer v))
+                (z.either v);
           };
-    } where
-      both : (a : Assignment) → faults_in known cost parts m a + faults_in known cost parts o a ≤ faults_in known cost parts (λ v. m v || o v) a
-      both a = add-le-total (λ v. cond (m v) (fault (known v) (cost v) (a v)) 0) (λ v. cond (o v) (fault (known v) (cost v) (a v)) 0) (λ v. cond (m v || o v) (fault (known v) (cost v) (a v)) 0)
-          (λ v. apart_sum (m v) (o v) (fault (known v) (cost v) (a v)) (apart v)) 1 parts
-
-      joined : Assignment → Assignment → Assignment
-      joined a b v = cond (m v) (a v) (b v)
-
-      on_left : (a b : Assignment) (v : ℕ) → m v ≡ true → joined a b v ≡ a v
-      on_left a b v e = ap (λ x. cond x (a v) (b v)) e
-
-      on_right : (a b : Assignment) (v : ℕ) → o v ≡ true → joined a b v ≡ b v
-      on_right a b v e = ap (λ x. cond x (a v) (b v)) (not_left (m v) (o v) (apart v) e)
-
-      either : (p : Bool) (k : Option Bool) (w : ℕ) (x y z : Bool) → fault k w x ≤ fault k w z → fault k w y ≤ fault k w z → fault k w (cond p x y) ≤ fault k w z
-      either true k w x y z h g = h
-      either false k w x y z h g = g
+    }

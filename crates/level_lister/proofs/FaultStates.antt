@@ -1,31 +1,34 @@
 -- The states in which an open part of a group is faulty, and the assignments that are behind them.
-use Rattle.std.proofs.Common.{◌≡◌, ℕ, ◌+◌, ◌-◌, ◌*◌, ◌/◌, ◌<◌, ◌≤◌, true, List, length, get_or, refl, ap, sym, ◌∙◌, subst, arith}
+use Rattle.std.proofs.Common.{◌≡◌, ℕ, ◌+◌, ◌-◌, ◌*◌, ◌/◌, ◌<◌, ◌≤◌, true, List, length, get_or, refl, ap, sym, ◌∙◌, arith}
 use Rattle.state_rules.specs.Graphs.{Graph, IsGraph, is_true}
+use Rattle.node_costs.specs.Costs.{CostOf}
+use Rattle.part_sets.proofs.SetBits.{has-within}
+use Rattle.level_lister.specs.inner.CostSets.{prices}
 use Rattle.minimiser.proofs.Whole.{state_of, assignment_of}
 use Rattle.part_sets.specs.Numbers.{has_number}
 use Rattle.level_lister.specs.declared.pairs.Groups.{Groups}
-use Rattle.level_lister.specs.inner.Pairs.{Meets, HasFault, FaultOf, group_in}
+use Rattle.level_lister.specs.inner.Pairs.{HasFault, FaultOf, group_in}
 use Rattle.level_lister.specs.inner.FaultSets.{IsWholeFaults}
 use Rattle.level_lister.specs.inner.Skips.{IsEnough}
 use Rattle.level_lister.proofs.Living.{living-true}
-use Rattle.level_lister.proofs.Whole.{among-all}
+use Rattle.level_lister.proofs.Whole.{weigh-all}
 use Rattle.level_lister.proofs.PairNodes.{IsGrouped, grouped, in_group}
 
 module _ (graph : Graph) (words costs : List ℕ) (groups : Groups) (ok : IsGraph graph) (long : length words ≡ graph.vars) (within : length costs ≤ graph.vars) where
   -- the last node is true, and a part of a group faulty
   abbrev pub HasWholeFault : ℕ → ℕ → Type 0
-  HasWholeFault g c = Meets words costs (λ v. true) (λ a. (is_true graph.nodes (length graph.nodes - 1) a ≡ true) × HasFault (group_in words (length costs) groups g) (λ v. true) a) c
+  HasWholeFault g c = CostOf (prices words costs) (λ v. true) (λ a. (is_true graph.nodes (length graph.nodes - 1) a ≡ true) × HasFault (group_in words (length costs) groups g) (λ v. true) a) c
 
   pub fault_state : (g c : ℕ) → HasWholeFault g c → FaultOf graph words costs c groups g
   fault_state g c r =
-      let s = state_of graph words costs ok long within r.by r.follows r.holds.0 in
-      let fault = r.holds.1 in
+      let s = state_of graph words costs ok long within r.by r.agrees r.meets.0 in
+      let fault = r.meets.1 in
       let is = grouped words (length costs) groups g fault.var fault.of_group in
       let inside : fault.var - 1 < length costs = omega (arith, is.low, is.high) in
       let place : 1 + (fault.var - 1) ≡ fault.var = omega (arith, is.low) in
       record {
         state = s.state;
-        is = record { long = s.long_state; model = s.model; cost_is = among-all r.by 1 costs s.state s.long_state s.bits ∙ r.cost_is };
+        is = record { long = s.long_state; model = s.model; cost_is = weigh-all words r.by costs s.state s.long_state s.bits ∙ r.cost_is };
         part = fault.var - 1;
         within = inside;
         open_ = is.open_;
@@ -52,16 +55,16 @@ module _ (graph : Graph) (words costs : List ℕ) (groups : Groups) (ok : IsGrap
         of_group = in_group words (length costs) groups g (f.part + 1) is;
         faulty = ap a.by (sym place) ∙ sym (a.bits f.part f.within) ∙ f.faulty;
       } in
-      record { by = a.by; follows = a.agrees; holds = (a.holds, fault); cost_is = sym (among-all a.by 1 costs h f.is.long a.bits) ∙ f.is.cost_is }
+      record { by = a.by; agrees = a.agrees; meets = (a.holds, fault); cost_is = sym (weigh-all words a.by costs h f.is.long a.bits) ∙ f.is.cost_is }
 
   -- the set of the whole graph with a fault
   module _ (skips : List ℕ) (top : ℕ) (enough : IsEnough graph skips words costs top) (set : List ℕ) (is : IsWholeFaults graph skips words costs groups set) where
     pub first_sound : (c : ℕ) → has_number set c ≡ true → FaultOf graph words costs c groups 0
     first_sound c e =
-        let r = is.sound c e in
-        fault_state 0 c (record { by = r.by; follows = r.follows; holds = (living-true graph skips ok (length graph.nodes - 1) (omega (arith, ok.some)) r.by r.holds.0, r.holds.1); cost_is = r.cost_is })
+        let r = is.sound c (has-within set c e) e in
+        fault_state 0 c (record { by = r.by; agrees = r.agrees; meets = (living-true graph skips ok (length graph.nodes - 1) (omega (arith, ok.some)) r.by r.meets.0, r.meets.1); cost_is = r.cost_is })
 
     pub first_whole : (c : ℕ) → c ≤ top → c < 32 * length set → FaultOf graph words costs c groups 0 → has_number set c ≡ true
     first_whole c le lt f =
         let r = state_fault 0 c f in
-        subst (λ n. has_number set n ≡ true) r.cost_is (is.whole r.by r.follows (enough.left r.by r.follows r.holds.0 (omega (arith, r.cost_is)), r.holds.1) (omega (arith, r.cost_is)))
+        is.whole c lt (record { by = r.by; agrees = r.agrees; meets = (enough.left r.by r.agrees r.meets.0 (omega (arith, r.cost_is)), r.meets.1); cost_is = r.cost_is })

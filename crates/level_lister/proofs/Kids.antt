@@ -1,10 +1,13 @@
--- The set of a node, from those of the kids before a place.
+-- What holds of a node, from what holds of the kids before a place.
 use Rattle.std.proofs.Common.{◌≡◌, ◌≢◌, ℕ, zero, suc, ◌+◌, ◌-◌, ◌*◌, ◌<◌, ◌≤◌, Bool, true, false, cond, ◌&&◌, ◌||◌, List, [], ◌∷◌, ◌++◌, map, take, length, get_or, refl, ap, sym, ◌∙◌, subst, arith, inl, inr, ⊎_elim}
 use Rattle.std.specs.Prelude.{◌⊎◌, ◌==◌}
 use Rattle.std.specs.List.{list_all, list_any}
-use Rattle.std.proofs.lemmas.Bool.{not-true, le-leb}
+use Rattle.std.proofs.Math.Bool.{and_comm, or_comm}
+use Rattle.std.proofs.lemmas.Bool.{not-true}
 use Rattle.std.proofs.lemmas.List.{map_more, take_all}
 use Rattle.state_rules.specs.Assignments.{Assignment}
+use Rattle.state_rules.specs.Bits.{same_bit}
+use Rattle.state_rules.specs.declared.nodes.NodeKind.{NodeKind}
 use Rattle.state_rules.specs.declared.nodes.NodeKind.TheVariants.{Literal, And, Or}
 use Rattle.state_rules.specs.Graphs.{Graph, node_at, truth_by, mention_by, is_true, mentions, at_most_one, apart_at, IsGraph}
 use Rattle.state_rules.proofs.NodesFit.{each_apart}
@@ -14,13 +17,15 @@ use Rattle.conditioner.specs.declared.leaves.Leaf.TheVariants.{True, False, Open
 use Rattle.conditioner.specs.Words.{leaf_of}
 use Rattle.minimiser.specs.Costs.{known_at, part_cost}
 use Rattle.part_sets.specs.Numbers.{has_number}
-use Rattle.part_sets.proofs.Kids.{mention-is, literal-fits}
-use Rattle.level_lister.specs.inner.CostSets.{has_shifted, AreSums, IsCostSet}
+use Rattle.part_sets.specs.PartSets.{SameBelow}
+use Rattle.part_sets.proofs.Kids.{mention-is, kid-mentions}
+use Rattle.node_costs.proofs.Tests.{same_tests}
+use Rattle.level_lister.proofs.Growing.{Wider}
+use Rattle.level_lister.specs.inner.CostSets.{IsCostSet}
 use Rattle.level_lister.specs.inner.NodeSets.{IsNodeSet}
 use Rattle.level_lister.specs.inner.Skips.{living}
 use Rattle.level_lister.proofs.Living.{living-is, skipped-is}
-use Rattle.level_lister.proofs.Reaching.{same_is, empty_is, false_literal_is, literal_is}
-use Rattle.level_lister.proofs.Meeting.{and_is, or_is}
+use Rattle.level_lister.proofs.Reaching.{empty_is, false_literal_is, literal_is}
 
 pub all_push : (bs : List Bool) (b : Bool) → list_all (λ x. x) (bs ++ b ∷ []) ≡ (list_all (λ x. x) bs && b)
 all_push [] true = refl
@@ -56,69 +61,85 @@ apart_from f (k ∷ kids) (suc j) e lt = by_first (f k) refl (apart_from f kids 
       ap (λ b. (b || list_any (λ x. x) (map f (take j kids))) && f (get_or kids j 0)) q ∙ none_at kids j (not-true _ rest) (omega arith)
   by_first false q more = ap (λ b. (b || list_any (λ x. x) (map f (take j kids))) && f (get_or kids j 0)) q ∙ more
 
-pub shifted_none : (set : List ℕ) (n : ℕ) → has_shifted set 0 n ≡ has_number set n
-shifted_none set n = ap (λ b. b && has_number set (n - 0)) (le-leb 0 n (omega arith)) ∙ ap (has_number set) (let e : n - 0 ≡ n = omega arith in e)
+module _ (graph : Graph) (at : ℕ) (kids : List ℕ) (ok : IsGraph graph) (inside : at < length graph.nodes) (are : kids ≡ (node_at graph.nodes at).kids) where
+  -- one and those before it share no variable
+  pub kids_apart : (j : ℕ) → (node_at graph.nodes at).what ≡ And → j < length kids → (v : ℕ) → (list_any (λ b. b) (map (mentions graph.nodes v) (take j kids)) && mentions graph.nodes v (get_or kids j 0)) ≡ false
+  kids_apart j what lt v = apart_from (mentions graph.nodes v) kids j ((λ i. apart_at (mentions graph.nodes v) (sym what i) (are i)) ∙ each_apart (mentions graph.nodes v) graph.nodes at (ok.nodes.apart v) inside) lt
 
-module _ (graph : Graph) (at : ℕ) (kids : List ℕ) (ok : IsGraph graph) (inside : at < length graph.nodes) (are : kids ≡ (node_at graph.nodes at).kids) (skips : List ℕ) (lives : get_or skips at 0 ≡ 0) where
-  -- what the node says, by its kids
-  pub truth-is : (a : Assignment) → is_true (living graph.nodes skips) at a ≡ truth_by a (node_at graph.nodes at).what (map (λ k. is_true (living graph.nodes skips) k a) kids)
-  truth-is a = living-is graph skips ok at inside lives a ∙ ap (λ ks. truth_by a (node_at graph.nodes at).what (map (λ k. is_true (living graph.nodes skips) k a) ks)) (sym are)
+  pub apart_kids : (j : ℕ) → (node_at graph.nodes at).what ≡ And → j < length kids → (v : ℕ) → (mentions graph.nodes v (get_or kids j 0) && list_any (λ b. b) (map (mentions graph.nodes v) (take j kids))) ≡ false
+  apart_kids j what lt v = and_comm (mentions graph.nodes v (get_or kids j 0)) (list_any (λ b. b) (map (mentions graph.nodes v) (take j kids))) ∙ kids_apart j what lt v
 
-  module _ (words costs : List ℕ) where
-    -- ---- a literal
+  -- one that lacks no part of an Or
+  pub kid_full : (parts j : ℕ) → (node_at graph.nodes at).what ≡ Or → j < length kids → SameBelow graph parts at → Wider parts (λ v. mentions graph.nodes v (get_or kids j 0)) (λ v. mentions graph.nodes v at)
+  kid_full parts j what lt below = record {
+    within = λ v e. kid-mentions graph at kids ok inside are j what lt v e;
+    same = λ v l h. ap (λ ks. mentions graph.nodes v (get_or ks j 0)) are ∙ below j v (subst (λ (ks : List ℕ). j < length ks) are lt) l (omega arith);
+  }
 
-    pub literal_set : (var cost : ℕ) (positive : Bool) (leaf : Leaf) (set : List ℕ) → Literal positive var ≡ (node_at graph.nodes at).what → leaf ≡ leaf_of positive (known_at words var) → cost ≡ part_cost costs var
+  module _ (skips : List ℕ) (lives : get_or skips at 0 ≡ 0) where
+    abbrev T : ℕ → Assignment → Bool
+    T k a = is_true (living graph.nodes skips) k a
+
+    abbrev M : ℕ → ℕ → Bool
+    M k v = mentions graph.nodes v k
+
+    -- what the node says, by its kids
+    truth-is : (a : Assignment) → T at a ≡ truth_by a (node_at graph.nodes at).what (map (λ k. T k a) kids)
+    truth-is a = living-is graph skips ok at inside lives a ∙ ap (λ ks. truth_by a (node_at graph.nodes at).what (map (λ k. T k a) ks)) (sym are)
+
+    truth-of : (what : NodeKind) → (node_at graph.nodes at).what ≡ what → (a : Assignment) → truth_by a what (map (λ k. T k a) kids) ≡ T at a
+    truth-of what e a = sym (truth-is a ∙ ap (λ w. truth_by a w (map (λ k. T k a) kids)) e)
+
+    mention-of : (what : NodeKind) → (node_at graph.nodes at).what ≡ what → (v : ℕ) → mention_by v what (map (mentions graph.nodes v) kids) ≡ M at v
+    mention-of what e v = sym (mention-is graph at kids ok inside are v ∙ ap (λ w. mention_by v w (map (mentions graph.nodes v) kids)) e)
+
+    -- what holds of a test and of variables, of one kid after the other, and of the node
+    module _ (Is : (Assignment → Bool) → (ℕ → Bool) → Type 0) where
+      pub literal_at : (var : ℕ) (positive : Bool) → Literal positive var ≡ (node_at graph.nodes at).what → Is (λ a. same_bit positive (a var)) (λ v. var == v) → Is (λ a. is_true (living graph.nodes skips) at a) (λ v. mentions graph.nodes v at)
+      literal_at var positive what is = same_tests Is (truth-of (Literal positive var) (sym what)) (mention-of (Literal positive var) (sym what)) is
+
+      pub and_next : (j : ℕ) → j < length kids → Is (λ a. list_all (λ b. b) (map (λ k. T k a) (take j kids)) && T (get_or kids j 0) a) (λ v. list_any (λ b. b) (map (mentions graph.nodes v) (take j kids)) || M (get_or kids j 0) v)
+          → Is (λ a. list_all (λ b. b) (map (λ k. is_true (living graph.nodes skips) k a) (take (j + 1) kids))) (λ v. list_any (λ b. b) (map (mentions graph.nodes v) (take (j + 1) kids)))
+      and_next j lt is = same_tests Is
+          (λ a. sym (ap (list_all (λ b. b)) (map_more (λ k. T k a) kids j 0 lt) ∙ all_push (map (λ k. T k a) (take j kids)) (T (get_or kids j 0) a)))
+          (λ v. sym (ap (list_any (λ b. b)) (map_more (mentions graph.nodes v) kids j 0 lt) ∙ any_push (map (mentions graph.nodes v) (take j kids)) (M (get_or kids j 0) v))) is
+
+      -- or this one before the others
+      pub and_before : (j : ℕ) → j < length kids → Is (λ a. T (get_or kids j 0) a && list_all (λ b. b) (map (λ k. T k a) (take j kids))) (λ v. M (get_or kids j 0) v || list_any (λ b. b) (map (mentions graph.nodes v) (take j kids)))
+          → Is (λ a. list_all (λ b. b) (map (λ k. is_true (living graph.nodes skips) k a) (take (j + 1) kids))) (λ v. list_any (λ b. b) (map (mentions graph.nodes v) (take (j + 1) kids)))
+      and_before j lt is = and_next j lt (same_tests Is (λ a. and_comm (T (get_or kids j 0) a) (list_all (λ b. b) (map (λ k. T k a) (take j kids)))) (λ v. or_comm (M (get_or kids j 0) v) (list_any (λ b. b) (map (mentions graph.nodes v) (take j kids)))) is)
+
+      pub and_end : (j : ℕ) → (node_at graph.nodes at).what ≡ And → length kids ≤ j → Is (λ a. list_all (λ b. b) (map (λ k. T k a) (take j kids))) (λ v. list_any (λ b. b) (map (mentions graph.nodes v) (take j kids)))
+          → Is (λ a. is_true (living graph.nodes skips) at a) (λ v. mentions graph.nodes v at)
+      and_end j what le is = same_tests Is
+          (λ a. ap (λ ks. list_all (λ b. b) (map (λ k. T k a) ks)) (take_all j kids le) ∙ truth-of And what a)
+          (λ v. ap (λ ks. list_any (λ b. b) (map (mentions graph.nodes v) ks)) (take_all j kids le) ∙ mention-of And what v) is
+
+      pub or_next : (j : ℕ) → j < length kids → Is (λ a. list_any (λ b. b) (map (λ k. T k a) (take j kids)) || T (get_or kids j 0) a) (λ v. mentions graph.nodes v at)
+          → Is (λ a. list_any (λ b. b) (map (λ k. is_true (living graph.nodes skips) k a) (take (j + 1) kids))) (λ v. mentions graph.nodes v at)
+      or_next j lt is = same_tests Is (λ a. sym (ap (list_any (λ b. b)) (map_more (λ k. T k a) kids j 0 lt) ∙ any_push (map (λ k. T k a) (take j kids)) (T (get_or kids j 0) a))) (λ v. refl) is
+
+      pub or_end : (j : ℕ) → (node_at graph.nodes at).what ≡ Or → length kids ≤ j → Is (λ a. list_any (λ b. b) (map (λ k. T k a) (take j kids))) (λ v. mentions graph.nodes v at)
+          → Is (λ a. is_true (living graph.nodes skips) at a) (λ v. mentions graph.nodes v at)
+      or_end j what le is = same_tests Is (λ a. ap (λ ks. list_any (λ b. b) (map (λ k. T k a) ks)) (take_all j kids le) ∙ truth-of Or what a) (λ v. refl) is
+
+    -- ---- a literal's set
+
+    pub literal_set : (words costs : List ℕ) (var cost : ℕ) (positive : Bool) (leaf : Leaf) (set : List ℕ) → Literal positive var ≡ (node_at graph.nodes at).what → leaf ≡ leaf_of positive (known_at words var) → cost ≡ part_cost costs var
         → (leaf ≡ False → (n : ℕ) → has_number set n ≡ false) → ((leaf ≡ False → ⊥) → (n : ℕ) → n < 32 * length set → has_number set n ≡ (n == cond positive 0 cost)) → IsNodeSet graph skips words costs at set
-    literal_set var cost positive leaf set what is priced ruled_out allowed = same_is words costs _ _ _ _ set
-        (λ a. sym (truth-is a ∙ ap (λ w. truth_by a w (map (λ k. is_true (living graph.nodes skips) k a) kids)) (sym what)))
-        (λ v. sym (mention-is graph at kids ok inside are v ∙ ap (λ w. mention_by v w (map (mentions graph.nodes v) kids)) (sym what)))
-        (⊎_elim
+    literal_set words costs var cost positive leaf set what is priced ruled_out allowed = literal_at (λ t m. IsCostSet words costs t m set) var positive what (⊎_elim
         (λ p. false_literal_is words costs var positive set (sym is ∙ p) (ruled_out p))
-        (λ p. literal_is words costs var positive set (literal-fits graph at kids ok inside are var positive what).0 (λ q. p (is ∙ q)) (λ n h. allowed p n h ∙ ap (λ c. n == cond positive 0 c) priced))
+        (λ p. literal_is words costs var positive set (λ q. p (is ∙ q)) (λ n h. allowed p n h ∙ ap (λ c. n == cond positive 0 c) priced))
         (false_or_not leaf)) where
           false_or_not : (leaf : Leaf) → (leaf ≡ False) ⊎ (leaf ≡ False → ⊥)
           false_or_not True = inr (λ e. cc)
           false_or_not False = inl refl
           false_or_not Open = inr (λ e. cc)
 
-    -- ---- an And
-
-    abbrev pub AndSet : ℕ → List ℕ → Type 0
-    AndSet j set = IsCostSet words costs (λ a. list_all (λ b. b) (map (λ k. is_true (living graph.nodes skips) k a) (take j kids))) (λ v. list_any (λ b. b) (map (mentions graph.nodes v) (take j kids))) set
-
-    pub and_more : (j : ℕ) (old kid set : List ℕ) → (node_at graph.nodes at).what ≡ And → j < length kids → length old ≡ length set → length kid ≡ length set → AreSums old kid (32 * length set) set
-        → AndSet j old → IsNodeSet graph skips words costs (get_or kids j 0) kid → AndSet (j + 1) set
-    and_more j old kid set what lt l m sums is_old is_kid =
-        same_is words costs _ _ _ _ set
-        (λ a. sym (ap (list_all (λ b. b)) (map_more (λ k. is_true (living graph.nodes skips) k a) kids j 0 lt) ∙ all_push (map (λ k. is_true (living graph.nodes skips) k a) (take j kids)) (is_true (living graph.nodes skips) (get_or kids j 0) a)))
-        (λ v. sym (ap (list_any (λ b. b)) (map_more (mentions graph.nodes v) kids j 0 lt) ∙ any_push (map (mentions graph.nodes v) (take j kids)) (mentions graph.nodes v (get_or kids j 0))))
-        (and_is words costs _ _ _ _ old kid set l m (λ v. apart_from (mentions graph.nodes v) kids j (apart v) lt) sums is_old is_kid) where
-          apart : (v : ℕ) → at_most_one (map (mentions graph.nodes v) kids) ≡ true
-          apart v = (λ i. apart_at (mentions graph.nodes v) (sym what i) (are i)) ∙ each_apart (mentions graph.nodes v) graph.nodes at (ok.nodes.apart v) inside
-
-    pub and_all : (j : ℕ) (set : List ℕ) → (node_at graph.nodes at).what ≡ And → length kids ≤ j → AndSet j set → IsNodeSet graph skips words costs at set
-    and_all j set what le is = same_is words costs _ _ _ _ set
-        (λ a. ap (λ ks. list_all (λ b. b) (map (λ k. is_true (living graph.nodes skips) k a) ks)) (take_all j kids le) ∙ sym (truth-is a ∙ ap (λ w. truth_by a w (map (λ k. is_true (living graph.nodes skips) k a) kids)) what))
-        (λ v. ap (λ ks. list_any (λ b. b) (map (mentions graph.nodes v) ks)) (take_all j kids le) ∙ sym (mention-is graph at kids ok inside are v ∙ ap (λ w. mention_by v w (map (mentions graph.nodes v) kids)) what)) is
-
-    -- ---- an Or
-
-    abbrev pub OrSet : ℕ → List ℕ → Type 0
-    OrSet j set = IsCostSet words costs (λ a. list_any (λ b. b) (map (λ k. is_true (living graph.nodes skips) k a) (take j kids))) (λ v. mentions graph.nodes v at) set
-
-    pub or_more : (j : ℕ) (old kid set : List ℕ) → j < length kids → length old ≡ length set → length kid ≡ length set → ((n : ℕ) → n < 32 * length set → has_number set n ≡ (has_number old n || has_shifted kid 0 n))
-        → OrSet j old → IsCostSet words costs (λ a. is_true (living graph.nodes skips) (get_or kids j 0) a) (λ v. mentions graph.nodes v at) kid → OrSet (j + 1) set
-    or_more j old kid set lt l m joined is_old is_kid =
-        same_is words costs _ _ _ _ set
-        (λ a. sym (ap (list_any (λ b. b)) (map_more (λ k. is_true (living graph.nodes skips) k a) kids j 0 lt) ∙ any_push (map (λ k. is_true (living graph.nodes skips) k a) (take j kids)) (is_true (living graph.nodes skips) (get_or kids j 0) a)))
-        (λ v. refl)
-        (or_is words costs _ _ _ old kid set l m (λ n h. joined n h ∙ ap (λ b. has_number old n || b) (shifted_none kid n)) is_old is_kid)
-
-    pub or_all : (j : ℕ) (set : List ℕ) → (node_at graph.nodes at).what ≡ Or → length kids ≤ j → OrSet j set → IsNodeSet graph skips words costs at set
-    or_all j set what le is = same_is words costs _ _ _ _ set
-        (λ a. ap (λ ks. list_any (λ b. b) (map (λ k. is_true (living graph.nodes skips) k a) ks)) (take_all j kids le) ∙ sym (truth-is a ∙ ap (λ w. truth_by a w (map (λ k. is_true (living graph.nodes skips) k a) kids)) what))
-        (λ v. refl) is
-
 -- a node that is skipped
 pub skipped_set : (graph : Graph) (skips words costs : List ℕ) (at : ℕ) (set : List ℕ) → IsGraph graph → at < length graph.nodes → get_or skips at 0 ≢ 0 → ((n : ℕ) → has_number set n ≡ false) → IsNodeSet graph skips words costs at set
-skipped_set graph skips words costs at set ok inside ne none = same_is words costs (λ a. false) _ (λ v. mentions graph.nodes v at) _ set (λ a. sym (skipped-is graph skips ok at inside ne a)) (λ v. refl) (empty_is words costs (λ v. mentions graph.nodes v at) set none)
+skipped_set graph skips words costs at set ok inside ne none = same_tests (λ t m. IsCostSet words costs t m set) (λ a. sym (skipped-is graph skips ok at inside ne a)) (λ v. refl) (empty_is words costs (λ v. mentions graph.nodes v at) set none)
+
+-- the last node, where it lacks no part
+pub root_full : (graph : Graph) (parts : ℕ) → ((v : ℕ) → 1 ≤ v → v ≤ parts → mentions graph.nodes v (length graph.nodes - 1) ≡ true) → Wider parts (λ v. mentions graph.nodes v (length graph.nodes - 1)) (λ v. true)
+root_full graph parts all = record { within = λ v e. refl; same = λ v l h. all v l (omega arith) }

@@ -1,10 +1,9 @@
 mod Examples
 pub mod SetBits
 pub mod Sums
-pub mod Among
+pub mod Growing
 pub mod Reaching
 pub mod Meeting
-pub mod Growing
 pub mod Living
 pub mod Kids
 pub mod Stacks
@@ -16,6 +15,7 @@ pub mod Finding
 pub mod Listed
 pub mod Behind
 pub mod Spreading
+pub mod Faults
 pub mod Telling
 pub mod PairNodes
 pub mod FaultStates
@@ -24,6 +24,5 @@ pub mod Narrowing
 pub mod Grouping
 pub mod Told
 pub mod Faulting
-pub mod FaultGrowing
 pub mod FaultNodes
 pub mod Skips

@@ -1,30 +1,22 @@
 -- What two words tell of a node, from what they tell of its kids.
-use Rattle.std.proofs.Common.{◌≡◌, ◌≢◌, ℕ, zero, suc, ◌+◌, ◌-◌, ◌*◌, ◌/◌, ◌<◌, ◌≤◌, Bool, true, false, ◌&&◌, ◌||◌, List, map, take, length, get_or, set, Option, Some, None, refl, ap, sym, ◌∙◌, subst, arith, inl, inr}
+use Rattle.std.proofs.Common.{◌≡◌, ◌≢◌, ℕ, zero, suc, ◌+◌, ◌-◌, ◌*◌, ◌/◌, ◌<◌, ◌≤◌, Bool, true, false, ◌&&◌, List, length, get_or, set, Option, Some, None, refl, ap, sym, ◌∙◌, subst, arith, inl, inr}
 use Rattle.std.specs.Prelude.{◌⊎◌, ◌==◌, nat_le}
 use Rattle.std.proofs.Math.ListN.{length-set}
-use Rattle.std.specs.List.{list_all, list_any}
-use Rattle.std.proofs.Math.Bool.{and_comm, or_comm}
 use Rattle.std.proofs.lemmas.Bool.{cases_lt, cases_eq, cases_order, and_parts, and_from, leb-true, le-leb, eqb-true, eq-eqb, ne_eqb, false≢true}
-use Rattle.std.proofs.lemmas.List.{map_more, take_all, get_or-set_same, get_or-set_other}
+use Rattle.std.proofs.lemmas.List.{get_or-set_same, get_or-set_other}
 use Rattle.state_rules.specs.Assignments.{Assignment}
-use Rattle.state_rules.specs.Bits.{same_bit}
 use Rattle.state_rules.specs.Cases.{agrees_at}
-use Rattle.state_rules.specs.declared.nodes.NodeKind.TheVariants.{Literal, And, Or}
-use Rattle.state_rules.specs.Graphs.{Graph, node_at, truth_by, mention_by, is_true, mentions, at_most_one, apart_at, IsGraph}
-use Rattle.state_rules.proofs.NodesFit.{each_apart}
+use Rattle.state_rules.specs.Graphs.{Graph, IsGraph}
 use Rattle.conditioner.specs.declared.leaves.Leaf.{Leaf}
 use Rattle.conditioner.specs.declared.leaves.Leaf.TheVariants.{False}
 use Rattle.conditioner.specs.Words.{known_of, word_of, leaf_of}
 use Rattle.minimiser.specs.Costs.{known_at}
-use Rattle.part_sets.specs.PartSets.{SameBelow}
-use Rattle.part_sets.proofs.Kids.{mention-is, kid-mentions}
 use Rattle.level_lister.specs.declared.pairs.Pair.{Pair}
 use Rattle.level_lister.specs.declared.pairs.Groups.{Groups}
 use Rattle.level_lister.specs.inner.CostSets.{Follows}
-use Rattle.level_lister.specs.inner.Pairs.{Tells, TellsNode, TellNodes, TellsWhole, pair_at, group_in, group_count}
-use Rattle.level_lister.specs.inner.Skips.{living}
+use Rattle.level_lister.specs.inner.Pairs.{Tells, TellsNode, TellNodes, pair_at, group_in, group_count}
 use Rattle.level_lister.proofs.Living.{skipped-is}
-use Rattle.level_lister.proofs.Kids.{all_push, any_push, apart_from, truth-is}
+use Rattle.level_lister.proofs.Growing.{Wider}
 use Rattle.level_lister.proofs.Telling.{step_below, tells_same, tells_none}
 
 -- ---- groups
@@ -56,63 +48,13 @@ module _ (words : List ℕ) (parts : ℕ) (groups : Groups) (g v : ℕ) where
 pub on_parts : (words : List ℕ) (parts : ℕ) (groups : Groups) (g v : ℕ) → group_in words parts groups g v ≡ true → (1 ≤ v) × (v < 1 + parts)
 on_parts words parts groups g v e = let is = grouped words parts groups g v e in (omega (arith, is.low), omega (arith, is.high))
 
-module _ (graph : Graph) (at : ℕ) (kids : List ℕ) (ok : IsGraph graph) (inside : at < length graph.nodes) (are : kids ≡ (node_at graph.nodes at).kids) (skips : List ℕ) (lives : get_or skips at 0 ≡ 0) (words costs : List ℕ) (top : ℕ) (groups : Groups) where
-  abbrev pub Told : (Assignment → Bool) → (ℕ → Bool) → Pair → Type 0
-  Told test some pair = Tells words costs top (group_count top) (group_in words (length costs) groups) test some pair
+-- what two words tell, of a test and of variables
+abbrev pub Told : List ℕ → List ℕ → ℕ → Groups → Pair → (Assignment → Bool) → (ℕ → Bool) → Type 0
+Told words costs top groups pair test some = Tells words costs top (group_count top) (group_in words (length costs) groups) test some pair
 
-  same : (t u : Assignment → Bool) (some more : ℕ → Bool) (pair : Pair) → ((a : Assignment) → t a ≡ u a) → ((v : ℕ) → some v ≡ more v) → Told t some pair → Told u more pair
-  same t u some more pair e f is = tells_same words costs top (group_count top) (group_in words (length costs) groups) t u some more pair (on_parts words (length costs) groups) e
-      (λ v p. sym (f v) ∙ p) (λ v l h. f v) is
-
-  pub literal_told : (var : ℕ) (positive : Bool) (pair : Pair) → Literal positive var ≡ (node_at graph.nodes at).what → Told (λ a. same_bit positive (a var)) (λ v. var == v) pair → TellsNode graph skips words costs top groups at pair
-  literal_told var positive pair what is = same _ _ _ _ pair
-      (λ a. sym (truth-is graph at kids ok inside are skips lives a ∙ ap (λ w. truth_by a w (map (λ k. is_true (living graph.nodes skips) k a) kids)) (sym what)))
-      (λ v. sym (mention-is graph at kids ok inside are v ∙ ap (λ w. mention_by v w (map (mentions graph.nodes v) kids)) (sym what))) is
-
-  -- ---- an And
-
-  abbrev pub AndTold : ℕ → Pair → Type 0
-  AndTold j pair = Tells words costs top (group_count top) (group_in words (length costs) groups) (λ a. list_all (λ b. b) (map (λ k. is_true (living graph.nodes skips) k a) (take j kids))) (λ v. list_any (λ b. b) (map (mentions graph.nodes v) (take j kids))) pair
-
-  pub and_apart : (j : ℕ) → (node_at graph.nodes at).what ≡ And → j < length kids → (v : ℕ) → (mentions graph.nodes v (get_or kids j 0) && list_any (λ b. b) (map (mentions graph.nodes v) (take j kids))) ≡ false
-  and_apart j what lt v = and_comm (mentions graph.nodes v (get_or kids j 0)) (list_any (λ b. b) (map (mentions graph.nodes v) (take j kids))) ∙ apart_from (mentions graph.nodes v) kids j apart lt where
-    apart : at_most_one (map (mentions graph.nodes v) kids) ≡ true
-    apart = (λ i. apart_at (mentions graph.nodes v) (sym what i) (are i)) ∙ each_apart (mentions graph.nodes v) graph.nodes at (ok.nodes.apart v) inside
-
-  pub and_next : (j : ℕ) (pair : Pair) → j < length kids
-      → Told (λ a. is_true (living graph.nodes skips) (get_or kids j 0) a && list_all (λ b. b) (map (λ k. is_true (living graph.nodes skips) k a) (take j kids))) (λ v. mentions graph.nodes v (get_or kids j 0) || list_any (λ b. b) (map (mentions graph.nodes v) (take j kids))) pair
-      → AndTold (j + 1) pair
-  and_next j pair lt is = same _ _ _ _ pair
-      (λ a. and_comm (is_true (living graph.nodes skips) (get_or kids j 0) a) (list_all (λ b. b) (map (λ k. is_true (living graph.nodes skips) k a) (take j kids))) ∙ sym (ap (list_all (λ b. b)) (map_more (λ k. is_true (living graph.nodes skips) k a) kids j 0 lt) ∙ all_push (map (λ k. is_true (living graph.nodes skips) k a) (take j kids)) (is_true (living graph.nodes skips) (get_or kids j 0) a)))
-      (λ v. or_comm (mentions graph.nodes v (get_or kids j 0)) (list_any (λ b. b) (map (mentions graph.nodes v) (take j kids))) ∙ sym (ap (list_any (λ b. b)) (map_more (mentions graph.nodes v) kids j 0 lt) ∙ any_push (map (mentions graph.nodes v) (take j kids)) (mentions graph.nodes v (get_or kids j 0)))) is
-
-  pub and_end : (j : ℕ) (pair : Pair) → (node_at graph.nodes at).what ≡ And → length kids ≤ j → AndTold j pair → TellsNode graph skips words costs top groups at pair
-  and_end j pair what le is = same _ _ _ _ pair
-      (λ a. ap (λ ks. list_all (λ b. b) (map (λ k. is_true (living graph.nodes skips) k a) ks)) (take_all j kids le) ∙ sym (truth-is graph at kids ok inside are skips lives a ∙ ap (λ w. truth_by a w (map (λ k. is_true (living graph.nodes skips) k a) kids)) what))
-      (λ v. ap (λ ks. list_any (λ b. b) (map (mentions graph.nodes v) ks)) (take_all j kids le) ∙ sym (mention-is graph at kids ok inside are v ∙ ap (λ w. mention_by v w (map (mentions graph.nodes v) kids)) what)) is
-
-  -- ---- an Or
-
-  abbrev pub OrTold : ℕ → Pair → Type 0
-  OrTold j pair = Tells words costs top (group_count top) (group_in words (length costs) groups) (λ a. list_any (λ b. b) (map (λ k. is_true (living graph.nodes skips) k a) (take j kids))) (λ v. mentions graph.nodes v at) pair
-
-  pub or_next : (j : ℕ) (pair : Pair) → j < length kids
-      → Told (λ a. list_any (λ b. b) (map (λ k. is_true (living graph.nodes skips) k a) (take j kids)) || is_true (living graph.nodes skips) (get_or kids j 0) a) (λ v. mentions graph.nodes v at) pair → OrTold (j + 1) pair
-  or_next j pair lt is = same _ _ _ _ pair
-      (λ a. sym (ap (list_any (λ b. b)) (map_more (λ k. is_true (living graph.nodes skips) k a) kids j 0 lt) ∙ any_push (map (λ k. is_true (living graph.nodes skips) k a) (take j kids)) (is_true (living graph.nodes skips) (get_or kids j 0) a)))
-      (λ v. refl) is
-
-  pub or_end : (j : ℕ) (pair : Pair) → (node_at graph.nodes at).what ≡ Or → length kids ≤ j → OrTold j pair → TellsNode graph skips words costs top groups at pair
-  or_end j pair what le is = same _ _ _ _ pair
-      (λ a. ap (λ ks. list_any (λ b. b) (map (λ k. is_true (living graph.nodes skips) k a) ks)) (take_all j kids le) ∙ sym (truth-is graph at kids ok inside are skips lives a ∙ ap (λ w. truth_by a w (map (λ k. is_true (living graph.nodes skips) k a) kids)) what))
-      (λ v. refl) is
-
-  -- a kid that lacks no part of the node
-  pub kid_full : (j : ℕ) (pair : Pair) → (node_at graph.nodes at).what ≡ Or → j < length kids → SameBelow graph (length costs) at → TellsNode graph skips words costs top groups (get_or kids j 0) pair
-      → Told (λ a. is_true (living graph.nodes skips) (get_or kids j 0) a) (λ v. mentions graph.nodes v at) pair
-  kid_full j pair what lt below is = tells_same words costs top (group_count top) (group_in words (length costs) groups) _ _ _ _ pair (on_parts words (length costs) groups) (λ a. refl)
-      (λ v e. kid-mentions graph at kids ok inside are j what lt v e)
-      (λ v l h. ap (λ ks. mentions graph.nodes v (get_or ks j 0)) are ∙ below j v (subst (λ (ks : List ℕ). j < length ks) are lt) l (omega arith)) is
+-- of more variables, of which no others are parts'
+pub told_wider : (words costs : List ℕ) (top : ℕ) (groups : Groups) (pair : Pair) (t : Assignment → Bool) (some more : ℕ → Bool) → Wider (length costs) some more → Told words costs top groups pair t some → Told words costs top groups pair t more
+told_wider words costs top groups pair t some more wider is = tells_same words costs top (group_count top) (group_in words (length costs) groups) t t some more pair (on_parts words (length costs) groups) (λ a. refl) wider is
 
 -- a node that is skipped
 pub skipped_told : (graph : Graph) (skips words costs : List ℕ) (top : ℕ) (groups : Groups) (at : ℕ) → IsGraph graph → at < length graph.nodes → get_or skips at 0 ≢ 0
@@ -179,10 +121,6 @@ module _ (graph : Graph) (skips words costs : List ℕ) (top : ℕ) (groups : Gr
         let same : at ≡ k = omega arith in
         subst (λ j. TellsNode graph skips words costs top groups j (pair_at (set (set values (2 * at) pair.costs) (2 * at + 1) pair.faults) j)) same
         (subst (TellsNode graph skips words costs top groups at) (λ i. record { costs = sym first i; faults = sym second i }) is)
-
-  -- the last node, where it lacks no part
-  pub whole_full : (pair : Pair) → ((v : ℕ) → 1 ≤ v → v ≤ length costs → mentions graph.nodes v (length graph.nodes - 1) ≡ true) → TellsNode graph skips words costs top groups (length graph.nodes - 1) pair → TellsWhole graph skips words costs top groups pair
-  whole_full pair all is = tells_same words costs top (group_count top) (group_in words (length costs) groups) _ _ _ _ pair (on_parts words (length costs) groups) (λ a. refl) (λ v e. refl) (λ v l h. all v l (omega arith)) is
 
 -- ---- words of a part
 

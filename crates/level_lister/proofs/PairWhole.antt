@@ -3,15 +3,16 @@ use Rattle.std.proofs.Common.{◌≡◌, ℕ, ◌+◌, ◌-◌, ◌*◌, ◌<◌
 use Rattle.state_rules.specs.Assignments.{Assignment}
 use Rattle.state_rules.specs.Graphs.{Graph, IsGraph, is_true}
 use Rattle.state_rules.specs.Bits.{has_bit}
+use Rattle.node_costs.specs.Costs.{weigh}
 use Rattle.minimiser.proofs.Whole.{state_of, assignment_of}
 use Rattle.level_lister.specs.declared.pairs.Pair.{Pair}
 use Rattle.level_lister.specs.declared.pairs.Groups.{Groups}
-use Rattle.level_lister.specs.inner.CostSets.{cost_among}
+use Rattle.level_lister.specs.inner.CostSets.{prices}
 use Rattle.level_lister.specs.inner.Pairs.{TellsWhole, FaultOf, group_count}
 use Rattle.level_lister.specs.inner.Searching.{HasCost}
 use Rattle.level_lister.specs.inner.Skips.{living, IsEnough}
 use Rattle.level_lister.proofs.Living.{living-true}
-use Rattle.level_lister.proofs.Whole.{among-all}
+use Rattle.level_lister.proofs.Whole.{weigh-all}
 use Rattle.level_lister.proofs.FaultStates.{fault_state, state_fault}
 
 module _ (graph : Graph) (skips words costs : List ℕ) (top : ℕ) (groups : Groups) (pair : Pair) (ok : IsGraph graph) (long : length words ≡ graph.vars) (within : length costs ≤ graph.vars) (tells : TellsWhole graph skips words costs top groups pair)
@@ -22,24 +23,25 @@ module _ (graph : Graph) (skips words costs : List ℕ) (top : ℕ) (groups : Gr
   pub pair_sound : (c : ℕ) → c ≤ top → has_bit pair.costs c ≡ true → HasCost graph words costs c
   pair_sound c le e =
       let place : c ≡ 1 * c + 0 = omega arith in
-      let r = tells.cost_bits.sound c le (subst (λ n. has_bit pair.costs n ≡ true) place e) in
-      let s = state_of graph words costs ok long within r.by r.follows (root_true r.by r.holds) in
-      record { state = s.state; is = record { long = s.long_state; model = s.model; cost_is = among-all r.by 1 costs s.state s.long_state s.bits ∙ r.cost_is } }
+      let r = tells.cost_bits.sound c (omega arith) (subst (λ n. has_bit pair.costs n ≡ true) place e) in
+      let s = state_of graph words costs ok long within r.by r.agrees (root_true r.by r.meets) in
+      record { state = s.state; is = record { long = s.long_state; model = s.model; cost_is = weigh-all words r.by costs s.state s.long_state s.bits ∙ r.cost_is } }
 
   pub pair_whole : (c : ℕ) → c ≤ top → HasCost graph words costs c → has_bit pair.costs c ≡ true
   pair_whole c le has =
       let h = has.state in
       let a = assignment_of graph words costs ok long within h has.is.long has.is.model in
-      let total : cost_among (λ u. true) a.by 1 costs ≡ c = sym (among-all a.by 1 costs h has.is.long a.bits) ∙ has.is.cost_is in
-      let place : 1 * cost_among (λ u. true) a.by 1 costs + 0 ≡ c = omega (arith, total) in
-      subst (λ n. has_bit pair.costs n ≡ true) place (tells.cost_bits.whole a.by a.agrees (enough.left a.by a.agrees a.holds (omega (arith, total))) (omega (arith, total)))
+      let total : weigh (prices words costs) (λ v. true) a.by ≡ c = sym (weigh-all words a.by costs h has.is.long a.bits) ∙ has.is.cost_is in
+      let place : 1 * c + 0 ≡ c = omega arith in
+      subst (λ n. has_bit pair.costs n ≡ true) place
+      (tells.cost_bits.whole c (omega arith) (record { by = a.by; agrees = a.agrees; meets = enough.left a.by a.agrees a.holds (omega (arith, total)); cost_is = total }))
 
   pub group_sound : (c g : ℕ) → c ≤ top → g < group_count top → has_bit pair.faults (group_count top * c + g) ≡ true → FaultOf graph words costs c groups g
   group_sound c g le lt e =
-      let r = (tells.fault_bits g lt).sound c le e in
-      fault_state graph words costs groups ok long within g c (record { by = r.by; follows = r.follows; holds = (root_true r.by r.holds.0, r.holds.1); cost_is = r.cost_is })
+      let r = (tells.fault_bits g lt).sound c (omega arith) e in
+      fault_state graph words costs groups ok long within g c (record { by = r.by; agrees = r.agrees; meets = (root_true r.by r.meets.0, r.meets.1); cost_is = r.cost_is })
 
   pub group_whole : (c g : ℕ) → c ≤ top → g < group_count top → FaultOf graph words costs c groups g → has_bit pair.faults (group_count top * c + g) ≡ true
   group_whole c g le lt f =
       let r = state_fault graph words costs groups ok long within g c f in
-      subst (λ n. has_bit pair.faults (group_count top * n + g) ≡ true) r.cost_is ((tells.fault_bits g lt).whole r.by r.follows (enough.left r.by r.follows r.holds.0 (omega (arith, r.cost_is)), r.holds.1) (omega (arith, r.cost_is)))
+      (tells.fault_bits g lt).whole c (omega arith) (record { by = r.by; agrees = r.agrees; meets = (enough.left r.by r.agrees r.meets.0 (omega (arith, r.cost_is)), r.meets.1); cost_is = r.cost_is })

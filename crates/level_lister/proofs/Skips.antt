@@ -1,33 +1,29 @@
 -- The nodes that are skipped are in no derivation that costs little.
-use Rattle.std.proofs.Common.{◌≡◌, ◌≢◌, ℕ, zero, suc, ◌+◌, ◌-◌, ◌<◌, ◌≤◌, Bool, true, cond, List, [], ◌∷◌, map, length, get_or, set, Option, Some, None, refl, ap, sym, ◌∙◌, subst, arith, inl, inr, ⊎_elim}
-use Rattle.std.specs.List.{list_all, list_any}
+use Rattle.std.proofs.Common.{◌≡◌, ◌≢◌, ℕ, zero, suc, ◌+◌, ◌-◌, ◌<◌, ◌≤◌, Bool, true, cond, List, [], ◌∷◌, map, length, get_or, set, refl, ap, sym, ◌∙◌, subst, arith, inl, inr, ⊎_elim}
+use Rattle.std.specs.List.{list_any}
 use Rattle.std.proofs.lemmas.Bool.{cases_lt, le-ltb, cases_eq}
 use Rattle.std.proofs.lemmas.Option.{same_Some}
-use Rattle.std.proofs.Math.Seq.{take-length}
 use Rattle.std.proofs.lemmas.List.{get_or-set_same, get_or-set_other}
 use Rattle.state_rules.specs.Assignments.{Assignment}
 use Rattle.state_rules.specs.Cases.{agrees_at}
-use Rattle.state_rules.specs.Values.{values}
-use Rattle.state_rules.proofs.Members.{In, AtMost}
+use Rattle.state_rules.proofs.Members.{In}
 use Rattle.state_rules.specs.declared.nodes.NodeKind.{NodeKind}
 use Rattle.state_rules.specs.declared.nodes.NodeKind.TheVariants.{Literal, And, Or}
 use Rattle.state_rules.specs.Graphs.{Graph, node_at, is_true, mentions, kind_fits, IsGraph}
 use Rattle.state_rules.proofs.NodesFit.{fits-at, literal}
 use Rattle.conditioner.specs.Words.{known_of}
-use Rattle.minimiser.specs.Costs.{known_at, part_cost, cost_at, node_cost, sum_costs}
-use Rattle.minimiser.specs.Stored.{cost_in, costs_to, AreLeastCosts}
-use Rattle.minimiser.proofs.Totals.{add-le-total}
-use Rattle.minimiser.proofs.Costs.{fault, from_add, apart_sum, faults_in, faults_in-le, and_left, and_right}
-use Rattle.minimiser.proofs.Derivations.{any-kid, is_cost, true-at, mention-at, costs-at, apart-kids, kids-cost, apart-tail, apart-both, Apart}
-use Rattle.minimiser.proofs.OnePass.{the_node, length-least_costs}
-use Rattle.minimiser.proofs.Sums.{cost_at-map}
-use Rattle.minimiser.proofs.Sweeping.{cost_in-is, node_least}
+use Rattle.minimiser.specs.Costs.{known_at, part_cost}
+use Rattle.minimiser.specs.Stored.{AreLeastCosts}
+use Rattle.minimiser.proofs.Costs.{faults_in, faults_in-le}
+use Rattle.minimiser.proofs.Derivations.{any-kid, true-at, mention-at, costs-at, apart-kids, kid-excess, Apart}
+use Rattle.minimiser.proofs.OnePass.{the_node}
+use Rattle.minimiser.proofs.Valued.{has_least}
 use Rattle.minimiser.proofs.Whole.{state_of}
 use Rattle.part_sets.proofs.Kids.{kid-below}
 use Rattle.level_lister.specs.inner.CostSets.{Follows}
 use Rattle.level_lister.specs.inner.Skips.{living, IsEnough, others_cost, rest_below, AreRests, skip_of}
 use Rattle.level_lister.proofs.Living.{truth_more, graph-is, living-is}
-use Rattle.level_lister.proofs.Whole.{among-all}
+use Rattle.level_lister.proofs.Whole.{weigh-all}
 
 -- a place of a list
 in-at : (xs : List ℕ) (j : ℕ) → j < length xs → In (get_or xs j 0) xs
@@ -70,48 +66,7 @@ module _ (graph : Graph) (words costs : List ℕ) (ok : IsGraph graph) (least : 
   abbrev faults : (ℕ → Bool) → Assignment → ℕ
   faults m a = faults_in (known_at words) (part_cost costs) (length costs) m a
 
-  value-is : (k : ℕ) → k < length graph.nodes → cost_in (get_or least k 0) ≡ node_least graph words costs k
-  unfolding costs_to
-  value-is k h = sym (cost_at-map least k (omega (arith, length-least_costs graph words costs least are_least))) ∙ ap (λ xs. cost_at xs k) are_least
-      ∙ (λ i. cost_at (values (node_cost (known_at words) (part_cost costs)) (take-length graph.nodes i)) k)
-
   module _ (a : Assignment) (follows : Follows words a) where
-    -- the least cost at a node that is true
-    record HasLeast (k : ℕ) : Type 0 where
-      is : node_least graph words costs k ≡ Some (get_or least k 0)
-      low : get_or least k 0 ≤ faults (λ v. mentions graph.nodes v k) a
-
-    has_least : (k : ℕ) → k < length graph.nodes → is_true graph.nodes k a ≡ true → HasLeast k
-    has_least k h e = by_cost (node_least graph words costs k) refl ((is_cost graph words costs ok k).bound a follows e) where
-      by_cost : (o : Option ℕ) → node_least graph words costs k ≡ o → AtMost o (faults (λ v. mentions graph.nodes v k) a) → HasLeast k
-      by_cost None q b = absurd b
-      by_cost (Some c) q b = let v = cost_in-is (get_or least k 0) c (value-is k h ∙ q) in record { is = q ∙ ap Some (sym v); low = omega arith }
-
-    -- a kid of an and costs no more above its least cost than the and does
-    excess : (kids : List ℕ) → Apart graph words costs ok kids → list_all (λ b. b) (map (λ k. is_true graph.nodes k a) kids) ≡ true → (c : ℕ) → sum_costs (map (node_least graph words costs) kids) ≡ Some c
-        → (j : ℕ) → In j kids → (d : ℕ) → node_least graph words costs j ≡ Some d
-        → c + faults (λ v. mentions graph.nodes v j) a ≤ faults (λ v. list_any (λ b. b) (map (mentions graph.nodes v) kids)) a + d
-    excess [] apart h c s j m d e = absurd m
-    excess (i ∷ kids) apart h c s j m d e =
-        let sum = from_add (node_least graph words costs i) (sum_costs (map (node_least graph words costs) kids)) c s in
-        let here : is_true graph.nodes i a ≡ true = and_left _ _ h in
-        let there : list_all (λ b. b) (map (λ k. is_true graph.nodes k a) kids) ≡ true = and_right (is_true graph.nodes i a) _ h in
-        let rest = apart-tail graph words costs ok i kids apart in
-        let low_here : sum.left ≤ faults (λ v. mentions graph.nodes v i) a = subst (λ o. AtMost o (faults (λ v. mentions graph.nodes v i) a)) sum.left_is ((is_cost graph words costs ok i).bound a follows here) in
-        let low_there : sum.right ≤ faults (λ v. list_any (λ b. b) (map (mentions graph.nodes v) kids)) a =
-        subst (λ o. AtMost o (faults (λ v. list_any (λ b. b) (map (mentions graph.nodes v) kids)) a)) sum.right_is ((kids-cost graph words costs ok kids rest).bound a follows there) in
-        let all = add-le-total
-        (λ v. cond (mentions graph.nodes v i) (fault (known_at words v) (part_cost costs v) (a v)) 0)
-        (λ v. cond (list_any (λ b. b) (map (mentions graph.nodes v) kids)) (fault (known_at words v) (part_cost costs v) (a v)) 0)
-        (λ v. cond (list_any (λ b. b) (map (mentions graph.nodes v) (i ∷ kids))) (fault (known_at words v) (part_cost costs v) (a v)) 0)
-        (λ v. apart_sum (mentions graph.nodes v i) (list_any (λ b. b) (map (mentions graph.nodes v) kids)) (fault (known_at words v) (part_cost costs v) (a v)) (apart-both graph words costs ok i kids apart v)) 1 (length costs) in
-        ⊎_elim
-        (λ (q : j ≡ i).
-        let same : d ≡ sum.left = same_Some d sum.left (sym e ∙ ap (node_least graph words costs) q ∙ sum.left_is) in
-        let moved : faults (λ v. mentions graph.nodes v j) a ≡ faults (λ v. mentions graph.nodes v i) a = ap (λ k. faults (λ v. mentions graph.nodes v k) a) q in
-        omega (arith, all, low_there, sum.sum_is, same, moved))
-        (λ (r : In j kids). omega (arith, all, low_here, excess kids rest there sum.right sum.right_is j r d e, sum.sum_is)) m
-
     -- a true kid of a true node, with the others
     kid-cheap : (k : ℕ) → k < length graph.nodes → is_true graph.nodes k a ≡ true → (j : ℕ) → j < length (node_at graph.nodes k).kids → get_or (node_at graph.nodes k).kids j 0 < length graph.nodes
         → is_true graph.nodes (get_or (node_at graph.nodes k).kids j 0) a ≡ true
@@ -125,12 +80,13 @@ module _ (graph : Graph) (words costs : List ℕ) (ok : IsGraph graph) (least : 
           absurd (omega (arith, lt, ap length alone))
       by_kind And q =
           let there = the_node graph.nodes k And (node_at graph.nodes k).kids inside q refl in
-          let own = has_least k inside e in
-          let below = has_least (get_or (node_at graph.nodes k).kids j 0) within t in
-          let most = excess (node_at graph.nodes k).kids (apart-kids graph words costs ok k (node_at graph.nodes k).kids there) (sym (true-at graph words costs ok k _ there a) ∙ e) (get_or least k 0) (sym (costs-at graph words costs ok k _ there) ∙ own.is) (get_or (node_at graph.nodes k).kids j 0) (in-at (node_at graph.nodes k).kids j lt) (get_or least (get_or (node_at graph.nodes k).kids j 0) 0) below.is in
+          let own = has_least graph words costs least are_least ok a follows k inside e in
+          let below = has_least graph words costs least are_least ok a follows (get_or (node_at graph.nodes k).kids j 0) within t in
+          let x = kid-excess graph words costs ok a follows (node_at graph.nodes k).kids (apart-kids graph words costs ok k (node_at graph.nodes k).kids there) (sym (true-at graph words costs ok k _ there a) ∙ e) (get_or least k 0) (sym (costs-at graph words costs ok k _ there) ∙ own.is) (get_or (node_at graph.nodes k).kids j 0) (in-at (node_at graph.nodes k).kids j lt) in
+          let same : x.cost ≡ get_or least (get_or (node_at graph.nodes k).kids j 0) 0 = same_Some x.cost _ (sym x.is ∙ below.is) in
           let all = faults_in-le (known_at words) (part_cost costs) (length costs) (λ v. list_any (λ b. b) (map (mentions graph.nodes v) (node_at graph.nodes k).kids)) (λ v. mentions graph.nodes v k) a (λ v r. mention-at graph words costs ok k _ there v ∙ r) in
           let one = faults_in-le (known_at words) (part_cost costs) (length costs) (λ v. mentions graph.nodes v (get_or (node_at graph.nodes k).kids j 0)) (λ v. mentions graph.nodes v k) a (λ v r. mention-at graph words costs ok k _ there v ∙ any-kid (mentions graph.nodes v) (node_at graph.nodes k).kids (get_or (node_at graph.nodes k).kids j 0) (in-at (node_at graph.nodes k).kids j lt) r) in
-          omega (arith, most, all, one)
+          omega (arith, x.excess, same, all, one)
       by_kind Or q =
           let there = the_node graph.nodes k Or (node_at graph.nodes k).kids inside q refl in
           let one = faults_in-le (known_at words) (part_cost costs) (length costs) (λ v. mentions graph.nodes v (get_or (node_at graph.nodes k).kids j 0)) (λ v. mentions graph.nodes v k) a (λ v r. mention-at graph words costs ok k _ there v ∙ any-kid (mentions graph.nodes v) (node_at graph.nodes k).kids (get_or (node_at graph.nodes k).kids j 0) (in-at (node_at graph.nodes k).kids j lt) r) in
@@ -147,7 +103,7 @@ module _ (graph : Graph) (words costs : List ℕ) (ok : IsGraph graph) (least : 
           let low = kid-below graph k (node_at graph.nodes k).kids ok inside refl j lt in
           lives fuel (get_or (node_at graph.nodes k).kids j 0) (omega arith) (omega arith) t (omega (arith, le, are.down k j (omega arith) inside lt, kid-cheap k inside e j lt (omega arith) t)))
           (sym (graph-is graph skips ok k inside a) ∙ e))
-          (λ (ne : get_or skips k 0 ≢ 0). absurd (omega (arith, le, skipped-dear top (get_or least k 0) (get_or rests k 0) (λ q. ne (marks k inside ∙ q)), (has_least k inside e).low)))
+          (λ (ne : get_or skips k 0 ≢ 0). absurd (omega (arith, le, skipped-dear top (get_or least k 0) (get_or rests k 0) (λ q. ne (marks k inside ∙ q)), (has_least graph words costs least are_least ok a follows k inside e).low)))
           (cases_eq (get_or skips k 0) 0)
 
   pub enough : (rests skips : List ℕ) (top : ℕ) → length words ≡ graph.vars → length costs ≤ graph.vars → AreRests graph.nodes least rests 0
@@ -156,7 +112,7 @@ module _ (graph : Graph) (words costs : List ℕ) (ok : IsGraph graph) (least : 
     left = λ a f h le.
         let s = state_of graph words costs ok long within a f h in
         let root : length graph.nodes - 1 < length graph.nodes = omega (arith, ok.some) in
-        let total = among-all a 1 costs s.state s.long_state s.bits in
+        let total = weigh-all words a costs s.state s.long_state s.bits in
         let all = faults_in-le (known_at words) (part_cost costs) (length costs) (λ v. mentions graph.nodes v (length graph.nodes - 1)) (λ v. true) a (λ v q. refl) in
         lives a f rests skips top are marks (suc (length graph.nodes - 1)) (length graph.nodes - 1) (omega arith) root h (omega (arith, le, are.root, s.cost_is, total, all));
   }

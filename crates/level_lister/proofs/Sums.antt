@@ -3,8 +3,10 @@ use Rattle.std.proofs.Common.{◌≡◌, ℕ, ◌+◌, ◌-◌, ◌*◌, ◌/◌
 use Rattle.std.specs.Prelude.{nat_le, ◌==◌}
 use Rattle.std.specs.Int.{bit_at}
 use Rattle.std.proofs.lemmas.Bool.{cases_lt, and_parts, and_from, or_cases, or_left, or_right, le-leb, leb-true, false≢true}
+use Rattle.node_costs.specs.Costs.{SumOf}
+use Rattle.node_costs.proofs.Sets.{sum-flip}
 use Rattle.part_sets.specs.Numbers.{has_number}
-use Rattle.level_lister.specs.inner.CostSets.{has_shifted, SumOf, AreSums}
+use Rattle.level_lister.specs.inner.CostSets.{has_shifted, AreSums}
 use Rattle.part_sets.proofs.SetBits.{has-within}
 use Rattle.level_lister.proofs.SetBits.{no_high}
 
@@ -33,10 +35,10 @@ sums_add left right old new cost long are e added = record {
   rest : (j k : ℕ) → k ≡ cost → j + k - cost ≡ j
   rest j k same = omega arith
 
-  by_sum : (n : ℕ) → has_shifted left cost n ≡ true → SumOf left right n
+  by_sum : (n : ℕ) → has_shifted left cost n ≡ true → SumOf (λ j. has_number left j ≡ true) (λ k. has_number right k ≡ true) n
   by_sum n p =
       let parts = and_parts (nat_le cost n) (has_number left (n - cost)) p in
-      record { first = n - cost; second = cost; on_left = parts.1; on_right = e; sum_is = omega (arith, leb-true cost n parts.0) }
+      record { left = n - cost; right = cost; on_left = parts.1; on_right = e; sum_is = omega (arith, leb-true cost n parts.0) }
 
 -- no sum is added where the word has no bit from one on
 pub sums_end : (left right set : List ℕ) (i bit : ℕ) → bit < 32 → get_or right i 0 / 2 ^ bit ≡ 0 → AreSums left right (32 * i + bit) set → AreSums left right (32 * (i + 1)) set
@@ -56,7 +58,7 @@ sums_end left right set i bit few e are = record {
 -- they are the same, whichever set is moved by the other
 pub sums_flip : (left right set : List ℕ) (from to : ℕ) → 32 * length left ≤ from → AreSums right left from set → AreSums left right to set
 sums_flip left right set from to all are = record {
-  sound = λ n e. let s = are.sound n e in record { first = s.second; second = s.first; on_left = s.on_right; on_right = s.on_left; sum_is = omega (arith, s.sum_is) };
+  sound = λ n e. sum-flip _ _ n (are.sound n e);
   whole = λ j k f g lt h. let same : k + j ≡ j + k = omega arith in
       subst (λ n. has_number set n ≡ true) same (are.whole k j g f (omega (arith, has-within left j f)) (omega arith));
 }

@@ -1,8 +1,8 @@
 -- Which nodes make the root true at its least cost.
-use Rattle.std.proofs.Common.{◌≡◌, ℕ, zero, suc, ◌+◌, ◌-◌, ◌<◌, ◌≤◌, Bool, true, false, cond, eqb, ◌&&◌, List, [], ◌∷◌, map, length, get_or, take, Option, Some, None, refl, ap, sym, ◌∙◌, subst, arith, inl, inr, ⊎_elim}
-use Rattle.std.specs.Prelude.{slice_get, nat_lt}
+use Rattle.std.proofs.Common.{◌≡◌, ℕ, zero, suc, ◌+◌, ◌-◌, ◌<◌, ◌≤◌, Bool, true, false, eqb, ◌&&◌, ◌||◌, List, [], ◌∷◌, map, length, Option, Some, None, refl, ap, sym, ◌∙◌, subst, arith, inl, inr, ⊎_elim}
+use Rattle.std.specs.Prelude.{slice_get}
 use Rattle.std.specs.List.{list_all, list_any}
-use Rattle.std.proofs.lemmas.Bool.{and_from, and_parts, cases_lt, false≢true, eqb-true, eq-eqb, ltb-true}
+use Rattle.std.proofs.lemmas.Bool.{and_from, cases_lt, or_cases, false≢true, eqb-true, eq-eqb}
 use Rattle.std.proofs.lemmas.List.{get_or_past}
 use Rattle.std.proofs.lemmas.Option.{get_or_from_slice_get, slice_get_within, same_Some}
 use Rattle.state_rules.specs.Bits.{same_bit}
@@ -10,38 +10,20 @@ use Rattle.state_rules.specs.Assignments.{Assignment}
 use Rattle.state_rules.specs.Values.{values}
 use Rattle.state_rules.proofs.Lists.{list_any-map}
 use Rattle.state_rules.proofs.Members.{In, Passing, any_from, any_in, AtMost}
-use Rattle.state_rules.proofs.Values.{length-values_after, values-at, values-before}
+use Rattle.state_rules.proofs.Values.{length-values_after}
 use Rattle.state_rules.specs.declared.nodes.NodeKind.{NodeKind}
 use Rattle.state_rules.specs.declared.nodes.NodeKind.TheVariants.{Literal, And, Or}
-use Rattle.state_rules.specs.Graphs.{at_most_one, Node, Graph, truth, truth_by, mention, mention_by, mentions, is_true, IsGraph}
-use Rattle.state_rules.proofs.NodeValues.{are_below, map-below, value_of-get}
+use Rattle.state_rules.specs.Graphs.{at_most_one, Node, Graph, true_node, truth, truth_by, mention_by, mentions, is_true, IsGraph}
+use Rattle.state_rules.proofs.NodeValues.{are_below, value_of-get}
 use Rattle.state_rules.proofs.Kids.{at_most_one-tail, not_both}
 use Rattle.state_rules.proofs.NodesFit.{fits-get, apart-get}
 use Rattle.conditioner.specs.Words.{leaf_of}
 use Rattle.minimiser.specs.Costs.{part_cost, known_at, cost_at, sum_costs, cheapest, node_cost, cost_by, literal_cost}
-use Rattle.minimiser.proofs.Totals.{add-le-total, le-total}
-use Rattle.minimiser.proofs.Costs.{fault, false_is, IsCost, Agrees, cond-le, faults_in, faults_in-le, all_faults, and_left, and_right, joins, from_add, AtMost-min_left, AtMost-min_right, apart_sum}
-use Rattle.minimiser.proofs.Nodes.{nodes_are, kids_and}
-use Rattle.minimiser.proofs.Apart.{decomposed}
+use Rattle.node_costs.proofs.Weighing.{one_apart, weigh-apart, weigh-one}
+use Rattle.minimiser.proofs.Costs.{fault, opens, ends, as_cost, IsCost, Agrees, faults_in, faults_in-le, all_faults, and_left, and_right, joins, from_add, AtMost-min_left, AtMost-min_right}
+pub use Rattle.node_costs.proofs.Nodes.{all-below}
+use Rattle.minimiser.proofs.Nodes as nodes
 use Rattle.minimiser.proofs.Whole.{part_cost-none}
-
--- ---- the cost at a node, by those of its kids
-
-cost_at-get : (xs : List (Option ℕ)) (i : ℕ) → cost_at xs i ≡ get_or xs i None
-cost_at-get [] i = refl
-cost_at-get (x ∷ xs) zero = refl
-cost_at-get (x ∷ xs) (suc i) = cost_at-get xs i
-
-cost-at : (by : NodeKind → List (Option ℕ) → Option ℕ) (nodes : List Node) (i : ℕ) (n : Node) → slice_get nodes i ≡ Some n → are_below i n.kids ≡ true
-    → cost_at (values (λ (node : Node) earlier. by node.what (map (cost_at earlier) node.kids)) nodes) i
-    ≡ by n.what (map (cost_at (values (λ (node : Node) earlier. by node.what (map (cost_at earlier) node.kids)) nodes)) n.kids)
-cost-at by nodes i n e below =
-    let f : Node → List (Option ℕ) → Option ℕ = λ node earlier. by node.what (map (cost_at earlier) node.kids) in
-    let inside : i < length nodes = slice_get_within nodes i n e in
-    let es : List (Option ℕ) = values f (take i nodes) in
-    cost_at-get (values f nodes) i ∙ values-at f nodes i n inside None ∙ (λ j. f (get_or_from_slice_get nodes i n n e j) es)
-    ∙ ap (by n.what) (map-below (cost_at es) (cost_at (values f nodes)) i n.kids below
-    (λ k h. cost_at-get es k ∙ values-before f nodes i n inside k None h ∙ sym (cost_at-get (values f nodes) k)))
 
 -- ---- members of the kids
 
@@ -51,16 +33,19 @@ any-kid f kids k m e = list_any-map (λ b. b) f kids ∙ any_in f k kids m e
 pub kid-with : (f : ℕ → Bool) (kids : List ℕ) → list_any (λ b. b) (map f kids) ≡ true → Passing f kids
 kid-with f kids e = any_from f kids (sym (list_any-map (λ b. b) f kids) ∙ e)
 
-pub all-below : (n : ℕ) (kids : List ℕ) (k : ℕ) → are_below n kids ≡ true → In k kids → k < n
-all-below n [] k all m = absurd m
-all-below n (j ∷ kids) k all (inl q) = subst (λ x. x < n) (sym q) (ltb-true j n (and_parts (nat_lt j n) (are_below n kids) all).0)
-all-below n (j ∷ kids) k all (inr r) = all-below n kids k (and_parts (nat_lt j n) (are_below n kids) all).1 r
-
 -- an or costs no more than a kid
 pub cheapest-kid : (C : ℕ → Option ℕ) (kids : List ℕ) (j d : ℕ) → In j kids → C j ≡ Some d → AtMost (cheapest (map C kids)) d
 cheapest-kid C [] j d m e = absurd m
 cheapest-kid C (i ∷ kids) j d (inl q) e = AtMost-min_left (C i) (cheapest (map C kids)) d (subst (λ o. AtMost o d) (sym (ap C (sym q) ∙ e)) (omega arith))
 cheapest-kid C (i ∷ kids) j d (inr r) e = AtMost-min_right (C i) (cheapest (map C kids)) d (cheapest-kid C kids j d r e)
+
+-- and an and no less
+pub sum-kid : (C : ℕ → Option ℕ) (kids : List ℕ) (c j : ℕ) → sum_costs (map C kids) ≡ Some c → In j kids → (d : ℕ) × (C j ≡ Some d) × (d ≤ c)
+sum-kid C [] c j e m = absurd m
+sum-kid C (k ∷ kids) c j e (inl q) = let s = from_add (C k) (sum_costs (map C kids)) c e in (s.left, ap C q ∙ s.left_is, omega (arith, s.sum_is))
+sum-kid C (k ∷ kids) c j e (inr r) =
+    let s = from_add (C k) (sum_costs (map C kids)) c e in
+    let more = sum-kid C kids s.right j s.right_is r in (more.0, more.1, omega (arith, more.2, s.sum_is))
 
 module _ (graph : Graph) (words costs : List ℕ) (ok : IsGraph graph) where
   abbrev kn : ℕ → Option Bool
@@ -86,8 +71,7 @@ module _ (graph : Graph) (words costs : List ℕ) (ok : IsGraph graph) where
   root = length graph.nodes - 1
 
   pub is_cost : (k : ℕ) → IsCost kn price n (λ a. T a k) (λ v. M v k) (C k)
-  is_cost k = nodes_are kn price n (part_cost-none costs) graph.nodes (λ a. []) (λ v. []) []
-      (λ k. false_is kn price n) (record { truths = λ a. refl; mentioned = λ v. refl }) (decomposed graph.vars graph.nodes ok.nodes) k
+  is_cost k = as_cost kn price n _ _ _ (nodes.is_cost kn price n (part_cost-none costs) graph ok k)
 
   pub below : (i : ℕ) (node : Node) → slice_get graph.nodes i ≡ Some node → are_below i node.kids ≡ true
   below i node e = (fits-get graph.vars graph.nodes i node ok.nodes.fit e).below
@@ -99,7 +83,8 @@ module _ (graph : Graph) (words costs : List ℕ) (ok : IsGraph graph) where
   mention-at i node e v = value_of-get (mention_by v) graph.nodes i node e (below i node e)
 
   pub costs-at : (i : ℕ) (node : Node) → slice_get graph.nodes i ≡ Some node → C i ≡ cost_by kn price node.what (map C node.kids)
-  costs-at i node e = cost-at (cost_by kn price) graph.nodes i node e (below i node e)
+  costs-at i node e = nodes.cost-of kn price n (part_cost-none costs) graph ok i (slice_get_within graph.nodes i node e)
+      ∙ ap (λ (m : Node). cost_by kn price m.what (map C m.kids)) (get_or_from_slice_get graph.nodes i node true_node e)
 
   pub apart-kids : (i : ℕ) (kids : List ℕ) → slice_get graph.nodes i ≡ Some (record { what = And; kids = kids }) → (v : ℕ) → at_most_one (map (M v) kids) ≡ true
   apart-kids i kids e v = apart-get (mentions graph.nodes v) graph.nodes i (record { what = And; kids = kids }) (ok.nodes.apart v) e
@@ -118,7 +103,7 @@ module _ (graph : Graph) (words costs : List ℕ) (ok : IsGraph graph) where
 
   pub kids-cost : (kids : List ℕ) → Apart kids → IsCost kn price n (TA kids) (MA kids) (SA kids)
   unfolding Apart
-  kids-cost kids apart = kids_and kn price n (part_cost-none costs) (λ a. values (truth a) graph.nodes) (λ v. values (mention v) graph.nodes) (values (node_cost kn price) graph.nodes) is_cost kids apart
+  kids-cost kids apart = as_cost kn price n _ _ _ (nodes.kids_cost kn price n (part_cost-none costs) graph ok kids apart)
 
   pub apart-tail : (j : ℕ) (kids : List ℕ) → Apart (j ∷ kids) → Apart kids
   unfolding Apart
@@ -130,96 +115,143 @@ module _ (graph : Graph) (words costs : List ℕ) (ok : IsGraph graph) where
 
   -- ---- from the root to a node
 
-  -- an assignment that makes a node true at a cost, and costs nothing elsewhere
+  -- an assignment that makes a node true at a cost
   pub record Achieves (k c : ℕ) (a : Assignment) : Type 0 where
     pub agrees : Agrees (known_at words) (part_cost costs) (length costs) a
     pub holds : is_true graph.nodes k a ≡ true
     pub cheap : all_faults (known_at words) (part_cost costs) (length costs) a ≤ c
 
-  -- it goes on to the root: there is one that makes the root true at its least cost, with the same bits of the node's variables
-  pub record Extends (k : ℕ) (a : Assignment) : Type 0 where
-    pub least : ℕ
-    pub is : cost_at (values (node_cost (known_at words) (part_cost costs)) graph.nodes) (length graph.nodes - 1) ≡ Some least
+  -- it goes on to the root: there is one that makes the root true at a cost, with the same bits of the node's variables
+  pub record Extends (k most : ℕ) (a : Assignment) : Type 0 where
     pub by : Assignment
-    pub achieves : Achieves (length graph.nodes - 1) least by
+    pub achieves : Achieves (length graph.nodes - 1) most by
     pub same : (v : ℕ) → mentions graph.nodes v k ≡ true → by v ≡ a v
 
-  -- the node is part of making the root true at its least cost
-  abbrev pub Useful : ℕ → Type 0
-  Useful k = (c : ℕ) → C k ≡ Some c → (a : Assignment) → Achieves k c a → Extends k a
+  pub extends-le : (k c d : ℕ) (a : Assignment) → c ≤ d → Extends k c a → Extends k d a
+  extends-le k c d a le x = record { by = x.by; achieves = record { agrees = x.achieves.agrees; holds = x.achieves.holds; cheap = omega (arith, x.achieves.cheap) }; same = x.same }
 
-  pub useful-root : Useful root
-  useful-root c e a h = record { least = c; is = e; by = a; achieves = h; same = λ v m. refl }
+  -- Outside of the node, the rest of a derivation of the root costs no more than this.
+  abbrev pub Outside : ℕ → ℕ → Type 0
+  Outside k o = (c : ℕ) (a : Assignment) → Achieves k c a → Extends k (o + c) a
 
-  record KidsBy (kids : List ℕ) (k c : ℕ) (a : Assignment) : Type 0 where
+  pub outside-root : Outside root 0
+  outside-root c a h = record { by = a; achieves = record { agrees = h.agrees; holds = h.holds; cheap = omega (arith, h.cheap) }; same = λ v m. refl }
+
+  record KidsBy (kids : List ℕ) (k most : ℕ) (a : Assignment) : Type 0 where
     by : Assignment
     agrees : Agrees kn price n by
     holds : TA kids by ≡ true
-    cheap : all_faults kn price n by ≤ c
+    cheap : all_faults kn price n by ≤ most
     same : (v : ℕ) → M v k ≡ true → by v ≡ a v
 
-  kids-by : (kids : List ℕ) → Apart kids → (k : ℕ) → In k kids → (d : ℕ) → C k ≡ Some d → (a : Assignment) → Achieves k d a → (c : ℕ) → SA kids ≡ Some c → KidsBy kids k c a
-  kids-by [] apart k m d e a h c s = absurd m
-  kids-by (j ∷ kids) apart k (inl q) d e a h c s =
-      let sum = from_add (C j) (SA kids) c s in
-      let same_cost : d ≡ sum.left = same_Some d sum.left (sym e ∙ ap C q ∙ sum.left_is) in
-      let r = (kids-cost kids (apart-tail j kids apart)).reached sum.right sum.right_is in
-      let x = joins kn price n (λ b. T b j) (TA kids) (λ v. M v j) (MA kids) (C j) (SA kids) (is_cost j) (kids-cost kids (apart-tail j kids apart)) (apart-both j kids apart) a r.by h.agrees r.agrees
-      (subst (λ i. T a i ≡ true) q h.holds) r.holds in
+  kids-by : (kids : List ℕ) → Apart kids → (k : ℕ) → In k kids → (d : ℕ) → C k ≡ Some d → (x : ℕ) (a : Assignment) → Achieves k x a → (r : ℕ) → SA kids ≡ Some (r + d) → KidsBy kids k (r + x) a
+  kids-by [] apart k m d e x a h r s = absurd m
+  kids-by (j ∷ kids) apart k (inl q) d e x a h r s =
+      let sum = from_add (C j) (SA kids) (r + d) s in
+      let own : d ≡ sum.left = same_Some d sum.left (sym e ∙ ap C q ∙ sum.left_is) in
+      let b = (kids-cost kids (apart-tail j kids apart)).reached sum.right sum.right_is in
+      let y = joins kn price n (λ b. T b j) (TA kids) (λ v. M v j) (MA kids) (C j) (SA kids) (is_cost j) (kids-cost kids (apart-tail j kids apart)) (apart-both j kids apart) a b.by h.agrees b.agrees
+      (subst (λ i. T a i ≡ true) q h.holds) b.holds in
       record {
-        by = x.by;
-        agrees = x.agrees;
-        holds = and_from _ _ x.left x.right;
-        cheap = omega (arith, x.cheap, h.cheap, r.cheap, sum.sum_is, same_cost);
-        same = λ v m. x.as_left v (subst (λ i. M v i ≡ true) q m);
+        by = y.by;
+        agrees = y.agrees;
+        holds = and_from _ _ y.left y.right;
+        cheap = omega (arith, y.cheap, h.cheap, b.cheap, sum.sum_is, own);
+        same = λ v m. y.as_left v (subst (λ i. M v i ≡ true) q m);
       }
-  kids-by (j ∷ kids) apart k (inr m) d e a h c s =
-      let sum = from_add (C j) (SA kids) c s in
-      let more = kids-by kids (apart-tail j kids apart) k m d e a h sum.right sum.right_is in
-      let r = (is_cost j).reached sum.left sum.left_is in
-      let x = joins kn price n (λ b. T b j) (TA kids) (λ v. M v j) (MA kids) (C j) (SA kids) (is_cost j) (kids-cost kids (apart-tail j kids apart)) (apart-both j kids apart) r.by more.by r.agrees more.agrees
-      r.holds more.holds in
+  kids-by (j ∷ kids) apart k (inr m) d e x a h r s =
+      let sum = from_add (C j) (SA kids) (r + d) s in
+      let own = sum-kid C kids sum.right k sum.right_is m in
+      let there : own.0 ≡ d = same_Some own.0 d (sym own.1 ∙ e) in
+      let more = kids-by kids (apart-tail j kids apart) k m d e x a h (sum.right - d) (sum.right_is ∙ ap Some (omega (arith, own.2, there))) in
+      let b = (is_cost j).reached sum.left sum.left_is in
+      let y = joins kn price n (λ b. T b j) (TA kids) (λ v. M v j) (MA kids) (C j) (SA kids) (is_cost j) (kids-cost kids (apart-tail j kids apart)) (apart-both j kids apart) b.by more.by b.agrees more.agrees
+      b.holds more.holds in
       record {
-        by = x.by;
-        agrees = x.agrees;
-        holds = and_from _ _ x.left x.right;
-        cheap = omega (arith, x.cheap, r.cheap, more.cheap, sum.sum_is);
-        same = λ v t. x.as_right v (any-kid (M v) kids k m t) ∙ more.same v t;
+        by = y.by;
+        agrees = y.agrees;
+        holds = and_from _ _ y.left y.right;
+        cheap = omega (arith, y.cheap, b.cheap, more.cheap, sum.sum_is, own.2, there);
+        same = λ v t. y.as_right v (any-kid (M v) kids k m t) ∙ more.same v t;
       }
+
+  -- the kids of an and: the other kids are true too
+  pub outside-and : (p : ℕ) (kids : List ℕ) (o : ℕ) → slice_get graph.nodes p ≡ Some (record { what = And; kids = kids }) → Outside p o → (k : ℕ) → In k kids → (d : ℕ) → C k ≡ Some d → (r : ℕ) → C p ≡ Some (r + d) → Outside k (o + r)
+  unfolding Apart
+  outside-and p kids o e out k m d f r is x a h =
+      let b = kids-by kids (apart-kids p kids e) k m d f x a h r (sym (costs-at p _ e) ∙ is) in
+      let y = out (r + x) b.by (record { agrees = b.agrees; holds = true-at p _ e b.by ∙ b.holds; cheap = b.cheap }) in
+      extends-le k (o + (r + x)) (o + r + x) a (omega arith) (record { by = y.by; achieves = y.achieves; same = λ v t. y.same v (mention-at p _ e v ∙ any-kid (M v) kids k m t) ∙ b.same v t })
+
+  -- and of an or
+  pub outside-or : (p : ℕ) (kids : List ℕ) (o : ℕ) → slice_get graph.nodes p ≡ Some (record { what = Or; kids = kids }) → Outside p o → (k : ℕ) → In k kids → Outside k o
+  outside-or p kids o e out k m x a h =
+      let y = out x a (record { agrees = h.agrees; holds = true-at p _ e a ∙ any-kid (T a) kids k m h.holds; cheap = h.cheap }) in
+      record { by = y.by; achieves = y.achieves; same = λ v t. y.same v (mention-at p _ e v ∙ any-kid (M v) kids k m t) }
+
+  -- the node is part of making the root true at its least cost
+  abbrev pub Useful : ℕ → Type 0
+  Useful k = (c m : ℕ) → C k ≡ Some c → C root ≡ Some m → (o : ℕ) × Outside k o × (o + c ≡ m)
+
+  pub useful-root : Useful root
+  useful-root c m e f = (0, outside-root, (let same = same_Some c m (sym e ∙ f) in omega arith))
 
   -- the kids of an and
   pub useful-and : (p : ℕ) (kids : List ℕ) (c : ℕ) → slice_get graph.nodes p ≡ Some (record { what = And; kids = kids }) → C p ≡ Some c → Useful p → (k : ℕ) → In k kids → Useful k
-  unfolding Apart
-  useful-and p kids c e is useful k m d f a h =
-      let b = kids-by kids (apart-kids p kids e) k m d f a h c (sym (costs-at p _ e) ∙ is) in
-      let x = useful c is b.by (record { agrees = b.agrees; holds = true-at p _ e b.by ∙ b.holds; cheap = b.cheap }) in
-      record { least = x.least; is = x.is; by = x.by; achieves = x.achieves; same = λ v t. x.same v (mention-at p _ e v ∙ any-kid (M v) kids k m t) ∙ b.same v t }
+  useful-and p kids c e is useful k i d m f g =
+      let u = useful c m is g in
+      let own = sum-kid C kids c k (sym (costs-at p _ e) ∙ is) i in
+      let same : own.0 ≡ d = same_Some own.0 d (sym own.1 ∙ f) in
+      (u.0 + (c - d), outside-and p kids u.0 e u.1 k i d f (c - d) (is ∙ ap Some (omega (arith, own.2, same))), omega (arith, own.2, same, u.2))
 
   -- the kids of an or that cost as much
   pub useful-or : (p : ℕ) (kids : List ℕ) (c : ℕ) → slice_get graph.nodes p ≡ Some (record { what = Or; kids = kids }) → C p ≡ Some c → Useful p → (k : ℕ) → In k kids → C k ≡ Some c → Useful k
-  useful-or p kids c e is useful k m s d f a h =
-      let same_cost : d ≡ c = same_Some d c (sym f ∙ s) in
-      let x = useful c is a (record { agrees = h.agrees; holds = true-at p _ e a ∙ any-kid (T a) kids k m h.holds; cheap = omega (arith, h.cheap, same_cost) }) in
-      record { least = x.least; is = x.is; by = x.by; achieves = x.achieves; same = λ v t. x.same v (mention-at p _ e v ∙ any-kid (M v) kids k m t) }
+  useful-or p kids c e is useful k i s d m f g =
+      let u = useful c m is g in
+      let same = same_Some d c (sym f ∙ s) in
+      (u.0, outside-or p kids u.0 e u.1 k i, omega (arith, u.2, same))
 
-  -- an assignment that makes the root true at its least cost, with a false variable
-  pub record FalseAt (var : ℕ) : Type 0 where
-    pub least : ℕ
-    pub is : cost_at (values (node_cost (known_at words) (part_cost costs)) graph.nodes) (length graph.nodes - 1) ≡ Some least
+  -- an assignment that makes the root true at a cost, with a false variable
+  pub record FalseAt (most var : ℕ) : Type 0 where
     pub by : Assignment
-    pub achieves : Achieves (length graph.nodes - 1) least by
+    pub achieves : Achieves (length graph.nodes - 1) most by
     pub at : by var ≡ false
 
   -- the variable of a useful literal that says faulty can be false
-  pub useful-literal : (k var : ℕ) (kids : List ℕ) → slice_get graph.nodes k ≡ Some (record { what = Literal false var; kids = kids }) → known_at words var ≡ None → Useful k → FalseAt var
-  useful-literal k var kids e open_ useful =
+  pub useful-literal : (k var : ℕ) (kids : List ℕ) → slice_get graph.nodes k ≡ Some (record { what = Literal false var; kids = kids }) → known_at words var ≡ None → Useful k → (m : ℕ) → C root ≡ Some m → FalseAt m var
+  useful-literal k var kids e open_ useful m f =
       let is : C k ≡ Some (price var) = costs-at k _ e ∙ (λ i. literal_cost (leaf_of false (open_ i)) (price var) false) in
       let r = (is_cost k).reached (price var) is in
-      let x = useful (price var) is r.by (record { agrees = r.agrees; holds = r.holds; cheap = r.cheap }) in
-      record { least = x.least; is = x.is; by = x.by; achieves = x.achieves; at = x.same var (mention-at k _ e var ∙ eq-eqb var var refl) ∙ is_false (r.by var) (sym (true-at k _ e r.by) ∙ r.holds) } where
+      let u = useful (price var) m is f in
+      let x = extends-le k (u.0 + price var) m r.by (omega (arith, u.2)) (u.1 (price var) r.by (record { agrees = r.agrees; holds = r.holds; cheap = r.cheap })) in
+      record { by = x.by; achieves = x.achieves; at = x.same var (mention-at k _ e var ∙ eq-eqb var var refl) ∙ is_false (r.by var) (sym (true-at k _ e r.by) ∙ r.holds) } where
         is_false : (b : Bool) → same_bit false b ≡ true → b ≡ false
         is_false true q = absurd (cc)
         is_false false q = refl
+
+  -- ---- what costs more than it has to
+
+  -- a true kid of an and: it costs no more above its least cost than the and does
+  pub record KidExcess (kids : List ℕ) (c j : ℕ) (a : Assignment) : Type 0 where
+    pub holds : is_true graph.nodes j a ≡ true
+    pub cost : ℕ
+    pub is : cost_at (values (node_cost (known_at words) (part_cost costs)) graph.nodes) j ≡ Some cost
+    pub excess : c + faults_in (known_at words) (part_cost costs) (length costs) (λ v. mentions graph.nodes v j) a
+        ≤ faults_in (known_at words) (part_cost costs) (length costs) (λ v. list_any (λ b. b) (map (mentions graph.nodes v) kids)) a + cost
+
+  pub kid-excess : (a : Assignment) → Agrees kn price n a → (kids : List ℕ) → Apart kids → TA kids a ≡ true → (c : ℕ) → SA kids ≡ Some c → (j : ℕ) → In j kids → KidExcess kids c j a
+  kid-excess a ag [] apart h c s j m = absurd m
+  kid-excess a ag (i ∷ kids) apart h c s j m =
+      let sum = from_add (C i) (SA kids) c s in
+      let rest = apart-tail i kids apart in
+      let here : T a i ≡ true = and_left _ _ h in
+      let there : TA kids a ≡ true = and_right (T a i) _ h in
+      let low_here = subst (λ o. AtMost o (faults_in kn price n (λ v. M v i) a)) sum.left_is ((is_cost i).bound a ag here) in
+      let low_there = subst (λ o. AtMost o (faults_in kn price n (MA kids) a)) sum.right_is ((kids-cost kids rest).bound a ag there) in
+      let all = weigh-apart (opens kn price n) (λ v. M v i) (MA kids) a (apart-both i kids apart) in
+      ⊎_elim
+      (λ (q : j ≡ i). subst (λ x. KidExcess (i ∷ kids) c x a) (sym q) (record { holds = here; cost = sum.left; is = sum.left_is; excess = omega (arith, all, low_there, sum.sum_is) }))
+      (λ (r : In j kids). let x = kid-excess a ag kids rest there sum.right sum.right_is j r in record { holds = x.holds; cost = x.cost; is = x.is; excess = omega (arith, all, low_here, x.excess, sum.sum_is) }) m
 
   -- ---- from the root to a fault
 
@@ -239,17 +271,12 @@ module _ (graph : Graph) (words costs : List ℕ) (ok : IsGraph graph) where
 
     -- variables among which the faulty one is cost more than those among which it is not
     pub faults-lt : (m o : ℕ → Bool) → ((v : ℕ) → m v ≡ true → o v ≡ true) → m p ≡ false → o p ≡ true → faults m < faults o
-    faults-lt m o h e f = omega (arith, add-le-total (λ v. cond (m v) (fl v) 0) (λ v. cond (eqb p v) (fl v) 0) (λ v. cond (o v) (fl v) 0) each 1 n, le-total (λ v. cond (eqb p v) (fl v) 0) p 1 n low high, own) where
-      own : fl p ≤ cond (eqb p p) (fl p) 0
-      own = rw (eq-eqb p p refl) (omega arith)
-
-      each : (v : ℕ) → cond (m v) (fl v) 0 + cond (eqb p v) (fl v) 0 ≤ cond (o v) (fl v) 0
-      each v = by_test (eqb p v) refl where
-        by_test : (b : Bool) → eqb p v ≡ b → cond (m v) (fl v) 0 + cond b (fl v) 0 ≤ cond (o v) (fl v) 0
-        by_test true q =
-            let at : p ≡ v = eqb-true _ _ q in
-            rw (sym (ap m at) ∙ e, sym (ap o at) ∙ f) (omega arith)
-        by_test false q = omega (arith, cond-le (m v) (o v) (fl v) (h v))
+    faults-lt m o h e f =
+        let more = weigh-apart (opens kn price n) m (λ v. eqb p v) a (one_apart m p e) in
+        let own = weigh-one (opens kn price n) (ends kn price n (part_cost-none costs)) p a in
+        omega (arith, more, own, faults-le (λ v. m v || eqb p v) o both) where
+          both : (v : ℕ) → (m v || eqb p v) ≡ true → o v ≡ true
+          both v q = ⊎_elim (λ x. h v x) (λ x. ap o (sym (eqb-true _ _ x)) ∙ f) (or_cases (m v) (eqb p v) q)
 
     bound-at : (k c : ℕ) → T a k ≡ true → C k ≡ Some c → c ≤ faults (λ v. M v k)
     bound-at k c h e = subst (λ o. AtMost o (faults (λ v. M v k))) e ((is_cost k).bound a agree h)
@@ -273,33 +300,14 @@ module _ (graph : Graph) (words costs : List ℕ) (ok : IsGraph graph) where
       pub is_in : In kid kids
       pub on : OnFault kid
 
-    -- each kid costs no more than it has to
-    tight-kids : (kids : List ℕ) → Apart kids → TA kids a ≡ true → (c : ℕ) → SA kids ≡ Some c → faults (MA kids) ≤ c → (j : ℕ) → In j kids → M p j ≡ true → OnFault j
-    tight-kids [] apart h c s t j m e = absurd m
-    tight-kids (i ∷ kids) apart h c s t j m e =
-        let sum = from_add (C i) (SA kids) c s in
-        let here : T a i ≡ true = and_left _ _ h in
-        let there : TA kids a ≡ true = and_right (T a i) _ h in
-        let low_here = bound-at i sum.left here sum.left_is in
-        let low_there : sum.right ≤ faults (MA kids) = subst (λ o. AtMost o (faults (MA kids))) sum.right_is ((kids-cost kids (apart-tail i kids apart)).bound a agree there) in
-        let all = add-le-total (λ v. cond (M v i) (fl v) 0) (λ v. cond (MA kids v) (fl v) 0) (λ v. cond (MA (i ∷ kids) v) (fl v) 0) (λ v. apart_sum (M v i) (MA kids v) (fl v) (apart-both i kids apart v)) 1 n in
-        by_place (tight-kids kids (apart-tail i kids apart) there sum.right sum.right_is (omega (arith, all, low_here, low_there, sum.sum_is)) j) m
-        (λ q. record { holds = here; has = q; cost = sum.left; is = sum.left_is; tight = omega (arith, all, low_there, sum.sum_is) }) where
-          by_place : (In j kids → M p j ≡ true → OnFault j) → In j (i ∷ kids) → ((M p i ≡ true) → OnFault i) → OnFault j
-          by_place more (inl q) one = subst OnFault (sym q) (one (subst (λ x. M p x ≡ true) q e))
-          by_place more (inr r) one = more r e
-
     -- some kid of an and
     on-and : (k : ℕ) (kids : List ℕ) → slice_get graph.nodes k ≡ Some (record { what = And; kids = kids }) → OnFault k → KidOnFault kids
     unfolding Apart
     on-and k kids e on =
         let j = kid-with (M p) kids (sym (mention-at k _ e p) ∙ on.has) in
-        record {
-          kid = j.item;
-          is_in = j.is_in;
-          on = tight-kids kids (apart-kids k kids e) (sym (true-at k _ e a) ∙ on.holds) on.cost (sym (costs-at k _ e) ∙ on.is)
-              (omega (arith, on.tight, faults-le (MA kids) (λ v. M v k) (λ v q. mention-at k _ e v ∙ q))) j.item j.is_in j.passes;
-        }
+        let x = kid-excess a agree kids (apart-kids k kids e) (sym (true-at k _ e a) ∙ on.holds) on.cost (sym (costs-at k _ e) ∙ on.is) j.item j.is_in in
+        let most = faults-le (MA kids) (λ v. M v k) (λ v q. mention-at k _ e v ∙ q) in
+        record { kid = j.item; is_in = j.is_in; on = record { holds = x.holds; has = j.passes; cost = x.cost; is = x.is; tight = omega (arith, x.excess, on.tight, most) } }
 
     -- some kid of an or, that costs as much
     pub record CheapKid (kids : List ℕ) (cost : ℕ) : Type 0 where

@@ -6,7 +6,7 @@ use Rattle.conditioner.specs.Models.{total_cost}
 use Rattle.conditioner.specs.Words.{known_of}
 use Rattle.minimiser.specs.Costs.{part_cost}
 use Rattle.minimiser.specs.inner.Held.{held_one, held_cost}
-use Rattle.minimiser.proofs.Totals.{total}
+use Rattle.node_costs.specs.Costs.{total}
 
 pub held-drop : (costs words : List ℕ) (i : ℕ) → i < length costs → i < length words
     → held_cost (drop i costs) (drop i words) ≡ held_one (get_or costs i 0) (known_of (get_or words i 0)) + held_cost (drop (i + 1) costs) (drop (i + 1) words)

@@ -1,101 +1,68 @@
 -- The least costs of all nodes of a graph.
-use Rattle.std.proofs.Common.{◌≡◌, ℕ, zero, suc, ◌+◌, ◌<◌, ◌≤◌, Bool, true, false, List, [], ◌∷◌, ◌++◌, map, length, Option, None, refl, ap, sym, ◌∙◌, arith, inl, inr, length-append}
-use Rattle.std.specs.Prelude.{◌⊎◌}
+use Rattle.std.proofs.Common.{◌≡◌, ℕ, ◌+◌, ◌<◌, ◌≤◌, Bool, true, false, List, [], ◌∷◌, map, length, get_or, take, Option, None, refl, ap, sym, ◌∙◌, subst, arith, ⊎_elim, zero, suc}
 use Rattle.std.specs.List.{list_any, list_all}
 use Rattle.std.proofs.lemmas.Bool.{cases_lt}
-use Rattle.std.proofs.lemmas.List.{get_or_append_left, get_or_push, get_or_past}
-use Rattle.state_rules.specs.Bits.{bit_in}
-use Rattle.state_rules.specs.Assignments.{Assignment}
-use Rattle.state_rules.specs.Values.{values_after}
+use Rattle.std.proofs.lemmas.List.{get_or_past}
+use Rattle.state_rules.specs.Values.{values}
 use Rattle.state_rules.specs.declared.nodes.NodeKind.{NodeKind}
 use Rattle.state_rules.specs.declared.nodes.NodeKind.TheVariants.{Literal, And, Or}
-use Rattle.state_rules.specs.Graphs.{at_most_one, Node, truth, truth_by, mention, mention_by, apart_at}
-use Rattle.state_rules.proofs.Kids.{at_most_one-tail, not_both}
-use Rattle.minimiser.specs.Costs.{sum_costs, cheapest, cost_at, cost_by, node_cost}
-use Rattle.minimiser.proofs.Costs.{IsCost, IsCost-same, and_is, or_is, true_is, false_is, literal_is}
+use Rattle.state_rules.specs.Graphs.{at_most_one, Graph, true_node, node_at, truth, mention, mentions, is_true, IsGraph}
+use Rattle.state_rules.proofs.NodeValues.{map-below}
+use Rattle.state_rules.proofs.NodesFit.{fits-at}
+use Rattle.state_rules.proofs.Values.{length-values_after, values-at, values-before}
+use Rattle.conditioner.specs.Words.{leaf_of}
+use Rattle.node_costs.proofs.Nodes.{value_by, AreLaws, all_nodes, kids_and}
+use Rattle.node_costs.proofs.Tests.{same_tests}
+use Rattle.minimiser.specs.Costs.{sum_costs, cheapest, cost_at, literal_cost, cost_by, node_cost}
+use Rattle.minimiser.proofs.Costs.{IsLeastCost, and_is, or_is, true_is, false_is, literal_is}
 
-cost_at-before : (xs : List (Option ℕ)) (x : Option ℕ) (k : ℕ) → k < length xs → cost_at (xs ++ x ∷ []) k ≡ cost_at xs k
-cost_at-before [] x k h = absurd (omega arith)
-cost_at-before (y ∷ xs) x zero h = refl
-cost_at-before (y ∷ xs) x (suc k) h = cost_at-before xs x k (omega arith)
-
-pub cost_at-last : (xs : List (Option ℕ)) (x : Option ℕ) → cost_at (xs ++ x ∷ []) (length xs) ≡ x
-cost_at-last [] x = refl
-cost_at-last (y ∷ xs) x = cost_at-last xs x
-
-cost_at-past : (xs : List (Option ℕ)) (k : ℕ) → length xs ≤ k → cost_at xs k ≡ None
-cost_at-past [] k h = refl
-cost_at-past (y ∷ xs) zero h = absurd (omega arith)
-cost_at-past (y ∷ xs) (suc k) h = cost_at-past xs k (omega arith)
-
-equal_or_above : (k n : ℕ) → n ≤ k → (k ≡ n) ⊎ (n < k)
-equal_or_above k n h = grind arith
-
--- each and has a variable below one of its kids at most, as far as the nodes before it say
-abbrev pub ApartAfter : ℕ → List Bool → List Node → Type 0
-ApartAfter v earlier [] = Unit {0}
-ApartAfter v earlier (node ∷ nodes) =
-    (apart_at (bit_in earlier) node.what node.kids ≡ true) × ApartAfter v (earlier ++ mention v node earlier ∷ []) nodes
+pub cost_at-get : (xs : List (Option ℕ)) (i : ℕ) → cost_at xs i ≡ get_or xs i None
+cost_at-get [] i = refl
+cost_at-get (x ∷ xs) zero = refl
+cost_at-get (x ∷ xs) (suc i) = cost_at-get xs i
 
 module _ (known : ℕ → Option Bool) (price : ℕ → ℕ) (parts : ℕ) (none : (v : ℕ) → ((1 ≤ v) → (v < 1 + parts) → ⊥) → price v ≡ 0) where
-  abbrev pub Truths : Type 0
-  Truths = Assignment → List Bool
+  abbrev literal : ℕ → Bool → Option ℕ
+  literal var positive = literal_cost (leaf_of positive (known var)) (price var) positive
 
-  abbrev pub Mentions : Type 0
-  Mentions = ℕ → List Bool
+  laws : AreLaws literal sum_costs cheapest (IsLeastCost known price parts)
+  laws = record {
+    of_literal = literal_is known price parts none;
+    of_true = true_is known price parts;
+    of_false = false_is known price parts;
+    of_both = λ t u m o c cs apart is_t is_u. and_is known price parts t u m o c (sum_costs cs) is_t is_u apart;
+    of_either = λ t u m o c cs is_t is_u. or_is known price parts t u m o c (cheapest cs) is_t is_u;
+  }
 
-  abbrev pub AreCosts : Truths → Mentions → List (Option ℕ) → Type 0
-  AreCosts T M C = (k : ℕ) → IsCost known price parts (λ a. bit_in (T a) k) (λ v. bit_in (M v) k) (cost_at C k)
+  same_value : (kind : NodeKind) (costs : List (Option ℕ)) → cost_by known price kind costs ≡ value_by literal sum_costs cheapest (IsLeastCost known price parts) kind costs
+  same_value (Literal positive var) costs = refl
+  same_value And costs = refl
+  same_value Or costs = refl
 
-  module _ (T : Truths) (M : Mentions) (C : List (Option ℕ)) (are : AreCosts T M C) where
-    pub kids_and : (kids : List ℕ) → ((v : ℕ) → at_most_one (map (bit_in (M v)) kids) ≡ true)
-        → IsCost known price parts (λ a. list_all (λ b. b) (map (bit_in (T a)) kids)) (λ v. list_any (λ b. b) (map (bit_in (M v)) kids)) (sum_costs (map (cost_at C) kids))
-    kids_and [] apart = true_is known price parts
-    kids_and (k ∷ kids) apart = and_is known price parts _ _ _ _ _ _ (are k) (kids_and kids (λ v. at_most_one-tail (bit_in (M v) k) (map (bit_in (M v)) kids) (apart v))) (λ v. not_both (bit_in (M v) k) (map (bit_in (M v)) kids) (apart v))
+  module _ (graph : Graph) (ok : IsGraph graph) where
+    abbrev C : ℕ → Option ℕ
+    C k = cost_at (values (node_cost known price) graph.nodes) k
 
-    pub kids_or : (kids : List ℕ)
-        → IsCost known price parts (λ a. list_any (λ b. b) (map (bit_in (T a)) kids)) (λ v. list_any (λ b. b) (map (bit_in (M v)) kids)) (cheapest (map (cost_at C) kids))
-    kids_or [] = false_is known price parts
-    kids_or (k ∷ kids) = or_is known price parts _ _ _ _ _ _ (are k) (kids_or kids)
+    -- the cost at a node, by those of its kids
+    pub cost-of : (i : ℕ) → i < length graph.nodes → C i ≡ cost_by known price (node_at graph.nodes i).what (map C (node_at graph.nodes i).kids)
+    cost-of i h =
+        let f = node_cost known price in
+        let es : List (Option ℕ) = values f (take i graph.nodes) in
+        cost_at-get (values f graph.nodes) i ∙ values-at f graph.nodes i true_node h None
+        ∙ ap (cost_by known price (node_at graph.nodes i).what) (map-below (cost_at es) C i (node_at graph.nodes i).kids (fits-at graph.vars graph.nodes i ok.nodes.fit h).below
+        (λ k l. cost_at-get es k ∙ values-before f graph.nodes i true_node h k None l ∙ sym (cost_at-get (values f graph.nodes) k)))
 
-    node_is : (kind : NodeKind) (kids : List ℕ) → ((v : ℕ) → apart_at (bit_in (M v)) kind kids ≡ true)
-        → IsCost known price parts (λ a. truth_by a kind (map (bit_in (T a)) kids)) (λ v. mention_by v kind (map (bit_in (M v)) kids)) (cost_by known price kind (map (cost_at C) kids))
-    node_is (Literal positive var) kids apart = literal_is known price parts none var positive
-    node_is And kids apart = kids_and kids apart
-    node_is Or kids apart = kids_or kids
+    pub is_cost : (k : ℕ) → IsLeastCost known price parts (λ a. is_true graph.nodes k a) (λ v. mentions graph.nodes v k) (cost_at (values (node_cost known price) graph.nodes) k)
+    is_cost k = ⊎_elim
+        (λ (h : k < length graph.nodes). all_nodes literal sum_costs cheapest (IsLeastCost known price parts) laws graph ok C (λ i lt. cost-of i lt ∙ same_value (node_at graph.nodes i).what _) k h)
+        (λ (h : length graph.nodes ≤ k).
+        let past : C k ≡ None = cost_at-get (values (node_cost known price) graph.nodes) k ∙ get_or_past (values (node_cost known price) graph.nodes) k None (omega (arith, length-values_after (node_cost known price) [] graph.nodes)) in
+        subst (IsLeastCost known price parts (λ a. is_true graph.nodes k a) (λ v. mentions graph.nodes v k)) (sym past) (same_tests (λ t m. IsLeastCost known price parts t m None)
+        (λ a. sym (get_or_past (values (truth a) graph.nodes) k false (omega (arith, length-values_after (truth a) [] graph.nodes))))
+        (λ v. sym (get_or_past (values (mention v) graph.nodes) k false (omega (arith, length-values_after (mention v) [] graph.nodes)))) (false_is known price parts)))
+        (cases_lt k (length graph.nodes))
 
-  pub record AreAsLong (T : Truths) (M : Mentions) (C : List (Option ℕ)) : Type 0 where
-    pub truths : (a : Assignment) → length (T a) ≡ length C
-    pub mentioned : (v : ℕ) → length (M v) ≡ length C
-
-  one_more : (T : Truths) (M : Mentions) (C : List (Option ℕ)) (t : Assignment → Bool) (m : ℕ → Bool) (c : Option ℕ)
-      → AreCosts T M C → AreAsLong T M C → IsCost known price parts t m c → AreCosts (λ a. T a ++ t a ∷ []) (λ v. M v ++ m v ∷ []) (C ++ c ∷ [])
-  one_more T M C t m c are long is k = by_place (cases_lt k (length C)) where
-    at_end : (k ≡ length C) ⊎ (length C < k) → IsCost known price parts (λ a. bit_in (T a ++ t a ∷ []) k) (λ v. bit_in (M v ++ m v ∷ []) k) (cost_at (C ++ c ∷ []) k)
-    at_end (inl e) = IsCost-same known price parts
-        (λ a. ap (bit_in (T a ++ t a ∷ [])) (e ∙ sym (long.truths a)) ∙ get_or_push (T a) (t a) false (length (T a)) refl)
-        (λ v. ap (bit_in (M v ++ m v ∷ [])) (e ∙ sym (long.mentioned v)) ∙ get_or_push (M v) (m v) false (length (M v)) refl)
-        (ap (cost_at (C ++ c ∷ [])) e ∙ cost_at-last C c) is
-    at_end (inr h) = IsCost-same known price parts
-        (λ a. get_or_past _ k false (omega (arith, length-append (T a) (t a ∷ []), long.truths a)))
-        (λ v. get_or_past _ k false (omega (arith, length-append (M v) (m v ∷ []), long.mentioned v)))
-        (cost_at-past _ k (omega (arith, length-append C (c ∷ [])))) (false_is known price parts)
-
-    by_place : (k < length C) ⊎ (length C ≤ k) → IsCost known price parts (λ a. bit_in (T a ++ t a ∷ []) k) (λ v. bit_in (M v ++ m v ∷ []) k) (cost_at (C ++ c ∷ []) k)
-    by_place (inl h) = IsCost-same known price parts
-        (λ a. get_or_append_left (T a) (t a ∷ []) false k (omega (arith, long.truths a)))
-        (λ v. get_or_append_left (M v) (m v ∷ []) false k (omega (arith, long.mentioned v)))
-        (cost_at-before C c k h) (are k)
-    by_place (inr h) = at_end (equal_or_above k (length C) h)
-
-  pub nodes_are : (nodes : List Node) (T : Truths) (M : Mentions) (C : List (Option ℕ)) → AreCosts T M C → AreAsLong T M C → ((v : ℕ) → ApartAfter v (M v) nodes)
-      → AreCosts (λ a. values_after (truth a) (T a) nodes) (λ v. values_after (mention v) (M v) nodes) (values_after (node_cost known price) C nodes)
-  nodes_are [] T M C are long apart = are
-  nodes_are (node ∷ nodes) T M C are long apart =
-      nodes_are nodes (λ a. T a ++ truth a node (T a) ∷ []) (λ v. M v ++ mention v node (M v) ∷ []) (C ++ node_cost known price node C ∷ [])
-      (one_more T M C _ _ _ are long (node_is T M C are node.what node.kids (λ v. (apart v).0)))
-      (record {
-        truths = λ a. omega (arith, length-append (T a) (truth a node (T a) ∷ []), length-append C (node_cost known price node C ∷ []), long.truths a);
-        mentioned = λ v. omega (arith, length-append (M v) (mention v node (M v) ∷ []), length-append C (node_cost known price node C ∷ []), long.mentioned v);
-      })
-      (λ v. (apart v).1)
+    -- and of kids that share no variable
+    pub kids_cost : (kids : List ℕ) → ((v : ℕ) → at_most_one (map (mentions graph.nodes v) kids) ≡ true)
+        → IsLeastCost known price parts (λ a. list_all (λ b. b) (map (λ k. is_true graph.nodes k a) kids)) (λ v. list_any (λ b. b) (map (mentions graph.nodes v) kids)) (sum_costs (map C kids))
+    kids_cost kids apart = kids_and literal sum_costs cheapest (IsLeastCost known price parts) laws (λ k a. is_true graph.nodes k a) (λ k v. mentions graph.nodes v k) C kids (λ k m. is_cost k) apart

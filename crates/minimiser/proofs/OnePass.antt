@@ -1,28 +1,27 @@
 -- One more node, and all of them.
-use Rattle.std.proofs.Common.{◌≡◌, ℕ, zero, suc, ◌+◌, ◌-◌, ◌<◌, ◌≤◌, ◌^◌, Bool, true, false, cond, List, [], ◌∷◌, ◌++◌, map, length, take, drop, set, get_or, All, Option, Some, None, refl, ap, sym, ◌∙◌, subst, arith, add-one, zero-add}
+use Rattle.std.proofs.Common.{◌≡◌, ℕ, zero, suc, ◌+◌, ◌-◌, ◌<◌, ◌≤◌, ◌^◌, Bool, true, false, cond, List, [], ◌∷◌, ◌++◌, map, length, take, drop, set, get_or, All, Option, Some, None, refl, ap, sym, ◌∙◌, arith, add-one, zero-add}
 use Rattle.std.specs.Prelude.{slice_get, IfSome}
+use Rattle.std.proofs.lemmas.Bool.{ltb-true}
 use Rattle.std.proofs.Math.ListN.{length-map}
 use Rattle.std.proofs.Math.Seq.{take-length}
 use Rattle.std.proofs.lemmas.List.{length-take-le, length-drop, take_all}
 use Rattle.std.proofs.lemmas.Option.{slice_get-get_or, get_or_from_slice_get, slice_get_within}
-use Rattle.state_rules.specs.Bits.{bit_in}
-use Rattle.state_rules.specs.Values.{values_after, values}
-use Rattle.state_rules.proofs.Values.{length-values_after, values_after-append}
-use Rattle.state_rules.proofs.Members.{AtMost}
+use Rattle.state_rules.specs.Values.{values}
+use Rattle.state_rules.proofs.Values.{length-values_after, values_after-append, values-at}
 use Rattle.state_rules.specs.declared.nodes.NodeKind.{NodeKind}
 use Rattle.state_rules.specs.declared.nodes.NodeKind.TheVariants.{Literal, And}
-use Rattle.state_rules.specs.Graphs.{Node, Graph, mention, true_node, node_at, node_fits, IsGraph}
+use Rattle.state_rules.specs.Graphs.{Node, Graph, mentions, true_node, node_at, node_fits, IsGraph}
 use Rattle.state_rules.proofs.NodeValues.{below-each}
 use Rattle.state_rules.proofs.NodesFit.{nodes_fit-at, fits-get, literal}
 use Rattle.node_store.proofs.Copying.{take-more}
 use Rattle.conditioner.specs.Models.{least_under, total_cost}
-use Rattle.minimiser.specs.Costs.{part_cost, known_at, cost_at, sum_costs, node_cost}
+use Rattle.minimiser.specs.Costs.{part_cost, known_at, cost_at, node_cost}
 use Rattle.minimiser.specs.inner.Held.{held_cost}
 use Rattle.minimiser.specs.Stored.{cost_in, costs_to, AreLeastCosts}
-use Rattle.minimiser.proofs.Totals.{total-le}
-use Rattle.minimiser.proofs.Costs.{fault, false_is, faults_in}
-use Rattle.minimiser.proofs.Nodes.{nodes_are, ApartAfter, cost_at-last}
-use Rattle.minimiser.proofs.Apart.{decomposed, and_few}
+use Rattle.node_costs.proofs.Totals.{total-le}
+use Rattle.node_costs.proofs.Sets.{least-has}
+use Rattle.minimiser.proofs.Costs.{fault}
+use Rattle.minimiser.proofs.Nodes.{is_cost, cost_at-get}
 use Rattle.minimiser.proofs.Held.{full_cost-is}
 use Rattle.minimiser.proofs.Sums.{cost_in-some, cost_at-map}
 use Rattle.minimiser.proofs.Whole.{AddHeld, least_is, part_cost-none}
@@ -37,11 +36,6 @@ unfolding costs_to
 costs-step graph words costs i n e = (λ j. values (cost_under words costs) (take-more graph.nodes i n e j))
     ∙ values_after-append (cost_under words costs) [] (take i graph.nodes) (n ∷ [])
 
-ApartAfter-take : (v : ℕ) (earlier : List Bool) (nodes : List Node) (i : ℕ) → ApartAfter v earlier nodes → ApartAfter v earlier (take i nodes)
-ApartAfter-take v earlier nodes zero h = tt
-ApartAfter-take v earlier [] (suc i) h = tt
-ApartAfter-take v earlier (m ∷ nodes) (suc i) h = (h.0, ApartAfter-take v (earlier ++ mention v m earlier ∷ []) nodes i h.1)
-
 fault-le : (k : Option Bool) (w : ℕ) (b m : Bool) → cond m (fault k w b) 0 ≤ w
 fault-le None w true true = omega arith
 fault-le None w false true = omega arith
@@ -49,18 +43,12 @@ fault-le (Some x) w b true = omega arith
 fault-le k w b false = omega arith
 
 -- no node costs more than all parts together
-pub cost_small : (graph : Graph) (words costs : List ℕ) (i k : ℕ) → IsGraph graph → (n : ℕ) → cost_at (costs_to graph words costs i) k ≡ Some n → n ≤ total_cost costs
-unfolding costs_to
-cost_small graph words costs i k ok n e =
-    let kn : ℕ → Option Bool = known_at words in
-    let price : ℕ → ℕ = part_cost costs in
-    let is = nodes_are kn price (length costs) (part_cost-none costs) (take i graph.nodes) (λ a. []) (λ v. []) []
-    (λ k. false_is kn price (length costs)) (record { truths = λ a. refl; mentioned = λ v. refl })
-    (λ v. ApartAfter-take v [] graph.nodes i (decomposed graph.vars graph.nodes ok.nodes v)) k in
-    let r = is.reached n e in
-    let m : ℕ → Bool = λ v. bit_in (values_after (mention v) [] (take i graph.nodes)) k in
-    let b : n ≤ faults_in kn price (length costs) m r.by = subst (λ c. AtMost c (faults_in kn price (length costs) m r.by)) e (is.bound r.by r.agrees r.holds) in
-    omega (arith, b, full_cost-is costs, total-le (λ v. cond (m v) (fault (kn v) (price v) (r.by v)) 0) price (λ v. fault-le (kn v) (price v) (r.by v) (m v)) 1 (length costs))
+pub cost_small : (graph : Graph) (words costs : List ℕ) (k : ℕ) → IsGraph graph → (n : ℕ) → cost_at (values (cost_under words costs) graph.nodes) k ≡ Some n → n ≤ total_cost costs
+cost_small graph words costs k ok n e =
+    let is = is_cost (known_at words) (part_cost costs) (length costs) (part_cost-none costs) graph ok k in
+    let c = least-has _ _ n is.least e in
+    let m : ℕ → Bool = λ v. mentions graph.nodes v k in
+    omega (arith, c.cost_is, full_cost-is costs, total-le (λ v. cond (m v) (fault (known_at words v) (part_cost costs v) (c.by v)) 0) (part_cost costs) (λ v. fault-le (known_at words v) (part_cost costs v) (c.by v) (m v)) 1 (length costs))
 
 -- ---- what a node of a graph is
 
@@ -68,7 +56,7 @@ pub kids_below : (graph : Graph) (i : ℕ) (n : Node) → IsGraph graph → slic
 kids_below graph i n ok e = below-each i n.kids (fits-get graph.vars graph.nodes i n ok.nodes.fit e).below
 
 pub few_kids : (graph : Graph) (i : ℕ) (kids : List ℕ) → IsGraph graph → slice_get graph.nodes i ≡ Some (record { what = And; kids = kids }) → length kids < 2 ^ 32
-few_kids graph i kids ok e = and_few graph.vars kids (fits-get graph.vars graph.nodes i _ ok.nodes.fit e).kind
+few_kids graph i kids ok e = ltb-true (length kids) 4294967296 (fits-get graph.vars graph.nodes i _ ok.nodes.fit e).kind
 
 pub the_node : (nodes : List Node) (i : ℕ) (w : NodeKind) (ks : List ℕ) → i < length nodes → w ≡ (node_at nodes i).what → ks ≡ (node_at nodes i).kids
     → slice_get nodes i ≡ Some (record { what = w; kids = ks })
@@ -91,21 +79,14 @@ if_some : (o : Option ℕ) (b : ℕ) → ((n : ℕ) → o ≡ Some n → n < b) 
 if_some None b h = tt
 if_some (Some n) b h = h n refl
 
--- the cost of an and fits
-and_small : (graph : Graph) (words costs : List ℕ) (i most : ℕ) (kids : List ℕ) (values : List (Option ℕ)) → IsGraph graph → total_cost costs < most → i < length graph.nodes
-    → slice_get graph.nodes i ≡ Some (record { what = And; kids = kids }) → values ≡ costs_to graph words costs i → IfSome (sum_costs (map (cost_at values) kids)) (λ n. n < most)
-and_small graph words costs i most kids values ok few lt e v =
-    subst (λ c. IfSome c (λ n. n < most)) same (if_some (cost_at (costs_to graph words costs (i + 1)) i) most (λ (n : ℕ) (q : cost_at (costs_to graph words costs (i + 1)) i ≡ Some n). omega (arith, cost_small graph words costs (i + 1) i ok n q))) where
-      same : cost_at (costs_to graph words costs (i + 1)) i ≡ sum_costs (map (cost_at values) kids)
-      same = ap (λ cs. cost_at cs i) (sym (goes_on graph words costs i (record { what = And; kids = kids }) values (sum_costs (map (cost_at values) kids)) e v refl))
-          ∙ (λ j. cost_at (values ++ sum_costs (map (cost_at values) kids) ∷ []) (sym (ap length v ∙ length-costs_to graph words costs i (omega arith)) j)) ∙ cost_at-last values _
-
-pub and_fits : (graph : Graph) (words costs : List ℕ) (i most : ℕ) (n : Node) (values : List (Option ℕ)) → IsGraph graph → total_cost costs < most
-    → slice_get graph.nodes i ≡ Some n → values ≡ costs_to graph words costs i → n.what ≡ And → IfSome (cost_under words costs n values) (λ n. n < most)
-and_fits graph words costs i most n values ok few e v and =
-    let is : n ≡ record { what = And; kids = n.kids } = λ j. record { what = and j; kids = n.kids } in
-    subst (λ (m : Node). IfSome (cost_under words costs m values) (λ n. n < most)) (sym is)
-    (and_small graph words costs i most n.kids values ok few (slice_get_within graph.nodes i n e) (e ∙ ap Some is) v)
+-- the cost of a node fits
+pub node_fits_room : (graph : Graph) (words costs : List ℕ) (i most : ℕ) (n : Node) (values : List (Option ℕ)) → IsGraph graph → total_cost costs < most
+    → slice_get graph.nodes i ≡ Some n → values ≡ costs_to graph words costs i → IfSome (cost_under words costs n values) (λ n. n < most)
+unfolding costs_to
+node_fits_room graph words costs i most n before ok few e v = if_some _ most (λ c q. omega (arith, few, cost_small graph words costs i ok c (here ∙ sym (ap (cost_under words costs n) v) ∙ q))) where
+  here : cost_at (values (cost_under words costs) graph.nodes) i ≡ cost_under words costs n (values (cost_under words costs) (take i graph.nodes))
+  here = cost_at-get (values (cost_under words costs) graph.nodes) i ∙ values-at (cost_under words costs) graph.nodes i true_node (slice_get_within graph.nodes i n e) None
+      ∙ ap (λ m. cost_under words costs m (values (cost_under words costs) (take i graph.nodes))) (get_or_from_slice_get graph.nodes i n true_node e)
 
 -- ---- the whole pass
 
@@ -140,9 +121,11 @@ is_least graph words costs xs ok long within v = least_is graph words costs ok l
     ∙ ap (AddHeld (held_cost costs words)) (cost_at-map xs (length graph.nodes - 1) (omega (arith, length-least_costs graph words costs xs v, ok.some)))
 
 -- no value of a node that has a cost is above what all parts cost
-pub value_small : (graph : Graph) (words costs : List ℕ) (i k : ℕ) (xs : List ℕ) → IsGraph graph → map cost_in xs ≡ costs_to graph words costs i → k < length xs
+pub value_small : (graph : Graph) (words costs : List ℕ) (k : ℕ) (xs : List ℕ) → IsGraph graph → AreLeastCosts graph words costs xs → k < length xs
     → (get_or xs k 0 ≡ 4294967295 → ⊥) → get_or xs k 0 ≤ total_cost costs
-value_small graph words costs i k xs ok v h ne = cost_small graph words costs i k ok (get_or xs k 0) (ap (λ cs. cost_at cs k) (sym v) ∙ cost_at-map xs k h ∙ cost_in-some (get_or xs k 0) ne)
+unfolding costs_to
+value_small graph words costs k xs ok v h ne = cost_small graph words costs k ok (get_or xs k 0)
+    ((λ i. cost_at (values (cost_under words costs) (sym (take-length graph.nodes) i)) k) ∙ ap (λ cs. cost_at cs k) (sym v) ∙ cost_at-map xs k h ∙ cost_in-some (get_or xs k 0) ne)
 
 -- the values so far, after one more is written
 pub written : (values : List ℕ) (i v : ℕ) → i < length values → map cost_in (take (i + 1) (set values i v)) ≡ map cost_in (take i values) ++ cost_in v ∷ []
@@ -170,7 +153,7 @@ module _ (graph : Graph) (words costs xs : List ℕ) (root : ℕ) (ok : IsGraph 
   answer = is_least graph words costs xs ok long within v ∙ (λ j. AddHeld (held_cost costs words) (cost_in (get_or xs (sym at j) 0)))
 
   pub root_small : (get_or xs root 0 ≡ 4294967295 → ⊥) → get_or xs root 0 ≤ total_cost costs
-  root_small ne = value_small graph words costs (length graph.nodes) root xs ok v (omega (arith, ok.some, length-least_costs graph words costs xs v)) ne
+  root_small ne = value_small graph words costs root xs ok v (omega (arith, ok.some, length-least_costs graph words costs xs v)) ne
 
   pub root_none : get_or xs root 0 ≡ 4294967295 → None ≡ least_under graph words costs
   root_none r = sym (answer ∙ ap (λ n. AddHeld (held_cost costs words) (cost_in n)) r)

@@ -1,7 +1,6 @@
 -- Marks spread from the root. They say of each literal whether it is part of making the root true at its least cost.
-use Rattle.std.proofs.Common.{◌≡◌, ◌≢◌, ℕ, zero, suc, ◌+◌, ◌-◌, ◌<◌, ◌≤◌, Bool, true, false, cond, eqb, ◌&&◌, ◌||◌, List, [], ◌∷◌, map, length, get_or, min, All, Option, Some, None, refl, ap, sym, ◌∙◌, subst, arith, inl, inr, ⊎_elim}
+use Rattle.std.proofs.Common.{◌≡◌, ◌≢◌, ℕ, zero, suc, ◌+◌, ◌-◌, ◌<◌, ◌≤◌, Bool, true, false, cond, eqb, ◌&&◌, ◌||◌, List, [], ◌∷◌, length, get_or, min, All, Option, Some, None, refl, ap, sym, ◌∙◌, subst, arith, inl, inr, ⊎_elim}
 use Rattle.std.specs.Prelude.{◌⊎◌, ◌==◌, slice_get, nat_le, IsSome}
-use Rattle.std.proofs.Math.Seq.{take-length}
 use Rattle.std.proofs.lemmas.Bool.{and_from, cases_lt, eqb-true, eq-eqb, leb-true, le-leb, ltb-true, lt-ltb, cases_eq}
 use Rattle.std.proofs.lemmas.Option.{slice_get-get_or, slice_get_within, get_or_from_slice_get, same_Some}
 use Rattle.std.proofs.Math.Bool.{or-true}
@@ -14,15 +13,18 @@ use Rattle.state_rules.proofs.NodesFit.{fits-get, literal}
 use Rattle.state_rules.proofs.Members.{In, AtMost}
 use Rattle.conditioner.specs.Words.{known_of}
 use Rattle.conditioner.specs.Models.{least_under, total_cost}
-use Rattle.minimiser.specs.Costs.{part_cost, known_at, cost_at, sum_costs, node_cost}
+use Rattle.minimiser.specs.Costs.{part_cost, known_at, cost_at, node_cost}
 use Rattle.minimiser.specs.inner.Held.{held_cost}
-use Rattle.minimiser.specs.Stored.{cost_in, costs_to, AreLeastCosts}
+use Rattle.minimiser.specs.Stored.{cost_in, AreLeastCosts}
 use Rattle.minimiser.specs.LeastStates.{Suspect, LeastState, OkBelow}
 use Rattle.minimiser.specs.inner.Swept.{IsValue, has_mark, unmarked, IsMarked, is_kid, spread_value, HasMarkedParent, IsSwept, suspect_of, suspect_at}
-use Rattle.minimiser.proofs.Costs.{fault, from_add, and_left, and_right}
-use Rattle.minimiser.proofs.Sums.{cost_in-some, cost_at-map}
+use Rattle.minimiser.proofs.Costs.{fault, and_left, and_right}
+use Rattle.minimiser.proofs.Sums.{cost_in-some}
 use Rattle.minimiser.proofs.Whole.{AddHeld, least_is, state_of, assignment_of}
 use Rattle.minimiser.proofs.OnePass.{value_small, length-least_costs, kids_below, literal_at}
+pub use Rattle.minimiser.proofs.Derivations.{sum-kid}
+pub use Rattle.minimiser.proofs.Valued.{node_least, cost_in-is}
+use Rattle.minimiser.proofs.Valued as valued
 use Rattle.minimiser.proofs.Derivations.{cheapest-kid, Useful, useful-root, useful-and, useful-or, useful-literal, on-root, descend, costs-at, below, all-below}
 use Rattle.minimiser.proofs.Models.{LeastIs}
 
@@ -178,30 +180,13 @@ kid_before graph k j ok h i =
 
 -- ---- the costs that the sweep begins with
 
--- the least cost at a node
-abbrev pub node_least : Graph → List ℕ → List ℕ → ℕ → Option ℕ
-node_least graph words costs k = cost_at (values (node_cost (known_at words) (part_cost costs)) graph.nodes) k
-
-pub sum-kid : (C : ℕ → Option ℕ) (kids : List ℕ) (c j : ℕ) → sum_costs (map C kids) ≡ Some c → In j kids → (d : ℕ) × (C j ≡ Some d) × (d ≤ c)
-sum-kid C [] c j e m = absurd m
-sum-kid C (k ∷ kids) c j e (inl q) = let s = from_add (C k) (sum_costs (map C kids)) c e in (s.left, ap C q ∙ s.left_is, omega (arith, s.sum_is))
-sum-kid C (k ∷ kids) c j e (inr r) =
-    let s = from_add (C k) (sum_costs (map C kids)) c e in
-    let more = sum-kid C kids s.right j s.right_is r in (more.0, more.1, omega (arith, more.2, s.sum_is))
-
-pub cost_in-is : (v c : ℕ) → cost_in v ≡ Some c → v ≡ c
-cost_in-is v c e = by_test (eqb v 4294967295) e where
-  by_test : (b : Bool) → cond b None (Some v) ≡ Some c → v ≡ c
-  by_test true q = absurd (cc)
-  by_test false q = cc
-
 one_less : (i : ℕ) → suc i - 1 ≡ i
 one_less i = omega arith
 
 module _ (graph : Graph) (words costs : List ℕ) (ok : IsGraph graph) (total : total_cost costs < 2147483647) (cs : List ℕ) (v : AreLeastCosts graph words costs cs) where
   pub are-values : All IsValue cs
   are-values k d h = subst IsValue (default cs k d h) (⊎_elim (λ (q : get_or cs k 0 ≡ 4294967295). inr q)
-      (λ (ne : get_or cs k 0 ≢ 4294967295). inl (omega (arith, total, value_small graph words costs (length graph.nodes) k cs ok v h ne)))
+      (λ (ne : get_or cs k 0 ≢ 4294967295). inl (omega (arith, total, value_small graph words costs k cs ok v h ne)))
       (cases_eq (get_or cs k 0) 4294967295)) where
         default : (xs : List ℕ) (k d : ℕ) → k < length xs → get_or xs k 0 ≡ get_or xs k d
         default [] k d h = absurd (omega arith)
@@ -214,8 +199,7 @@ module _ (graph : Graph) (words costs : List ℕ) (ok : IsGraph graph) (long : l
   room = length-least_costs graph words costs cs v
 
   pub value-is : (k : ℕ) → k < length graph.nodes → cost_in (get_or cs k 0) ≡ node_least graph words costs k
-  unfolding costs_to
-  value-is k h = sym (cost_at-map cs k (omega (arith, room))) ∙ ap (λ xs. cost_at xs k) v ∙ (λ i. cost_at (values (node_cost (known_at words) (part_cost costs)) (take-length graph.nodes i)) k)
+  value-is k h = valued.value-is graph words costs cs v k h
 
   -- the least cost is that of the held parts and of the root
   pub record RootCost : Type 0 where
@@ -267,10 +251,9 @@ module _ (graph : Graph) (words costs : List ℕ) (ok : IsGraph graph) (long : l
     literal-suspect : (k var : ℕ) (kids : List ℕ) → slice_get graph.nodes k ≡ Some (record { what = Literal false var; kids = kids }) → Useful graph words costs ok k
         → 1 ≤ var → var ≤ length costs → get_or words (var - 1) 0 ≡ 0 → Suspect graph words costs (var - 1)
     literal-suspect k var kids e useful low high open_ =
-        let f = useful-literal graph words costs ok k var kids e (ap known_of open_) useful in
-        let t = state_of graph words costs ok long within f.by f.achieves.agrees f.achieves.holds in
         let r = root-cost in
-        let same : f.least ≡ r.cost = same_Some f.least r.cost (sym f.is ∙ r.is) in
+        let f = useful-literal graph words costs ok k var kids e (ap known_of open_) useful r.cost r.is in
+        let t = state_of graph words costs ok long within f.by f.achieves.agrees f.achieves.holds in
         record {
           within = omega arith;
           open_ = open_;
@@ -278,7 +261,7 @@ module _ (graph : Graph) (words costs : List ℕ) (ok : IsGraph graph) (long : l
           is_least = record {
             most = most;
             least_is = least_most;
-            passes = record { long = t.long_state; model = t.model; cheap = omega (arith, t.cost_is, f.achieves.cheap, same, r.sum) };
+            passes = record { long = t.long_state; model = t.model; cheap = omega (arith, t.cost_is, f.achieves.cheap, r.sum) };
           };
           faulty = t.bits (var - 1) (omega arith) ∙ ap f.by (omega arith) ∙ f.at;
         }

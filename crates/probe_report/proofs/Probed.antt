@@ -67,7 +67,7 @@ held-is graph words costs xs fewest root ok long within total v e at = by_cost (
   by_cost (Some c) q r =
       let w = value (get_or xs (length graph.nodes - 1) 0) c q in
       let sum : fewest ≡ held_cost costs words + c = cc in
-      let low = value_small graph words costs (length graph.nodes) (length graph.nodes - 1) xs ok v (omega (arith, ok.some, length-least_costs graph words costs xs v)) w.1 in
+      let low = value_small graph words costs (length graph.nodes - 1) xs ok v (omega (arith, ok.some, length-least_costs graph words costs xs v)) w.1 in
       record {
         low = omega (arith, same, w.0, sum);
         is = omega (arith, same, w.0, sum);
@@ -115,7 +115,7 @@ module _ (graph : Graph) (words costs : List ℕ) (ok : IsGraph graph) (long : l
       by_size (nat_lt best 2147483647) refl
       ∙ sym (ap (least costs) (sym (with-open graph words costs var bit long (omega arith) (omega arith) (omega arith) (ap (λ w. leaf_of bit (known_of w)) (sym (ap (λ i. get_or words i 0) place ∙ open_)))))
       ∙ least_is graph (set words (var - 1) (word_of bit)) costs ok (length-set words (var - 1) (word_of bit) ∙ long) (omega arith)
-      ∙ (λ i. AddHeld (held-same costs words (var - 1) (word_of bit) (omega arith) i) (root-is graph words costs ok var bit (omega arith) (omega (arith, long)) vs os least_costs outer total best lowest i))) where
+      ∙ (λ i. AddHeld (held-same costs words (var - 1) (word_of bit) (omega arith) i) (root-is graph words costs ok vs os least_costs outer total var bit (omega arith) (omega (arith, long)) (ap (λ j. get_or words j 0) place ∙ open_) free best lowest i))) where
         by_size : (b : Bool) → nat_lt best 2147483647 ≡ b → cost_in (cond b (best + held) 4294967295) ≡ AddHeld (held_cost costs words) (cond b (Some best) None)
         by_size true t = cost_in-some (best + held) (λ q. absurd (omega (arith, ltb-true best 2147483647 t))) ∙ ap Some (omega (arith, e))
         by_size false t = refl

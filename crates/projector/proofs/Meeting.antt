@@ -1,155 +1,76 @@
 -- Where bits are wanted of some variables of a decomposable graph, whether the other variables can have bits that make it true is
 -- computed node by node: a literal can be true unless the other bit is wanted.
-use Rattle.std.proofs.Common.{◌≡◌, ℕ, ◌<◌, Bool, true, false, cond, ◌&&◌, ◌||◌, ◌==◌, List, [], ◌∷◌, map, Option, refl, sym, ap, ◌∙◌, subst, eqb, ⊎_elim}
-use Rattle.std.specs.Prelude.{nat_lt}
+use Rattle.std.proofs.Common.{◌≡◌, ℕ, ◌<◌, Bool, true, false, ◌&&◌, ◌||◌, List, Option, refl, sym, ap, ◌∙◌, arith, eqb}
 use Rattle.std.specs.List.{list_all, list_any}
-use Rattle.std.proofs.lemmas.Bool.{and_parts, and_from, or_cases, or_left, or_right, eqb-true, eq-eqb, ltb-true}
+use Rattle.std.proofs.lemmas.Bool.{and_parts, and_from, eq-eqb, false≢true}
 use Rattle.state_rules.specs.Bits.{same_bit}
 use Rattle.state_rules.specs.Assignments.{Assignment}
 use Rattle.state_rules.specs.Cases.{agrees_at}
-use Rattle.state_rules.proofs.Bits.{same_bit-equal, same_bit-refl, not_left}
-use Rattle.state_rules.proofs.Cases.{usual_bit, usual_bit-agrees, agrees_cond}
 use Rattle.state_rules.specs.declared.nodes.NodeKind.{NodeKind}
-use Rattle.state_rules.specs.declared.nodes.NodeKind.TheVariants.{Literal, And, Or}
-use Rattle.state_rules.specs.Graphs.{at_most_one, truth_by, mention_by, apart_at}
-use Rattle.state_rules.proofs.NodeValues.{are_below}
-use Rattle.state_rules.proofs.Kids.{at_most_one-tail, not_both}
+use Rattle.node_costs.specs.Costs.{Prices, TestCost, Depends, SumOf, IsRow}
+use Rattle.node_costs.specs.Costs as costs
+use Rattle.node_costs.proofs.Weighing.{weigh-none, cost-none, cost-as, cost-literal, literal-costs}
+use Rattle.node_costs.proofs.Sets.{row-none, row-one, row-as, row-or, row-sum}
+use Rattle.node_costs.proofs.Tests.{cost-any, any-costs, cost-all, all-costs, depends-any, depends-all}
+use Rattle.node_costs.proofs.Nodes.{AreLaws, value_by}
 
--- what is wanted of a literal's variable allows the literal
-literal_agrees : (k : Option Bool) (positive bit : Bool) → agrees_at k bit ≡ true → same_bit positive bit ≡ true → agrees_at k positive ≡ true
-literal_agrees k positive bit e f = subst (λ b. agrees_at k b ≡ true) (sym (same_bit-equal positive bit f)) e
+-- nothing costs anything
+abbrev pub free : (ℕ → Option Bool) → Prices
+free wanted = record { known = wanted; price = λ v b. 0; parts = 0 }
 
 module _ (wanted : ℕ → Option Bool) where
-  abbrev pub Agrees : Assignment → Type 0
-  Agrees a = (v : ℕ) → agrees_at (wanted v) (a v) ≡ true
+  abbrev g : Prices
+  g = free wanted
 
-  -- an assignment that agrees and passes a test
-  pub record Reaches (t : Assignment → Bool) : Type 0 where
-    pub by : Assignment
-    pub agrees : Agrees by
-    pub holds : t by ≡ true
+  abbrev pub Agrees : Assignment → Type 0
+  Agrees a = costs.Agrees (free wanted) a
 
   -- `can` says whether some assignment agrees and passes the test t, which depends on the variables of m alone
   pub record Meets (t : Assignment → Bool) (m : ℕ → Bool) (can : Bool) : Type 0 where
-    pub sound : (a : Assignment) → Agrees a → t a ≡ true → can ≡ true
-    pub reached : can ≡ true → Reaches t
-    pub local : (a b : Assignment) → ((v : ℕ) → m v ≡ true → a v ≡ b v) → t a ≡ t b
+    pub row : IsRow (λ n. can) 1 (TestCost (free wanted) m t)
+    pub local : Depends m t
 
-  pub Meets-same : {t u : Assignment → Bool} {m o : ℕ → Bool} {c d : Bool} → ((a : Assignment) → u a ≡ t a) → ((v : ℕ) → o v ≡ m v) → d ≡ c → Meets t m c → Meets u o d
-  Meets-same same same_vars same_can is = record {
-    sound = λ a ag h. same_can ∙ is.sound a ag (sym (same a) ∙ h);
-    reached = λ h. let r = is.reached (sym same_can ∙ h) in record { by = r.by; agrees = r.agrees; holds = same r.by ∙ r.holds };
-    local = λ a b h. same a ∙ is.local a b (λ v p. h v (same_vars v ∙ p)) ∙ sym (same b);
-  }
+  -- of a literal, of all and of any of the kids
+  abbrev pub can_literal : ℕ → Bool → Bool
+  can_literal var positive = agrees_at (wanted var) positive
 
-  -- ---- nothing, two tests, a literal
+  abbrev pub all_can : List Bool → Bool
+  all_can kids = list_all (λ b. b) kids
 
-  usual : Assignment
-  usual v = usual_bit (wanted v)
+  abbrev pub any_can : List Bool → Bool
+  any_can kids = list_any (λ b. b) kids
 
-  usual-Agrees : Agrees usual
-  unfolding usual
-  usual-Agrees v = usual_bit-agrees (wanted v)
-
-  true_is : Meets (λ a. true) (λ v. false) true
-  true_is = record {
-    sound = λ a ag h. refl;
-    reached = λ h. record { by = usual; agrees = usual-Agrees; holds = refl };
-    local = λ a b h. refl;
-  }
-
-  false_is : Meets (λ a. false) (λ v. false) false
-  false_is = record {
-    sound = λ a ag h. h;
-    reached = λ h. absurd (let no : false ≡ true = h in cc);
-    local = λ a b h. refl;
-  }
-
-  module _ (t u : Assignment → Bool) (m o : ℕ → Bool) (c d : Bool) (is_t : Meets t m c) (is_u : Meets u o d) where
-    or_is : Meets (λ a. t a || u a) (λ v. m v || o v) (c || d)
-    or_is = record {
-      sound = λ a ag h. ⊎_elim (λ p. or_left c d (is_t.sound a ag p)) (λ p. or_right c d (is_u.sound a ag p)) (or_cases (t a) (u a) h);
-      reached = λ h. ⊎_elim
-          (λ p. let r = is_t.reached p in record { by = r.by; agrees = r.agrees; holds = or_left _ _ r.holds })
-          (λ p. let r = is_u.reached p in record { by = r.by; agrees = r.agrees; holds = or_right _ _ r.holds })
-          (or_cases c d h);
-      local = λ a b h i. is_t.local a b (λ v p. h v (or_left _ _ p)) i || is_u.local a b (λ v p. h v (or_right _ _ p)) i;
-    }
-
-    -- where no variable is in both, two assignments are joined
-    module _ (apart : (v : ℕ) → (m v && o v) ≡ false) where
-      joined : Assignment → Assignment → Assignment
-      joined a b v = cond (m v) (a v) (b v)
-
-      and_reached : (c && d) ≡ true → Reaches (λ a. t a && u a)
-      unfolding joined
-      and_reached h = let parts = and_parts c d h in
-          let r = is_t.reached parts.0 in
-          let s = is_u.reached parts.1 in
-          let a = joined r.by s.by in
-          record {
-            by = a;
-            agrees = λ v. agrees_cond (wanted v) (m v) _ _ (r.agrees v) (s.agrees v);
-            holds = and_from _ _ (is_t.local a r.by (λ v p. ap (λ x. cond x (r.by v) (s.by v)) p) ∙ r.holds)
-                (is_u.local a s.by (λ v p. ap (λ x. cond x (r.by v) (s.by v)) (not_left (m v) (o v) (apart v) p)) ∙ s.holds);
-          }
-
-      and_is : Meets (λ a. t a && u a) (λ v. m v || o v) (c && d)
-      and_is = record {
-        sound = λ a ag h. let parts = and_parts (t a) (u a) h in and_from c d (is_t.sound a ag parts.0) (is_u.sound a ag parts.1);
-        reached = and_reached;
-        local = λ a b h i. is_t.local a b (λ v p. h v (or_left _ _ p)) i && is_u.local a b (λ v p. h v (or_right _ _ p)) i;
-      }
-
-  module _ (var : ℕ) (positive : Bool) where
-    chosen : Assignment
-    chosen u = cond (eqb var u) positive (usual u)
-
-    chosen-Agrees : agrees_at (wanted var) positive ≡ true → Agrees chosen
-    unfolding chosen
-    chosen-Agrees e u = at (eqb var u) refl where
-      at : (b : Bool) → eqb var u ≡ b → agrees_at (wanted u) (cond b positive (usual u)) ≡ true
-      at true p = subst (λ w. agrees_at (wanted w) positive ≡ true) (eqb-true var u p) e
-      at false p = usual-Agrees u
-
-    chosen-here : chosen var ≡ positive
-    unfolding chosen
-    chosen-here = ap (λ b. cond b positive (usual var)) (eq-eqb var var refl)
-
-    literal_is : Meets (λ a. same_bit positive (a var)) (λ v. var == v) (agrees_at (wanted var) positive)
-    literal_is = record {
-      sound = λ a ag h. literal_agrees (wanted var) positive (a var) (ag var) h;
-      reached = λ h. record { by = chosen; agrees = chosen-Agrees h; holds = ap (same_bit positive) chosen-here ∙ same_bit-refl positive };
-      local = λ a b h. ap (same_bit positive) (h var (eq-eqb var var refl));
-    }
-
-  -- ---- a node, by its kids
-
-  -- whether it can be true
   abbrev pub can_by : NodeKind → List Bool → Bool
-  can_by (Literal positive var) kids = agrees_at (wanted var) positive
-  can_by And kids = list_all (λ b. b) kids
-  can_by Or kids = list_any (λ b. b) kids
+  can_by kind kids = value_by can_literal all_can any_can Meets kind kids
 
-  module _ (own : ℕ) (T : ℕ → Assignment → Bool) (M : ℕ → ℕ → Bool) (C : ℕ → Bool) (are : (k : ℕ) → k < own → Meets (T k) (M k) (C k)) where
-    first_is : (kid : ℕ) (kids : List ℕ) → are_below own (kid ∷ kids) ≡ true → Meets (T kid) (M kid) (C kid)
-    first_is kid kids below = are kid (ltb-true kid own (and_parts (nat_lt kid own) (are_below own kids) below).0)
+  wide : (t : Assignment → Bool) (m o : ℕ → Bool) (can : Bool) → IsRow (λ n. can) 1 (TestCost g m t) → IsRow (λ n. can) 1 (TestCost g o t)
+  wide t m o can is = row-as 1 _ _ _ (cost-as g m o _ _ (λ a f e. e) (λ v l h. absurd (omega arith))) (cost-as g o m _ _ (λ a f e. e) (λ v l h. absurd (omega arith))) is
 
-    kids_and : (kids : List ℕ) → are_below own kids ≡ true → ((v : ℕ) → at_most_one (map (λ k. M k v) kids) ≡ true)
-        → Meets (λ a. list_all (λ b. b) (map (λ k. T k a) kids)) (λ v. list_any (λ b. b) (map (λ k. M k v) kids)) (list_all (λ b. b) (map C kids))
-    kids_and [] below apart = true_is
-    kids_and (kid ∷ kids) below apart =
-        and_is _ _ _ _ _ _ (first_is kid kids below)
-        (kids_and kids (and_parts (nat_lt kid own) (are_below own kids) below).1 (λ v. at_most_one-tail (M kid v) (map (λ k. M k v) kids) (apart v)))
-        (λ v. not_both (M kid v) (map (λ k. M k v) kids) (apart v))
+  both : (c d : Bool) → IsRow (λ n. c && d) 1 (SumOf (λ n. c ≡ true) (λ n. d ≡ true))
+  both c d = record {
+    sound = λ n lt e. let p = and_parts c d e in record { left = n; right = 0; on_left = p.0; on_right = p.1; sum_is = omega arith };
+    whole = λ n lt s. and_from c d s.on_left s.on_right;
+  }
 
-    kids_or : (kids : List ℕ) → are_below own kids ≡ true
-        → Meets (λ a. list_any (λ b. b) (map (λ k. T k a) kids)) (λ v. list_any (λ b. b) (map (λ k. M k v) kids)) (list_any (λ b. b) (map C kids))
-    kids_or [] below = false_is
-    kids_or (kid ∷ kids) below = or_is _ _ _ _ _ _ (first_is kid kids below) (kids_or kids (and_parts (nat_lt kid own) (are_below own kids) below).1)
+  one : (n : ℕ) → n < 1 → true ≡ eqb n 0
+  one n lt = sym (eq-eqb n 0 (omega arith))
 
-    pub node_is : (kind : NodeKind) (kids : List ℕ) → are_below own kids ≡ true → ((v : ℕ) → apart_at (λ k. M k v) kind kids ≡ true)
-        → Meets (λ a. truth_by a kind (map (λ k. T k a) kids)) (λ v. mention_by v kind (map (λ k. M k v) kids)) (can_by kind (map C kids))
-    node_is (Literal positive var) kids below apart = literal_is var positive
-    node_is And kids below apart = kids_and kids below apart
-    node_is Or kids below apart = kids_or kids below
+  literal_row : (var : ℕ) (positive can : Bool) → agrees_at (wanted var) positive ≡ can → IsRow (λ n. can) 1 (TestCost g (λ v. eqb var v) (λ a. same_bit positive (a var)))
+  literal_row var positive true e = row-one 1 _ _ 0 (cost-literal g (λ v b out. refl) var positive 0 (record { allowed = e; price_is = refl })) (λ n c. sym (literal-costs g (λ v b out. refl) var positive n c).price_is) one
+  literal_row var positive false e = row-none 1 _ _ (λ n lt. refl) (λ n c. false≢true (sym e ∙ (literal-costs g (λ v b out. refl) var positive n c).allowed))
+
+  pub can_laws : AreLaws can_literal all_can any_can Meets
+  can_laws = record {
+    of_literal = λ var positive. record { row = literal_row var positive (agrees_at (wanted var) positive) refl; local = λ a b h. ap (same_bit positive) (h var (eq-eqb var var refl)) };
+    of_true = record { row = row-one 1 _ _ 0 (cost-none g (λ a. true ≡ true) refl) (λ n c. sym c.cost_is ∙ weigh-none g c.by) one; local = λ a b h. refl };
+    of_false = record { row = row-none 1 _ _ (λ n lt. refl) (λ n c. false≢true c.meets); local = λ a b h. refl };
+    of_both = λ t u m o c cs apart is_t is_u. record {
+      row = row-as 1 _ _ _ (cost-all g t u m o apart is_t.local is_u.local) (all-costs g t u m o apart is_t.local is_u.local) (row-sum 1 (λ n. c) (λ n. all_can cs) _ _ _ (both c (all_can cs)) is_t.row is_u.row);
+      local = depends-all g t u m o is_t.local is_u.local;
+    };
+    of_either = λ t u m o c cs is_t is_u. record {
+      row = row-as 1 _ _ _ (cost-any g t u (λ v. m v || o v)) (any-costs g t u (λ v. m v || o v))
+          (row-or 1 (λ n. c) (λ n. any_can cs) _ _ _ (λ n lt. refl) (wide t m (λ v. m v || o v) c is_t.row) (wide u o (λ v. m v || o v) (any_can cs) is_u.row));
+      local = depends-any g t u m o is_t.local is_u.local;
+    };
+  }

@@ -23,7 +23,7 @@ use Rattle.state_rules.specs.declared.nodes.NodeKind.{NodeKind}
 use Rattle.state_rules.specs.declared.nodes.NodeKind.TheVariants.{Literal, And, Or}
 use Rattle.state_rules.specs.Graphs.{Node, Graph, true_node, node_at, at_most_one, is_true, truth_by, mention_by, mentions, apart_at, Decomposable, holds, kind_fits, node_fits, nodes_fit, IsGraph}
 use Rattle.state_rules.proofs.NodeValues.{are_below, value_of, value_of-at}
-use Rattle.state_rules.proofs.NodesFit.{Fits, fits, fits-at, literal, each_apart}
+use Rattle.state_rules.proofs.NodesFit.{Fits, fits, fits-at, literal}
 use Rattle.state_rules.proofs.Mentions.{mentioned-range}
 use Rattle.state_rules.proofs.Kids.{each_below, any_more, at_most_one-from, at_most_one-less, range-below}
 use Rattle.nnf_text.specs.GraphTexts.{parsed}
@@ -34,7 +34,8 @@ use Rattle.conditioner.specs.Models.{has_model, fits_words, models}
 use Rattle.conditioner.proofs.FittingWords.{known-at, fits_words-at, fits_words-from, fits_words-front}
 use Rattle.projector.specs.Projecting.{projected_kind, projected_node, held_literals, root_with, projection, projected_text}
 use Rattle.projector.proofs.Literals.{wanted_of, literal-truth, literal-mentions, literal-fits}
-use Rattle.projector.proofs.Meeting.{Agrees, Meets, Meets-same, can_by, node_is}
+use Rattle.projector.proofs.Meeting.{Agrees, Meets, can_literal, all_can, any_can, can_by, can_laws}
+use Rattle.node_costs.proofs.Nodes.{all_nodes}
 use Rattle.projector.proofs.HeldLiterals.{length-held, held-alone, held-apart, held-fit, values-alone, held-agrees, held-once, held-known}
 
 -- a state is among those that pass where it passes
@@ -249,21 +250,9 @@ module _ (graph : Graph) (words : List ℕ) (parts : ℕ) (is : IsGraph graph) (
     abbrev can_be : ℕ → Bool
     can_be i = is_true all i a
 
-    meets : (i : ℕ) → i < length graph.nodes → Meets (wanted words parts a) (λ b. is_true graph.nodes i b) (λ v. mentions graph.nodes v i) (can_be i)
-    meets i lt = each_below (λ k. Meets (wanted words parts a) (λ b. is_true graph.nodes k b) (λ v. mentions graph.nodes v k) (can_be k)) (length graph.nodes) step (length graph.nodes) (omega arith) i lt where
-      step : (i : ℕ) → i < length graph.nodes → ((k : ℕ) → k < i → Meets (wanted words parts a) (λ b. is_true graph.nodes k b) (λ v. mentions graph.nodes v k) (can_be k))
-          → Meets (wanted words parts a) (λ b. is_true graph.nodes i b) (λ v. mentions graph.nodes v i) (can_be i)
-      step i lt earlier =
-          let node : Node = node_at graph.nodes i in
-          Meets-same (wanted words parts a)
-          (λ b. value_of-at (truth_by b) graph.nodes i lt (fits_at i lt).below)
-          (λ v. value_of-at (mention_by v) graph.nodes i lt (fits_at i lt).below)
-          (value-at (truth_by a) i lt ∙ kind-truth words parts a graph.vars node.what node.kids (fits_at i lt).kind can_be)
-          (node_is (wanted words parts a) i (λ k b. is_true graph.nodes k b) (λ k v. mentions graph.nodes v k) can_be earlier node.what node.kids (fits_at i lt).below
-          (λ v. each_apart (mentions graph.nodes v) graph.nodes i (is.nodes.apart v) lt))
-
     root-meets : Meets (wanted words parts a) (λ b. is_true graph.nodes old_root b) (λ v. mentions graph.nodes v old_root) (can_be old_root)
-    root-meets = meets old_root (omega (arith, is.some))
+    root-meets = all_nodes (can_literal (wanted words parts a)) (all_can (wanted words parts a)) (any_can (wanted words parts a)) (Meets (wanted words parts a)) (can_laws (wanted words parts a)) graph is can_be
+        (λ i lt. value-at (truth_by a) i lt ∙ kind-truth words parts a graph.vars (node_at graph.nodes i).what (node_at graph.nodes i).kids (fits_at i lt).kind can_be) old_root (omega (arith, is.some))
 
     -- it is true where the root can be and the held literals agree
     holds-projected : holds (projection graph words parts) h ≡ (can_be old_root && agrees known_parts h)
@@ -284,7 +273,7 @@ module _ (graph : Graph) (words : List ℕ) (parts : ℕ) (is : IsGraph graph) (
     sound some_bits =
         let r = any_from is_model (lists_of_bits (graph.vars - parts)) some_bits in
         let both = and_parts (fits_words words (h ++ r.item)) (holds graph (h ++ r.item)) r.passes in
-        and_from _ _ (root-meets.sound (assignment (h ++ r.item)) (model-agrees r.item (bits_length (graph.vars - parts) r.item r.is_in) both.0) both.1)
+        and_from _ _ (root-meets.row.whole 0 (omega arith) (record { by = assignment (h ++ r.item); agrees = model-agrees r.item (bits_length (graph.vars - parts) r.item r.is_in) both.0; meets = both.1; cost_is = refl }))
         (subst (λ n. agrees (known (take n words)) h ≡ true) long (fits_words-front words h r.item both.0))
 
     module _ (b : Assignment) (ag : Agrees (wanted words parts a) b) (agree : agrees known_parts h ≡ true) where
@@ -333,8 +322,8 @@ module _ (graph : Graph) (words : List ℕ) (parts : ℕ) (is : IsGraph graph) (
     reached : (can_be old_root && agrees known_parts h) ≡ true → has_model graph (fits_words words) parts h ≡ true
     reached both =
         let parts_of = and_parts (can_be old_root) (agrees known_parts h) both in
-        let r = root-meets.reached parts_of.0 in
-        found r.by r.agrees parts_of.1 r.holds
+        let r = root-meets.row.sound 0 (omega arith) parts_of.0 in
+        found r.by r.agrees parts_of.1 r.meets
 
     pub projected-holds : holds (projection graph words parts) h ≡ has_model graph (fits_words words) parts h
     projected-holds = holds-projected ∙ both_ways (can_be old_root && agrees known_parts h) (has_model graph (fits_words words) parts h) reached sound

@@ -1,5 +1,5 @@
 -- What lines say that are drawn for nodes: one is true where its node can be, at its least cost, with the same bits of the parts below it.
-use Rattle.std.proofs.Common.{◌≡◌, ℕ, zero, suc, ◌<◌, ◌≤◌, Bool, true, false, not, cond, ◌&&◌, ◌||◌, All, List, [], ◌∷◌, map, length, Option, Some, None, refl, ap, sym, ◌∙◌, subst, arith, ⊎_elim, inl, inr}
+use Rattle.std.proofs.Common.{◌≡◌, ℕ, zero, suc, ◌<◌, ◌≤◌, Bool, true, false, not, ◌&&◌, All, List, [], ◌∷◌, map, length, Option, Some, None, refl, ap, sym, ◌∙◌, subst, arith, ⊎_elim, inl, inr}
 use Rattle.std.specs.Prelude.{slice_get, nat_le}
 use Rattle.std.specs.List.{list_all, list_any}
 use Rattle.std.proofs.lemmas.Bool.{and_from, and_parts, or_cases, or_left, or_right, eqb-true, eq-eqb, leb-true}
@@ -10,14 +10,12 @@ use Rattle.state_rules.specs.Values.{values}
 use Rattle.state_rules.proofs.Bits.{same_bit-equal, same_bit-refl}
 use Rattle.state_rules.proofs.Members.{In, In-filter, In-filtered, AtMost}
 use Rattle.state_rules.specs.declared.nodes.NodeKind.TheVariants.{Literal, And, Or}
-use Rattle.state_rules.specs.Graphs.{at_most_one, Graph, truth, mention, mentions, is_true, IsGraph}
+use Rattle.state_rules.specs.Graphs.{at_most_one, Graph, mentions, is_true, IsGraph}
 use Rattle.state_rules.proofs.Kids.{at_most_one-tail, not_both}
 use Rattle.minimiser.specs.Costs.{part_cost, known_at, cost_at, sum_costs, node_cost}
-use Rattle.minimiser.proofs.Totals.{add-le-total}
-use Rattle.minimiser.proofs.Costs.{fault, Agrees, faults_in, faults_in-le, all_faults, apart_sum, joins, from_add}
-use Rattle.minimiser.proofs.Nodes.{kids_and}
-use Rattle.minimiser.proofs.Whole.{part_cost-none}
-use Rattle.minimiser.proofs.Derivations.{is_cost, true-at, mention-at, apart-kids, costs-at, any-kid, kid-with, cheapest-kid, faults-lt}
+use Rattle.node_costs.proofs.Weighing.{weigh-apart}
+use Rattle.minimiser.proofs.Costs.{fault, opens, Agrees, faults_in, faults_in-le, all_faults, joins, from_add}
+use Rattle.minimiser.proofs.Derivations.{is_cost, kids-cost, Apart, true-at, mention-at, apart-kids, costs-at, any-kid, kid-with, cheapest-kid, faults-lt}
 use Rattle.smooth_nnf.specs.Layouts.{filling, costs_just, cheapest_kids}
 
 -- ---- costs of kids
@@ -197,10 +195,11 @@ module _ (graph : Graph) (words costs : List ℕ) (ok : IsGraph graph) (dear : A
     all_lines : (kids : List ℕ) → ((v : ℕ) → at_most_one (map (M v) kids) ≡ true) → ((k c : ℕ) → In k kids → Ck k ≡ Some c → NodeMeans k c (line k))
         → (c : ℕ) → sum_costs (map Ck kids) ≡ Some c
         → Means (λ a. list_all (λ b. b) (map (T a) kids)) (λ v. list_any (λ b. b) (map (M v) kids)) c (λ a. list_all (λ b. b) (map (λ k. line k a) kids))
+    unfolding Apart
     all_lines [] apart are c s = record {
       sound = λ a b ag h few same. refl;
       reached = λ a h.
-          let r = (kids_and kn price n (part_cost-none costs) (λ a. values (truth a) graph.nodes) (λ v. values (mention v) graph.nodes) (values (node_cost kn price) graph.nodes) (is_cost graph words costs ok) [] apart).reached c s in
+          let r = (kids-cost graph words costs ok [] apart).reached c s in
           record { by = r.by; agrees = r.agrees; holds = r.holds; cheap = r.cheap; same = λ v p m. absurd (let no : false ≡ true = m in cc) };
     }
     all_lines (j ∷ kids) apart are c s =
@@ -208,7 +207,7 @@ module _ (graph : Graph) (words costs : List ℕ) (ok : IsGraph graph) (dear : A
         let later : (v : ℕ) → at_most_one (map (M v) kids) ≡ true = λ v. at_most_one-tail (M v j) (map (M v) kids) (apart v) in
         let both : (v : ℕ) → (M v j && list_any (λ b. b) (map (M v) kids)) ≡ false = λ v. not_both (M v j) (map (M v) kids) (apart v) in
         let j_is = is_cost graph words costs ok j in
-        let kids_are = kids_and kn price n (part_cost-none costs) (λ a. values (truth a) graph.nodes) (λ v. values (mention v) graph.nodes) (values (node_cost kn price) graph.nodes) (is_cost graph words costs ok) kids later in
+        let kids_are = kids-cost graph words costs ok kids later in
         let first = are j sum.left (inl refl) sum.left_is in
         let rest = all_lines kids later (λ k d m. are k d (inr m)) sum.right sum.right_is in
         record {
@@ -217,8 +216,7 @@ module _ (graph : Graph) (words costs : List ℕ) (ok : IsGraph graph) (dear : A
               let low_here : sum.left ≤ faults_in kn price n (λ v. M v j) b = subst (λ o. AtMost o (faults_in kn price n (λ v. M v j) b)) sum.left_is (j_is.bound b ag parts.0) in
               let low_there : sum.right ≤ faults_in kn price n (λ v. list_any (λ x. x) (map (M v) kids)) b =
               subst (λ o. AtMost o (faults_in kn price n (λ v. list_any (λ x. x) (map (M v) kids)) b)) sum.right_is (kids_are.bound b ag parts.1) in
-              let all = add-le-total (λ v. cond (M v j) (fault (kn v) (price v) (b v)) 0) (λ v. cond (list_any (λ x. x) (map (M v) kids)) (fault (kn v) (price v) (b v)) 0)
-              (λ v. cond (M v j || list_any (λ x. x) (map (M v) kids)) (fault (kn v) (price v) (b v)) 0) (λ v. apart_sum (M v j) (list_any (λ x. x) (map (M v) kids)) (fault (kn v) (price v) (b v)) (both v)) 1 n in
+              let all = weigh-apart (opens kn price n) (λ v. M v j) (λ v. list_any (λ x. x) (map (M v) kids)) b both in
               and_from _ _
               (first.sound a b ag parts.0 (omega (arith, all, low_there, sum.sum_is, few)) (λ v p q. same v p (or_left _ _ q)))
               (rest.sound a b ag parts.1 (omega (arith, all, low_here, sum.sum_is, few)) (λ v p q. same v p (or_right _ _ q)));

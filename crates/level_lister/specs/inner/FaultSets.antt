@@ -2,17 +2,16 @@
 use Rattle.std.specs.Prelude.{◌≡◌, ℕ, ◌-◌, ◌*◌, ◌<◌, Bool, true, List, length}
 use Rattle.state_rules.specs.Assignments.{Assignment}
 use Rattle.state_rules.specs.Graphs.{Graph, is_true, mentions}
+use Rattle.node_costs.specs.Costs.{CostOf, IsRow}
 use Rattle.part_sets.specs.Numbers.{has_number, set_at}
 use Rattle.level_lister.specs.declared.pairs.Groups.{Groups}
-use Rattle.level_lister.specs.inner.CostSets.{Follows, cost_among, IsCostSet}
+use Rattle.level_lister.specs.inner.CostSets.{prices, IsCostSet}
 use Rattle.level_lister.specs.inner.Skips.{living}
-use Rattle.level_lister.specs.inner.Pairs.{Meets, HasFault, group_in}
+use Rattle.level_lister.specs.inner.Pairs.{HasFault, group_in}
 
--- The set has just the costs at which a condition is met, so far as it has room.
-pub record AreCostsOf (words costs : List ℕ) (some : ℕ → Bool) (P : Assignment → Type 0) (set : List ℕ) : Type 0 where
-  pub sound : (n : ℕ) → has_number set n ≡ true → Meets words costs some P n
-  pub whole : (a : Assignment) → Follows words a → P a → cost_among some a 1 costs < 32 * length set
-      → has_number set (cost_among some a 1 costs) ≡ true
+-- the set has just the costs of a condition, so far as it has room
+abbrev pub AreCostsOf : List ℕ → List ℕ → (ℕ → Bool) → (Assignment → Type 0) → List ℕ → Type 0
+AreCostsOf words costs some P set = IsRow (has_number set) (32 * length set) (CostOf (prices words costs) some P)
 
 -- the costs at which a test is true, and a part of a group is faulty
 abbrev pub IsFaultSet : List ℕ → List ℕ → (ℕ → Bool) → (Assignment → Bool) → (ℕ → Bool) → List ℕ → Type 0

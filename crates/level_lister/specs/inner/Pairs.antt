@@ -5,8 +5,9 @@ use Rattle.state_rules.specs.Bits.{bit_in, has_bit}
 use Rattle.state_rules.specs.Graphs.{Graph, is_true, mentions}
 use Rattle.level_lister.specs.declared.pairs.Pair.{Pair}
 use Rattle.level_lister.specs.declared.pairs.Groups.{Groups}
+use Rattle.node_costs.specs.Costs.{CostOf, Depends, IsRow}
 pub use Rattle.level_lister.specs.Passes.{group_count}
-use Rattle.level_lister.specs.inner.CostSets.{Follows, cost_among}
+use Rattle.level_lister.specs.inner.CostSets.{prices}
 use Rattle.level_lister.specs.inner.Skips.{living}
 use Rattle.level_lister.specs.inner.Searching.{OfCost}
 
@@ -25,18 +26,10 @@ pub record IsSpread (left right step count word : ℕ) : Type 0 where
   pub whole : (m j : ℕ) → has_bit left m ≡ true → j < count → has_bit right j ≡ true → m + step * j < 32
       → has_bit word (m + step * j) ≡ true
 
--- some assignment that agrees with the words meets a condition, and its faulty ones of some parts cost so much
-pub record Meets (words costs : List ℕ) (some : ℕ → Bool) (P : Assignment → Type 0) (n : ℕ) : Type 0 where
-  pub by : Assignment
-  pub follows : Follows words by
-  pub holds : P by
-  pub cost_is : cost_among some by 1 costs ≡ n
-
--- The bits of a word that are a step apart, from one on, tell the costs up to a greatest one at which a condition is met.
-pub record AreCosts (words costs : List ℕ) (top step first : ℕ) (some : ℕ → Bool) (P : Assignment → Type 0) (word : ℕ) : Type 0 where
-  pub sound : (n : ℕ) → n ≤ top → has_bit word (step * n + first) ≡ true → Meets words costs some P n
-  pub whole : (a : Assignment) → Follows words a → P a → cost_among some a 1 costs ≤ top
-      → has_bit word (step * cost_among some a 1 costs + first) ≡ true
+-- the bits of a word that are a step apart, from one on, tell the costs of a condition up to a greatest one
+abbrev pub AreCosts : List ℕ → List ℕ → ℕ → ℕ → ℕ → (ℕ → Bool) → (Assignment → Type 0) → ℕ → Type 0
+AreCosts words costs top step first some P word =
+    IsRow (λ n. has_bit word (step * n + first)) (top + 1) (CostOf (prices words costs) some P)
 
 -- a variable of a group is faulty, and is among some
 pub record HasFault (group some : ℕ → Bool) (a : Assignment) : Type 0 where
@@ -50,7 +43,7 @@ pub record HasFault (group some : ℕ → Bool) (a : Assignment) : Type 0 where
 pub record Tells (words costs : List ℕ) (top step : ℕ) (group : ℕ → ℕ → Bool) (test : Assignment → Bool) (some : ℕ → Bool) (pair : Pair) : Type 0 where
   pub cost_bits : AreCosts words costs top 1 0 some (λ a. test a ≡ true) pair.costs
   pub fault_bits : (g : ℕ) → g < step → AreCosts words costs top step g some (λ a. (test a ≡ true) × HasFault (group g) some a) pair.faults
-  pub local : (a b : Assignment) → ((v : ℕ) → some v ≡ true → a v ≡ b v) → test a ≡ test b
+  pub local : Depends some test
 
 -- the variables of the open parts of a group
 abbrev pub group_in : List ℕ → ℕ → Groups → ℕ → ℕ → Bool

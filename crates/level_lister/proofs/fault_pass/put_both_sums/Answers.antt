@@ -1,7 +1,5 @@
-use Rattle.std.proofs.Common.{◌≡◌, ℕ, ◌*◌, ◌||◌, List, length, sym, ◌∙◌, ap, subst, arith}
-use Rattle.part_sets.specs.Numbers.{has_number}
+use Rattle.std.proofs.Common.{◌≡◌, ℕ, ◌*◌, List, length, sym, subst, arith}
 use Rattle.level_lister.specs.inner.CostSets.{AreSums}
-use Rattle.level_lister.proofs.Kids.{shifted_none}
 use Rattle.level_lister.proofs.Faulting.{both_and}
 use Rattle.level_lister.proofs.fault_pass.put_both_sums.Goals as goal
 
@@ -24,4 +22,4 @@ returns c words costs group test more_test some more apart is_all is_own =
     subst (λ n. AreSums all own (32 * n) new_all) (sym all_long) (subst (λ (xs : List ℕ). AreSums xs own (32 * length c.args.all.now) new_all) c.copy_from_slice-2.ensures.after c.put_sums-3.ensures) in
     both_and words costs group test more_test some more all set own faults one other new_all c.add_shifted.new.set
     (omega arith) (omega arith) (omega arith) (omega arith) (omega arith) (omega arith) (omega arith) apart sums_all sums_one sums_other
-    (λ n h. c.add_shifted.ensures n (omega arith) ∙ ap (λ b. has_number c.put_sums.new.set n || b) (shifted_none other n)) is_all is_own
+    (λ n h. c.add_shifted.ensures n (omega arith)) is_all is_own

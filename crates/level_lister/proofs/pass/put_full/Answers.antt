@@ -1,17 +1,21 @@
-use Rattle.std.proofs.Common.{◌≡◌, length, get_or, sym, subst, arith}
+use Rattle.std.proofs.Common.{◌≡◌, List, ℕ, length, get_or, sym, subst, arith}
 use Rattle.level_lister.specs.inner.NodeSets.{IsNodeSet, AreNodeSets}
-use Rattle.level_lister.specs.inner.FaultSets.{IsNodeFaults, AreNodeFaults}
+use Rattle.level_lister.specs.inner.FaultSets.{in_first, IsFaultSet, IsNodeFaults, AreNodeFaults}
+use Rattle.level_lister.specs.inner.CostSets.{IsCostSet}
+use Rattle.part_sets.specs.PartSets.{SameBelow}
 use Rattle.scratch_pool.proofs.Counted.{block-below}
 use Rattle.part_sets.proofs.Kids.{kid-below}
-use Rattle.level_lister.proofs.Reaching.{empty_is}
-use Rattle.level_lister.proofs.Kids.{or_more, or_all}
-use Rattle.level_lister.proofs.FaultNodes.{set_full, fault_full, or_faults_none, or_faults_more, or_faults_all}
+use Rattle.level_lister.proofs.Reaching.{empty_is, wider_is}
+use Rattle.level_lister.proofs.Meeting.{or_is}
+use Rattle.level_lister.proofs.Faulting.{fault_or, fault_wider}
+use Rattle.level_lister.proofs.Kids.{kid_full, or_next, or_end}
+use Rattle.level_lister.proofs.FaultNodes.{first_parts, never_faults}
 use Rattle.level_lister.proofs.pass.put_full.Goals as goal
 
 pub loop-kid-init : goal.loop-kid-init
 loop-kid-init c = record {
   all = λ skips words costs lives same sets. empty_is words costs _ c.clear.new.set c.clear.ensures;
-  faulty = λ skips words costs groups lives same sets. or_faults_none c.args.graph.now c.args.at c.kids-kid-items.result.now c.vars-vars.ensures.valid c.requires.at c.kids-kid-items.ensures skips lives words costs groups c.clear.new.set c.clear.ensures;
+  faulty = λ skips words costs groups lives same sets. never_faults words costs _ _ c.clear.new.set c.clear.ensures;
 }
 
 pub set_at-requires : goal.set_at-requires
@@ -32,27 +36,30 @@ loop-kid-preserved c =
     let lt = c.loop-kid-test.true in
     let size : length c.add_shifted.new.set ≡ length c.loop-kid.set = omega arith in
     let own : length c.add_shifted.new.set ≡ length c.args.set.now = omega arith in
+    let full = λ (costs : List ℕ) (same : SameBelow graph (length costs) at). kid_full graph at kids ok c.requires.at c.kids-kid-items.ensures (length costs) j c.requires.what lt same in
     let below = kid-below graph at kids ok c.requires.at c.kids-kid-items.ensures j lt in record {
       all = λ skips words costs lives same sets.
-          or_more graph at kids ok c.requires.at c.kids-kid-items.ensures skips lives words costs j c.loop-kid.set kid new lt (sym size) (omega (arith, c.set_at.ensures.long)) (λ n h. c.add_shifted.ensures n (omega arith))
+          or_next graph at kids ok c.requires.at c.kids-kid-items.ensures skips lives (λ t m. IsCostSet words costs t m new) j lt
+          (or_is words costs _ _ _ c.loop-kid.set kid new (sym size) (omega (arith, c.set_at.ensures.long)) (λ n h. c.add_shifted.ensures n (omega arith))
           (c.loop-kid.invariant.all skips words costs lives same (subst (λ n. AreNodeSets graph skips words costs n earlier at) size sets))
-          (set_full graph at kids ok c.requires.at c.kids-kid-items.ensures skips lives words costs j kid c.requires.what lt same
-          (subst (IsNodeSet graph skips words costs (get_or kids j 0)) (sym c.set_at.ensures.set) (subst (λ n. AreNodeSets graph skips words costs n earlier at) own sets (get_or kids j 0) below)));
+          (wider_is words costs _ _ _ kid (full costs same)
+          (subst (IsNodeSet graph skips words costs (get_or kids j 0)) (sym c.set_at.ensures.set) (subst (λ n. AreNodeSets graph skips words costs n earlier at) own sets (get_or kids j 0) below))));
       faulty = λ skips words costs groups lives same sets.
-          or_faults_more graph at kids ok c.requires.at c.kids-kid-items.ensures skips lives words costs groups j c.loop-kid.set kid new lt (sym size) (omega (arith, c.set_at.ensures.long)) (λ n h. c.add_shifted.ensures n (omega arith))
+          or_next graph at kids ok c.requires.at c.kids-kid-items.ensures skips lives (λ t m. IsFaultSet words costs (in_first words costs groups) t m new) j lt
+          (fault_or words costs (in_first words costs groups) _ _ _ c.loop-kid.set kid new (sym size) (omega (arith, c.set_at.ensures.long)) (λ n h. c.add_shifted.ensures n (omega arith))
           (c.loop-kid.invariant.faulty skips words costs groups lives same (subst (λ n. AreNodeFaults graph skips words costs groups n earlier at) size sets))
-          (fault_full graph at kids ok c.requires.at c.kids-kid-items.ensures skips lives words costs groups j kid c.requires.what lt same
-          (subst (IsNodeFaults graph skips words costs groups (get_or kids j 0)) (sym c.set_at.ensures.set) (subst (λ n. AreNodeFaults graph skips words costs groups n earlier at) own sets (get_or kids j 0) below)));
+          (fault_wider words costs (in_first words costs groups) (first_parts words costs groups) _ _ _ kid (full costs same)
+          (subst (IsNodeFaults graph skips words costs groups (get_or kids j 0)) (sym c.set_at.ensures.set) (subst (λ n. AreNodeFaults graph skips words costs groups n earlier at) own sets (get_or kids j 0) below))));
     }
 
 pub returns-clause-all : goal.returns-clause-all
 returns-clause-all c skips words costs lives same sets =
     let size : length c.args.set.now ≡ length c.loop-kid.set = omega arith in
-    or_all c.args.graph.now c.args.at c.kids-kid-items.result.now c.vars-vars.ensures.valid c.requires.at c.kids-kid-items.ensures skips lives words costs c.loop-kid.kid-index c.loop-kid.set c.requires.what (omega arith)
+    or_end c.args.graph.now c.args.at c.kids-kid-items.result.now c.vars-vars.ensures.valid c.requires.at c.kids-kid-items.ensures skips lives (λ t m. IsCostSet words costs t m c.loop-kid.set) c.loop-kid.kid-index c.requires.what (omega arith)
     (c.loop-kid.invariant.all skips words costs lives same (subst (λ n. AreNodeSets c.args.graph.now skips words costs n c.args.sets.now c.args.at) size sets))
 
 pub returns-clause-faulty : goal.returns-clause-faulty
 returns-clause-faulty c skips words costs groups lives same sets =
     let size : length c.args.set.now ≡ length c.loop-kid.set = omega arith in
-    or_faults_all c.args.graph.now c.args.at c.kids-kid-items.result.now c.vars-vars.ensures.valid c.requires.at c.kids-kid-items.ensures skips lives words costs groups c.loop-kid.kid-index c.loop-kid.set c.requires.what (omega arith)
+    or_end c.args.graph.now c.args.at c.kids-kid-items.result.now c.vars-vars.ensures.valid c.requires.at c.kids-kid-items.ensures skips lives (λ t m. IsFaultSet words costs (in_first words costs groups) t m c.loop-kid.set) c.loop-kid.kid-index c.requires.what (omega arith)
     (c.loop-kid.invariant.faulty skips words costs groups lives same (subst (λ n. AreNodeFaults c.args.graph.now skips words costs groups n c.args.sets.now c.args.at) size sets))

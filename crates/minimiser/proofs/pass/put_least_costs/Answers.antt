@@ -1,7 +1,7 @@
 use Rattle.std.proofs.Common.{◌<◌, length, sym, ◌∙◌, arith}
 use Rattle.std.proofs.lemmas.List.{length-take-le}
 use Rattle.std.proofs.lemmas.Option.{slice_get_within}
-use Rattle.minimiser.proofs.OnePass.{walked, fits_here, and_fits, goes_on, written, all_valued, none_yet}
+use Rattle.minimiser.proofs.OnePass.{walked, fits_here, node_fits_room, goes_on, written, all_valued, none_yet}
 use Rattle.minimiser.proofs.pass.put_least_costs.Goals as goal
 
 pub loop-node-init : goal.loop-node-init
@@ -17,7 +17,7 @@ node_value-value-requires-clause-fits g c =
 pub node_value-value-requires-clause-small : goal.node_value-value-requires-clause-small
 node_value-value-requires-clause-small g c and =
     let at = walked c.args.graph.now c.loop-node.at c.in-Some.node c.loop-node.node-iterator c.next.new.self c.loop-node.invariant.0 c.in-Some.ensures.steps in
-    and_fits _ _ _ _ _ _ _ c.walk-node-items.ensures.valid c.requires.total at.there c.loop-node.invariant.1 and
+    node_fits_room _ _ _ _ _ _ _ c.walk-node-items.ensures.valid c.requires.total at.there c.loop-node.invariant.1
 
 pub loop-node-preserved : goal.loop-node-preserved
 loop-node-preserved g c =

@@ -4,8 +4,10 @@ use Rattle.part_sets.specs.Numbers.{part_words, set_at}
 use Rattle.part_sets.specs.PartSets.{ArePartsOf}
 use Rattle.level_lister.specs.inner.Skips.{living}
 use Rattle.level_lister.specs.inner.NodeSets.{IsNodeSet}
-use Rattle.level_lister.specs.inner.FaultSets.{IsNodeFaults}
-use Rattle.level_lister.proofs.FaultNodes.{whole_faults_full}
+use Rattle.level_lister.specs.inner.FaultSets.{in_first, IsNodeFaults}
+use Rattle.level_lister.proofs.Kids.{root_full}
+use Rattle.level_lister.proofs.Faulting.{fault_wider}
+use Rattle.level_lister.proofs.FaultNodes.{first_parts}
 use Rattle.level_lister.proofs.fault_pass.FaultPass.put_all.Goals as goal
 
 pub returns-then-lacking-root-eq0 : goal.returns-then-lacking-root-eq0
@@ -18,7 +20,7 @@ returns-then-lacking-root-eq0 c =
     let root : c.len.result - 1 ≡ length graph.nodes - 1 = omega (arith, c.len.ensures.len) in
     let next : c.len.result - 1 + 1 ≡ length graph.nodes = omega (arith, c.len.ensures.len, c.len.ensures.valid.some) in
     let full : get_or c.args.self.now.levels.now.lacking (length graph.nodes) 0 ≡ 0 = sym (λ i. get_or (c.lacking.ensures i) (next i) 0) ∙ c.if-lacking-root-eq0.true in
-    whole_faults_full graph c.args.self.now.skips.now words costs (c.args.self.now.for_graph.lacking.all.0 full) groups c.copy_from_slice.new.self
+    fault_wider words costs (in_first words costs groups) (first_parts words costs groups) _ _ _ c.copy_from_slice.new.self (root_full graph (length costs) (c.args.self.now.for_graph.lacking.all.0 full))
     (subst (IsNodeFaults graph c.args.self.now.skips.now words costs groups (length graph.nodes - 1)) (sym (c.copy_from_slice.ensures.after ∙ c.set_at.ensures.set ∙ (λ i. set_at c.put_faults.new.faults (root i) (c.size-size.ensures i))))
     (c.put_faults.ensures (length graph.nodes - 1) inside))
 

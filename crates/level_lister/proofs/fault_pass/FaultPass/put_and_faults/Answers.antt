@@ -3,8 +3,9 @@ use Rattle.part_sets.specs.Numbers.{set_at}
 use Rattle.scratch_pool.proofs.Counted.{block-below}
 use Rattle.part_sets.proofs.Kids.{kid-below}
 use Rattle.level_lister.specs.inner.NodeSets.{IsNodeSet}
-use Rattle.level_lister.specs.inner.FaultSets.{in_first, IsNodeFaults}
-use Rattle.level_lister.proofs.FaultNodes.{both_zero, and_faults_apart, and_faults_more, and_faults_all}
+use Rattle.level_lister.specs.inner.FaultSets.{in_first, IsFaultSet, AreBothSets, IsNodeFaults}
+use Rattle.level_lister.proofs.FaultNodes.{both_zero}
+use Rattle.level_lister.proofs.Kids.{kids_apart, and_next, and_end}
 use Rattle.level_lister.proofs.fault_pass.FaultPass.put_and_faults.Goals as goal
 
 pub loop-kid-init : goal.loop-kid-init
@@ -47,10 +48,13 @@ loop-kid-preserved c =
     subst (IsNodeSet graph c.args.self.now.skips.now words costs kid) (sym (c.set_at-own.ensures.set ∙ ap (λ n. set_at c.args.self.now.sets.now kid n) c.size-size.ensures)) (c.requires.are kid inside) in
     let faults : IsNodeFaults graph c.args.self.now.skips.now words costs groups kid c.set_at-faults.result.now =
     subst (IsNodeFaults graph c.args.self.now.skips.now words costs groups kid) (sym (c.set_at-faults.ensures.set ∙ ap (λ n. set_at c.args.earlier.now kid n) c.size-size.ensures)) (c.requires.earlier kid below) in
-    and_faults_more graph at kids ok c.requires.at c.kids-kid-items.ensures c.args.self.now.skips.now c.requires.lives words costs groups j c.put_both_sums.new.all c.put_both_sums.new.set lt
-    (c.put_both_sums.ensures words costs (in_first words costs groups) _ _ _ _ (and_faults_apart graph at kids ok c.requires.at c.kids-kid-items.ensures c.args.self.now.skips.now c.requires.lives words costs groups j c.requires.what lt)
+    and_next graph at kids ok c.requires.at c.kids-kid-items.ensures c.args.self.now.skips.now c.requires.lives (λ t m. AreBothSets words costs (in_first words costs groups) t m c.put_both_sums.new.all c.put_both_sums.new.set) j lt
+    (c.put_both_sums.ensures words costs (in_first words costs groups) _ _ _ _ (kids_apart graph at kids ok c.requires.at c.kids-kid-items.ensures j c.requires.what lt)
     c.loop-kid.invariant (record { all = own; faulty = faults }))
 
 pub returns : goal.returns
-returns c = and_faults_all c.args.self.now.graph.now c.args.at c.kids-kid-items.result.now c.vars-vars.ensures.valid c.requires.at c.kids-kid-items.ensures c.args.self.now.skips.now c.requires.lives c.args.self.now.words.now c.args.self.now.levels.now.costs c.args.self.now.groups
-    c.loop-kid.kid-index c.loop-kid.all c.loop-kid.set c.requires.what (omega arith) c.loop-kid.invariant
+returns c =
+    let words = c.args.self.now.words.now in
+    let costs = c.args.self.now.levels.now.costs in
+    and_end c.args.self.now.graph.now c.args.at c.kids-kid-items.result.now c.vars-vars.ensures.valid c.requires.at c.kids-kid-items.ensures c.args.self.now.skips.now c.requires.lives (λ t m. IsFaultSet words costs (in_first words costs c.args.self.now.groups) t m c.loop-kid.set)
+    c.loop-kid.kid-index c.requires.what (omega arith) c.loop-kid.invariant.faulty

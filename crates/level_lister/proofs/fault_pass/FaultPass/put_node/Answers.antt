@@ -1,15 +1,19 @@
 use Rattle.std.proofs.Common.{get_or, refl, sym, ◌∙◌, ap, subst}
 use Rattle.part_sets.proofs.Kids.{literal-fits}
-use Rattle.level_lister.specs.inner.FaultSets.{AreNodeFaults}
-use Rattle.level_lister.proofs.FaultNodes.{literal_faults, skipped_faults}
+use Rattle.level_lister.specs.inner.FaultSets.{in_first, IsFaultSet, AreNodeFaults}
+use Rattle.level_lister.proofs.FaultNodes.{skipped_faults}
+use Rattle.level_lister.proofs.Kids.{literal_at}
 use Rattle.level_lister.proofs.fault_pass.FaultPass.put_node.Goals as goal
 
 pub put_literal_faults-requires : goal.put_literal_faults-requires
 put_literal_faults-requires c = record { var = (literal-fits c.args.self.now.graph.now c.args.at _ c.vars-vars.ensures.valid c.requires.at refl c.in-Literal.var c.in-Literal.positive c.in-Literal.ensures).0 }
 
 pub returns-in-Literal : goal.returns-in-Literal
-returns-in-Literal c = literal_faults c.args.self.now.graph.now c.args.at _ c.vars-vars.ensures.valid c.requires.at refl c.args.self.now.skips.now c.if-self-at-ne0.false c.args.self.now.words.now c.args.self.now.levels.now.costs c.args.self.now.groups c.in-Literal.var c.in-Literal.positive
-    c.put_literal_faults.new.set c.in-Literal.ensures c.put_literal_faults.ensures
+returns-in-Literal c =
+    let words = c.args.self.now.words.now in
+    let costs = c.args.self.now.levels.now.costs in
+    literal_at c.args.self.now.graph.now c.args.at _ c.vars-vars.ensures.valid c.requires.at refl c.args.self.now.skips.now c.if-self-at-ne0.false (λ t m. IsFaultSet words costs (in_first words costs c.args.self.now.groups) t m c.put_literal_faults.new.set)
+    c.in-Literal.var c.in-Literal.positive c.in-Literal.ensures c.put_literal_faults.ensures
 
 pub returns-then-lacking-at-eq0 : goal.returns-then-lacking-at-eq0
 returns-then-lacking-at-eq0 c =

@@ -5,12 +5,14 @@ use Rattle.part_sets.specs.Numbers.{set_at}
 use Rattle.part_sets.proofs.Kids.{kid-below, kid-mentions}
 use Rattle.level_lister.specs.inner.Skips.{living}
 use Rattle.level_lister.specs.inner.NodeSets.{IsNodeSet}
-use Rattle.level_lister.specs.inner.FaultSets.{IsNodeFaults}
-use Rattle.level_lister.proofs.FaultNodes.{or_faults_none, or_faults_more, or_faults_all}
+use Rattle.level_lister.specs.inner.FaultSets.{in_first, IsFaultSet, IsNodeFaults}
+use Rattle.level_lister.proofs.FaultNodes.{never_faults}
+use Rattle.level_lister.proofs.Faulting.{fault_or}
+use Rattle.level_lister.proofs.Kids.{or_next, or_end}
 use Rattle.level_lister.proofs.fault_pass.FaultPass.put_or_faults.Goals as goal
 
 pub loop-kid-init : goal.loop-kid-init
-loop-kid-init c = or_faults_none c.args.self.now.graph.now c.args.at c.kids-kid-items.result.now c.vars-vars.ensures.valid c.requires.at c.kids-kid-items.ensures c.args.self.now.skips.now c.requires.lives c.args.self.now.words.now c.args.self.now.levels.now.costs c.args.self.now.groups c.clear.new.set c.clear.ensures
+loop-kid-init c = never_faults c.args.self.now.words.now c.args.self.now.levels.now.costs _ _ c.clear.new.set c.clear.ensures
 
 pub set_at-requires : goal.set_at-requires
 set_at-requires c =
@@ -58,9 +60,12 @@ loop-kid-preserved c =
     let wide = c.widen_both.ensures (λ a. is_true (living graph.nodes c.args.self.now.skips.now) kid a) (λ v. mentions graph.nodes v kid) (λ v. mentions graph.nodes v at)
     (c.args.self.now.for_graph.below.nodes kid inside) (c.args.self.now.for_graph.below.nodes at c.requires.at)
     (kid-mentions graph at kids ok c.requires.at c.kids-kid-items.ensures j c.requires.what lt) (record { all = all; faulty = faults }) in
-    or_faults_more graph at kids ok c.requires.at c.kids-kid-items.ensures c.args.self.now.skips.now c.requires.lives words costs groups j c.loop-kid.set c.widen_both.new.faults c.add_shifted.new.set lt
-    (omega arith) (omega arith) (λ n h. c.add_shifted.ensures n (omega arith)) c.loop-kid.invariant wide.faulty
+    or_next graph at kids ok c.requires.at c.kids-kid-items.ensures c.args.self.now.skips.now c.requires.lives (λ t m. IsFaultSet words costs (in_first words costs groups) t m c.add_shifted.new.set) j lt
+    (fault_or words costs (in_first words costs groups) _ _ _ c.loop-kid.set c.widen_both.new.faults c.add_shifted.new.set (omega arith) (omega arith) (λ n h. c.add_shifted.ensures n (omega arith)) c.loop-kid.invariant wide.faulty)
 
 pub returns : goal.returns
-returns c = or_faults_all c.args.self.now.graph.now c.args.at c.kids-kid-items.result.now c.vars-vars.ensures.valid c.requires.at c.kids-kid-items.ensures c.args.self.now.skips.now c.requires.lives c.args.self.now.words.now c.args.self.now.levels.now.costs c.args.self.now.groups
-    c.loop-kid.kid-index c.loop-kid.set c.requires.what (omega arith) c.loop-kid.invariant
+returns c =
+    let words = c.args.self.now.words.now in
+    let costs = c.args.self.now.levels.now.costs in
+    or_end c.args.self.now.graph.now c.args.at c.kids-kid-items.result.now c.vars-vars.ensures.valid c.requires.at c.kids-kid-items.ensures c.args.self.now.skips.now c.requires.lives (λ t m. IsFaultSet words costs (in_first words costs c.args.self.now.groups) t m c.loop-kid.set)
+    c.loop-kid.kid-index c.requires.what (omega arith) c.loop-kid.invariant

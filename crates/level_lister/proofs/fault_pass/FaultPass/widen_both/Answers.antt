@@ -1,9 +1,9 @@
-use Rattle.std.proofs.Common.{◌≡◌, ◌+◌, ◌<◌, length, sym, ap, subst, arith, ◌∙◌}
+use Rattle.std.proofs.Common.{◌≡◌, ◌<◌, length, sym, ap, subst, arith, ◌∙◌}
 use Rattle.part_sets.specs.Numbers.{part_words, set_at}
 use Rattle.part_sets.specs.PartSets.{ArePartsOf}
 use Rattle.level_lister.specs.inner.FaultSets.{in_first}
-use Rattle.level_lister.proofs.Growing.{grown}
-use Rattle.level_lister.proofs.FaultGrowing.{both_none, both_all, both_skip, both_out, both_more}
+use Rattle.level_lister.proofs.Growing.{grown, begun, further, ended, not_yet}
+use Rattle.level_lister.proofs.Faulting.{both_wider}
 use Rattle.level_lister.proofs.FaultNodes.{first_parts}
 use Rattle.level_lister.proofs.fault_pass.FaultPass.widen_both.Goals as goal
 
@@ -14,9 +14,8 @@ loop-part-init c =
     let group = in_first words costs c.args.self.now.groups in
     let on = first_parts words costs c.args.self.now.groups in record {
       both = λ test some more on_inner on_outer within is.
-          both_skip words costs group on test some more within c.set_at-below.result.now c.set_at-own.result.now on_inner on_outer 0 c.next_missing-part.result c.args.all.now c.args.faults.now
-          c.next_missing-part.ensures.from c.next_missing-part.ensures.before
-          (both_none words costs group on test some more within c.args.all.now c.args.faults.now is);
+          both_wider words costs group on test _ _ c.args.all.now c.args.faults.now
+          (begun (length costs) some more within c.set_at-below.result.now c.set_at-own.result.now on_inner on_outer c.next_missing-part.result c.next_missing-part.ensures.before) is;
       found = c.next_missing-part.ensures.found;
     }
 
@@ -32,11 +31,9 @@ loop-part-preserved c =
     let lt : part < length costs = omega (arith, c.loop-part-test.true, ap length c.costs-parts.ensures) in
     let miss = c.loop-part.invariant.found (omega (arith, c.set_at-below.ensures.long, c.part_words-size.ensures, c.loop-part-test.true)) in record {
       both = λ test some more on_inner on_outer within is.
-          both_skip words costs group on test some more within outer inner on_inner on_outer (part + 1) c.next_missing-part-in-loop-part.result c.add_free.new.all c.add_free.new.faults
-          c.next_missing-part-in-loop-part.ensures.from c.next_missing-part-in-loop-part.ensures.before
-          (both_more words costs group on test some more within outer inner on_inner on_outer part c.add_free.new.all c.add_free.new.faults lt miss
-          (c.add_free.ensures test (grown some more part) (both_out words costs group on test some more within outer inner on_inner on_outer part c.loop-part.all c.loop-part.faults lt miss)
-          (c.loop-part.invariant.both test some more on_inner on_outer within is)));
+          both_wider words costs group on test _ _ c.add_free.new.all c.add_free.new.faults
+          (further (length costs) some more within outer inner on_inner on_outer part c.next_missing-part-in-loop-part.result lt miss c.next_missing-part-in-loop-part.ensures.from c.next_missing-part-in-loop-part.ensures.before)
+          (c.add_free.ensures test (grown some more part) (not_yet (length costs) some more within outer inner on_inner on_outer part lt miss) (c.loop-part.invariant.both test some more on_inner on_outer within is));
       found = c.next_missing-part-in-loop-part.ensures.found;
     }
 
@@ -50,5 +47,5 @@ returns c test some more on_inner on_outer within is =
     let size : c.part_words-size.result ≡ part_words (length costs) = c.part_words-size.ensures ∙ ap part_words parts in
     let outer : c.set_at-below.result.now ≡ set_at below c.args.outer (part_words (length costs)) = c.set_at-below.ensures.set ∙ (λ i. set_at (c.below.ensures i) c.args.outer (size i)) in
     let inner : c.set_at-own.result.now ≡ set_at below c.args.inner (part_words (length costs)) = c.set_at-own.ensures.set ∙ (λ i. set_at (c.below-2.ensures i) c.args.inner (size i)) in
-    both_all words costs group (first_parts words costs c.args.self.now.groups) test some more within c.loop-part.part c.loop-part.all c.loop-part.faults (omega (arith, c.loop-part-test.false, parts))
+    both_wider words costs group (first_parts words costs c.args.self.now.groups) test _ _ c.loop-part.all c.loop-part.faults (ended (length costs) some more within c.loop-part.part (omega (arith, c.loop-part-test.false, parts)))
     (c.loop-part.invariant.both test some more (subst (ArePartsOf (length costs) some) (sym inner) on_inner) (subst (ArePartsOf (length costs) more) (sym outer) on_outer) within is)

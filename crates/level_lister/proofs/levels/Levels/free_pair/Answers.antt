@@ -2,8 +2,8 @@ use Rattle.std.proofs.Common.{◌≡◌, ℕ, zero, suc, ◌+◌, ◌<◌, Bool,
 use Rattle.state_rules.specs.Bits.{same_bit}
 use Rattle.conditioner.specs.Words.{known_of}
 use Rattle.level_lister.specs.inner.Pairs.{group_count, group_in}
-use Rattle.level_lister.proofs.Telling.{tells_same, tells_known, tells_ok}
-use Rattle.level_lister.proofs.PairNodes.{on_parts, allowed_ok, said}
+use Rattle.level_lister.proofs.Telling.{tells_known, tells_ok}
+use Rattle.level_lister.proofs.PairNodes.{allowed_ok, said}
 use Rattle.level_lister.proofs.levels.Levels.free_pair.Goals as goal
 
 word_none : (w : ℕ) → None ≡ known_of w → w ≡ 0
@@ -33,7 +33,7 @@ returns-in-None c =
     let part = c.args.part in
     let group = group_in words (length costs) c.args.groups in
     let zero : get_or words part 0 ≡ 0 = word_none (get_or words part 0) c.in-None.ensures in
-    tells_same words costs top (group_count top) group _ _ _ _ c.either.result (on_parts words (length costs) c.args.groups) (λ a. one_of (a (part + 1))) (λ v e. e) (λ v l h. refl)
+    tells_known words costs top (group_count top) group _ (λ a. true) _ c.either.result (λ a f. one_of (a (part + 1))) (λ a b h. refl)
     (c.either.ensures words costs top (group_count top) group _ _ _ (tells_ok words costs top (group_count top) group (part + 1) (omega arith) (allowed_ok words part 0 zero (omega arith))) c.fault_pair-in-None.ensures)
 
 pub returns-in-Some-true : goal.returns-in-Some-true

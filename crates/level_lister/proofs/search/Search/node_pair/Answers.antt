@@ -1,6 +1,7 @@
 use Rattle.std.proofs.Common.{get_or, refl, ap, sym, ◌∙◌, arith}
 use Rattle.part_sets.proofs.Kids.{literal-fits}
-use Rattle.level_lister.proofs.PairNodes.{literal_told, skipped_told}
+use Rattle.level_lister.proofs.Kids.{literal_at}
+use Rattle.level_lister.proofs.PairNodes.{Told, skipped_told}
 use Rattle.level_lister.proofs.search.Search.node_pair.Goals as goal
 
 pub literal_pair-requires-clause-var : goal.literal_pair-requires-clause-var
@@ -9,7 +10,7 @@ literal_pair-requires-clause-var c =
     (fits.0, omega (arith, fits.1, c.requires.long))
 
 pub returns-in-Literal : goal.returns-in-Literal
-returns-in-Literal c = literal_told c.args.self.now.graph.now c.args.at _ c.vars-vars.ensures.valid c.requires.at refl c.args.self.now.skips.now c.if-self-at-ne0.false c.args.words.now c.args.self.now.levels.now.costs c.args.self.now.levels.now.top c.args.groups c.in-Literal.var c.in-Literal.positive c.literal_pair.result
+returns-in-Literal c = literal_at c.args.self.now.graph.now c.args.at _ c.vars-vars.ensures.valid c.requires.at refl c.args.self.now.skips.now c.if-self-at-ne0.false (Told c.args.words.now c.args.self.now.levels.now.costs c.args.self.now.levels.now.top c.args.groups c.literal_pair.result) c.in-Literal.var c.in-Literal.positive
     c.in-Literal.ensures c.literal_pair.ensures
 
 pub returns-in-And : goal.returns-in-And

@@ -7,7 +7,8 @@ use Rattle.part_sets.proofs.Kids.{kid-below, kid-mentions}
 use Rattle.level_lister.specs.inner.Skips.{living}
 use Rattle.level_lister.specs.inner.Pairs.{TellsNode, group_count, group_in}
 use Rattle.level_lister.proofs.Telling.{tells_none}
-use Rattle.level_lister.proofs.PairNodes.{or_next, or_end}
+use Rattle.level_lister.proofs.Kids.{or_next, or_end}
+use Rattle.level_lister.proofs.PairNodes.{Told}
 use Rattle.level_lister.proofs.search.Search.or_pair.Goals as goal
 
 pub loop-kid-init : goal.loop-kid-init
@@ -49,7 +50,7 @@ loop-kid-preserved c =
     let below = kid-below graph at kids ok c.requires.at c.kids-kid-items.ensures j lt in
     let inside : get_or kids j 0 < length graph.nodes = omega (arith, below, c.requires.at) in
     let kid = subst (TellsNode graph c.args.self.now.skips.now words costs top groups (get_or kids j 0)) (sym c.pair_at-own.ensures) (c.requires.earlier (get_or kids j 0) below) in
-    or_next graph at kids ok c.requires.at c.kids-kid-items.ensures c.args.self.now.skips.now c.requires.lives words costs top groups j c.either-pair.result lt
+    or_next graph at kids ok c.requires.at c.kids-kid-items.ensures c.args.self.now.skips.now c.requires.lives (Told words costs top groups c.either-pair.result) j lt
     (c.either-pair.ensures words costs top (group_count top) (group_in words (length costs) groups) _ _ _ c.loop-kid.invariant
     (c.widened.ensures (λ a. is_true (living graph.nodes c.args.self.now.skips.now) (get_or kids j 0) a) (λ v. mentions graph.nodes v (get_or kids j 0)) (λ v. mentions graph.nodes v at)
     (c.args.self.now.for_graph.below.nodes (get_or kids j 0) inside) (c.args.self.now.for_graph.below.nodes at c.requires.at)
@@ -57,5 +58,5 @@ loop-kid-preserved c =
 
 pub returns : goal.returns
 returns c =
-    or_end c.args.self.now.graph.now c.args.at c.kids-kid-items.result.now c.vars-vars.ensures.valid c.requires.at c.kids-kid-items.ensures c.args.self.now.skips.now c.requires.lives c.args.words.now c.args.self.now.levels.now.costs c.args.self.now.levels.now.top c.args.groups c.loop-kid.kid-index c.loop-kid.pair c.requires.what (omega arith)
+    or_end c.args.self.now.graph.now c.args.at c.kids-kid-items.result.now c.vars-vars.ensures.valid c.requires.at c.kids-kid-items.ensures c.args.self.now.skips.now c.requires.lives (Told c.args.words.now c.args.self.now.levels.now.costs c.args.self.now.levels.now.top c.args.groups c.loop-kid.pair) c.loop-kid.kid-index c.requires.what (omega arith)
     c.loop-kid.invariant

@@ -7,7 +7,8 @@ use Rattle.part_sets.proofs.Kids.{kid-below, kid-mentions}
 use Rattle.level_lister.specs.inner.Skips.{living}
 use Rattle.level_lister.specs.inner.CostSets.{IsCostSet}
 use Rattle.level_lister.proofs.Reaching.{empty_is}
-use Rattle.level_lister.proofs.Kids.{or_more, or_all}
+use Rattle.level_lister.proofs.Kids.{or_next, or_end}
+use Rattle.level_lister.proofs.Meeting.{or_is}
 use Rattle.level_lister.proofs.search.Search.put_or.Goals as goal
 
 pub loop-kid-init : goal.loop-kid-init
@@ -50,13 +51,13 @@ loop-kid-preserved c =
     subst (ArePartsOf parts (λ v. mentions graph.nodes v kid)) (sym (c.set_at-in-loop-kid.ensures.set ∙ (λ i. set_at (c.below-below.ensures i) kid (size i)))) (c.args.self.now.for_graph.below.nodes kid inside) in
     let is = subst (λ (cs : List ℕ). IsCostSet words cs (λ a. is_true (living graph.nodes c.args.self.now.skips.now) kid a) (λ v. mentions graph.nodes v kid) (set_at c.args.sets.now kid (length c.args.set.now))) (sym c.costs-costs.ensures) (c.requires.earlier kid below) in
     let own = subst (IsCostSet words c.costs-costs.result.now (λ a. is_true (living graph.nodes c.args.self.now.skips.now) kid a) (λ v. mentions graph.nodes v kid)) (sym (c.copy_from_slice.ensures.after ∙ c.set_at.ensures.set)) is in
-    or_more graph c.args.at kids ok c.requires.at c.kids-kid-items.ensures c.args.self.now.skips.now c.requires.lives words kept.costs j c.loop-kid.set c.widen.new.set c.add_shifted.new.set c.loop-kid-test.true
-    (omega arith) (omega arith) (λ n h. c.add_shifted.ensures n (omega arith)) c.loop-kid.invariant
+    or_next graph c.args.at kids ok c.requires.at c.kids-kid-items.ensures c.args.self.now.skips.now c.requires.lives (λ t m. IsCostSet words kept.costs t m c.add_shifted.new.set) j c.loop-kid-test.true
+    (or_is words kept.costs _ _ _ c.loop-kid.set c.widen.new.set c.add_shifted.new.set (omega arith) (omega arith) (λ n h. c.add_shifted.ensures n (omega arith)) c.loop-kid.invariant
     (subst (λ (cs : List ℕ). IsCostSet words cs (λ a. is_true (living graph.nodes c.args.self.now.skips.now) kid a) (λ v. mentions graph.nodes v c.args.at) c.widen.new.set) c.costs-costs.ensures
     (c.widen.ensures (λ a. is_true (living graph.nodes c.args.self.now.skips.now) kid a) (λ v. mentions graph.nodes v kid) (λ v. mentions graph.nodes v c.args.at)
     (subst (λ n. ArePartsOf n (λ v. mentions graph.nodes v kid) c.set_at-in-loop-kid.result.now) many on_inner)
     (subst (λ n. ArePartsOf n (λ v. mentions graph.nodes v c.args.at) c.set_at-own.result.now) many on_outer)
-    (kid-mentions graph c.args.at kids ok c.requires.at c.kids-kid-items.ensures j c.requires.what c.loop-kid-test.true) own))
+    (kid-mentions graph c.args.at kids ok c.requires.at c.kids-kid-items.ensures j c.requires.what c.loop-kid-test.true) own)))
 
 pub returns : goal.returns
-returns c = or_all c.args.self.now.graph.now c.args.at c.kids-kid-items.result.now c.vars-vars.ensures.valid c.requires.at c.kids-kid-items.ensures c.args.self.now.skips.now c.requires.lives c.args.words.now c.args.self.now.levels.now.costs c.loop-kid.kid-index c.loop-kid.set c.requires.what (omega arith) c.loop-kid.invariant
+returns c = or_end c.args.self.now.graph.now c.args.at c.kids-kid-items.result.now c.vars-vars.ensures.valid c.requires.at c.kids-kid-items.ensures c.args.self.now.skips.now c.requires.lives (λ t m. IsCostSet c.args.words.now c.args.self.now.levels.now.costs t m c.loop-kid.set) c.loop-kid.kid-index c.requires.what (omega arith) c.loop-kid.invariant

@@ -22,3 +22,6 @@ returns-then-lacking-at-eq0 c = c.put_full.ensures.all c.args.self.now.skips.now
 
 pub returns-then-self-at-ne0 : goal.returns-then-self-at-ne0
 returns-then-self-at-ne0 c = skipped_set c.args.self.now.graph.now c.args.self.now.skips.now c.args.words.now c.args.self.now.levels.now.costs c.args.at c.clear.new.set c.vars-vars.ensures.valid c.requires.at c.if-self-at-ne0.true c.clear.ensures
+
+pub returns-in-And : goal.returns-in-And
+returns-in-And c = c.put_and.ensures c.args.words.now c.args.self.now.levels.now.costs c.requires.earlier

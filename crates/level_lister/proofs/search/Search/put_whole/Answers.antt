@@ -5,7 +5,8 @@ use Rattle.part_sets.specs.PartSets.{ArePartsOf}
 use Rattle.level_lister.specs.inner.Skips.{living}
 use Rattle.level_lister.specs.inner.CostSets.{IsCostSet}
 use Rattle.level_lister.specs.inner.NodeSets.{IsNodeSet, IsWholeSet}
-use Rattle.level_lister.proofs.FaultNodes.{whole_set_full}
+use Rattle.level_lister.proofs.Reaching.{wider_is}
+use Rattle.level_lister.proofs.Kids.{root_full}
 use Rattle.level_lister.proofs.search.Search.put_whole.Goals as goal
 
 pub returns : goal.returns
@@ -43,5 +44,5 @@ returns-then-lacking-root-eq0 c =
     let next : c.len.result - 1 + 1 ≡ length graph.nodes = omega (arith, c.len.ensures.len, c.len.ensures.valid.some) in
     let long : length c.put_sets.new.spare ≡ length c.args.whole.now = omega arith in
     let full : get_or kept.lacking (length graph.nodes) 0 ≡ 0 = sym (λ i. get_or (c.lacking.ensures i) (next i) 0) ∙ c.if-lacking-root-eq0.true in
-    whole_set_full graph c.args.self.now.skips.now words kept.costs (c.args.self.now.for_graph.lacking.all.0 full) c.copy_from_slice.new.self
+    wider_is words kept.costs _ _ _ c.copy_from_slice.new.self (root_full graph (length kept.costs) (c.args.self.now.for_graph.lacking.all.0 full))
     (subst (IsNodeSet graph c.args.self.now.skips.now words kept.costs (length graph.nodes - 1)) (sym (c.copy_from_slice.ensures.after ∙ c.set_at.ensures.set ∙ (λ i. set_at c.put_sets.new.sets (place i) (long i)))) (c.put_sets.ensures (length graph.nodes - 1) inside))

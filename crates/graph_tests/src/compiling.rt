@@ -1,13 +1,14 @@
 ghost use Rattle.std.specs.Prelude.{◌<◌, length};
 
 use branch_states::{BUDGET_LIMIT, MeasureError, measure};
-use clause_encoder::{Cnf, encode};
+use clause_encoder::{Clause, Cnf, encode};
 use device_model::Gate;
 use device_tests::{gates, is_true};
-use dnnf_compiler::{Compiled, compile, compile_within};
+use dnnf_compiler::{Compiled, compile, compile_along, compile_within};
+use elimination_forests::{Forks, Step, Ways};
 use node_store::Graph;
 use state_rules::NodeKind;
-use std::alloc::Global;
+use std::alloc::{AllocError, Global};
 use std::process::Abort;
 use std::test::Fail;
 
@@ -90,13 +91,13 @@ fn compiles_chains(rt: HostRuntime) -> Result<(), Fail> {
     // made from the last variable to the first; what the wire before a part may be is written as a state.
     // - 2 at the beginning: what is everywhere true, and what is nowhere.
     // - 1 at the last wire: for the state in which it may be anything. In the other two it has to be 0, or 1, which is a literal.
-    // - 3 at each wire between two parts: for anything an or of two ands, which stand for 0 and 1 alone too.
-    // - 5 at each part but the first, whose input is 0 or 1: an or of two ands for each, and the and of the faulty part once.
+    // - 5 at each wire between two parts: an and for 0, an and for 1, and for anything an or of two ands.
+    // - 6 at each part but the first, whose input is 0 or 1: an or of two ands for each.
     // - 6 at wire 0: an or of two ands where part 1 is faulty, and where it is ok.
     // - 3 at part 1: an or of two ands.
-    // So there are 8 a buffer, and 4. In the graph are all but the two constants, and both literals of each of the 2 * count + 1
+    // So there are 11 a buffer, and 1. In the graph are all but the two constants, and both literals of each of the 2 * count + 1
     // variables.
-    for (count, made, nodes) in [(1, 12, 16), (40, 324, 484), (1000, 8_004, 12_004)] {
+    for (count, made, nodes) in [(1, 12, 16), (40, 441, 484), (1000, 11_001, 12_004)] {
         let cnf = encode(alloc, &gates(alloc, Gate::Buff, 1, count, true)?)?;
         let compiled = compiled(alloc, &cnf)?;
         assert_eq!(&rt; compiled.made, made);
@@ -125,5 +126,74 @@ fn stops_above_a_limit(rt: HostRuntime) -> Result<(), Fail> {
     for (gate, count, sum) in [(Gate::Not, 1, 7), (Gate::Buff, 40, 202)] {
         assert!(&rt; stops(&rt, rt.alloc(), gate, count, sum)?);
     }
+    Ok(())
+}
+
+// Where the lists of a place lead to by one bit.
+fn ways(alloc: Global, trees: u32, ways: &[Option<&[u32]>]) -> Result<Ways, AllocError> {
+    let mut all = Ways::new(alloc, trees);
+    for way in ways {
+        all.push(*way)?;
+    }
+    Ok(all)
+}
+
+#[test]
+fn compiles_two_trees(rt: HostRuntime) -> Result<(), Fail> {
+    let alloc = rt.alloc();
+    // Two clauses that share no variable: each has a tree of its own.
+    let clauses = vec![in alloc; Clause::new(alloc, &[1, 2])?, Clause::new(alloc, &[3, 4])?]?;
+    let cnf = Cnf::of(alloc, 4, clauses)?;
+    let steps = [
+        Step { var: 1, trees: 1 },
+        Step { var: 2, trees: 0 },
+        Step { var: 3, trees: 1 },
+        Step { var: 4, trees: 0 },
+    ];
+    let mut forks = Vec::new(alloc);
+    for _clause in 0..2 {
+        forks.push(Forks {
+            zero: ways(alloc, 1, &[Some(&[0])])?,
+            one: ways(alloc, 1, &[Some(&[1])])?,
+        })?;
+        forks.push(Forks {
+            zero: ways(alloc, 0, &[None, Some(&[])])?,
+            one: ways(alloc, 0, &[Some(&[]), Some(&[])])?,
+        })?;
+    }
+    // Made are 2 constants, for each clause an or of both literals of the second variable, where the first one is 1, an and for each
+    // bit of the first one, and an or of these; and the and of both clauses. In the graph are no constants, but 8 literals.
+    let compiled = compile_along(alloc, &cnf, &steps, &forks)?;
+    assert_eq!(&rt; compiled.graph.len(), 17);
+    assert_eq!(&rt; compiled.made, 11);
+    Ok(())
+}
+
+#[test]
+fn compiles_two_trees_below_a_variable(rt: HostRuntime) -> Result<(), Fail> {
+    let alloc = rt.alloc();
+    // Two clauses that share a variable fall apart below it.
+    let clauses = vec![in alloc; Clause::new(alloc, &[1, 2])?, Clause::new(alloc, &[1, 3])?]?;
+    let cnf = Cnf::of(alloc, 3, clauses)?;
+    let steps = [
+        Step { var: 1, trees: 2 },
+        Step { var: 2, trees: 0 },
+        Step { var: 3, trees: 0 },
+    ];
+    let mut forks = Vec::new(alloc);
+    forks.push(Forks {
+        zero: ways(alloc, 2, &[Some(&[0, 0])])?,
+        one: ways(alloc, 2, &[Some(&[1, 1])])?,
+    })?;
+    for _clause in 0..2 {
+        forks.push(Forks {
+            zero: ways(alloc, 0, &[None, Some(&[])])?,
+            one: ways(alloc, 0, &[Some(&[]), Some(&[])])?,
+        })?;
+    }
+    // Made are 2 constants, an or of both literals of each variable below, and of the first one two ands of three children, and an or.
+    let compiled = compile_along(alloc, &cnf, &steps, &forks)?;
+    assert_eq!(&rt; compiled.graph.len(), 11);
+    assert_eq!(&rt; compiled.made, 7);
     Ok(())
 }

@@ -1,0 +1,5 @@
+pub mod WayLists
+pub mod Passing
+pub mod Examples
+pub mod Chains
+pub mod Lasts

@@ -4,7 +4,7 @@ ghost use Rattle.dnnf_compiler.specs.inner.Noting.{Keeps};
 use std::alloc::{AllocError, Global};
 
 /// The nodes that were made of a literal and others, so that none is asked for again. The other nodes of one level have numbers
-/// near each other: at each place stands what was made of the one whose number is so many above the first.
+/// near each other: at each place is what was made of the one whose number is so many above the first.
 #[derive(Drop)]
 pub(crate) struct Ands {
     pub(crate) literal: u32,

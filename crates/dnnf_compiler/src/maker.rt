@@ -11,7 +11,7 @@ use branch_states::Fork;
 use node_store::Store;
 use std::alloc::{AllocError, Global};
 
-/// Makes nodes, of which one is everywhere true and one is nowhere.
+/// Makes nodes. One is always true, and one never.
 #[derive(Drop)]
 pub(crate) struct Maker {
     pub(crate) store: Store,
@@ -34,7 +34,7 @@ impl Maker {
         Ok(Maker { store, yes, no })
     }
 
-    /// For each fork a node that is true where the bit of a variable leads to a node below that is.
+    /// For each fork a node that is true if the bit of a variable leads to a node below that is.
     pub(crate) fn make_level(
         &mut self,
         alloc: Global,

@@ -8,17 +8,17 @@ from collections.abc import Iterable
 from typing import TYPE_CHECKING
 
 if TYPE_CHECKING:
-    from .service import Session
+    from .session import Session
 
-# So many diagnoses are at hand where nothing else is said.
+# So many diagnoses are at hand if nothing else is said.
 AT_HAND = 100
 
 
 @dataclasses.dataclass(frozen=True)
 class Proposal:
-    """A wire that may be measured, and why: of the diagnoses at hand so many go on where it is 0, and so many where it is 1.
+    """A wire that may be measured, and why: of the diagnoses at hand so many go on if it is 0, and so many if it is 1.
 
-    One goes on where it is still a diagnosis once the wire was seen so. It may go on with both bits, where the wire may be either. With
+    One goes on if it is still a diagnosis once the wire was seen so. It may go on with both bits, if the wire may be either. With
     `complete` the diagnoses at hand are all that there are, and else the first of them.
     """
 
@@ -50,8 +50,10 @@ def rank(session: Session, among: Iterable[str] | None, limit: int) -> list[Prop
     """The unseen wires of `among`, else all, with what they split: see `Session.rank_probes`."""
     if limit < 1:
         raise ValueError(f"the number of diagnoses at hand is at least 1, and not {limit}")
+    if isinstance(among, str):
+        raise TypeError(f"among is a list of names, such as [{among!r}]")
     with session.copy() as scratch:
-        # One more tells whether these are all.
+        # One more shows whether these are all.
         found = list(scratch.diagnoses(limit + 1))
         at_hand = frozenset(found[:limit])
         cost = scratch.minimum().cost

@@ -7,13 +7,17 @@ import enum
 import os
 import pathlib
 import re
-from collections.abc import Callable
+from collections.abc import Callable, Iterator
+from typing import Literal
 
+from . import display
 from .errors import Refused
 
 REFUSAL = re.compile(r"error ([0-9]+) (.+)")
 # A command that there is not, so that its reply marks the end of what came before.
 MARK = "."
+
+Mode = Literal["ok", "bad"]
 
 
 class NotAReply(Exception):
@@ -27,12 +31,29 @@ class Minimum:
     cost: int
     faulty: tuple[str, ...]
 
+    def _repr_html_(self) -> str:
+        return display.table([self])
+
 
 @dataclasses.dataclass(frozen=True)
 class Diagnosis:
-    """A cheapest set of faulty parts that explains the case. It is empty where nothing is wrong."""
+    """A cheapest set of faulty parts that explains the case. It is empty if nothing is wrong.
+
+    >>> diagnosis = Diagnosis(("10", "22"))
+    >>> len(diagnosis), list(diagnosis), "10" in diagnosis
+    (2, ['10', '22'], True)
+    """
 
     faulty: tuple[str, ...]
+
+    def __iter__(self) -> Iterator[str]:
+        return iter(self.faulty)
+
+    def __len__(self) -> int:
+        return len(self.faulty)
+
+    def __contains__(self, part: object) -> bool:
+        return part in self.faulty
 
     def __str__(self) -> str:
         return " ".join(self.faulty) or "nothing"
@@ -51,11 +72,22 @@ class Level:
 
 @dataclasses.dataclass(frozen=True)
 class Probe:
-    """The least cost where a wire is seen as 0 too, and where it is seen as 1 too; None where no set explains that."""
+    """The least cost if a wire is seen as 0 too, and if it is seen as 1 too; None if no set explains that."""
 
     wire: str
     if_zero: int | None
     if_one: int | None
+
+    @property
+    def fault_free(self) -> int | None:
+        """The bit that the wire has if all parts are ok; None if it may have either, or if they cannot be.
+
+        >>> Probe("11", 1, 0).fault_free, Probe("22", 0, 0).fault_free, Probe("1", 0, None).fault_free
+        (1, None, 0)
+        """
+        if (self.if_zero == 0) == (self.if_one == 0):
+            return None
+        return 0 if self.if_zero == 0 else 1
 
 
 class Verdict(enum.StrEnum):
@@ -74,11 +106,14 @@ class Blame:
     verdict: Verdict
 
 
-@dataclasses.dataclass(frozen=True)
+@dataclasses.dataclass(frozen=True, repr=False)
 class Graph:
-    """A decomposable graph over the parts, as `.nnf` text. Variable i is the i-th part in name order, true where it is ok."""
+    """A decomposable graph over the parts, as `.nnf` text. Variable i is the i-th part in name order, true if it is ok."""
 
     text: str
+
+    def __repr__(self) -> str:
+        return f"Graph(nodes={self.nodes}, edges={self.edges}, parts={self.parts})"
 
     @property
     def nodes(self) -> int:
@@ -147,7 +182,7 @@ class Ready(Request):
 class Listing(Request):
     """A line whose reply has lines that begin with the session and a word.
 
-    A line with a word in `more` is followed by another one, but for the one that makes them `most`; one with a word in `last` ends it.
+    A line with a word in `more` is followed by another one, except the one that makes them `most`; one with a word in `last` ends it.
     `rows` are the words of all of them, the session left out.
     """
 
@@ -173,22 +208,26 @@ class Listing(Request):
         return self.rows[-1:] == [["inconsistent"]]
 
     def told(self, word: str) -> list[list[str]]:
-        """What stands behind the word in each line that begins with it."""
+        """What follows the word in each line that begins with it."""
         return [row[1:] for row in self.rows if row[0] == word]
 
 
-class Change(Listing):
+class Change(Request):
     """A line that changes what a session knows, and what is to be noted once it is carried out."""
 
     def __init__(self, session: str, line: str, reply: str, note: Callable[[], None]) -> None:
-        super().__init__(session, line, last=reply)
+        super().__init__(session, line)
+        self._done = f"{session} {reply}"
         self._note = note
+        self.lines: list[str] = []
 
     def take(self, line: str) -> bool:
-        ends = super().take(line)
-        if self.refused is None:
+        if line == self._done:
             self._note()
-        return ends
+        elif not self.refuse(line):
+            raise NotAReply(line)
+        self.lines.append(line)
+        return True
 
 
 class GraphText(Request):
@@ -223,11 +262,13 @@ class GraphText(Request):
 
 
 class AnyLine(Request):
-    """Any line of a script that has a reply, whatever its command: with a mark behind it, whose reply ends that to the line."""
+    """Any line of a script that has a reply. A mark is sent after it, and the reply to the mark ends that to the line."""
 
     def __init__(self, line: str, session: str = "") -> None:
         super().__init__(session, line)
         self.lines: list[str] = []
+        self._has_begun = False
+        self._is_wanted = True
 
     @property
     def sent(self) -> str:
@@ -236,9 +277,16 @@ class AnyLine(Request):
 
     def take(self, line: str) -> bool:
         # Only the first line of a reply can be a refusal that names no session.
-        if self.lines and REFUSAL.fullmatch(line):
+        if self._has_begun and REFUSAL.fullmatch(line):
             return True
-        if not self.lines:
+        if not self._has_begun:
+            self._has_begun = True
             self.refuse(line)
-        self.lines.append(line)
+        if self._is_wanted:
+            self.lines.append(line)
         return False
+
+    def forget(self) -> None:
+        """Nobody waits for the reply any more, so what comes of it is not kept."""
+        self._is_wanted = False
+        self.lines.clear()

@@ -22,7 +22,7 @@ def lists():
             say(f"{name} error 7 open already" if name in points else f"{name} open")
             points.setdefault(name, 0)
         elif command == "interrupt":
-            # Whoever asked waits for the reply by now, and for those to the lines behind it.
+            # Whoever asked waits for the reply by now, and for those to the lines after it.
             time.sleep(0.1)
             os.kill(os.getppid(), signal.SIGINT)
             time.sleep(0.2)
@@ -53,11 +53,15 @@ def main():
     if how == "greets":
         say("hello")
         return 0
+    if how == "refuses":
+        # The last line and the status are given.
+        say(sys.argv[2])
+        return int(sys.argv[3])
     if how == "floods":
         # More than a pipe holds, on the side that nobody waits for.
         sys.stderr.write("noise\n" * 50_000)
         sys.stderr.flush()
-    # What is told to some lines.
+    # The replies to some lines.
     canned = json.loads(sys.argv[2]) if how == "tells" else {}
     say("ready 1 1")
     for number, line in enumerate(sys.stdin):
@@ -77,6 +81,9 @@ def main():
                 time.sleep(0.1)
                 os.kill(os.getppid(), signal.SIGINT)
                 time.sleep(0.2)
+        if how == "dozes" and command == "min":
+            # Longer than anyone waits.
+            time.sleep(60)
         if how == "sleeps" and command == "min":
             say(f"{session} ", end="")
             time.sleep(1)

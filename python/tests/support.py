@@ -1,7 +1,8 @@
-"""What the tests share: where the built program stands, and what it answers by itself."""
+"""What the tests share: where the built program is, and what it answers by itself."""
 
 import os
 import pathlib
+import signal
 import subprocess
 import sys
 import unittest
@@ -15,6 +16,12 @@ PROGRAM = os.environ.setdefault("DIAG_PROGRAM", str(TOP / "crates/diag/out/diag"
 needs_program = unittest.skipUnless(os.access(PROGRAM, os.X_OK), "the program is not built")
 
 sys.path.insert(0, str(TOP / "python"))
+
+# A shell starts what runs in the background with interrupts ignored, which the tests of interrupts and what they start would inherit.
+if signal.getsignal(signal.SIGINT) == signal.SIG_IGN:
+    signal.signal(signal.SIGINT, signal.default_int_handler)
+if signal.getsignal(signal.SIGQUIT) == signal.SIG_IGN:
+    signal.signal(signal.SIGQUIT, signal.SIG_DFL)
 
 
 def replies(script, *words, file=C17):

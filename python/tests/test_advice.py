@@ -45,7 +45,7 @@ class Chains(unittest.TestCase):
         self.session.see(w0=0, w8=1)
 
     def test_middle(self):
-        # Where w4 is 1 the fault lies at or before it, and where it is 0 behind it.
+        # If w4 is 1, the fault is at or before it, and if it is 0, after it.
         self.assertEqual(self.session.best_probe(), Proposal("w4", 8, 4, 4, True))
         ranked = [(row.wire, row.with_zero, row.with_one) for row in self.session.rank_probes()]
         # The further from the middle the worse; of two alike the one that comes first by its name.

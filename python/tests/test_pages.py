@@ -90,8 +90,8 @@ class Completion(unittest.TestCase):
             told = {head.split()[0]: len(head.split()) == 2 for head in entry.option_heads()}
             self.assertEqual(self.complete(form, *file, ""), sorted(told), form)
             for option, takes_number in told.items():
-                behind = self.complete(form, *file, option, "")
-                self.assertEqual(behind, [] if takes_number else sorted(told.keys() - {option}))
+                follows = self.complete(form, *file, option, "")
+                self.assertEqual(follows, [] if takes_number else sorted(told.keys() - {option}))
                 given = [option, "1"] if takes_number else [option]
                 self.assertEqual(self.complete(form, *file, *given, ""), sorted(told.keys() - {option}))
             if len(file) == 2:
@@ -116,7 +116,7 @@ class Completion(unittest.TestCase):
         self.assertIn("examples", self.complete("serve", "ex"))
 
     def test_a_further_form(self):
-        """A form that the help tells is completed as the others are."""
+        """A form that the help names is completed as the others are."""
         text = subprocess.run([TOP / "diag", "--help"], capture_output=True, text=True, check=True).stdout
         text = text.replace("diag check FILE ", "diag tell FILE NUMBER\n    tells; --wide N\n    and --narrow may follow\ndiag check FILE ")
         with tempfile.TemporaryDirectory() as folder:

@@ -1,4 +1,4 @@
-"""Programs that end, stray, sleep or flood, and pipes that stand full."""
+"""Programs that end, stray, sleep or flood, and full pipes."""
 
 import contextlib
 import io
@@ -94,7 +94,7 @@ class Ends(unittest.TestCase):
 
 
 class Pipes(unittest.TestCase):
-    """No pipe stands full while both sides wait."""
+    """No pipe is full while both sides wait."""
 
     def test_much_at_once(self):
         with served("is good") as service, service.session("S" * 64) as session:
@@ -160,7 +160,11 @@ class Interrupts(unittest.TestCase):
                 service.session("T")
 
             self.interrupted(opened)
-            service.session("T").close()
+            with service.session("T") as other:
+                # A name that is taken is refused, and the session that has it stays.
+                with self.assertRaises(Refused):
+                    service.session("T")
+                other.see(a=1)
             self.interrupted(lambda: session._carry_out([pause_of(session), session._closing(), session._opening()]))
             session.close()
             session.close()
@@ -189,7 +193,7 @@ class Interrupts(unittest.TestCase):
                 self.assertEqual((session.minimum().cost, session.graph().nodes), (0, nodes))
 
     def test_within_a_step(self):
-        """Where it cannot be known how far a reply was read the program is stopped, and that is told."""
+        """If it cannot be known how far a reply was read, the program is stopped and the error says so."""
         with served("is good") as service, service.session("S") as session:
             request = session._change("see", "a=1")
             request.take = lambda _: (_ for _ in ()).throw(KeyboardInterrupt())

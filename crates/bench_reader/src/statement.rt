@@ -25,7 +25,7 @@ pub enum Statement<'a> {
     },
 }
 
-/// The inputs of a gate: what stands in its line behind the opening bracket. It is cut again wherever they are read, so that a
+/// The inputs of a gate: what follows the opening bracket in its line. It is cut again wherever they are read, so that a
 /// line takes no memory of its own.
 #[derive(Clone, Copy)]
 pub struct Inputs<'a> {

@@ -108,7 +108,7 @@ impl<'a> Branches<'a> {
 
     /// What is left when the next variable has a bit: `next` becomes the state of that list, unless the list is dead.
     ///
-    /// The state is that of a living list of the present level. Where the list that is left is dead, `next` may be anything.
+    /// The state is that of a living list of the present level. If the list that is left is dead, `next` may be anything.
     pub fn step(&self, state: &[u64], bit: bool, next: &mut [u64]) -> bool
         requires level { self.now.level < length (order self.now.cnf.clauses) }
         requires state { length state.now ≡ size self.now.cnf.clauses self.now.level }

@@ -18,7 +18,7 @@ use std::marker::Model;
 
 /// A way from level to level of a clause list, down to the last one, with the states of the present level alone.
 ///
-/// It ends where the sum of the clause list turns out to be above a limit.
+/// It ends if the sum of the clause list turns out to be above a limit.
 #[derive(Drop)]
 pub struct Descent<'a> {
     branches: Branches<'a>,
@@ -84,7 +84,7 @@ impl<'a> Descent<'a> {
 
     /// Goes to the next level, and gives the forks of this one.
     ///
-    /// Where the sum with the next level is above the limit it is an error. After an error nothing has changed.
+    /// If the sum with the next level is above the limit it is an error. After an error nothing has changed.
     pub fn go_down(&mut self, alloc: Global) -> Result<Vec<Fork>, MeasureError>
         requires { self.old.level < length (order self.old.cnf.clauses) }
         ensures level { OnOk result (self.new ≡ record self.old { level = self.old.level + 1 }) }

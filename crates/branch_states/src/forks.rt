@@ -13,7 +13,7 @@ use smallvec::SmallVec;
 use std::alloc::{AllocError, Global};
 
 /// Where a living list leads to: the places of what the bits of the next variable leave of it, among the living lists of the next
-/// level. There is none where that is dead.
+/// level. There is none if that is dead.
 #[derive(Clone, Copy, Debug, PartialEq, Eq)]
 pub struct Fork {
     pub zero: Option<u32>,

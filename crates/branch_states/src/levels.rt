@@ -9,7 +9,7 @@ use std::marker::Model;
 
 /// What happens at the next variable to the clauses that were added so far, at each level.
 ///
-/// Where a clause stays as it is, only a count tells of it, so that adding it takes no step for each level of its span.
+/// If a clause stays as it is, only a count says so, and that adding it takes no step for each level of its span.
 #[derive(Drop)]
 pub(crate) struct Levels {
     // up to the last clause that does not stay as it is
@@ -76,7 +76,7 @@ impl Levels {
         walk.turn(count, entry)
     }
 
-    /// Puts the events of a level behind those of other levels.
+    /// Puts the events of a level after those of other levels.
     pub(crate) fn put(&self, level: usize, events: &mut Vec<Event>) -> Result<Row, AllocError>
         requires { level < length self.now }
         ensures { IfOk result (λ row. IsPut events.old.items events.new.items row (slice_index_or self.now level [])) }

@@ -6,10 +6,10 @@ use crate::descent::Descent;
 use clause_encoder::Cnf;
 use std::alloc::{AllocError, Global};
 
-/// The largest budget: no greater sum is ever told.
+/// The largest budget: no greater sum is ever printed.
 pub const BUDGET_LIMIT: u32 = 8_388_608;
 
-/// Why the sum of a clause list is not told.
+/// Why the sum of a clause list is not given.
 #[derive(Clone, Copy, Debug, PartialEq, Eq)]
 pub enum MeasureError {
     /// It is above the limit.

@@ -9,7 +9,7 @@ use crate::bits::{bit_at, clear, copy_bits, put_bit};
 use std::alloc::{AllocError, Global};
 use std::marker::Model;
 
-/// Where a clause begins and ends in the order: the place of its first variable, and that behind its last one.
+/// Where a clause begins and ends in the order: the place of its first variable, and that after its last one.
 #[derive(Clone, Copy)]
 pub(crate) struct Span {
     pub(crate) first: u32,
@@ -45,14 +45,14 @@ impl Entry {
     }
 }
 
-/// What happens to a clause that does not stay as it is, behind so many that do.
+/// What happens to a clause that does not stay as it is, after so many that do.
 #[derive(Clone, Copy)]
 pub(crate) struct Event {
     pub(crate) run: u32,
     pub(crate) entry: Entry,
 }
 
-/// Where the events of a level stand among those of all levels, how many clauses stay as they are behind the last one, and how many were open.
+/// Where the events of a level are among those of all levels, how many clauses stay as they are after the last one, and how many were open.
 #[derive(Clone, Copy)]
 pub(crate) struct Row {
     pub(crate) start: usize,
@@ -113,7 +113,7 @@ impl Walk {
         Ok(())
     }
 
-    /// Puts the events behind those of other levels, where there are so many clauses in all.
+    /// Puts the events after those of other levels, if there are so many clauses in all.
     pub(crate) fn put(&self, count: u32, events: &mut Vec<Event>) -> Result<Row, AllocError>
         requires { length self.now ≤ count }
         ensures { IfOk result (λ row. IsPut events.old.items events.new.items row (filled count self.now)) }

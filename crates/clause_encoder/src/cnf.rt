@@ -7,7 +7,7 @@ use flat_lists::FlatLists;
 use std::alloc::{AllocError, Global};
 use std::marker::Model;
 
-/// A clause made outside the encoder: literals, of which one at least is true. Variable v is the literal v, and -v where it is negated.
+/// A clause made outside the encoder: literals, at least one of them true. Variable v is the literal v, or -v if it is negated.
 #[derive(Debug, Drop)]
 pub struct Clause {
     literals: Vec<i32>,

@@ -32,7 +32,7 @@ impl From<AllocError> for EncodeError {
 /// The clauses of a device. Its parts' health variables are 1 and up, in the order of the parts, and the wires' follow. Then come
 /// the inner variables of the gates of more than four inputs.
 ///
-/// All clauses are true, for some bits of the inner variables, exactly where the parts' health and the bits of the wires fit the
+/// All clauses are true, for some bits of the inner variables, exactly if the parts' health and the bits of the wires fit the
 /// device.
 pub fn encode(alloc: Global, device: &Device) -> Result<Cnf, EncodeError>
     ensures encoded { Fulfils (λ cnf. cnf) reason (encoded device.now) result }

@@ -9,11 +9,11 @@ use crate::limits::VARIABLE_LIMIT;
 use crate::writer::Writer;
 use std::alloc::{AllocError, Global};
 
-/// The clauses in which `variables[v - 1]` stands for variable v. One variable may stand for several: so each clause is sorted
+/// The clauses with `variables[v - 1]` in place of variable v. One variable may replace several: so each clause is sorted
 /// again, and one that has both literals of a variable then is left out.
 ///
-/// They are true under an assignment exactly where the clauses that were given are, each variable having the bit of the one that
-/// stands for it.
+/// They are true under an assignment exactly if the clauses that were given are, each variable having the bit of the one that
+/// replaces it.
 pub fn replaced(alloc: Global, cnf: &Cnf, variables: &[u32], vars: u32) -> Result<Cnf, AllocError>
     requires all { length variables.now ≡ cnf.now.vars }
     requires some { All (λ v. 1 ≤ v) variables.now }

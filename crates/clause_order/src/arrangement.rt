@@ -18,7 +18,7 @@ const ROOT_OF_TWO: u64 = 1448;
 /// How the weight of a place grows with the variables that have bits there and are not done with.
 #[derive(Clone, Copy, Debug, PartialEq, Eq)]
 pub(crate) enum Scale {
-    /// About as how many states there are: it doubles with each. It tells which of two orders is better.
+    /// About as how many states there are: it doubles with each. It says which of two orders is better.
     States,
     /// As the square root of that. It is better to search by: the worst place counts for less, so that moves leave it more often.
     Root,

@@ -14,9 +14,9 @@ const MANY: u32 = 128;
 pub(crate) enum Start {
     /// The given order.
     Given,
-    /// All that is joined to one unit, nearest first, where so many of the ends do not come first.
+    /// All that is joined to one unit, nearest first, if so many of the ends do not come first.
     Breadth(u32),
-    /// From one unit on, each time one that leaves the fewest variables across, where so many of the ends do not come first.
+    /// From one unit on, each time one that leaves the fewest variables across, if so many of the ends do not come first.
     Growth(u32),
 }
 

@@ -2,7 +2,7 @@ use crate::row::Row;
 use clause_encoder::Cnf;
 use std::alloc::{AllocError, Global};
 
-/// Runs of clauses that stand side by side and belong together: those of a gate, or of one step of the chain of a wide gate.
+/// Runs of neighbouring clauses that belong together: those of a gate, or of one step of the chain of a wide gate.
 #[derive(Drop)]
 pub(crate) struct Units {
     // where each begins, and then how many clauses there are
@@ -31,7 +31,7 @@ impl Units {
         self.starts.len().saturating_sub(1)
     }
 
-    /// The places from which on, and before which, the clauses of a unit stand.
+    /// The places of the first clause of a unit, and after its last one.
     pub(crate) fn span(&self, unit: u32) -> (u32, u32) {
         (self.starts.at(unit), self.starts.at(unit.saturating_add(1)))
     }

@@ -1,4 +1,4 @@
-//! What is told of a file alone, with no script.
+//! What is printed about a file alone, with no script.
 ghost use Rattle.std.specs.Prelude.{◌≡◌, ◌≢◌, ◌⊎◌, ◌-◌, ◌^◌, ◌<◌, ◌≤◌, [], ◌∷◌, map, length, Ok};
 ghost use Rattle.diag_edge.specs.Edge.{HasCause, RoseExactly};
 ghost use Rattle.session_rules.specs.Spelling.{Replies};
@@ -22,7 +22,7 @@ use node_store::Graph;
 use std::alloc::Global;
 use text_rules::TEXT_LIMIT;
 
-/// What is told of a file alone.
+/// What is printed about a file alone.
 #[derive(Clone, Copy, Debug)]
 pub enum Inspection {
     /// `plan`: how large a device is, and the sum that the budget limits.
@@ -206,7 +206,7 @@ fn check_file<O: Sink>(alloc: Global, path: &str, file: &[u8], out: &mut O) -> S
     }
 }
 
-/// Tells what an inspection of a file, of at most `TEXT_LIMIT` bytes, comes to: `Done`; or why that cannot be told: `Refused`,
+/// Prints what an inspection of a file, of at most `TEXT_LIMIT` bytes, gives: `Done`; or why it gives nothing: `Refused`,
 /// `AboveBudget` or `NoMemory`; or `WriteFailed`.
 pub fn inspect_file<O: Sink>(
     alloc: Global,

@@ -30,7 +30,7 @@ fn clauses_of(alloc: Global, device: &Device) -> Result<Cnf, Refusal>
     }
 }
 
-/// Clauses in a better order, where that is asked for.
+/// Clauses in a better order, if that is asked for.
 pub fn in_order(alloc: Global, cnf: Cnf, is_narrow: bool) -> Result<Cnf, AllocError>
     ensures { IfOk result (IsInOrder is_narrow cnf) }
 {
@@ -41,7 +41,7 @@ pub fn in_order(alloc: Global, cnf: Cnf, is_narrow: bool) -> Result<Cnf, AllocEr
     }
 }
 
-/// The clauses of a device, in a better order where that is asked for. An error says that there are too many, whatever the budget, or
+/// The clauses of a device, in a better order if that is asked for. An error says that there are too many, whatever the budget, or
 /// that memory ran out.
 pub fn ordered_clauses(alloc: Global, device: &Device, is_narrow: bool) -> Result<Cnf, Refusal>
     ensures list { IfOk result (IsListOf is_narrow device.now) }
@@ -52,7 +52,7 @@ pub fn ordered_clauses(alloc: Global, device: &Device, is_narrow: bool) -> Resul
     Ok(in_order(alloc, cnf, is_narrow)?)
 }
 
-/// The clauses of a device and their sum, where it is within a budget.
+/// The clauses of a device and their sum, if it is within a budget.
 pub(crate) fn clauses_within(
     alloc: Global,
     device: &Device,
@@ -69,7 +69,7 @@ pub(crate) fn clauses_within(
     Ok((cnf, sum))
 }
 
-/// The sum of clauses, in words of 64 bits, where it is within a budget.
+/// The sum of clauses, in words of 64 bits, if it is within a budget.
 pub fn sum_within(alloc: Global, cnf: &Cnf, budget: u32) -> Result<u32, Refusal>
     requires { budget ≤ BUDGET_LIMIT }
     ensures list { Fulfils (λ _. cnf.now) told_by (within budget (Ok cnf.now)) result }

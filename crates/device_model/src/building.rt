@@ -85,7 +85,7 @@ fn first_without_wires(wires: usize, parts: &[Component]) -> Option<usize>
 impl Device {
     /// Sorts parts and wires by name. A port is a position in the given `wires`, and becomes that wire's place in order.
     ///
-    /// The first reason of `BuildError` that applies is the answer, in the order in which they stand there.
+    /// The first reason of `BuildError` that applies is the answer, in their order there.
     pub fn build(
         alloc: Global,
         parts: Vec<Component>,

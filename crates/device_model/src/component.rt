@@ -71,7 +71,7 @@ pub struct Component {
     pub ports: Wires,
 }
 
-/// What the parts of a type allow, and what a failure of one of them costs. Bit r of `ok` and of `bad` stands for the row whose
+/// What the parts of a type allow, and what a failure of one of them costs. Bit r of `ok` and of `bad` is for the row whose
 /// port i has bit i of r.
 #[derive(Clone, Copy, Debug)]
 pub struct Table {
@@ -95,7 +95,7 @@ impl Model for Table {
 }
 
 impl Table {
-    /// The rows of a type and what a failure costs. There is none where the number of ports is not 1 to 6, a row is not one of so
+    /// The rows of a type and what a failure costs. There is none if the number of ports is not 1 to 6, a row is not one of so
     /// many ports, or the cost is not 1 to 1,000.
     pub fn new(ports: u8, ok: u64, bad: u64, cost: u32) -> Option<Table>
         ensures { result ≡ (if is_table (record { ports = ports; ok = ok; bad = bad; cost = cost })
@@ -137,14 +137,14 @@ impl Table {
         self.ports
     }
 
-    /// The rows that a part allows where it is ok.
+    /// The rows that a part allows if it is ok.
     pub fn ok(&self) -> u64
         ensures { result ≡ self.now.ok }
     {
         self.ok
     }
 
-    /// The rows that a part allows where it is faulty.
+    /// The rows that a part allows if it is faulty.
     pub fn bad(&self) -> u64
         ensures { result ≡ self.now.bad }
     {

@@ -97,14 +97,14 @@ impl Device {
         }
     }
 
-    /// The place of the part of a name. There is none exactly where no part has the name.
+    /// The place of the part of a name. There is none exactly if no part has the name.
     pub fn find_part(&self, name: &[u8]) -> Option<u32>
         ensures { result ≡ place_of name.now (part_names self.now.parts) }
     {
         Some(self.part_places.get_index_of(name)? as u32)
     }
 
-    /// The place of the wire of a name. There is none exactly where no wire has the name.
+    /// The place of the wire of a name. There is none exactly if no wire has the name.
     pub fn find_wire(&self, name: &[u8]) -> Option<u32>
         ensures { result ≡ place_of name.now self.now.wires }
     {

@@ -39,7 +39,7 @@ impl Name {
         Ok(Name { bytes })
     }
 
-    /// Its bytes, of which there is at least one.
+    /// Its bytes, at least one.
     pub fn as_slice(&self) -> &[u8]
         ensures bytes { result.now ≡ self.now }
         ensures some { 1 ≤ length self.now }

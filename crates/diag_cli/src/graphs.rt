@@ -1,8 +1,6 @@
-//! What a device is asked by: its graph, and the costs of its parts.
-ghost use Rattle.std.specs.Prelude.{◌≡◌, ◌*◌, ◌<◌, ◌≤◌, Ok, length, All, IfOk};
-ghost use Rattle.std.specs.List.{sum};
+//! The graph that a device is asked by.
+ghost use Rattle.std.specs.Prelude.{◌≡◌, ◌≤◌, Ok, length, IfOk};
 ghost use Rattle.text_rules.specs.Expected.{Fulfils};
-ghost use Rattle.device_model.specs.Devices.{part_costs};
 ghost use Rattle.branch_states.specs.Branches.{sum_of};
 ghost use Rattle.dnnf_compiler.specs.Compiled.{IsCompiled, most_nodes};
 ghost use Rattle.device_files.specs.Orders.{ByClauses};
@@ -13,10 +11,10 @@ ghost use Rattle.diag_cli.specs.inner.Serving.{IsServable};
 use branch_states::{BUDGET_LIMIT, MeasureError};
 use clause_encoder::Cnf;
 use device_files::{Refusal, ordered_clauses};
-use device_model::{COST_LIMIT, Device, PART_LIMIT};
+use device_model::Device;
 use dnnf_compiler::{Compiled, compile_within};
 use node_store::Graph;
-use std::alloc::{AllocError, Global};
+use std::alloc::Global;
 
 /// The clauses of a device and their graph, where their sum is within a budget.
 pub(crate) fn graph_within(
@@ -51,19 +49,4 @@ pub(crate) fn compiled_within(alloc: Global, cnf: &Cnf, budget: u32) -> Result<C
         Err(MeasureError::Above) => Err(Refusal::Sum { budget }),
         Err(MeasureError::Memory) => Err(Refusal::Memory),
     }
-}
-
-/// What a failure of each part costs.
-pub(crate) fn costs_of(alloc: Global, device: &Device) -> Result<Vec<u32>, AllocError>
-    ensures costs { IfOk result (λ costs. costs.items ≡ part_costs device.now) }
-    ensures many { IfOk result (λ costs. length costs.items ≡ length device.now.parts) }
-    ensures dear { IfOk result (λ costs. All (λ c. 0 < c) costs.items) }
-    ensures total { IfOk result (λ costs. sum costs.items ≤ COST_LIMIT * PART_LIMIT) }
-{
-    let parts = device.parts().len();
-    let mut costs = Vec::with_capacity(alloc, parts)?;
-    for part in 0..parts as u32 {
-        costs.push(device.cost(part))?;
-    }
-    Ok(costs)
 }

@@ -4,6 +4,7 @@
 mod asking;
 mod besides;
 mod compiling;
+mod costs;
 mod framing;
 mod graphs;
 mod laws;

@@ -12,7 +12,8 @@ ghost use Rattle.device_files.specs.Refusals.{Finds};
 ghost use Rattle.diag_cli.specs.inner.Loading.{IsSummaryOf, IsInStep, Loads, listed_items, inconsistent_items, found_items, summary_items, summary_output};
 ghost use Rattle.diag_cli.specs.inner.Serving.{IsServable};
 
-use crate::graphs::{costs_of, graph_within};
+use crate::costs::costs_of;
+use crate::graphs::graph_within;
 use crate::words::DEFAULT_BUDGET;
 use adder_load::{Found, PLACE_LIMIT, adder_text, note_readings, sample};
 use device_files::{Count, Refusal, Status, netlist_device, put_count, put_counts, tell};

@@ -12,7 +12,7 @@ ghost use Rattle.diag_cli.specs.inner.Forms.{AreWithinLimits};
 ghost use Rattle.diag_cli.specs.inner.Serving.{IsServable, IsServiceOf, CanTell};
 
 use crate::besides::graph_in_few_bits;
-use crate::graphs::costs_of;
+use crate::costs::costs_of;
 use crate::saying::{say_read_fault, say_too_long};
 use crate::words::ServeOptions;
 use device_files::{Refusal, Status, described, tell};

@@ -39,7 +39,7 @@ impl From<AllocError> for LoadError {
 
 /// Picks the file with this name and reads it to its end, `limit` bytes at most.
 ///
-/// `LoadError::Failed` comes only from the shelf. `LoadError::Long` comes exactly where one byte
+/// `LoadError::Failed` comes only from the shelf. `LoadError::Long` comes exactly if one byte
 /// more than `limit` was read, and then no more is read. `LoadError::Memory` may come at any time.
 /// After an error it is open which bytes of the file are still to come.
 pub fn load<H: Shelf>(

@@ -47,7 +47,7 @@ pub const VALVE: File = File {
 /// More room than any output here needs.
 const ROOM: usize = 4096;
 
-/// What a run meets: how the script comes, and which calls fail. The number of a call that fails is 0 where none does.
+/// What a run meets: how the script comes, and which calls fail. The number of a call that fails is 0 if none does.
 #[derive(Clone, Copy)]
 pub struct Meeting {
     pub piece: usize,

@@ -25,7 +25,7 @@ pub fn most_nodes(sum: u32, vars: u32) -> u64
     3 * u64::from(sum) + 2 * u64::from(vars) + 2
 }
 
-/// The decomposable graph that is true exactly where all clauses are.
+/// The decomposable graph that is true exactly if all clauses are.
 ///
 /// The sum of the clause list is at most `BUDGET_LIMIT`. That sum bounds how often a node is made, and so the size of the graph.
 pub fn compile(alloc: Global, cnf: &Cnf) -> Result<Compiled, AllocError>
@@ -36,7 +36,7 @@ pub fn compile(alloc: Global, cnf: &Cnf) -> Result<Compiled, AllocError>
     compile_within(alloc, cnf, BUDGET_LIMIT).map_err(|_| AllocError)
 }
 
-/// The decomposable graph that is true exactly where all clauses are, if the sum of the clause list is within a limit.
+/// The decomposable graph that is true exactly if all clauses are, if the sum of the clause list is within a limit.
 ///
 /// Each level's states are found once, and counted as they are. It stops as soon as the sum is above the limit.
 pub fn compile_within(alloc: Global, cnf: &Cnf, top: u32) -> Result<Compiled, MeasureError>

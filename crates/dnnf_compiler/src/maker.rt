@@ -10,10 +10,10 @@ use node_store::Store;
 use smallvec::SmallVec;
 use std::alloc::{AllocError, Global};
 
-/// Children, of which there are mostly two.
+/// Children: mostly two.
 pub(crate) type Kids = SmallVec<u32, 2>;
 
-/// Makes nodes, of which one is everywhere true and one is nowhere.
+/// Makes nodes. One is always true, and one never.
 #[derive(Drop)]
 pub(crate) struct Maker {
     pub(crate) store: Store,
@@ -36,7 +36,7 @@ impl Maker {
         Ok(Maker { store, yes, no })
     }
 
-    /// For each list the node that is true where the bit of a variable leads to nodes that all are.
+    /// For each list a node that is true if the bit of a variable leads to nodes below that all are.
     pub(crate) fn make_place(
         &mut self,
         alloc: Global,

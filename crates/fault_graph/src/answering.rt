@@ -15,7 +15,7 @@ use std::sync::ledger::Ledger;
 impl Distiller {
     /// The least cost, with the first diagnosis in the state, as [`minimiser::first`] gives them.
     ///
-    /// It takes one pass over the graph, and none where what is kept is of these words, which then stays. The others are over what
+    /// It takes one pass over the graph, and none if what is kept is of these words, which then stays. The others are over what
     /// is kept.
     pub fn first<L: Ledger>(
         &mut self,
@@ -57,9 +57,9 @@ impl Distiller {
         first(small, words, costs, values, state, steps)
     }
 
-    /// Whether there is a diagnosis after the state, which it then becomes, as [`minimiser::next`] tells it.
+    /// Whether there is a diagnosis after the state, which it then becomes, as with [`minimiser::next`].
     ///
-    /// It takes one pass over the graph, and none where what is kept is of these words, which then stays. The others are over what
+    /// It takes one pass over the graph, and none if what is kept is of these words, which then stays. The others are over what
     /// is kept.
     pub fn next<L: Ledger>(
         &mut self,
@@ -105,9 +105,9 @@ impl Distiller {
         next(small, words, costs, values, state, steps)
     }
 
-    /// Of each part whether it is faulty in all diagnoses, in some or in none, as [`blame_all`] tells it.
+    /// Whether each part is faulty in all diagnoses, in some or in none, as with [`blame_all`].
     ///
-    /// It takes one pass over the graph, and none where what is kept is of these words, which then stays. The others are over what
+    /// It takes one pass over the graph, and none if what is kept is of these words, which then stays. The others are over what
     /// is kept.
     pub fn blame_all<L: Ledger>(
         &mut self,

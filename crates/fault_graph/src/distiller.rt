@@ -64,7 +64,7 @@ impl Distiller {
     /// Whether some state agrees with the words; and then the graph is distilled under them. The only error is that some state
     /// does, and memory to distil is wanting.
     ///
-    /// It takes one pass over the graph, and none where what is kept is of these words, which then stays.
+    /// It takes one pass over the graph, and none if what is kept is of these words, which then stays.
     pub fn prepare<L: Ledger>(
         &mut self,
         graph: &Graph,

@@ -12,7 +12,7 @@ use state_rules::NodeKind;
 use std::alloc::AllocError;
 use std::sync::ledger::Ledger;
 
-/// Marks a node that costs something and stands on a derivation of least cost.
+/// Marks a node that costs something and is on a derivation of least cost.
 pub(crate) const MARKED: u32 = 1;
 
 // The least cost; the nodes are then those of the smaller graph. Where nothing is wrong, that is one true node.

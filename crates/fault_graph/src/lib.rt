@@ -1,4 +1,4 @@
-//! A smaller graph that has the same diagnoses under words: what stands on derivations of least cost, and of that what costs.
+//! A smaller graph that has the same diagnoses under words: what is on derivations of least cost and costs something.
 #![tactic(auto)]
 
 mod answering;

@@ -6,7 +6,7 @@ use crate::lists::Lists;
 use std::alloc::{AllocError, Global};
 use std::marker::Model;
 
-/// Lists one behind the other in one vector, so that none has a block of memory of its own.
+/// Lists one after the other in one vector, so that none has a block of memory of its own.
 #[derive(Debug, Drop)]
 pub struct FlatLists<T> {
     items: Vec<T>,
@@ -90,7 +90,7 @@ impl<T: Drop> FlatLists<T> {
 }
 
 impl<T: Copy> FlatLists<T> {
-    /// Adds a copy of a list behind the others.
+    /// Adds a copy of a list after the others.
     pub fn push(&mut self, list: &[T]) -> Result<(), AllocError>
         ensures ok { OnOk result (self.new ≡ self.old ++ list.now ∷ []) }
         ensures err { OnErr result (self.new ≡ self.old) }

@@ -1,4 +1,4 @@
-//! Lists that stand one behind the other in one vector.
+//! Lists one after the other in one vector.
 #![tactic(auto)]
 
 mod flat;

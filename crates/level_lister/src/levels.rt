@@ -121,12 +121,12 @@ impl Levels {
     }
 
     /// The next of the states that agree with the words, by cost and then in their order: the first one of all, or the first one
-    /// after the state, where `pointed` says that it is a point. A point need not be listed. It is worked out in words that are lent for
-    /// it, as many as `room` tells, whatever they hold; the passes over the graph are counted, and the one sweep from the root down is
+    /// after the state, if `pointed` says that it is a point. A point need not be listed. It is worked out in words that are lent for
+    /// it, as many as `room` says, whatever they hold; the passes over the graph are counted, and the one sweep from the root down is
     /// not. As it is written, the passes skip each node through which every derivation of the graph costs more in open parts than what is
     /// listed.
     ///
-    /// The words are the same afterwards. Where nothing is found the state stays.
+    /// The words are the same afterwards. If nothing is found the state stays.
     pub fn next<L: Ledger>(
         &self,
         graph: &Graph,

@@ -23,7 +23,7 @@ pub enum Step {
     Inconsistent,
 }
 
-/// The least cost, with the first diagnosis in the state: 0 where a part is ok, and 1 where it is faulty. `None` where the graph
+/// The least cost, with the first diagnosis in the state: 0 if a part is ok, and 1 if it is faulty. `None` if the graph
 /// allows no state; the state stays then.
 ///
 /// The words are the same afterwards. It takes a pass, and one more for each faulty part of the diagnosis; each pass has at most
@@ -64,7 +64,7 @@ pub fn first<L: Ledger>(
 
 /// Whether there is a diagnosis after the state, which it then becomes. The state need be no diagnosis.
 ///
-/// The words are the same afterwards. Where there is none, the state stays. It takes a pass, and one more for each faulty part of
+/// The words are the same afterwards. If there is none, the state stays. It takes a pass, and one more for each faulty part of
 /// the state and of the diagnosis; each pass has at most one sweep.
 pub fn next<L: Ledger>(
     graph: &Graph,

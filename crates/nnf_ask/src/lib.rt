@@ -1,4 +1,4 @@
-//! Questions to a graph of which no device is known: the names and the costs of its variables, and the law that a device's graph
+//! Questions to a graph whose device is not known: the names and the costs of its variables, and the law that a device's graph
 //! answers for the device.
 #![tactic(auto)]
 

@@ -28,10 +28,10 @@ impl From<AllocError> for AskError {
     }
 }
 
-/// The names of a graph's variables, the first of which are so many parts, and the others wires: their numbers in five digits.
+/// The names of a graph's variables, first so many parts and then wires: their numbers in five digits.
 /// The names of the parts come first, then those of the wires.
 ///
-/// The first reason of `AskError` that applies is the answer, in the order in which they stand there.
+/// The first reason of `AskError` that applies is the answer, in their order there.
 pub fn ask_names(alloc: Global, health: u32, vars: u32) -> Result<(Vec<Name>, Vec<Name>), AskError>
     requires few { health ≤ PART_LIMIT }
     ensures names { Fulfils (λ names. (names.0.items, names.1.items)) told (asked_names health vars) result }

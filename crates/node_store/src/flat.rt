@@ -7,7 +7,7 @@ use state_rules::NodeKind;
 use std::alloc::{AllocError, Global};
 use std::marker::Model;
 
-/// Nodes in order, whatever they are. Their children stand one behind the other in one vector.
+/// Nodes in order, whatever they are. Their children are one after the other in one vector.
 #[derive(Debug, Drop)]
 pub struct Nodes {
     kinds: Vec<NodeKind>,
@@ -98,7 +98,7 @@ impl Nodes {
         self.kids.clear();
     }
 
-    /// Adds a node behind the others.
+    /// Adds a node after the others.
     pub fn push(&mut self, what: NodeKind, kids: &[u32]) -> Result<(), AllocError>
         ensures ok { OnOk result (self.new ≡ self.old ++ record { what = what; kids = kids.now } ∷ []) }
         ensures err { OnErr result (self.new ≡ self.old) }

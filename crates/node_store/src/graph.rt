@@ -38,7 +38,7 @@ impl Graph {
         Graph { nodes, vars }
     }
 
-    /// The nodes, of which other graphs can be made.
+    /// The nodes, to make other graphs from.
     pub fn into_nodes(self) -> Nodes
         ensures { result ≡ self.nodes }
     {
@@ -143,7 +143,7 @@ impl GraphBuilder {
         Ok(number)
     }
 
-    /// The graph of these nodes; or the builder, exactly where it has none.
+    /// The graph of these nodes; or the builder, exactly if it has none.
     pub fn finish(self) -> Result<Graph, GraphBuilder>
         ensures ok { IfOk result (λ graph. graph ≡ self) }
         ensures some { OnOk result (0 < length self.nodes) }

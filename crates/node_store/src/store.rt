@@ -33,7 +33,7 @@ struct Kept {
     kids: Kids,
 }
 
-/// Nodes that are shared: each stands once, and its number is its place.
+/// Nodes that are shared: each is there once, and its number is its place.
 #[derive(Debug, Drop)]
 pub struct Store {
     nodes: IndexSet<Kept, Nearby>,
@@ -89,7 +89,7 @@ impl Store {
         2 * (var - 1) + u32::from(!positive)
     }
 
-    /// The node that is true where all of its children are, each of which is a node of the store. No two of them, at
+    /// The node that is true if all of its children are. Each is a node of the store. No two of them, at
     /// different places, share a variable. After want of memory the store is as it was.
     pub fn and(&mut self, kids: &[u32]) -> Result<u32, AllocError>
         requires kids { All (λ k. k < length self.old.nodes) kids.now }
@@ -105,7 +105,7 @@ impl Store {
         self.add(NodeKind::And, kids)
     }
 
-    /// The node that is true where one of its children is, each of which is a node of the store. After want of memory the
+    /// The node that is true if one of its children is. Each is a node of the store. After want of memory the
     /// store is as it was.
     pub fn or(&mut self, kids: &[u32]) -> Result<u32, AllocError>
         requires kids { All (λ k. k < length self.old.nodes) kids.now }
@@ -128,7 +128,7 @@ impl Store {
         self.nodes.reserve(room)
     }
 
-    /// How often a node was made, also where an equal one was there.
+    /// How often a node was made, also if an equal one was there.
     pub fn made(&self) -> u64
         ensures made { result ≡ self.now.made }
         ensures valid { IsStore self.now }
@@ -143,7 +143,7 @@ impl Store {
         self.handed
     }
 
-    /// The graph of a node and of those below it, which is its root, and how often a node was made. Where there is no memory the
+    /// The graph of a node and of those below it, which is its root, and how often a node was made. If there is no memory the
     /// store comes back.
     pub fn freeze(self, root: u32) -> Result<(Graph, u64), (Store, AllocError)>
         requires { root < length self.nodes }

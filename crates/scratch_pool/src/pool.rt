@@ -47,7 +47,7 @@ impl Model for Pool {
 impl Pool {
     ghost use Rattle.scratch_pool.specs.Lending.{LendsBlock};
 
-    /// A pool of so many blocks of so many words, none of which is out.
+    /// A pool of so many blocks of so many words. None is out.
     pub fn new(alloc: Global, blocks: u32, words: u32) -> Result<Pool, AllocError>
         requires { blocks * words < POOL_LIMIT }
         ensures { IfOk result (λ pool. pool ≡ record {

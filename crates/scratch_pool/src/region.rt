@@ -56,7 +56,7 @@ impl Model for Region {
 impl Region {
     ghost use Rattle.scratch_pool.specs.Lending.{LendsRun};
 
-    /// A region of so many words, of which none is carved.
+    /// A region of so many words. None is carved.
     pub fn new(alloc: Global, words: usize) -> Result<Region, AllocError>
         requires { words < REGION_LIMIT }
         ensures { IfOk result (λ region. region ≡ record { words = replicate words 0; runs = [] }) }
@@ -75,7 +75,7 @@ impl Region {
         self.words.len() - self.used
     }
 
-    /// Carves a run behind the last one, with all its words 0.
+    /// Carves a run after the last one, with all its words 0.
     pub fn carve(&mut self, n: usize) -> Option<Run>
         requires some { 1 ≤ n }
         requires few { length self.old.runs < RUN_LIMIT }

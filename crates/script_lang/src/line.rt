@@ -1,6 +1,6 @@
 use crate::refusal::LineRefusal;
 
-/// What a name names, of which something is noted.
+/// What a name names, if something is noted of it.
 #[derive(Clone, Copy, Debug, PartialEq, Eq)]
 pub enum Noted {
     /// A wire, which is seen to be 1 or 0.
@@ -24,12 +24,12 @@ pub enum Line<'a> {
     },
 }
 
-/// What is told of a session's case, which stays as it is.
+/// A question about a session's case, which stays as it is.
 #[derive(Clone, Copy, Debug)]
 pub enum Question<'a> {
     /// `min S`: the least cost, with the first diagnosis.
     Min,
-    /// `probe S WIRE`: the least cost where the wire is 0, and where it is 1.
+    /// `probe S WIRE`: the least cost if the wire is 0, and if it is 1.
     Probe { wire: &'a [u8] },
     /// `probes S`: the same of each wire that is not seen.
     Probes,
@@ -59,7 +59,7 @@ pub enum Request<'a> {
     List {
         count: u32,
     },
-    /// `after S PART PART ..`: any number of names, or none. `names` is the text behind the session,
+    /// `after S PART PART ..`: any number of names, or none. `names` is the text after the session,
     /// and `text_rules::Tokens::words(names)` walks them.
     After {
         names: &'a [u8],

@@ -1,7 +1,7 @@
 ghost use Rattle.std.specs.Prelude.{◌≡◌};
 ghost use Rattle.script_lang.specs.Refusals.{refusal_row};
 
-/// Why a line asks nothing. Where several hold, the length counts first, and otherwise the first of these.
+/// Why a line asks nothing. If several hold, the length counts first, and otherwise the first of these.
 #[derive(Clone, Copy, Debug, PartialEq, Eq)]
 pub enum LineRefusal {
     /// The first word is no command.
@@ -10,7 +10,7 @@ pub enum LineRefusal {
     BadWords,
     /// A session, a wire or a part is not spelled as a name is.
     BadName,
-    /// A value is none of those that may stand there.
+    /// A value is none of those that are allowed there.
     BadValue,
     /// The line has more bytes than a line may have.
     TooLong,

@@ -17,6 +17,7 @@ ghost use Rattle.session_core.specs.inner.Bases.{AreKnown};
 ghost use Rattle.session_core.specs.inner.Desks.{asked_case, agreeing, least_asked, diagnoses_asked, later_asked, least_seen, blame_asked};
 
 use crate::basis::Basis;
+use crate::memory::Memory;
 use conditioner::is_open;
 use diag_edge::{Sink, WriteFailed};
 use fault_graph::Distiller;
@@ -77,18 +78,24 @@ impl Desk {
     pub(crate) fn new(alloc: Global, basis: Basis) -> Result<Desk, AllocError>
         ensures { IfOk result (λ desk. desk.subject ≡ basis) }
     {
-        let parts = basis.parts().len();
-        let wires = basis.wires().len();
-        let nodes = basis.nodes();
+        let Memory {
+            known,
+            values,
+            state,
+            verdicts,
+            numbers,
+            distiller,
+            room,
+        } = Memory::new(alloc, &basis)?;
         Ok(Desk {
-            known: vec![in alloc; 0; basis.vars()]?,
-            values: vec![in alloc; 0; nodes]?,
-            state: vec![in alloc; 0; parts]?,
-            verdicts: vec![in alloc; Blame::Never; parts]?,
-            numbers: vec![in alloc; 0; 2 * wires]?,
-            distiller: Distiller::new(alloc, basis.graph())?,
-            room: Region::new(alloc, basis.most_room())?,
             basis,
+            known,
+            values,
+            state,
+            verdicts,
+            numbers,
+            distiller,
+            room,
         })
     }
 

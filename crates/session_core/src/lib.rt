@@ -9,6 +9,7 @@ mod levelling;
 mod limits;
 mod line_buffer;
 mod listing;
+mod memory;
 mod name_table;
 mod probing;
 mod replies;

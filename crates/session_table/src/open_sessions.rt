@@ -77,7 +77,7 @@ impl OpenSessions {
         self.limit as usize <= self.open.len()
     }
 
-    /// The place of an open session. There is none exactly where no session of this name is open.
+    /// The place of an open session. There is none exactly if no session of this name is open.
     pub fn find(&self, session: &[u8]) -> Option<usize>
         ensures within { IfSome result (λ place. place < length self.now.table) }
         ensures some { IfSome result (λ place. (entry : Entry) × StandsAt self.now.table place session.now entry) }
@@ -133,7 +133,7 @@ impl OpenSessions {
         self.layout.known(self.pool.words(&self.open[place].block))
     }
 
-    /// The state after which the session at a place goes on, if there is one: 0 where a part is ok, and 1 where it is faulty.
+    /// The state after which the session at a place goes on, if there is one: 0 if a part is ok, and 1 if it is faulty.
     pub fn point(&self, place: usize) -> Option<&[u32]>
         requires { place < length self.now.table }
         ensures point { (session : Name) (entry : Entry) → StandsAt self.now.table place session entry

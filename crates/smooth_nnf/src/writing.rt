@@ -25,8 +25,8 @@ use scratch_pool::Region;
 use std::marker::Brand;
 use std::sync::ledger::{Blank, Ledger};
 
-/// Writes the graph of the diagnoses that a graph allows under words, one word a variable: 0 where it is open, 1 where it is true,
-/// 2 where it is false. The parts are the first variables, and each has a cost.
+/// Writes the graph of the diagnoses that a graph allows under words, one word a variable: 0 if it is open, 1 if it is true,
+/// 2 if it is false. The parts are the first variables, and each has a cost.
 ///
 /// The text is smooth and decomposable, and has at most a line for each node of the graph and each of its edges, two for each part,
 /// and one more. The region lends 2 words for each node. No memory is taken.

@@ -26,7 +26,7 @@ fn read_from<R: Read>(input: &mut R, into: &mut [u8]) -> Result<usize, ReadFaile
 }
 
 /// Files, by their paths. Each pick opens its file anew and lets go of the one before. Which files there are and what
-/// they hold is not told.
+/// they hold is not shown.
 #[derive(Drop)]
 pub struct FileShelf {
     rt: HostRuntime,
@@ -102,8 +102,8 @@ impl Shelf for FileShelf {
     }
 }
 
-/// The standard input, or another reader. What is still to come is told where the reader tells it, as one over memory
-/// does; the standard input tells nothing.
+/// The standard input, or another reader. What is still to come is shown if the reader shows it, as one over memory
+/// does; the standard input shows nothing.
 #[derive(Drop)]
 pub struct StdSource<R: Read + Drop> {
     input: R,
@@ -155,8 +155,8 @@ impl<R: Read + Drop> Source for StdSource<R> {
     }
 }
 
-/// The standard output, or another writer. What was accepted is told where the writer tells it, as one over memory
-/// does; the standard output tells nothing.
+/// The standard output, or another writer. What was accepted is shown if the writer shows it, as one over memory
+/// does; the standard output shows nothing.
 #[derive(Drop)]
 pub struct StdSink<W: Write + Drop> {
     out: W,
@@ -208,7 +208,7 @@ impl<W: Write + Drop> Sink for StdSink<W> {
     }
 }
 
-/// The words behind the program's name. Where they cannot be had as text there are none, so that they are answered as
+/// The words after the program's name. If they cannot be had as text there are none, so that they are answered as
 /// wrong words. An error is want of memory.
 pub fn words_of(rt: &HostRuntime, alloc: Global) -> Result<Vec<String>, AllocError> {
     let mut words = Vec::new(alloc);

@@ -12,6 +12,7 @@ use Rattle.clause_encoder.specs.Clauses.{Clause, ClauseList, var_of, is_positive
 use Rattle.branch_states.specs.Branches.{order, is_true_by, has_true, is_left, left, is_touched, is_covered, is_open, some_passes, is_dead, same_list, different, living, size, weight, sum_of, IsLiving}
 use Rattle.branch_states.proofs.Branching.{living_are_living}
 use Rattle.branch_states.proofs.Lists.{each-different}
+use Rattle.elimination_forests.specs.declared.steps.Weight.TheVariants.{Words}
 use Rattle.elimination_forests.specs.Forests.{is_among, is_within, forest_sum, chain}
 use Rattle.elimination_forests.proofs.Chains.{covered-last, order-within, filter-same, all-by, different-different, chain-sum}
 
@@ -134,5 +135,5 @@ last-some clauses a e =
     ∙ any-bits (λ bits. not (is_dead clauses (length (order clauses)) (left clauses bits))) bits lives in
     omega (arith, some-pass p (map (left clauses) (lists_of_bits (length vs))) there, ap (λ n. length (living clauses (length (order clauses))) * n) (last-size clauses))
 
-pub chain-whole : (cnf : ClauseList) (a : Assignment) → is_clause_list cnf ≡ true → all_hold a cnf.clauses ≡ true → forest_sum (chain (order cnf.clauses)) cnf.clauses ≡ sum_of cnf.clauses
+pub chain-whole : (cnf : ClauseList) (a : Assignment) → is_clause_list cnf ≡ true → all_hold a cnf.clauses ≡ true → forest_sum Words (chain (order cnf.clauses)) cnf.clauses ≡ sum_of cnf.clauses
 chain-whole cnf a valid e = omega (arith, last-few cnf.clauses, last-some cnf.clauses a e, chain-sum cnf valid)

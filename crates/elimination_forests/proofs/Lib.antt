@@ -3,3 +3,4 @@ pub mod Passing
 pub mod Examples
 pub mod Chains
 pub mod Lasts
+pub mod Weights

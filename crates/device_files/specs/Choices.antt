@@ -8,7 +8,7 @@ use Rattle.clause_encoder.specs.Encoding.{encoded, Describes}
 use Rattle.branch_states.specs.Branches.{sum_of}
 use Rattle.elimination_forests.specs.declared.steps.Weight.TheVariants.{Lists}
 use Rattle.elimination_forests.specs.Forests.{Forest, forest_sum}
-use Rattle.tree_finder.specs.declared.narrowing.Narrow.{Narrow}
+use Rattle.tree_finder.specs.declared.narrowing.Narrowed.{Narrowed}
 use Rattle.tree_finder.specs.Narrowing.{Narrows, IsFound}
 
 -- clauses, and their sum
@@ -45,14 +45,14 @@ ByClauses narrow Holds = ByForest (λ choose. Holds (clauses_by narrow choose))
 -- ---- what is found
 
 -- such a forest, if one is asked for
-abbrev pub IsChosen : Bool → ClauseList → Option Narrow → Type 0
+abbrev pub IsChosen : Bool → ClauseList → Option Narrowed → Type 0
 IsChosen false list None = Unit {0}
-IsChosen false list (Some found) = Empty {0}
-IsChosen true list None = Empty {0}
+IsChosen false list (Some found) = ⊥
+IsChosen true list None = ⊥
 IsChosen true list (Some found) = IsFound list found
 
 -- the sum by the order of the names, or along the forest that was found
-abbrev pub HasSum : ClauseList → Option Narrow → ℕ → Type 0
+abbrev pub HasSum : ClauseList → Option Narrowed → ℕ → Type 0
 HasSum list None sum = sum ≡ sum_of list.clauses
 HasSum list (Some found) sum = (is : IsFound list found) × (sum ≡ forest_sum Lists is.forest list.clauses)
 

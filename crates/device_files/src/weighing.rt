@@ -1,4 +1,4 @@
-ghost use Rattle.std.specs.Prelude.{◌≡◌, ◌≤◌, ℕ, Bool, Ok, Some, IfOk, IfErr};
+ghost use Rattle.std.specs.Prelude.{◌≡◌, ◌<◌, ◌≤◌, ℕ, Bool, Ok, Some, IfOk, IfErr};
 ghost use Rattle.text_rules.specs.Expected.{IsExpectedFault, Fulfils};
 ghost use Rattle.clause_encoder.specs.Clauses.{ClauseList};
 ghost use Rattle.clause_encoder.specs.Encoding.{encoded, Describes};
@@ -15,7 +15,7 @@ use branch_states::{BUDGET_LIMIT, MeasureError, measure};
 use clause_encoder::{CLAUSE_LIMIT, Cnf, EncodeError, encode};
 use device_model::Device;
 use std::alloc::{AllocError, Global};
-use tree_finder::{Narrow, narrow};
+use tree_finder::{Narrowed, narrow};
 
 /// The clauses of a device. An error says that there are too many, whatever the budget, or that memory ran out.
 pub fn clauses_of(alloc: Global, device: &Device) -> Result<Cnf, Refusal>
@@ -33,7 +33,7 @@ pub fn clauses_of(alloc: Global, device: &Device) -> Result<Cnf, Refusal>
 }
 
 /// The forest along which clauses are compiled, if one is asked for; otherwise that is by the order of their names.
-pub fn forest_of(alloc: Global, cnf: &Cnf, is_narrow: bool) -> Result<Option<Narrow>, AllocError>
+pub fn forest_of(alloc: Global, cnf: &Cnf, is_narrow: bool) -> Result<Option<Narrowed>, AllocError>
     ensures { IfOk result (IsChosen is_narrow cnf.now) }
 {
     if !is_narrow {
@@ -61,7 +61,7 @@ pub(crate) fn clauses_within(
 }
 
 /// The sum of clauses by the order of their names, or along a forest that was found for them, if it is within a budget.
-pub fn sum_within(alloc: Global, cnf: &Cnf, forest: &Option<Narrow>, budget: u32) -> Result<u32, Refusal>
+pub fn sum_within(alloc: Global, cnf: &Cnf, forest: &Option<Narrowed>, budget: u32) -> Result<u32, Refusal>
     requires { budget ≤ BUDGET_LIMIT }
     ensures list { (sum : ℕ) → HasSum cnf.now forest.now sum
         → Fulfils (λ _. record { list = cnf.now; sum = sum }) told_by (within budget (Ok (record { list = cnf.now; sum = sum }))) result }
@@ -75,7 +75,7 @@ pub fn sum_within(alloc: Global, cnf: &Cnf, forest: &Option<Narrow>, budget: u32
 }
 
 /// The sum along a forest that was found, if it is within a budget.
-pub fn found_within(found: &Narrow, budget: u32) -> Result<u32, Refusal>
+pub fn found_within(found: &Narrowed, budget: u32) -> Result<u32, Refusal>
     requires { budget ≤ BUDGET_LIMIT }
     ensures sum { IfOk result (λ sum. found.now.sum ≡ Some sum) }
     ensures few { IfOk result (λ sum. sum ≤ budget) }

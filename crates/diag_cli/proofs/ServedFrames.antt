@@ -20,7 +20,7 @@ use Rattle.frame_unroller.specs.Unrolling.{unrolled, reason, IsUnrolled}
 use Rattle.frame_unroller.proofs.Refusing.{unrolled-names}
 use Rattle.frame_unroller.specs.Diagnosis.{frame_wires, fits_over, frame_system}
 use Rattle.branch_states.specs.declared.measuring.TheConstants.{BUDGET_LIMIT}
-use Rattle.tree_finder.specs.declared.narrowing.Narrow.{Narrow}
+use Rattle.tree_finder.specs.declared.narrowing.Narrowed.{Narrowed}
 use Rattle.dnnf_compiler.proofs.Laws.{graph_over}
 use Rattle.session_rules.specs.Items.{Item}
 use Rattle.session_rules.specs.GraphSystems.{system_of}
@@ -77,7 +77,7 @@ module _ (seq : Sequential) (frames : ℕ) (options : ServeOptions) where
       by NoMemory h = tt
 
   -- what its clauses come to by the forest that was chosen for them
-  pub unrolled_gives : (made : Unrolled) → unrolled seq frames ≡ Ok made → (chosen : Option Narrow) → IsChosen options.narrow made.cnf chosen → (Gives : Result Sequential Output → Type 0)
+  pub unrolled_gives : (made : Unrolled) → unrolled seq frames ≡ Ok made → (chosen : Option Narrowed) → IsChosen options.narrow made.cnf chosen → (Gives : Result Sequential Output → Type 0)
       → ((sum : ℕ) → HasSum made.cnf chosen sum → Gives (result_and (in_few_bits options.extras (length seq.device.parts) (within options.budget (Ok (record { list = made.cnf; sum = sum })))) (Ok seq)))
       → ByForest (λ choose. Gives (if_unrolled frames options (weighed_by options.narrow choose) (Ok seq)))
   unrolled_gives made is chosen of Gives given =

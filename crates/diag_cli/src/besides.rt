@@ -23,7 +23,7 @@ use node_store::Graph;
 use part_sets::part_words;
 use session_core::{Extras, SERVED_BITS};
 use std::alloc::Global;
-use tree_finder::Narrow;
+use tree_finder::Narrowed;
 
 // Lines are numbered in 32 bits.
 const LINE_LIMIT: u64 = 1 << 32;
@@ -51,7 +51,7 @@ pub(crate) fn graph_in_few_bits(
 pub(crate) fn compile_in_few_bits(
     alloc: Global,
     cnf: &Cnf,
-    forest: &Option<Narrow>,
+    forest: &Option<Narrowed>,
     parts: u32,
     options: ServeOptions,
 ) -> Result<Graph, Refusal>
@@ -76,7 +76,7 @@ pub(crate) fn compile_in_few_bits(
 fn check_bits(
     alloc: Global,
     cnf: &Cnf,
-    forest: &Option<Narrow>,
+    forest: &Option<Narrowed>,
     parts: u32,
     options: ServeOptions,
 ) -> Result<(), Refusal>

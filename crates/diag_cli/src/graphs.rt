@@ -17,7 +17,7 @@ use device_model::Device;
 use dnnf_compiler::{compile_forest, compile_within};
 use node_store::Graph;
 use std::alloc::Global;
-use tree_finder::Narrow;
+use tree_finder::Narrowed;
 
 /// The graph of a device, if the sum of its clauses is within a budget.
 pub(crate) fn graph_within(
@@ -40,7 +40,7 @@ pub(crate) fn graph_within(
 pub(crate) fn compiled_within(
     alloc: Global,
     cnf: &Cnf,
-    forest: &Option<Narrow>,
+    forest: &Option<Narrowed>,
     budget: u32,
 ) -> Result<Graph, Refusal>
     requires budget { budget ≤ BUDGET_LIMIT }
@@ -57,7 +57,7 @@ pub(crate) fn compiled_within(
 }
 
 // Along a forest that was found for the clauses.
-fn compiled_along(alloc: Global, cnf: &Cnf, found: &Narrow, budget: u32) -> Result<Graph, Refusal>
+fn compiled_along(alloc: Global, cnf: &Cnf, found: &Narrowed, budget: u32) -> Result<Graph, Refusal>
     requires budget { budget ≤ BUDGET_LIMIT }
     requires found { IsFound cnf.now found.now }
     ensures within { (is : IsFound cnf.now found.now) → IfOk result (λ graph. forest_sum Lists is.forest cnf.now.clauses ≤ budget) }

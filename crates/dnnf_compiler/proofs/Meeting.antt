@@ -101,9 +101,6 @@ module _ (m : Maker) (is : IsMaker m) where
 
   -- ---- while kids are gone over
 
-  pub kept_first : (kids kept : List ℕ) → kept ≡ [] → kept ++ filter keeps (drop 0 kids) ≡ filter keeps kids
-  kept_first kids kept e = ap (λ ks. ks ++ filter keeps kids) e
-
   one_on : (kids kept : List ℕ) (i k : ℕ) → i < length kids → k ≡ get_or kids i 0 → kept ++ filter keeps (drop i kids) ≡ kept ++ cond (keeps k) (k ∷ filter keeps (drop (i + 1) kids)) (filter keeps (drop (i + 1) kids))
   one_on kids kept i k low at = ap (λ ks. kept ++ filter keeps ks) (drop_more kids i 0 low) ∙ ap (λ n. kept ++ filter keeps (n ∷ drop (i + 1) kids)) (sym at)
 

@@ -63,13 +63,6 @@ names_grow old new var below (Some numbers) v g h = mentions_grow old new g (tak
 
 -- ---- one bit
 
-never : (b : Bool) → false ≡ (b && false)
-never true = refl
-never false = refl
-
-pub take_none : (m : Maker) (var : ℕ) (bit : Bool) (below : List (Vec ℕ Global)) → IsMaker m → IsTaken m m var bit below None None
-take_none m var bit below is = record { adds = adds_not m 1 (1 + length below) is; within = tt; names = tt; truth = λ a. never (same_bit bit (a var)); silent = λ v other h. refl }
-
 module _ (m : Maker) (var : ℕ) (bit : Bool) (below : List (Vec ℕ Global)) (numbers : List ℕ) (literal : ℕ) (is : IsUsable m.store.nodes var below numbers)
     (literal_in : literal < length m.store.nodes) (truth : (a : Assignment) → is_true m.store.nodes literal a ≡ same_bit bit (a var)) (variables : (v : ℕ) → mentions m.store.nodes v literal ≡ (var == v)) where
   abbrev kids : List ℕ

@@ -1,5 +1,6 @@
 -- A way down a forest: what was found, and the places that are begun.
 use Rattle.std.proofs.Common.{◌≡◌, ℕ, ◌+◌, ◌≤◌, ◌<◌, set, replicate, Bool, true, false, not, ◌&&◌, List, [], ◌∷◌, ◌++◌, map, length, drop, Ok, Err, get_or, get_or-set_other, refl, ap, sym, ◌∙◌, subst, arith}
+use mathlib.Core.Path.{transport}
 use Rattle.std.specs.Prelude.{◌==◌, if◌then◌else◌, Result}
 use Rattle.std.specs.List.{flat_map, list_all, range_with_len}
 use Rattle.std.proofs.lemmas.Bool.{false≢true, and_parts, or_parts, or_left, or_right, not-true}
@@ -11,8 +12,9 @@ use Rattle.state_rules.proofs.Lists.{any-never, filter-never, list_all-at}
 use Rattle.clause_encoder.specs.Clauses.{Clause, ClauseList, is_clause, is_clause_list, var_of}
 use Rattle.branch_states.proofs.Ordering.{clauses-valid}
 use Rattle.elimination_forests.specs.declared.steps.Step.{Step}
+use Rattle.elimination_forests.specs.declared.steps.Weight.{Weight}
 use Rattle.elimination_forests.specs.declared.forks.Forks.{Forks}
-use Rattle.elimination_forests.specs.Forests.{Forest, none, tree, trees, steps_of, variables, is_among, meets, is_within, is_once, fits, is_along, is_forest_of, root, decided, part, weight_at, sum_on, forks_at, forks_on}
+use Rattle.elimination_forests.specs.Forests.{Forest, none, tree, trees, steps_of, variables, is_among, meets, is_within, is_once, fits, is_along, is_forest_of, root, decided, part, weight_at, sum_on, forest_sum, forks_at, forks_on}
 use Rattle.elimination_forests.proofs.Passing.{once_front}
 use Rattle.forest_states.specs.inner.Walked.{Stand, first_stand, or_first, step_at, numbers_at, stands_below, forks_below, weight_of}
 use Rattle.forest_states.proofs.Turned.{is_open}
@@ -33,11 +35,11 @@ variables_left items = flat_map own_of items
 abbrev pub forks_left : List Clause → List Item → List Forks
 forks_left clauses items = flat_map (λ it. forks_at it.v it.below (place clauses it) ∷ forks_on it.below (decided it.v (place clauses it))) items
 
-abbrev pub sum_left : List Clause → List Item → ℕ
-sum_left clauses [] = 0
-sum_left clauses (it ∷ items) = (weight_at (own_of it) (place clauses it) + sum_on it.below (decided it.v (place clauses it))) + sum_left clauses items
+abbrev pub sum_left : Weight → List Clause → List Item → ℕ
+sum_left weight clauses [] = 0
+sum_left weight clauses (it ∷ items) = (weight_at weight (own_of it) (place clauses it) + sum_on weight it.below (decided it.v (place clauses it))) + sum_left weight clauses items
 
-pub record Way (all : List Step) (clauses : List Clause) (forest : Forest) (i : ℕ) (seen : List Bool) (found : List Forks) (sum : ℕ) (stands : List Stand) : Type 0 where
+pub record Way (weight : Weight) (all : List Step) (clauses : List Clause) (forest : Forest) (i : ℕ) (seen : List Bool) (found : List Forks) (sum : ℕ) (stands : List Stand) : Type 0 where
   pub items : List Item
   pub later : Forest
   pub steps : drop i all ≡ steps_left items ++ steps_of later
@@ -46,7 +48,7 @@ pub record Way (all : List Step) (clauses : List Clause) (forest : Forest) (i : 
   pub once : is_once (variables_left items ++ variables later) ≡ true
   pub new : (u : ℕ) → is_among (variables_left items ++ variables later) u ≡ true → bit_in seen u ≡ false
   pub forks : found ++ (forks_left clauses items ++ forks_on later (root clauses)) ≡ forks_on forest (root clauses)
-  pub total : sum + (sum_left clauses items + sum_on later (root clauses)) ≡ sum_on forest (root clauses)
+  pub total : sum + (sum_left weight clauses items + sum_on weight later (root clauses)) ≡ forest_sum weight forest clauses
 
 -- one mark more
 items-marked : (clauses : List Clause) (seen : List Bool) (v : ℕ) → ((bound : List ℕ) → IsBefore seen bound → IsBefore (set seen v true) bound) → (items : List Item) (stands : List Stand)
@@ -62,9 +64,9 @@ items-append clauses seen [] ys (s ∷ ss) ts are more = absurd are
 items-append clauses seen (x ∷ xs) ys [] ts are more = absurd are
 items-append clauses seen (x ∷ xs) ys (s ∷ ss) ts are more = (are.0, are.1, items-append clauses seen xs ys ss ts are.2 more)
 
-sum-append : (clauses : List Clause) (xs ys : List Item) → sum_left clauses (xs ++ ys) ≡ sum_left clauses xs + sum_left clauses ys
-sum-append clauses [] ys = omega arith
-sum-append clauses (x ∷ xs) ys = omega (arith, sum-append clauses xs ys)
+sum-append : (weight : Weight) (clauses : List Clause) (xs ys : List Item) → sum_left weight clauses (xs ++ ys) ≡ sum_left weight clauses xs + sum_left weight clauses ys
+sum-append weight clauses [] ys = omega arith
+sum-append weight clauses (x ∷ xs) ys = omega (arith, sum-append weight clauses xs ys)
 
 -- ---- one step
 
@@ -76,10 +78,10 @@ step-at all i d x ys e = ap (λ n. get_or all n d) (plus i) ∙ sym (get_or-drop
 pub steps-more : (all : List Step) (i : ℕ) (x : Step) (ys : List Step) → drop i all ≡ x ∷ ys → drop (i + 1) all ≡ ys
 steps-more all i x ys e = sym (drop-drop 1 i all) ∙ ap (drop 1) e
 
-module _ (all : List Step) (clauses : List Clause) (of : List (List ℕ)) (seen : List Bool) (known : IsIndex clauses of (length seen)) (numbers : List ℕ) (size : length numbers ≡ length seen)
+module _ (weight : Weight) (all : List Step) (clauses : List Clause) (of : List (List ℕ)) (seen : List Bool) (known : IsIndex clauses of (length seen)) (numbers : List ℕ) (size : length numbers ≡ length seen)
     (forest : Forest) (i : ℕ) (d : Step) (found : List Forks) (sum : ℕ) (s : Stand) (stands : List Stand) where
   abbrev After : Step → List Step → Type 0
-  After step rest = Way all clauses forest (i + 1) (set seen step.var true) (found ++ forks_below clauses of seen numbers step rest s ∷ []) (sum + weight_of s) (stands_below clauses of seen numbers step rest s ++ stands)
+  After step rest = Way weight all clauses forest (i + 1) (set seen step.var true) (found ++ forks_below clauses of seen numbers step rest s ∷ []) (sum + weight_of weight s) (stands_below clauses of seen numbers step rest s ++ stands)
 
   module _ (v : ℕ) (below : Forest) (bound : List ℕ) (lists : List (List Bool)) (items : List Item) (later : Forest) where
     abbrev it : Item
@@ -91,7 +93,7 @@ module _ (all : List Step) (clauses : List Clause) (of : List (List ℕ)) (seen 
     go : drop i all ≡ steps_left (it ∷ items) ++ steps_of later → AreItems clauses seen (it ∷ items) (s ∷ stands) → IsBase clauses (variables forest) later [] (root clauses).lists first_stand
         → is_once (variables_left (it ∷ items) ++ variables later) ≡ true → ((u : ℕ) → is_among (variables_left (it ∷ items) ++ variables later) u ≡ true → bit_in seen u ≡ false)
         → found ++ (forks_left clauses (it ∷ items) ++ forks_on later (root clauses)) ≡ forks_on forest (root clauses)
-        → sum + (sum_left clauses (it ∷ items) + sum_on later (root clauses)) ≡ sum_on forest (root clauses) → After (get_or all i d) (drop (i + 1) all)
+        → sum + (sum_left weight clauses (it ∷ items) + sum_on weight later (root clauses)) ≡ forest_sum weight forest clauses → After (get_or all i d) (drop (i + 1) all)
     go steps are base once new forks total =
         subst (λ x. After x (drop (i + 1) all)) (sym (step-at all i d step _ steps))
         (subst (After step) (sym rest_is) (record {
@@ -110,7 +112,7 @@ module _ (all : List Step) (clauses : List Clause) (of : List (List ℕ)) (seen 
               ∙ new u (or_right (v == u) (is_among tail u) in_tail);
           forks = append_assoc found (forks_below clauses of seen numbers step own_rest s ∷ []) _
               ∙ (λ j. found ++ (forks_is j ∷ forks_ahead j)) ∙ forks;
-          total = omega (arith, total, weight-is clauses of seen known v below bound lists s are.0 are.1 here_new here_once, sum-append clauses (new_items below) items, sum-on below);
+          total = omega (arith, total, weight-is clauses of seen known v below bound lists s are.0 are.1 here_new here_once weight, sum-append weight clauses (new_items below) items, sum-on below);
         })) where
           own_rest : List Step
           own_rest = steps_of below ++ (steps_left items ++ steps_of later)
@@ -151,7 +153,7 @@ module _ (all : List Step) (clauses : List Clause) (of : List (List ℕ)) (seen 
           forks-on (tree x down beside) =
               ap (λ fs. forks_at x down (part (x ∷ variables down) (decided v (at bound clauses lists))) ∷ (forks_on down (decided x (part (x ∷ variables down) (decided v (at bound clauses lists)))) ++ fs)) (forks-on beside)
 
-          sum-on : (f : Forest) → sum_left clauses (new_items f) ≡ sum_on f (decided v (at bound clauses lists))
+          sum-on : (f : Forest) → sum_left weight clauses (new_items f) ≡ sum_on weight f (decided v (at bound clauses lists))
           sum-on none = refl
           sum-on (tree x down beside) = omega (arith, sum-on beside)
 
@@ -167,16 +169,16 @@ module _ (all : List Step) (clauses : List Clause) (of : List (List ℕ)) (seen 
           marked-more : (bs : List ℕ) → IsBefore seen bs → IsBefore (set seen v true) bs
           marked-more bs before u low there = let under : u < length seen = omega (arith, low, length-set seen v true) in mark-bit seen v u under ∙ or_right (v == u) (bit_in seen u) (before u under there)
 
-  pub way-more : Way all clauses forest i seen found sum (s ∷ stands) → After (get_or all i d) (drop (i + 1) all)
+  pub way-more : Way weight all clauses forest i seen found sum (s ∷ stands) → After (get_or all i d) (drop (i + 1) all)
   way-more way = by way.items way.later way.steps way.are way.base way.once way.new way.forks way.total where
     by : (items : List Item) (later : Forest) → drop i all ≡ steps_left items ++ steps_of later → AreItems clauses seen items (s ∷ stands) → IsBase clauses (variables forest) later [] (root clauses).lists first_stand
         → is_once (variables_left items ++ variables later) ≡ true → ((u : ℕ) → is_among (variables_left items ++ variables later) u ≡ true → bit_in seen u ≡ false)
         → found ++ (forks_left clauses items ++ forks_on later (root clauses)) ≡ forks_on forest (root clauses)
-        → sum + (sum_left clauses items + sum_on later (root clauses)) ≡ sum_on forest (root clauses) → After (get_or all i d) (drop (i + 1) all)
+        → sum + (sum_left weight clauses items + sum_on weight later (root clauses)) ≡ forest_sum weight forest clauses → After (get_or all i d) (drop (i + 1) all)
     by [] later steps are base once new forks total = absurd are
     by (it ∷ items) later steps are base once new forks total = go it.v it.below it.bound it.lists items later steps are base once new forks total
 
-  pub way-most : Way all clauses forest i seen found sum (s ∷ stands) → sum + weight_of s ≤ sum_on forest (root clauses)
+  pub way-most : Way weight all clauses forest i seen found sum (s ∷ stands) → sum + weight_of weight s ≤ forest_sum weight forest clauses
   way-most way = let next = way-more way in omega (arith, next.total)
 
 -- ---- a tree that stands on nothing
@@ -184,13 +186,13 @@ module _ (all : List Step) (clauses : List Clause) (of : List (List ℕ)) (seen 
 none-open : (vs : List ℕ) (c : Clause) → is_open vs [] c ≡ false
 none-open vs c = ap (λ m. m && meets vs c) (any-never c)
 
-pub way-begin : (all : List Step) (clauses : List Clause) (forest : Forest) (i : ℕ) (seen : List Bool) (found : List Forks) (sum : ℕ) → i < length all
-    → Way all clauses forest i seen found sum [] → Way all clauses forest i seen found sum (first_stand ∷ [])
-way-begin all clauses forest i seen found sum low way = by way.items way.later way.steps way.are way.base way.once way.new way.forks way.total where
+pub way-begin : (weight : Weight) (all : List Step) (clauses : List Clause) (forest : Forest) (i : ℕ) (seen : List Bool) (found : List Forks) (sum : ℕ) → i < length all
+    → Way weight all clauses forest i seen found sum [] → Way weight all clauses forest i seen found sum (first_stand ∷ [])
+way-begin weight all clauses forest i seen found sum low way = by way.items way.later way.steps way.are way.base way.once way.new way.forks way.total where
   by : (items : List Item) (later : Forest) → drop i all ≡ steps_left items ++ steps_of later → AreItems clauses seen items [] → IsBase clauses (variables forest) later [] (root clauses).lists first_stand
       → is_once (variables_left items ++ variables later) ≡ true → ((u : ℕ) → is_among (variables_left items ++ variables later) u ≡ true → bit_in seen u ≡ false)
       → found ++ (forks_left clauses items ++ forks_on later (root clauses)) ≡ forks_on forest (root clauses)
-      → sum + (sum_left clauses items + sum_on later (root clauses)) ≡ sum_on forest (root clauses) → Way all clauses forest i seen found sum (first_stand ∷ [])
+      → sum + (sum_left weight clauses items + sum_on weight later (root clauses)) ≡ forest_sum weight forest clauses → Way weight all clauses forest i seen found sum (first_stand ∷ [])
   by (it ∷ items) later steps are base once new forks total = absurd are
   by [] none steps are base once new forks total = absurd (omega (arith, low, ap length steps, length-drop i all))
   by [] (tree v below beside) steps are base once new forks total =
@@ -211,16 +213,16 @@ way-begin all clauses forest i seen found sum low way = by way.items way.later w
         total = omega (arith, total);
       }
 
-pub way-ready : (all : List Step) (clauses : List Clause) (forest : Forest) (i : ℕ) (seen : List Bool) (found : List Forks) (sum : ℕ) (stands : List Stand) → i < length all
-    → Way all clauses forest i seen found sum stands → Way all clauses forest i seen found sum (or_first stands)
-way-ready all clauses forest i seen found sum [] low way = way-begin all clauses forest i seen found sum low way
-way-ready all clauses forest i seen found sum (s ∷ stands) low way = way
+pub way-ready : (weight : Weight) (all : List Step) (clauses : List Clause) (forest : Forest) (i : ℕ) (seen : List Bool) (found : List Forks) (sum : ℕ) (stands : List Stand) → i < length all
+    → Way weight all clauses forest i seen found sum stands → Way weight all clauses forest i seen found sum (or_first stands)
+way-ready weight all clauses forest i seen found sum [] low way = way-begin weight all clauses forest i seen found sum low way
+way-ready weight all clauses forest i seen found sum (s ∷ stands) low way = way
 
-module _ (all : List Step) (clauses : List Clause) (of : List (List ℕ)) (seen : List Bool) (known : IsIndex clauses of (length seen)) (numbers : List ℕ) (size : length numbers ≡ length seen)
+module _ (weight : Weight) (all : List Step) (clauses : List Clause) (of : List (List ℕ)) (seen : List Bool) (known : IsIndex clauses of (length seen)) (numbers : List ℕ) (size : length numbers ≡ length seen)
     (forest : Forest) (i : ℕ) (d : Step) (found : List Forks) (sum : ℕ) (s : Stand) (stands before : List Stand) (low : i < length all)
-    (way : Way all clauses forest i seen found sum before) (ready : s ∷ stands ≡ or_first before) where
-  now : Way all clauses forest i seen found sum (s ∷ stands)
-  now = subst (λ ss. Way all clauses forest i seen found sum ss) (sym ready) (way-ready all clauses forest i seen found sum before low way)
+    (way : Way weight all clauses forest i seen found sum before) (ready : s ∷ stands ≡ or_first before) where
+  now : Way weight all clauses forest i seen found sum (s ∷ stands)
+  now = subst (λ ss. Way weight all clauses forest i seen found sum ss) (sym ready) (way-ready weight all clauses forest i seen found sum before low way)
 
   abbrev taken : Step
   taken = get_or all i d
@@ -228,40 +230,36 @@ module _ (all : List Step) (clauses : List Clause) (of : List (List ℕ)) (seen 
   abbrev rest : List Step
   rest = drop (i + 1) all
 
-  way-above : sum + weight_of s ≤ sum_on forest (root clauses)
-  way-above = way-most all clauses of seen known numbers size forest i d found sum s stands now
+  way-above : sum + weight_of weight s ≤ forest_sum weight forest clauses
+  way-above = way-most weight all clauses of seen known numbers size forest i d found sum s stands now
 
   way-stepped : (after : List Stand) (seen_more : List Bool) (found_more : List Forks) (sum_more : ℕ)
-      → seen_more ≡ set seen (get_or all i d).var true → found_more ≡ found ++ forks_below clauses of seen numbers (get_or all i d) (drop (i + 1) all) s ∷ [] → sum_more ≡ sum + weight_of s
-      → after ≡ stands_below clauses of seen numbers (get_or all i d) (drop (i + 1) all) s ++ stands → Way all clauses forest (i + 1) seen_more found_more sum_more after
+      → seen_more ≡ set seen (get_or all i d).var true → found_more ≡ found ++ forks_below clauses of seen numbers (get_or all i d) (drop (i + 1) all) s ∷ [] → sum_more ≡ sum + weight_of weight s
+      → after ≡ stands_below clauses of seen numbers (get_or all i d) (drop (i + 1) all) s ++ stands → Way weight all clauses forest (i + 1) seen_more found_more sum_more after
   way-stepped after seen_more found_more sum_more n f m a =
-      subst (λ ns. Way all clauses forest (i + 1) ns found_more sum_more after) (sym n)
-      (subst (λ fs. Way all clauses forest (i + 1) (set seen taken.var true) fs sum_more after) (sym f)
-      (subst (λ k. Way all clauses forest (i + 1) (set seen taken.var true) (found ++ forks_below clauses of seen numbers taken rest s ∷ []) k after) (sym m)
-      (subst (λ ss. Way all clauses forest (i + 1) (set seen taken.var true) (found ++ forks_below clauses of seen numbers taken rest s ∷ []) (sum + weight_of s) ss) (sym a)
-      (way-more all clauses of seen known numbers size forest i d found sum s stands now))))
+      transport (λ j. Way weight all clauses forest (i + 1) (sym n j) (sym f j) (sym m j) (sym a j)) (way-more weight all clauses of seen known numbers size forest i d found sum s stands now)
 
 -- what is next
 next-is : (before : List Stand) → (s : Stand) × (stands : List Stand) × (s ∷ stands ≡ or_first before)
 next-is [] = (first_stand, [], refl)
 next-is (s ∷ stands) = (s, stands, refl)
 
-module _ (all : List Step) (clauses : List Clause) (of : List (List ℕ)) (seen : List Bool) (known : IsIndex clauses of (length seen)) (numbers : List ℕ) (size : length numbers ≡ length seen)
-    (forest : Forest) (i : ℕ) (found : List Forks) (sum : ℕ) (before : List Stand) (low : i < length all) (way : Way all clauses forest i seen found sum before) where
+module _ (weight : Weight) (all : List Step) (clauses : List Clause) (of : List (List ℕ)) (seen : List Bool) (known : IsIndex clauses of (length seen)) (numbers : List ℕ) (size : length numbers ≡ length seen)
+    (forest : Forest) (i : ℕ) (found : List Forks) (sum : ℕ) (before : List Stand) (low : i < length all) (way : Way weight all clauses forest i seen found sum before) where
   pub way-next : (seen_more : List Bool) (f : Forks) (sum_more : ℕ) (after : List Stand) → seen_more ≡ set seen (step_at all i).var true
       → ((s : Stand) (stands : List Stand) → s ∷ stands ≡ or_first before → f ≡ forks_below clauses of seen numbers (step_at all i) (drop (i + 1) all) s)
-      → ((s : Stand) (stands : List Stand) → s ∷ stands ≡ or_first before → sum_more ≡ sum + weight_of s)
+      → ((s : Stand) (stands : List Stand) → s ∷ stands ≡ or_first before → sum_more ≡ sum + weight_of weight s)
       → ((s : Stand) (stands : List Stand) → s ∷ stands ≡ or_first before → after ≡ stands_below clauses of seen numbers (step_at all i) (drop (i + 1) all) s ++ stands)
-      → Way all clauses forest (i + 1) seen_more (found ++ f ∷ []) sum_more after
+      → Way weight all clauses forest (i + 1) seen_more (found ++ f ∷ []) sum_more after
   way-next seen_more f sum_more after n g m a =
       let p = next-is before in
-      way-stepped all clauses of seen known numbers size forest i (record { var = 0; trees = 0 }) found sum p.0 p.1 before low way p.2 after seen_more (found ++ f ∷ []) sum_more
+      way-stepped weight all clauses of seen known numbers size forest i (record { var = 0; trees = 0 }) found sum p.0 p.1 before low way p.2 after seen_more (found ++ f ∷ []) sum_more
       n (ap (λ x. found ++ x ∷ []) (g p.0 p.1 p.2)) (m p.0 p.1 p.2) (a p.0 p.1 p.2)
 
-  pub way-past : (top : ℕ) → ((s : Stand) (stands : List Stand) → s ∷ stands ≡ or_first before → top < sum + weight_of s) → top < sum_on forest (root clauses)
+  pub way-past : (top : ℕ) → ((s : Stand) (stands : List Stand) → s ∷ stands ≡ or_first before → top < sum + weight_of weight s) → top < forest_sum weight forest clauses
   way-past top h =
       let p = next-is before in
-      omega (arith, h p.0 p.1 p.2, way-above all clauses of seen known numbers size forest i (record { var = 0; trees = 0 }) found sum p.0 p.1 before low way p.2)
+      omega (arith, h p.0 p.1 p.2, way-above weight all clauses of seen known numbers size forest i (record { var = 0; trees = 0 }) found sum p.0 p.1 before low way p.2)
 
 -- ---- the end
 
@@ -269,18 +267,18 @@ abbrev pub error_or : {A E : Type 0} → E → Result A E → E
 error_or other (Ok x) = other
 error_or other (Err e) = e
 
-pub way-last : (all : List Step) (clauses : List Clause) (forest : Forest) (i : ℕ) (seen : List Bool) (found : List Forks) (sum : ℕ) (stands : List Stand) → Way all clauses forest i seen found sum stands → length all ≤ i
-    → (found ≡ forks_on forest (root clauses)) × (sum ≡ sum_on forest (root clauses))
-way-last all clauses forest i seen found sum stands way high = by way.items way.later (sym way.steps ∙ drop_all i all high) way.forks way.total where
+pub way-last : (weight : Weight) (all : List Step) (clauses : List Clause) (forest : Forest) (i : ℕ) (seen : List Bool) (found : List Forks) (sum : ℕ) (stands : List Stand) → Way weight all clauses forest i seen found sum stands → length all ≤ i
+    → (found ≡ forks_on forest (root clauses)) × (sum ≡ forest_sum weight forest clauses)
+way-last weight all clauses forest i seen found sum stands way high = by way.items way.later (sym way.steps ∙ drop_all i all high) way.forks way.total where
   by : (items : List Item) (later : Forest) → steps_left items ++ steps_of later ≡ [] → found ++ (forks_left clauses items ++ forks_on later (root clauses)) ≡ forks_on forest (root clauses)
-      → sum + (sum_left clauses items + sum_on later (root clauses)) ≡ sum_on forest (root clauses) → (found ≡ forks_on forest (root clauses)) × (sum ≡ sum_on forest (root clauses))
+      → sum + (sum_left weight clauses items + sum_on weight later (root clauses)) ≡ forest_sum weight forest clauses → (found ≡ forks_on forest (root clauses)) × (sum ≡ forest_sum weight forest clauses)
   by [] none e forks total = (sym (append-nil found) ∙ forks, omega (arith, total))
   by [] (tree v below beside) e forks total = absurd (omega (arith, ap length e))
   by (it ∷ items) later e forks total = absurd (omega (arith, ap length e))
 
 -- ---- the first place
 
-module _ (list : ClauseList) (valid : is_clause_list list ≡ true) (forest : Forest) (is : is_forest_of forest list ≡ true) (size : ℕ) where
+module _ (weight : Weight) (list : ClauseList) (valid : is_clause_list list ≡ true) (forest : Forest) (is : is_forest_of forest list ≡ true) (size : ℕ) where
   abbrev clauses : List Clause
   clauses = list.clauses
 
@@ -294,7 +292,7 @@ module _ (list : ClauseList) (valid : is_clause_list list ≡ true) (forest : Fo
       let there = (and_parts (is_among (variables forest ++ []) (var_of l)) (is_within (variables forest ++ []) c) (along-closed forest [] (l ∷ c) along)).0 in
       false≢true (sym (or_parts (is_among (variables forest) (var_of l)) (meets (variables forest) c) off).0 ∙ ap (λ vs. is_among vs (var_of l)) (sym (append-nil (variables forest))) ∙ there)
 
-  pub way-first : Way (steps_of forest) list.clauses forest 0 (replicate size false) [] 0 []
+  pub way-first : Way weight (steps_of forest) list.clauses forest 0 (replicate size false) [] 1 []
   way-first = record {
     items = [];
     later = forest;
@@ -325,10 +323,6 @@ module _ (list : ClauseList) (valid : is_clause_list list ≡ true) (forest : Fo
     no-bits (c ∷ cs) [] = refl
     no-bits (c ∷ cs) (b ∷ list) = no-bits cs list ∙ ap (λ o. if o then b ∷ state_of (variables forest) [] cs list else state_of (variables forest) [] cs list) (sym (none-open (variables forest) c))
 
-  pub way-begun : (all : List Step) (seen : List Bool) (found : List Forks) (stands : List Stand) → all ≡ steps_of forest → seen ≡ replicate size false → found ≡ [] → stands ≡ []
-      → Way all list.clauses forest 0 seen found 0 stands
-  way-begun all seen found stands a n f s =
-      subst (λ ss. Way ss list.clauses forest 0 seen found 0 stands) (sym a)
-      (subst (λ ns. Way (steps_of forest) list.clauses forest 0 ns found 0 stands) (sym n)
-      (subst (λ fs. Way (steps_of forest) list.clauses forest 0 (replicate size false) fs 0 stands) (sym f)
-      (subst (λ ps. Way (steps_of forest) list.clauses forest 0 (replicate size false) [] 0 ps) (sym s) way-first)))
+  pub way-begun : (all : List Step) (seen : List Bool) (sum : ℕ) (stands : List Stand) → all ≡ steps_of forest → seen ≡ replicate size false → sum ≡ 1 → stands ≡ []
+      → Way weight all list.clauses forest 0 seen [] sum stands
+  way-begun all seen sum stands a n m s = transport (λ j. Way weight (sym a j) list.clauses forest 0 (sym n j) [] (sym m j) (sym s j)) way-first

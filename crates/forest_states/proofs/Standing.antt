@@ -1,5 +1,5 @@
 -- A place of a forest as its open clauses and its states show it, and what becomes of these at the places right below.
-use Rattle.std.proofs.Common.{◌≡◌, ℕ, ◌+◌, ◌*◌, ◌/◌, ◌<◌, Bool, true, false, not, ◌&&◌, ◌||◌, List, [], ◌∷◌, ◌++◌, map, length, set, get_or, refl, ap, sym, ◌∙◌, arith, ◌⊎◌, inl, inr}
+use Rattle.std.proofs.Common.{◌≡◌, ℕ, ◌+◌, ◌*◌, ◌<◌, Bool, true, false, not, ◌&&◌, ◌||◌, List, [], ◌∷◌, ◌++◌, map, length, set, get_or, refl, ap, sym, ◌∙◌, arith, ◌⊎◌, inl, inr}
 use Rattle.std.specs.Prelude.{◌==◌, if◌then◌else◌}
 use Rattle.std.specs.List.{filter, range_with_len, AllByRecursion}
 use Rattle.std.proofs.lemmas.Bool.{false≢true, and_parts, and_left, and_right, or_from, or_left, or_right, or_cases, not-true, false_from_ne_true, eqb-true}
@@ -8,7 +8,8 @@ use Rattle.std.proofs.lemmas.List.Folds.{list_any-append}
 use Rattle.state_rules.specs.Bits.{bit_in}
 use Rattle.state_rules.proofs.Lists.{filter-filter}
 use Rattle.clause_encoder.specs.Clauses.{Clause}
-use Rattle.elimination_forests.specs.Forests.{Forest, none, tree, trees, variables, is_among, meets, is_within, is_once, is_along, Place, decided, part, weight_at, forks_at}
+use Rattle.elimination_forests.specs.declared.steps.Weight.{Weight}
+use Rattle.elimination_forests.specs.Forests.{Forest, none, tree, trees, variables, is_among, meets, is_within, is_once, is_along, Place, decided, part, weigh, weight_at, forks_at}
 use Rattle.forest_states.specs.inner.Walked.{has_var, merged, meets_marked, within_marked, is_in_tree, goes_to, entry_at, Stand, met_at, table_at, decided_states, decided_forks, part_states, column, forks_found, stand_decided, stand_part, column_at, weight_of}
 use Rattle.forest_states.proofs.Turned.{is_open, is_walked, meets-more}
 use Rattle.forest_states.proofs.Leaving.{IsKnown, Ends, entry_of, table_of}
@@ -171,11 +172,11 @@ module _ (clauses : List Clause) (of : List (List ℕ)) (seen : List Bool) (foun
   abbrev numbers_of : List ℕ
   numbers_of = range_with_len 0 (length clauses)
 
-  pub weight-is : weight_of s ≡ weight_at (v ∷ variables below) (at bound clauses lists)
-  weight-is =
+  pub weight-is : (weight : Weight) → weight_of weight s ≡ weight_at weight (v ∷ variables below) (at bound clauses lists)
+  weight-is weight =
       let many = ap length h.states ∙ length-map lists (state_of (v ∷ variables below) bound clauses) in
       let long = ap length h.opened ∙ sym (length-map (filter (λ n. is_open (v ∷ variables below) bound (clause n)) numbers_of) clause) ∙ ap length (sym (passing clauses (is_open (v ∷ variables below) bound))) in
-      λ j. many j * (long j / 64 + 1)
+      λ j. many j * weigh weight (long j)
 
   closed : (n : ℕ) → n < length clauses → meets (v ∷ variables below) (clause n) ≡ true → is_within (variables below ++ (v ∷ bound)) (clause n) ≡ true
   closed n low there = along-closed below (v ∷ bound) (clause n) (h.along n low there)

@@ -1,7 +1,7 @@
 ghost use Rattle.std.specs.Prelude.{◌≡◌, ◌<◌, ◌≤◌, ◌+◌, ◌*◌, ◌^◌, ◌++◌, [], ◌∷◌, true, false, length, map, reverse, slice_set, slice_index_or, option_map, Some, IfOk, OnOk};
 ghost use Rattle.std.specs.List.{range_with_len, position_or_len};
 ghost use Rattle.forest_states.specs.inner.BitLists.{is_same};
-ghost use Rattle.forest_states.specs.inner.Walked.{joined, lead, decided_states, decided_forks, part_states, column, met_at, table_at, numbered, goes_to, forks_found, row_at, stand_decided, stand_part, column_at, stands_below, columns_below, forks_below, first_stand, or_first, stand_of};
+ghost use Rattle.forest_states.specs.inner.Walked.{joined, lead, decided_states, decided_forks, part_states, column, met_at, table_at, numbered, goes_to, forks_of, row_at, stand_decided, stand_part, column_at, stands_below, columns_below, forks_below, first_stand, or_first, stand_of};
 
 use crate::bit_list::BitList;
 use crate::marks::{mark, meets_marked, number_trees};
@@ -19,7 +19,15 @@ pub(crate) struct Spot {
     pub(crate) states: IndexSet<BitList>,
 }
 
-/// The forks of a place, whose variable is marked; the places right below are put on others.
+/// Where the states of a place lead to: by its bit to those of a base, and these by columns to those of the trees on it.
+#[derive(Drop)]
+pub(crate) struct Leads {
+    pub(crate) trees: u32,
+    pub(crate) columns: Vec<Vec<u32>>,
+    pub(crate) leads: Vec<Fork>,
+}
+
+/// Where the states of a place lead to. Its variable is marked, and the places right below are put on others.
 pub(crate) fn go_down(
     alloc: Global,
     cnf: &Cnf,
@@ -30,9 +38,10 @@ pub(crate) fn go_down(
     rest: &[Step],
     spot: &Spot,
     pending: &mut Vec<Spot>,
-) -> Result<Forks, AllocError>
+) -> Result<Leads, AllocError>
     requires { length spot.now.states.keys < 2 ^ 31 }
-    ensures forks { IfOk result (λ forks. forks
+    ensures whole { IfOk result (λ leads. length leads.columns.items ≡ leads.trees) }
+    ensures forks { IfOk result (λ leads. forks_of leads
         ≡ forks_below cnf.now.clauses (map (λ v. v.items) of.now) seen.old.items numbers.old.items step rest.now (stand_of spot.now)) }
     ensures seen { OnOk result (seen.new.items ≡ slice_set seen.old.items step.var true) }
     ensures numbers { OnOk result (length numbers.new.items ≡ length numbers.old.items) }
@@ -52,7 +61,11 @@ pub(crate) fn go_down(
         &base,
         pending,
     )?;
-    find_forks(alloc, step.trees, columns.as_slice(), leads.as_slice())
+    Ok(Leads {
+        trees: step.trees,
+        columns,
+        leads,
+    })
 }
 
 // Where the states of a place lead to by the bit of its variable, and what has come of them.
@@ -229,24 +242,22 @@ fn add(state: Option<BitList>, states: &mut IndexSet<BitList>) -> Result<Option<
     }
 }
 
-// The forks of a place, if its states lead to those of a base, and these by columns to those of the trees on it.
-fn find_forks(
-    alloc: Global,
-    trees: u32,
-    columns: &[Vec<u32>],
-    leads: &[Fork],
-) -> Result<Forks, AllocError>
-    requires { length columns.now ≡ trees }
-    ensures { IfOk result (λ forks. forks ≡ forks_found trees (map (λ v. v.items) columns.now) leads.now) }
-{
-    let mut zero = Ways::new(alloc, trees);
-    let mut one = Ways::new(alloc, trees);
-    let mut row = Vec::with_capacity(alloc, columns.len())?;
-    for lead in leads {
-        add_way(&mut zero, columns, lead.zero, &mut row)?;
-        add_way(&mut one, columns, lead.one, &mut row)?;
+impl Leads {
+    /// The forks of the place.
+    pub(crate) fn forks(&self, alloc: Global) -> Result<Forks, AllocError>
+        requires { length self.now.columns.items ≡ self.now.trees }
+        ensures { IfOk result (λ forks. forks ≡ forks_of self.now) }
+    {
+        let columns = self.columns.as_slice();
+        let mut zero = Ways::new(alloc, self.trees);
+        let mut one = Ways::new(alloc, self.trees);
+        let mut row = Vec::with_capacity(alloc, columns.len())?;
+        for lead in self.leads.as_slice() {
+            add_way(&mut zero, columns, lead.zero, &mut row)?;
+            add_way(&mut one, columns, lead.one, &mut row)?;
+        }
+        Ok(Forks { zero, one })
     }
-    Ok(Forks { zero, one })
 }
 
 // Adds the way that goes on with the rows of columns. The row is room for it.

@@ -1,5 +1,5 @@
 -- A way down a forest as the lists of bits of the open clauses see it. Only private contracts cite it.
-use Rattle.std.specs.Prelude.{ℕ, ◌+◌, ◌-◌, ◌*◌, ◌/◌, ◌==◌, Bool, true, false, not, ◌&&◌, ◌||◌, List, [], ◌∷◌, ◌++◌, map, length, nat_lt, slice_set, slice_index_or, option_map, Option, Some, None, option_to_list, if◌then◌else◌}
+use Rattle.std.specs.Prelude.{ℕ, ◌+◌, ◌-◌, ◌*◌, ◌==◌, Bool, true, false, not, ◌&&◌, ◌||◌, List, [], ◌∷◌, ◌++◌, map, length, nat_lt, slice_set, slice_index_or, option_map, Option, Some, None, option_to_list, if◌then◌else◌}
 use Rattle.std.specs.List.{filter, flat_map, list_any, list_all, position_or_len, range_with_len}
 use Rattle.indexmap.specs.IndexSet.{insert_key}
 use Rattle.state_rules.specs.Bits.{bit_in}
@@ -7,8 +7,11 @@ use Rattle.clause_encoder.specs.Clauses.{Clause, var_of}
 use Rattle.branch_states.specs.Branches.{has_true, different}
 use Rattle.branch_states.specs.declared.forks.Fork.{Fork}
 use Rattle.forest_states.specs.declared.places.Spot.{Spot}
+use Rattle.forest_states.specs.declared.places.Leads.{Leads}
 use Rattle.elimination_forests.specs.declared.steps.Step.{Step}
+use Rattle.elimination_forests.specs.declared.steps.Weight.{Weight}
 use Rattle.elimination_forests.specs.declared.forks.Forks.{Forks}
+use Rattle.elimination_forests.specs.Forests.{weigh}
 use Rattle.forest_states.specs.declared.tables.Entry.{Entry}
 use Rattle.forest_states.specs.inner.BitLists.{is_same}
 
@@ -93,6 +96,9 @@ forks_found trees columns leads =
       zero = record { trees = trees; ways = ways_found columns (map (λ f. f.zero) leads) };
       one = record { trees = trees; ways = ways_found columns (map (λ f. f.one) leads) };
     }
+
+abbrev pub forks_of : Leads → Forks
+forks_of l = forks_found l.trees (map (λ v. v.items) l.columns.items) l.leads.items
 
 -- ---- the open clauses of a place, by their numbers
 
@@ -212,5 +218,5 @@ abbrev pub or_first : List Stand → List Stand
 or_first [] = first_stand ∷ []
 or_first (s ∷ stands) = s ∷ stands
 
-abbrev pub weight_of : Stand → ℕ
-weight_of s = length s.states * (length s.opened / 64 + 1)
+abbrev pub weight_of : Weight → Stand → ℕ
+weight_of weight s = length s.states * weigh weight (length s.opened)

@@ -1,9 +1,0 @@
-use Rattle.std.proofs.Common.{◌≡◌, map, take}
-use Rattle.forest_states.specs.inner.Walked.{ways_found}
-use Rattle.forest_states.proofs.places.find_forks.Given as goal
-
-abbrev pub invariant-loop-lead : goal.invariant-loop-lead
-invariant-loop-lead l = record {
-  zero : l.zero ≡ record { trees = l.trees; ways = ways_found (map (λ v. v.items) l.columns) (map (λ f. f.zero) (take l.lead-index l.leads)) };
-  one : l.one ≡ record { trees = l.trees; ways = ways_found (map (λ v. v.items) l.columns) (map (λ f. f.one) (take l.lead-index l.leads)) };
-}

@@ -12,9 +12,9 @@ use Rattle.state_rules.proofs.Lists.{list_any-map}
 use Rattle.branch_states.specs.declared.measuring.TheConstants.{BUDGET_LIMIT}
 use Rattle.dnnf_compiler.specs.declared.maker.Maker.{Maker}
 use Rattle.dnnf_compiler.specs.inner.Joining.{Grows}
-use Rattle.dnnf_compiler.specs.inner.Making.{IsMaker, Adds, IsJoin}
+use Rattle.dnnf_compiler.specs.inner.Making.{Adds, IsJoin}
 use Rattle.dnnf_compiler.specs.inner.Meeting.{AreApart, IsMeet, taken, AreHeld, IsUsable, way_true, way_mentions, bit_way, IsChoice, IsTaken, IsChosen}
-use Rattle.dnnf_compiler.proofs.Making.{adds_not, adds_then, may_grow, mention_grows, get-push, eqb-same}
+use Rattle.dnnf_compiler.proofs.Making.{adds_then, may_grow, mention_grows, get-push, eqb-same}
 use Rattle.dnnf_compiler.proofs.Meeting.{each_more, map_same, all_same, any_same, first_none, others_none}
 
 -- ---- the nodes to which numbers lead

@@ -50,7 +50,7 @@ steps_along vs (suc n) i e =
 pub chain_steps : (vs : List ℕ) → steps_of (chain vs) ≡ map (chain_step vs) (range_with_len 0 (length vs))
 chain_steps vs = steps_along vs (length vs) 0 (omega arith)
 
--- one more of what stands along a range
+-- one more item along a range
 pub range_next : {X : Type 0} (f : ℕ → X) (k : ℕ) (xs : List X) (x : X) → xs ≡ map f (range_with_len 0 k) → x ≡ f k → xs ++ x ∷ [] ≡ map f (range_with_len 0 (k + 1))
 range_next f k xs x e g =
     let at : 0 + k ≡ k = omega arith in

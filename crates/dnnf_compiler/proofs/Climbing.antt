@@ -19,7 +19,8 @@ use Rattle.branch_states.proofs.Lists.{is_among as is_listed}
 use Rattle.branch_states.proofs.Ordering.{clauses-valid}
 use Rattle.elimination_forests.specs.declared.forks.Forks.{Forks}
 use Rattle.elimination_forests.specs.declared.steps.Step.{Step}
-use Rattle.elimination_forests.specs.Forests.{Forest, none, tree, trees, variables, steps_of, Place, decided, part, part_of, root, words_at, weight_at, sum_on, number_in, begins, forks_at, forks_on, width}
+use Rattle.elimination_forests.specs.declared.steps.Weight.TheVariants.{Lists}
+use Rattle.elimination_forests.specs.Forests.{Forest, none, tree, trees, variables, steps_of, Place, decided, part, part_of, root, sum_on, number_in, begins, forks_at, forks_on, width}
 use Rattle.dnnf_compiler.specs.Along.{IsWay, IsCompiledAlong}
 use Rattle.dnnf_compiler.specs.declared.compiling.Compiled.{Compiled}
 use Rattle.dnnf_compiler.specs.declared.maker.Maker.{Maker}
@@ -85,12 +86,9 @@ its_steps spot = its_step spot ∷ steps_of spot.below
 abbrev its_forks : Spot → List Forks
 its_forks spot = forks_at spot.v spot.below spot.place ∷ forks_on spot.below (decided spot.v spot.place)
 
-abbrev its_weight : Spot → ℕ
-its_weight spot = weight_at (spot.v ∷ variables spot.below) spot.place
-
 abbrev pub all_sum : List Spot → ℕ
 all_sum [] = 0
-all_sum (spot ∷ spots) = (its_weight spot + sum_on spot.below (decided spot.v spot.place)) + all_sum spots
+all_sum (spot ∷ spots) = (length spot.place.lists + sum_on Lists spot.below (decided spot.v spot.place)) + all_sum spots
 
 steps_on : (forest : Forest) (base : Place) → flat_map its_steps (spots_on forest base) ≡ steps_of forest
 steps_on none base = refl
@@ -101,7 +99,7 @@ forks_along none base = refl
 forks_along (tree v below beside) base =
     ap (λ xs. forks_at v below (part (v ∷ variables below) base) ∷ (forks_on below (decided v (part (v ∷ variables below) base)) ++ xs)) (forks_along beside base)
 
-sum_along : (forest : Forest) (base : Place) → all_sum (spots_on forest base) ≡ sum_on forest base
+sum_along : (forest : Forest) (base : Place) → all_sum (spots_on forest base) ≡ sum_on Lists forest base
 sum_along none base = refl
 sum_along (tree v below beside) base = omega (arith, sum_along beside base)
 
@@ -117,7 +115,7 @@ all_sum-append : (xs ys : List Spot) → all_sum (xs ++ ys) ≡ all_sum xs + all
 all_sum-append [] ys = omega arith
 all_sum-append (x ∷ xs) ys = omega (arith, all_sum-append xs ys)
 
-sum_next : (s : Spot) (rest : List Spot) → its_weight s + all_sum (spots_below s ++ rest) ≡ all_sum (s ∷ rest)
+sum_next : (s : Spot) (rest : List Spot) → length s.place.lists + all_sum (spots_below s ++ rest) ≡ all_sum (s ∷ rest)
 sum_next s rest = omega (arith, all_sum-append (spots_below s) rest, sum_along s.below (decided s.v s.place))
 
 sum_advance : (spots : List Spot) → all_sum (advance spots) ≤ all_sum spots
@@ -210,17 +208,12 @@ pub record IsClimbing (cnf : ClauseList) (most : ℕ) (m : Maker) (stack : List 
   pub made : m.store.made ≤ 2 + 3 * all_sum spots
   pub handed : m.store.handed ≤ (4 + 2 * most) * all_sum spots
 
-lists_few : (vs : List ℕ) (p : Place) → length p.lists ≤ weight_at vs p
-lists_few vs p = omega (arith, times (length p.lists) (words_at vs p - 1)) where
-  times : (n m : ℕ) → n ≤ n * (m + 1)
-  times n m = omega arith
-
 -- the children of a place's nodes
-kids_few : (old new k most lists weight below all : ℕ) → new ≤ old + (4 + 2 * k) * lists → k ≤ most → lists ≤ weight → old ≤ (4 + 2 * most) * below → weight + below ≡ all → new ≤ (4 + 2 * most) * all
-kids_few old new k most lists weight below all h low few so_far e =
+kids_few : (old new k most lists below all : ℕ) → new ≤ old + (4 + 2 * k) * lists → k ≤ most → old ≤ (4 + 2 * most) * below → lists + below ≡ all → new ≤ (4 + 2 * most) * all
+kids_few old new k most lists below all h low so_far e =
     let bound : 4 + 2 * k ≤ 4 + 2 * most = omega arith in
-    let sum : (4 + 2 * most) * (weight + below) ≡ (4 + 2 * most) * weight + (4 + 2 * most) * below = omega arith in
-    omega (arith, mul-le (4 + 2 * k) lists (4 + 2 * most) weight bound few, sum, ap (λ n. (4 + 2 * most) * n) e)
+    let sum : (4 + 2 * most) * (lists + below) ≡ (4 + 2 * most) * lists + (4 + 2 * most) * below = omega arith in
+    omega (arith, mul-le (4 + 2 * k) lists (4 + 2 * most) lists bound (omega arith), sum, ap (λ n. (4 + 2 * most) * n) e)
 
 module _ (cnf : ClauseList) (steps : List Step) (forks : List Forks) (forest : Forest) (is : IsWay cnf steps forks forest) where
   pub forks_long : length forks ≡ length steps
@@ -242,7 +235,7 @@ module _ (cnf : ClauseList) (steps : List Step) (forks : List Forks) (forest : F
     handed = omega (arith, no_kid);
   })
 
-  bounded : sum_on forest (root cnf.clauses) ≤ BUDGET_LIMIT
+  bounded : sum_on Lists forest (root cnf.clauses) ≤ BUDGET_LIMIT
   bounded = is.few
 
   module _ (valid : is_clause_list cnf ≡ true) (i : ℕ) (m : Maker) (stack : List (Vec ℕ Global)) (next : IsNext (start cnf forest) i) (climbing : IsClimbing cnf (width forest) m stack (spots_at (start cnf forest) (suc i))) where
@@ -267,7 +260,7 @@ module _ (cnf : ClauseList) (steps : List Step) (forks : List Forks) (forest : F
           forks_are = cc;
           spot_is = its_spot;
           stacked = climbed.stacked;
-          few = omega (arith, climbed.made, sum_next next.spot next.rest, here, lists_few (next.spot.v ∷ variables next.spot.below) next.spot.place);
+          few = omega (arith, climbed.made, sum_next next.spot next.rest, here);
           narrow = omega (arith, here);
         }
 
@@ -277,9 +270,9 @@ module _ (cnf : ClauseList) (steps : List Step) (forks : List Forks) (forest : F
       maker = raised.adds.maker;
       vars = raised.adds.vars ∙ climbing.vars;
       stacked = subst (AreLevels new.store.nodes (next.spot ∷ next.rest)) (sym (reverse-append under (numbers ∷ []))) (raised.nodes, raised.stacked);
-      made = omega (arith, raised.adds.made, climbed.made, sum_next next.spot next.rest, lists_few (next.spot.v ∷ variables next.spot.below) next.spot.place);
-      handed = kids_few m.store.handed new.store.handed (trees next.spot.below) (width forest) (length next.spot.place.lists) (its_weight next.spot) (all_sum (spots_below next.spot ++ next.rest)) (all_sum (next.spot ∷ next.rest))
-          raised.adds.handed (omega (arith, trees_within next.spot.below, narrow)) (lists_few (next.spot.v ∷ variables next.spot.below) next.spot.place) climbed.handed (sum_next next.spot next.rest);
+      made = omega (arith, raised.adds.made, climbed.made, sum_next next.spot next.rest);
+      handed = kids_few m.store.handed new.store.handed (trees next.spot.below) (width forest) (length next.spot.place.lists) (all_sum (spots_below next.spot ++ next.rest)) (all_sum (next.spot ∷ next.rest))
+          raised.adds.handed (omega (arith, trees_within next.spot.below, narrow)) climbed.handed (sum_next next.spot next.rest);
     }) where
       narrow : width next.spot.below ≤ width forest
       narrow = (subst (AllByRecursion (λ (s : Spot). width s.below ≤ width forest)) next.are (narrow_at (width forest) (start cnf forest) i (narrow_on (width forest) forest (root cnf.clauses) (omega arith)))).0
@@ -359,7 +352,7 @@ module _ (cnf : ClauseList) (steps : List Step) (forks : List Forks) (forest : F
             few_made = omega (arith, made, meet.adds.made, climbing.made, sum_along forest (root cnf.clauses));
             few_alone = λ h. let alone = (meet.alone (omega (arith, h, kids_many))).made in omega (arith, made, alone, climbing.made, sum_along forest (root cnf.clauses));
             few_nodes = omega (arith, frozen.few, made, vars);
-            few_edges = omega (arith, frozen.few_edges, meet.adds.handed, kids_many, trees_within forest, last_kids m.store.handed (width forest) (sum_on forest (root cnf.clauses)) (subst (λ n. m.store.handed ≤ (4 + 2 * width forest) * n) (sum_along forest (root cnf.clauses)) climbing.handed));
+            few_edges = omega (arith, frozen.few_edges, meet.adds.handed, kids_many, trees_within forest, last_kids m.store.handed (width forest) (sum_on Lists forest (root cnf.clauses)) (subst (λ n. m.store.handed ≤ (4 + 2 * width forest) * n) (sum_along forest (root cnf.clauses)) climbing.handed));
           } where
             vars : new.store.vars ≡ cnf.vars
             vars = meet.adds.vars ∙ climbing.vars

@@ -44,7 +44,7 @@ all_same P f g xs h each = sym (list_all-map (λ b. b) f xs) ∙ ap (list_all (�
 pub any_same : (P : ℕ → Type 0) (f g : ℕ → Bool) (xs : List ℕ) → ((x : ℕ) → P x → f x ≡ g x) → AllByRecursion P xs → list_any f xs ≡ list_any g xs
 any_same P f g xs h each = sym (list_any-map (λ b. b) f xs) ∙ ap (list_any (λ b. b)) (map_same P f g xs h each) ∙ list_any-map (λ b. b) g xs
 
--- at most one, where the first is none, or no other is one
+-- at most one, if the first is none, or no other is one
 pub first_none : (b : Bool) (bs : List Bool) → b ≡ false → at_most_one bs ≡ true → at_most_one (b ∷ bs) ≡ true
 first_none b bs e h = ap (λ b. at_most_one (b ∷ bs)) e ∙ h
 
@@ -56,7 +56,7 @@ others_none false bs e = by bs e where
   by (true ∷ bs) e = absurd (cc)
   by (false ∷ bs) e = by bs e
 
--- ---- those that are everywhere true are left out
+-- ---- those that are always true are left out
 
 abbrev pub keeps_of : Maker → ℕ → Bool
 keeps_of m k = not (k == m.yes)
@@ -100,9 +100,6 @@ module _ (m : Maker) (is : IsMaker m) where
   few_kept kids = length-filter-le keeps kids
 
   -- ---- while kids are gone over
-
-  pub kept_first : (kids kept : List ℕ) → kept ≡ [] → kept ++ filter keeps (drop 0 kids) ≡ filter keeps kids
-  kept_first kids kept e = ap (λ ks. ks ++ filter keeps kids) e
 
   one_on : (kids kept : List ℕ) (i k : ℕ) → i < length kids → k ≡ get_or kids i 0 → kept ++ filter keeps (drop i kids) ≡ kept ++ cond (keeps k) (k ∷ filter keeps (drop (i + 1) kids)) (filter keeps (drop (i + 1) kids))
   one_on kids kept i k low at = ap (λ ks. kept ++ filter keeps ks) (drop_more kids i 0 low) ∙ ap (λ n. kept ++ filter keeps (n ∷ drop (i + 1) kids)) (sym at)

@@ -59,7 +59,7 @@ clauses-next bound v a (c ∷ clauses) (b ∷ list) free =
     let e = one_clause b (has_true v (a v) c) (rest_by bound a c) (rest_by (v ∷ bound) a c) (clause-next bound v a c free) in
     λ j. e j || clauses-next bound v a clauses list free j
 
--- What is left holds where it does by the variable's bit.
+-- What is left holds if it does by the variable's bit.
 pub expand_by : (v : ℕ) (place : Place) (a : Assignment) (list : List Bool) → is_among place.bound v ≡ false → left_by place a list ≡ left_by (decided v place) a (next_by v place list (a v))
 expand_by v place a list free = ap not (clauses-next place.bound v a place.clauses list free)
 
@@ -100,7 +100,7 @@ free_first : (vs : List ℕ) → list_all (λ u. not (is_among [] u)) vs ≡ tru
 free_first [] = refl
 free_first (v ∷ vs) = free_first vs
 
--- ---- what is left holds where it does on all trees of a base
+-- ---- what is left holds if it does on all trees of a base
 
 -- what the parts of a list say on all trees
 abbrev pub trees_hold : Forest → Place → Assignment → List Bool → Bool
@@ -318,9 +318,9 @@ root_base cnf forest e valid =
     (and_parts (is_once (variables forest) && list_all (fits cnf.vars) (variables forest)) (list_all (is_along forest []) cnf.clauses) e).0 in
     down_base cnf.vars forest (root cnf.clauses) own.0 (free_first (variables forest)) own.1 (root_down cnf forest e valid, tt)
 
--- ---- where a list stands
+-- ---- the number of a list
 
--- what is listed stands at its number
+-- a list is at its number
 pub number_at : (lists : List (List Bool)) (x : List Bool) → is_listed lists x ≡ true → slice_get lists (number_in lists x) ≡ Some x
 number_at lists x there =
     let at = position-Some (λ other. same_list other x) lists (number_in lists x) [] (found-at (λ other. same_list other x) lists there) in
@@ -333,7 +333,7 @@ map_listed f (k ∷ ls) l e = elim (or_cases (same_list k l) (is_listed ls l) e)
   | inr later ↦ or_right (same_list (f k) (f l)) (is_listed (map f ls) (f l)) (map_listed f ls l later)
 ]
 
--- the part of a list stands at a tree
+-- the part of a list is at a tree
 pub part_listed : (vs : List ℕ) (base : Place) (list : List Bool) → is_listed base.lists list ≡ true → is_listed (part vs base).lists (part_of vs base list) ≡ true
 part_listed vs base list there = among-different (map (part_of vs base) base.lists) (part_of vs base list) ∙ map_listed (part_of vs base) base.lists list there
 
@@ -362,7 +362,7 @@ module _ (v : ℕ) (place : Place) (list : List Bool) where
       list_any-append (λ other. same_list other (next_by v place list true)) (followed_by v place list false) (followed_by v place list true)
       ∙ or_right (is_listed (followed_by v place list false) (next_by v place list true)) (is_listed (followed_by v place list true) (next_by v place list true)) (followed_listed true alive)
 
-  -- what a bit leaves stands on the base after it
+  -- what a bit leaves is on the base after it
   pub next_listed : (bit : Bool) (j : ℕ) → slice_get place.lists j ≡ Some list → is_dead_by (v ∷ place.bound) place.clauses (next_by v place list bit) ≡ false
       → is_listed (decided v place).lists (next_by v place list bit) ≡ true
   next_listed bit j at alive = among-different (flat_map follow place.lists) (next_by v place list bit) ∙ given_listed follow place.lists list (next_by v place list bit) j at (both_listed bit alive)

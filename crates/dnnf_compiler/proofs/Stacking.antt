@@ -1,5 +1,5 @@
 -- The nodes of the lists at a place, from those of the places right below it.
-use Rattle.std.proofs.Common.{◌≡◌, ℕ, suc, ◌+◌, ◌-◌, ◌*◌, ◌<◌, ◌≤◌, Bool, true, false, ◌&&◌, ◌||◌, cond, List, [], ◌∷◌, ◌++◌, map, length, get_or, All, Some, None, Option, refl, ap, sym, ◌∙◌, subst, arith, inl, inr}
+use Rattle.std.proofs.Common.{◌≡◌, ℕ, suc, ◌+◌, ◌*◌, ◌<◌, ◌≤◌, Bool, true, false, ◌&&◌, ◌||◌, cond, List, [], ◌∷◌, ◌++◌, map, length, get_or, All, Some, None, Option, refl, ap, sym, ◌∙◌, subst, arith, inl, inr}
 use Rattle.std.specs.Prelude.{◌==◌, nat_lt, nat_le, slice_get, slice_index, option_map, reverse, IfSome, Vec}
 use Rattle.std.specs.declared.alloc.Global.{Global}
 use Rattle.std.specs.List.{list_any, list_all, AllByRecursion}
@@ -16,7 +16,8 @@ use Rattle.branch_states.specs.declared.measuring.TheConstants.{BUDGET_LIMIT}
 use Rattle.branch_states.proofs.Lists.{is_among as is_listed}
 use Rattle.elimination_forests.specs.declared.forks.Forks.{Forks}
 use Rattle.elimination_forests.specs.declared.steps.Step.{Step}
-use Rattle.elimination_forests.specs.Forests.{Forest, none, tree, trees, variables, is_among, is_once, fits, Place, is_dead_by, next_by, decided, part_of, part, words_at, sum_on, number_in, begins, way_by, forks_at}
+use Rattle.elimination_forests.specs.declared.steps.Weight.TheVariants.{Lists}
+use Rattle.elimination_forests.specs.Forests.{Forest, none, tree, trees, variables, is_among, is_once, fits, Place, is_dead_by, next_by, decided, part_of, part, sum_on, number_in, begins, way_by, forks_at}
 use Rattle.elimination_forests.proofs.Passing.{once_back, once_apart}
 use Rattle.dnnf_compiler.specs.declared.maker.Maker.{Maker}
 use Rattle.dnnf_compiler.specs.inner.Joining.{Grows}
@@ -119,19 +120,17 @@ begun nodes (tree v below beside) base (level ∷ levels) list once there are = 
         (list_any-map (λ b. b) (mentions nodes u) (taken levels (begins beside base list)) ∙ rest.silent u (once_apart (v ∷ variables below) (variables beside) u once e))
     by u false e = first_none (mentions nodes u n) (map (mentions nodes u) (taken levels (begins beside base list))) (node.silent u e) (rest.apart u)
 
--- ---- where a list is, there are no more trees than their sum
+-- ---- if a list is there, there are no more trees than lists
 
 some_different : (lists : List (List Bool)) (x : List Bool) → is_listed lists x ≡ true → 0 < length lists
 some_different [] x e = absurd (cc)
 some_different (y ∷ lists) x e = omega arith
 
-pub trees_few : (forest : Forest) (base : Place) (list : List Bool) → is_listed base.lists list ≡ true → trees forest ≤ sum_on forest base
+pub trees_few : (forest : Forest) (base : Place) (list : List Bool) → is_listed base.lists list ≡ true → trees forest ≤ sum_on Lists forest base
 trees_few none base list there = omega arith
 trees_few (tree v below beside) base list there =
     let some = some_different (part (v ∷ variables below) base).lists (part_of (v ∷ variables below) base list) (part_listed (v ∷ variables below) base list there) in
-    omega (arith, trees_few beside base list there, times (length (part (v ∷ variables below) base).lists) (words_at (v ∷ variables below) (part (v ∷ variables below) base) - 1) some) where
-      times : (n m : ℕ) → 0 < n → 1 ≤ n * (m + 1)
-      times n m h = omega arith
+    omega (arith, trees_few beside base list there, some)
 
 -- ---- the ways of a list
 
@@ -142,7 +141,7 @@ each_listed P (y ∷ lists) x each e = elim (or_cases (same_list y x) (is_listed
   | inr later ↦ each_listed P lists x each.1 later
 ]
 
-module _ (vars : ℕ) (spot : Spot) (nodes : List Node) (levels : List (Vec ℕ Global)) (is : IsSpot vars spot) (are : AreLevels nodes (spots_below spot) levels) (narrow : sum_on spot.below (decided spot.v spot.place) ≤ BUDGET_LIMIT) where
+module _ (vars : ℕ) (spot : Spot) (nodes : List Node) (levels : List (Vec ℕ Global)) (is : IsSpot vars spot) (are : AreLevels nodes (spots_below spot) levels) (narrow : sum_on Lists spot.below (decided spot.v spot.place) ≤ BUDGET_LIMIT) where
   abbrev base : Place
   base = decided spot.v spot.place
 

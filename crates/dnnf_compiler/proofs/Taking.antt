@@ -12,9 +12,9 @@ use Rattle.state_rules.proofs.Lists.{list_any-map}
 use Rattle.branch_states.specs.declared.measuring.TheConstants.{BUDGET_LIMIT}
 use Rattle.dnnf_compiler.specs.declared.maker.Maker.{Maker}
 use Rattle.dnnf_compiler.specs.inner.Joining.{Grows}
-use Rattle.dnnf_compiler.specs.inner.Making.{IsMaker, Adds, IsJoin}
+use Rattle.dnnf_compiler.specs.inner.Making.{Adds, IsJoin}
 use Rattle.dnnf_compiler.specs.inner.Meeting.{AreApart, IsMeet, taken, AreHeld, IsUsable, way_true, way_mentions, bit_way, IsChoice, IsTaken, IsChosen}
-use Rattle.dnnf_compiler.proofs.Making.{adds_not, adds_then, may_grow, mention_grows, get-push, eqb-same}
+use Rattle.dnnf_compiler.proofs.Making.{adds_then, may_grow, mention_grows, get-push, eqb-same}
 use Rattle.dnnf_compiler.proofs.Meeting.{each_more, map_same, all_same, any_same, first_none, others_none}
 
 -- ---- the nodes to which numbers lead
@@ -62,13 +62,6 @@ names_grow old new var below None v g h = refl
 names_grow old new var below (Some numbers) v g h = mentions_grow old new g (taken below numbers) h.within v
 
 -- ---- one bit
-
-never : (b : Bool) → false ≡ (b && false)
-never true = refl
-never false = refl
-
-pub take_none : (m : Maker) (var : ℕ) (bit : Bool) (below : List (Vec ℕ Global)) → IsMaker m → IsTaken m m var bit below None None
-take_none m var bit below is = record { adds = adds_not m 1 (1 + length below) is; within = tt; names = tt; truth = λ a. never (same_bit bit (a var)); silent = λ v other h. refl }
 
 module _ (m : Maker) (var : ℕ) (bit : Bool) (below : List (Vec ℕ Global)) (numbers : List ℕ) (literal : ℕ) (is : IsUsable m.store.nodes var below numbers)
     (literal_in : literal < length m.store.nodes) (truth : (a : Assignment) → is_true m.store.nodes literal a ≡ same_bit bit (a var)) (variables : (v : ℕ) → mentions m.store.nodes v literal ≡ (var == v)) where

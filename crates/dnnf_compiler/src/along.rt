@@ -12,10 +12,9 @@ use elimination_forests::{Forks, Step};
 use node_store::Store;
 use std::alloc::{AllocError, Global};
 
-/// The decomposable graph that is true exactly where all clauses are, from the steps of a forest of their variables and the forks
-/// along it.
+/// The decomposable graph that is true exactly if all clauses are, from the steps of a forest of them and the forks along it.
 ///
-/// The sum along the forest is at most `BUDGET_LIMIT`. It bounds how often a node is made, and so the size of the graph.
+/// The lists along the forest are at most `BUDGET_LIMIT`. They bound how often a node is made, and so the size of the graph.
 pub fn compile_along(
     alloc: Global,
     cnf: &Cnf,
@@ -54,7 +53,7 @@ fn graph_of(store: Store, root: u32) -> Result<Compiled, AllocError>
     }
 }
 
-// The nodes of one place of the forest. Those of the places right below it are taken from the stack.
+// Makes the nodes of one place of the forest. It takes those of the places right below from the stack.
 fn make_step(
     alloc: Global,
     maker: &mut Maker,
@@ -72,7 +71,7 @@ fn make_step(
     Ok(nodes)
 }
 
-// So many of a stack, of which the last one comes first.
+// Takes so many from the end of a stack. The last one comes first.
 fn take_top(
     alloc: Global,
     stack: &mut Vec<Vec<u32>>,
@@ -89,7 +88,7 @@ fn take_top(
     Ok(top)
 }
 
-// How many lists there are at all places.
+// How many lists all places have.
 fn count_lists(forks: &[Forks]) -> usize
     ensures { result ≡ min (sum_by (λ fork. length fork.zero.ways) forks.now) usize.MAX }
 {

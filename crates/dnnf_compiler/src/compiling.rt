@@ -41,7 +41,7 @@ pub fn compile(alloc: Global, cnf: &Cnf) -> Result<Compiled, AllocError>
 /// Each level's states are found once, and counted as they are. It stops as soon as the sum is above the limit.
 pub fn compile_within(alloc: Global, cnf: &Cnf, top: u32) -> Result<Compiled, MeasureError>
     requires { top ≤ BUDGET_LIMIT }
-    // Where the sum is above the limit the answer is an error, and the error says so only there.
+    // If the sum is above the limit, the answer is an error, and the error says so only then.
     ensures within { IfOk result (λ _. sum_of cnf.now.clauses ≤ top) }
     ensures above { result ≡ Err Above → top < sum_of cnf.now.clauses }
     ensures compiled { IfOk result (IsCompiled cnf.now) }

@@ -11,7 +11,7 @@ use branch_states::{Branches, Descent, Fork, MeasureError};
 use elimination_forests::{Forks, Step, Ways};
 use std::alloc::{AllocError, Global};
 
-/// The forks of all levels but the last one, along the chain of the order, if the sum of the clause list is within the limit.
+/// The forks of all levels except the last, along the chain of the order, if the sum of the clause list is within the limit.
 pub(crate) fn find_forks(
     alloc: Global,
     descent: &mut Descent<'_>,
@@ -75,7 +75,7 @@ fn add_way(ways: &mut Ways, place: Option<u32>, trees: u32) -> Result<(), AllocE
     }
 }
 
-/// The steps of the variables in their order, as a forest of one way down.
+/// The steps of the chain of the order.
 pub(crate) fn steps_down(alloc: Global, mut branches: Branches<'_>) -> Result<Vec<Step>, AllocError>
     ensures steps { IfOk result (λ steps. steps.items ≡ steps_of (chain (order branches.entry.cnf.clauses))) }
     ensures valid { IfOk result (λ _. is_clause_list branches.entry.cnf ≡ true) }

@@ -13,7 +13,7 @@ use std::alloc::{AllocError, Global};
 /// Children: mostly two.
 pub(crate) type Kids = SmallVec<u32, 2>;
 
-/// Makes nodes. One is always true, and one never.
+/// Makes nodes. `yes` is always true, and `no` never.
 #[derive(Drop)]
 pub(crate) struct Maker {
     pub(crate) store: Store,
@@ -22,7 +22,7 @@ pub(crate) struct Maker {
 }
 
 impl Maker {
-    /// Over so many variables, with room for so many nodes.
+    /// A maker over so many variables, with room for so many nodes.
     pub(crate) fn new(alloc: Global, vars: u32, room: usize) -> Result<Maker, AllocError>
         requires { vars < VARIABLE_LIMIT }
         ensures maker { IfOk result IsMaker }
@@ -36,7 +36,7 @@ impl Maker {
         Ok(Maker { store, yes, no })
     }
 
-    /// For each list a node that is true if the bit of a variable leads to nodes below that all are.
+    /// Makes a node for each list of a place. It is true if the variable's bit leads to nodes below that are all true.
     pub(crate) fn make_place(
         &mut self,
         alloc: Global,
@@ -60,7 +60,7 @@ impl Maker {
         Ok(nodes)
     }
 
-    // The node that is true where the bit of a variable leads to nodes that all are.
+    // Makes the node that is true if the variable's bit leads to nodes that are all true.
     fn choose(
         &mut self,
         alloc: Global,
@@ -82,8 +82,8 @@ impl Maker {
         Ok(node)
     }
 
-    // The node that is true where the variable has the bit, and all nodes are to which the way leads. For what is nowhere true
-    // there is none.
+    // Makes the node that is true if the variable has the bit, and all nodes to which the way leads are true. There is none for
+    // what is never true.
     fn take(
         &mut self,
         alloc: Global,
@@ -110,8 +110,8 @@ impl Maker {
         Ok(Some(node))
     }
 
-    /// The node that is true where all of these are. Those that are everywhere true are left out, and where one is nowhere true, or
-    /// one alone is left, none is made.
+    /// The node that is true if all of these are. It leaves out those that are always true, and makes none if one is never true, or
+    /// if one alone is left.
     pub(crate) fn meet(&mut self, alloc: Global, kids: &[u32]) -> Result<u32, AllocError>
         requires maker { IsMaker self.old }
         requires within { All (λ k. k < length self.old.store.nodes) kids.now }
@@ -141,7 +141,7 @@ impl Maker {
         }
     }
 
-    // The node that is true where one of two is.
+    // The node that is true if one of two is.
     fn join(&mut self, zero: Option<u32>, one: Option<u32>) -> Result<u32, AllocError>
         requires maker { IsMaker self.old }
         requires zero { IfSome zero (λ node. node < length self.old.store.nodes) }
@@ -163,7 +163,7 @@ impl Maker {
     }
 }
 
-/// After other children the nodes to which numbers lead, one of each level.
+/// Adds to children the nodes to which numbers lead, one of each level.
 pub(crate) fn taken(kids: Kids, numbers: &[u32], levels: &[Vec<u32>]) -> Result<Kids, AllocError>
     requires { AreHeld levels.now numbers.now }
     ensures { IfOk result (λ all. all.items ≡ kids.items ++ taken levels.now numbers.now) }

@@ -1,4 +1,4 @@
--- The forks of a level as they stand along the chain of an order.
+-- The forks of a level along the chain of an order.
 use Rattle.std.specs.Prelude.{ℕ, List, map, option_map, replicate}
 use Rattle.branch_states.specs.declared.forks.Fork.{Fork}
 use Rattle.elimination_forests.specs.declared.forks.Forks.{Forks}

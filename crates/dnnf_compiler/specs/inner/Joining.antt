@@ -10,12 +10,12 @@ pub record Grows (old new : List Node) : Type 0 where
   pub truth : (k : ℕ) (a : Assignment) → k < length old → is_true new k a ≡ is_true old k a
   pub variables : (k v : ℕ) → k < length old → mentions new v k ≡ mentions old v k
 
--- a node that is everywhere true, or everywhere false, and mentions nothing
+-- a node that is always true, or always false, and mentions nothing
 pub record IsConstant (nodes : List Node) (value : Bool) (node : ℕ) : Type 0 where
   pub within : node < length nodes
   pub truth : (a : Assignment) → is_true nodes node a ≡ value
   pub variables : (v : ℕ) → mentions nodes v node ≡ false
 
--- what stands at a place is no constant
+-- the node at a place is no constant
 abbrev pub IsPlain : List Node → ℕ → Type 0
 IsPlain nodes k = (node : Node) → slice_get nodes k ≡ Some node → is_bare node.what node.kids ≡ false

@@ -28,7 +28,7 @@ pub record Adds (old new : Maker) (more kids : ℕ) : Type 0 where
   pub made : new.store.made ≤ old.store.made + more
   pub handed : new.store.handed ≤ old.store.handed + kids
 
--- the node if there is one, and else what is nowhere true and mentions nothing
+-- the node if there is one, and else what is never true and mentions nothing
 abbrev pub may_be_true : List Node → Assignment → Option ℕ → Bool
 may_be_true nodes a None = false
 may_be_true nodes a (Some node) = is_true nodes node a

@@ -14,7 +14,7 @@ use Rattle.dnnf_compiler.specs.inner.Making.{Adds, may_be_true, may_mention}
 abbrev pub AreApart : List Node → List ℕ → Type 0
 AreApart nodes kids = (v : ℕ) → at_most_one (map (mentions nodes v) kids) ≡ true
 
--- The node is true where all of these are, and mentions no more than they do. It is the one that is nowhere true, or mentions all.
+-- The node is true if all of these are, and mentions no more than they do. It is the one that is never true, or mentions all.
 pub record IsMeet (old new : Maker) (kids : List ℕ) (node : ℕ) : Type 0 where
   pub adds : Adds old new 1 (length kids)
   pub within : node < length new.store.nodes
@@ -61,7 +61,7 @@ abbrev pub bit_way : Option (List ℕ) → Option (List ℕ) → Bool → Option
 bit_way zero one false = zero
 bit_way zero one true = one
 
--- The node is true where the variable's bit leads to nodes that all are.
+-- The node is true if the variable's bit leads to nodes that all are.
 pub record IsChoice (old new : List Node) (var : ℕ) (below : List (Vec ℕ Global)) (zero one : Option (List ℕ)) (node : ℕ) : Type 0 where
   pub within : node < length new
   pub truth : (a : Assignment) → is_true new node a ≡ way_true old a below (bit_way zero one (a var))

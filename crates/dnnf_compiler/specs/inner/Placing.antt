@@ -11,6 +11,7 @@ use Rattle.branch_states.specs.Branches.{some_passes}
 use Rattle.branch_states.specs.declared.measuring.TheConstants.{BUDGET_LIMIT}
 use Rattle.elimination_forests.specs.declared.forks.Forks.{Forks}
 use Rattle.elimination_forests.specs.declared.steps.Step.{Step}
+use Rattle.elimination_forests.specs.declared.steps.Weight.TheVariants.{Lists}
 use Rattle.elimination_forests.specs.Forests.{Forest, none, tree, trees, variables, is_among, is_once, fits, is_along, Place, decided, part, sum_on, forks_at}
 use Rattle.dnnf_compiler.specs.declared.maker.Maker.{Maker}
 use Rattle.dnnf_compiler.specs.inner.Making.{IsMaker, Adds}
@@ -41,7 +42,7 @@ spots_on (tree v below beside) base = record { v = v; below = below; place = par
 abbrev pub spots_below : Spot → List Spot
 spots_below spot = spots_on spot.below (decided spot.v spot.place)
 
--- Its variables stand once and have no bits, and each clause of its lists goes down along them.
+-- Each of its variables is there once and has no bit, and each clause of its lists goes down along them.
 pub record IsSpot (vars : ℕ) (spot : Spot) : Type 0 where
   pub once : is_once (spot.v ∷ variables spot.below) ≡ true
   pub free : list_all (λ u. not (is_among spot.place.bound u)) (spot.v ∷ variables spot.below) ≡ true
@@ -50,7 +51,7 @@ pub record IsSpot (vars : ℕ) (spot : Spot) : Type 0 where
 
 -- ---- nodes
 
--- A node is true where the clauses of a list hold that are left, and mentions only variables of the tree.
+-- A node is true if the clauses hold that a list leaves, and mentions only variables of the tree.
 pub record IsNodeAt (spot : Spot) (list : List Bool) (nodes : List Node) (node : ℕ) : Type 0 where
   pub within : node < length nodes
   pub truth : (a : Assignment) → is_true nodes node a ≡ left_by spot.place a list
@@ -76,7 +77,7 @@ pub record IsReady (m : Maker) (step : Step) (forks : Forks) (stack : List (Vec 
   pub spot_is : IsSpot m.store.vars spot
   pub stacked : AreLevels m.store.nodes (spots_below spot ++ rest) (reverse stack)
   pub few : m.store.made + 3 * length spot.place.lists ≤ MADE_LIMIT
-  pub narrow : sum_on spot.below (decided spot.v spot.place) ≤ BUDGET_LIMIT
+  pub narrow : sum_on Lists spot.below (decided spot.v spot.place) ≤ BUDGET_LIMIT
 
 -- Its own nodes are made of them.
 pub record IsRaised (old new : Maker) (stack : List (Vec ℕ Global)) (numbers : List ℕ) (spot : Spot) (rest : List Spot) : Type 0 where

@@ -56,7 +56,7 @@ pub found_or_refused : (device : Device) (list : ClauseList) → IsListOf device
     → Fulfils (λ (_ : Graph). record { list = list; sum = sum }) told_by (within budget (Ok (record { list = list; sum = sum }))) result → IfOk result (λ (_ : Graph). sum ≤ budget)
     → IfOk result (IsGraphBy (record { list = list; sum = sum })) → FindsGraph device (within budget (Ok (record { list = list; sum = sum }))) result
 found_or_refused device list of valid budget sum small (Ok graph) is few by =
-    (servable device list of.encoded graph sum valid of.describes (omega (arith, few, small)) by, (record { list = list; sum = sum }, (is, by)))
+    (servable device list of.encoded graph sum valid of.describes (omega (arith, few, small)) by, (record { list = list; sum = sum }, is, by))
 found_or_refused device list of valid budget sum small (Err refusal) is few by = is
 
 -- ---- the same answers

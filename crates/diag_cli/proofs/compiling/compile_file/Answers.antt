@@ -12,8 +12,8 @@ returns-in-Ok-write_nnf-clause-said g c =
     let wrote = c.write_nnf.ensures in
     let put : Result (Unit {0}) (Unit {0}) = Ok tt in
     by_same found (λ choose graph.
-    graph_gives c.args.path.now c.args.file.now c.args.budget (clauses_by c.args.is_narrow choose) _ _ _ _ _ _ put _ c.vars.ensures.vars c.in-Ok.ensures graph.1.1.0
-    graph.0 graph.1.1.1.vars graph.1.1.1.few_nodes wrote.neat wrote.read c.in-Ok-write_nnf.ensures.bytes refl)
+    graph_gives c.args.path.now c.args.file.now c.args.budget (clauses_by c.args.is_narrow choose) _ _ _ _ _ _ put _ c.vars.ensures.vars c.in-Ok.ensures graph.1.1
+    graph.0 graph.1.2.vars graph.1.2.few_nodes wrote.neat wrote.read c.in-Ok-write_nnf.ensures.bytes refl)
 
 pub returns-clause-said : goal.returns-clause-said
 returns-clause-said g c =
@@ -21,8 +21,8 @@ returns-clause-said g c =
     let wrote = c.write_nnf.ensures in
     let put : Result (Unit {0}) (Unit {0}) = Err tt in
     by_same found (λ choose graph.
-    graph_gives c.args.path.now c.args.file.now c.args.budget (clauses_by c.args.is_narrow choose) _ _ _ _ _ _ put _ c.vars.ensures.vars c.in-Ok.ensures graph.1.1.0
-    graph.0 graph.1.1.1.vars graph.1.1.1.few_nodes wrote.neat wrote.read c.in-Err-write_nnf.ensures.bytes refl)
+    graph_gives c.args.path.now c.args.file.now c.args.budget (clauses_by c.args.is_narrow choose) _ _ _ _ _ _ put _ c.vars.ensures.vars c.in-Ok.ensures graph.1.1
+    graph.0 graph.1.2.vars graph.1.2.few_nodes wrote.neat wrote.read c.in-Err-write_nnf.ensures.bytes refl)
 
 pub returns-in-Err-graph_within-clause-said : goal.returns-in-Err-graph_within-clause-said
 returns-in-Err-graph_within-clause-said g c =

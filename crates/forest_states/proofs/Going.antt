@@ -181,7 +181,7 @@ module _ (weight : Weight) (all : List Step) (clauses : List Clause) (of : List 
   pub way-most : Way weight all clauses forest i seen found sum (s ∷ stands) → sum + weight_of weight s ≤ forest_sum weight forest clauses
   way-most way = let next = way-more way in omega (arith, next.total)
 
--- ---- a tree that stands on nothing
+-- ---- a tree on the base of all
 
 none-open : (vs : List ℕ) (c : Clause) → is_open vs [] c ≡ false
 none-open vs c = ap (λ m. m && meets vs c) (any-never c)

@@ -25,13 +25,6 @@ among-given f (k ∷ ls) l x there given = list_any-append (λ o. same_list o x)
   by true t h rest = or_left (is_among (f k) x) (is_among (flat_map f ls) x) (ap (λ m. is_among (f m) x) (pointwise-equal k l t) ∙ given)
   by false t h rest = or_right (is_among (f k) x) (is_among (flat_map f ls) x) (rest h given)
 
-pub among-mapped : (m : List Bool → List Bool) (ls : List (List Bool)) (l : List Bool) → is_among ls l ≡ true → is_among (map m ls) (m l) ≡ true
-among-mapped m [] l there = absurd (false≢true there)
-among-mapped m (k ∷ ls) l there = by (same_list k l) refl there (among-mapped m ls l) where
-  by : (t : Bool) → same_list k l ≡ t → (t || is_among ls l) ≡ true → (is_among ls l ≡ true → is_among (map m ls) (m l) ≡ true) → (same_list (m k) (m l) || is_among (map m ls) (m l)) ≡ true
-  by true t h rest = or_left (same_list (m k) (m l)) (is_among (map m ls) (m l)) (ap (λ n. same_list (m n) (m l)) (pointwise-equal k l t) ∙ pointwise-refl (m l))
-  by false t h rest = or_right (same_list (m k) (m l)) (is_among (map m ls) (m l)) (rest h)
-
 pub mapped-agree : {X Y : Type 0} (P : X → Type 0) (f g : X → Y) → ((x : X) → P x → f x ≡ g x) → (xs : List X) → AllByRecursion P xs → map f xs ≡ map g xs
 mapped-agree P f g same [] all = refl
 mapped-agree P f g same (x ∷ xs) all = λ i. same x all.0 i ∷ mapped-agree P f g same xs all.1 i

@@ -256,14 +256,6 @@ sides-are below rest m once = by (trees below == 1) refl where
       (λ u low there h. ap (λ ns. get_or ns u 0) (beside-numbered (trees below) 0 below rest m (omega arith)) ∙ sided-read below 0 m u low once ∙ ap (λ b. if b then 0 + tree_of below u else get_or m u 0) h)
       (λ u low there h. absurd (false≢true (sym h ∙ there)))
 
-pub length-numbered : (k begun left : ℕ) (steps : List Step) (m : List ℕ) → length (numbered k begun left steps m) ≡ length m
-length-numbered k begun left [] m = refl
-length-numbered k begun left (s ∷ steps) m = by (left == 0) (length-numbered k (begun_at k begun left) (left - 1 + s.trees) steps (set m s.var (begun_at k begun left - 1)) ∙ length-set m s.var (begun_at k begun left - 1)) where
-  by : (b : Bool) → length (numbered k (begun_at k begun left) (left - 1 + s.trees) steps (set m s.var (begun_at k begun left - 1))) ≡ length m
-      → length (if b then m else numbered k (begun_at k begun left) (left - 1 + s.trees) steps (set m s.var (begun_at k begun left - 1))) ≡ length m
-  by true rest = refl
-  by false rest = rest
-
 -- ---- the steps one after the other
 
 pub numbered-none : (k begun : ℕ) (steps : List Step) (m : List ℕ) → numbered k begun 0 steps m ≡ m

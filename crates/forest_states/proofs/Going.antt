@@ -181,7 +181,7 @@ module _ (weight : Weight) (all : List Step) (clauses : List Clause) (of : List 
   pub way-most : Way weight all clauses forest i seen found sum (s ∷ stands) → sum + weight_of weight s ≤ forest_sum weight forest clauses
   way-most way = let next = way-more way in omega (arith, next.total)
 
--- ---- a tree that stands on nothing
+-- ---- a tree on the base of all
 
 none-open : (vs : List ℕ) (c : Clause) → is_open vs [] c ≡ false
 none-open vs c = ap (λ m. m && meets vs c) (any-never c)
@@ -218,27 +218,6 @@ pub way-ready : (weight : Weight) (all : List Step) (clauses : List Clause) (for
 way-ready weight all clauses forest i seen found sum [] low way = way-begin weight all clauses forest i seen found sum low way
 way-ready weight all clauses forest i seen found sum (s ∷ stands) low way = way
 
-module _ (weight : Weight) (all : List Step) (clauses : List Clause) (of : List (List ℕ)) (seen : List Bool) (known : IsIndex clauses of (length seen)) (numbers : List ℕ) (size : length numbers ≡ length seen)
-    (forest : Forest) (i : ℕ) (d : Step) (found : List Forks) (sum : ℕ) (s : Stand) (stands before : List Stand) (low : i < length all)
-    (way : Way weight all clauses forest i seen found sum before) (ready : s ∷ stands ≡ or_first before) where
-  now : Way weight all clauses forest i seen found sum (s ∷ stands)
-  now = subst (λ ss. Way weight all clauses forest i seen found sum ss) (sym ready) (way-ready weight all clauses forest i seen found sum before low way)
-
-  abbrev taken : Step
-  taken = get_or all i d
-
-  abbrev rest : List Step
-  rest = drop (i + 1) all
-
-  way-above : sum + weight_of weight s ≤ forest_sum weight forest clauses
-  way-above = way-most weight all clauses of seen known numbers size forest i d found sum s stands now
-
-  way-stepped : (after : List Stand) (seen_more : List Bool) (found_more : List Forks) (sum_more : ℕ)
-      → seen_more ≡ set seen (get_or all i d).var true → found_more ≡ found ++ forks_below clauses of seen numbers (get_or all i d) (drop (i + 1) all) s ∷ [] → sum_more ≡ sum + weight_of weight s
-      → after ≡ stands_below clauses of seen numbers (get_or all i d) (drop (i + 1) all) s ++ stands → Way weight all clauses forest (i + 1) seen_more found_more sum_more after
-  way-stepped after seen_more found_more sum_more n f m a =
-      transport (λ j. Way weight all clauses forest (i + 1) (sym n j) (sym f j) (sym m j) (sym a j)) (way-more weight all clauses of seen known numbers size forest i d found sum s stands now)
-
 -- what is next
 next-is : (before : List Stand) → (s : Stand) × (stands : List Stand) × (s ∷ stands ≡ or_first before)
 next-is [] = (first_stand, [], refl)
@@ -246,6 +225,12 @@ next-is (s ∷ stands) = (s, stands, refl)
 
 module _ (weight : Weight) (all : List Step) (clauses : List Clause) (of : List (List ℕ)) (seen : List Bool) (known : IsIndex clauses of (length seen)) (numbers : List ℕ) (size : length numbers ≡ length seen)
     (forest : Forest) (i : ℕ) (found : List Forks) (sum : ℕ) (before : List Stand) (low : i < length all) (way : Way weight all clauses forest i seen found sum before) where
+  abbrev none_step : Step
+  none_step = record { var = 0; trees = 0 }
+
+  now : Way weight all clauses forest i seen found sum ((next-is before).0 ∷ (next-is before).1)
+  now = subst (λ ss. Way weight all clauses forest i seen found sum ss) (sym (next-is before).2) (way-ready weight all clauses forest i seen found sum before low way)
+
   pub way-next : (seen_more : List Bool) (f : Forks) (sum_more : ℕ) (after : List Stand) → seen_more ≡ set seen (step_at all i).var true
       → ((s : Stand) (stands : List Stand) → s ∷ stands ≡ or_first before → f ≡ forks_below clauses of seen numbers (step_at all i) (drop (i + 1) all) s)
       → ((s : Stand) (stands : List Stand) → s ∷ stands ≡ or_first before → sum_more ≡ sum + weight_of weight s)
@@ -253,13 +238,13 @@ module _ (weight : Weight) (all : List Step) (clauses : List Clause) (of : List 
       → Way weight all clauses forest (i + 1) seen_more (found ++ f ∷ []) sum_more after
   way-next seen_more f sum_more after n g m a =
       let p = next-is before in
-      way-stepped weight all clauses of seen known numbers size forest i (record { var = 0; trees = 0 }) found sum p.0 p.1 before low way p.2 after seen_more (found ++ f ∷ []) sum_more
-      n (ap (λ x. found ++ x ∷ []) (g p.0 p.1 p.2)) (m p.0 p.1 p.2) (a p.0 p.1 p.2)
+      transport (λ j. Way weight all clauses forest (i + 1) (sym n j) (found ++ sym (g p.0 p.1 p.2) j ∷ []) (sym (m p.0 p.1 p.2) j) (sym (a p.0 p.1 p.2) j))
+      (way-more weight all clauses of seen known numbers size forest i none_step found sum p.0 p.1 now)
 
   pub way-past : (top : ℕ) → ((s : Stand) (stands : List Stand) → s ∷ stands ≡ or_first before → top < sum + weight_of weight s) → top < forest_sum weight forest clauses
   way-past top h =
       let p = next-is before in
-      omega (arith, h p.0 p.1 p.2, way-above weight all clauses of seen known numbers size forest i (record { var = 0; trees = 0 }) found sum p.0 p.1 before low way p.2)
+      omega (arith, h p.0 p.1 p.2, way-most weight all clauses of seen known numbers size forest i none_step found sum p.0 p.1 now)
 
 -- ---- the end
 

@@ -55,7 +55,7 @@ ended-unless false false false rest = refl
 passed-unless : (x y dead : Bool) (more rest : List Bool) → x ≡ false → y ≡ false → unless dead rest ≡ unless (x || dead) (if y then more else rest)
 passed-unless x y dead more rest l o = λ j. unless (sym l j || dead) (if sym o j then more else rest)
 
-twice : (x : Bool) → not (not x) ≡ x
+pub twice : (x : Bool) → not (not x) ≡ x
 twice true = refl
 twice false = refl
 

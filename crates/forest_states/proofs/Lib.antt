@@ -9,4 +9,5 @@ pub mod Sets
 pub mod Standing
 pub mod Turned
 pub mod Walks
+pub mod Whole
 pub mod Words

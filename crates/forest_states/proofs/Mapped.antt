@@ -1,4 +1,4 @@
--- Lists and what stands for them, where different known lists have different ones.
+-- Lists and their states, if different known lists have different ones.
 use Rattle.std.proofs.Common.{◌≡◌, ◌+◌, Bool, true, false, not, ◌||◌, cond, List, [], ◌∷◌, map, refl, ap, sym, ◌∙◌, inl, inr}
 use Rattle.std.specs.List.{filter, flat_map, position_or_len, AllByRecursion}
 use Rattle.std.proofs.lemmas.Bool.{false≢true, cases_Bool, or_left, or_right, false_from_ne_true}
@@ -25,13 +25,6 @@ among-given f (k ∷ ls) l x there given = list_any-append (λ o. same_list o x)
   by true t h rest = or_left (is_among (f k) x) (is_among (flat_map f ls) x) (ap (λ m. is_among (f m) x) (pointwise-equal k l t) ∙ given)
   by false t h rest = or_right (is_among (f k) x) (is_among (flat_map f ls) x) (rest h given)
 
-pub among-mapped : (m : List Bool → List Bool) (ls : List (List Bool)) (l : List Bool) → is_among ls l ≡ true → is_among (map m ls) (m l) ≡ true
-among-mapped m [] l there = absurd (false≢true there)
-among-mapped m (k ∷ ls) l there = by (same_list k l) refl there (among-mapped m ls l) where
-  by : (t : Bool) → same_list k l ≡ t → (t || is_among ls l) ≡ true → (is_among ls l ≡ true → is_among (map m ls) (m l) ≡ true) → (same_list (m k) (m l) || is_among (map m ls) (m l)) ≡ true
-  by true t h rest = or_left (same_list (m k) (m l)) (is_among (map m ls) (m l)) (ap (λ n. same_list (m n) (m l)) (pointwise-equal k l t) ∙ pointwise-refl (m l))
-  by false t h rest = or_right (same_list (m k) (m l)) (is_among (map m ls) (m l)) (rest h)
-
 pub mapped-agree : {X Y : Type 0} (P : X → Type 0) (f g : X → Y) → ((x : X) → P x → f x ≡ g x) → (xs : List X) → AllByRecursion P xs → map f xs ≡ map g xs
 mapped-agree P f g same [] all = refl
 mapped-agree P f g same (x ∷ xs) all = λ i. same x all.0 i ∷ mapped-agree P f g same xs all.1 i
@@ -40,7 +33,7 @@ pub mapped-twice : {X Y Z : Type 0} (f : Y → Z) (g : X → Y) (xs : List X) �
 mapped-twice f g [] = refl
 mapped-twice f g (x ∷ xs) = ap (λ ys. f (g x) ∷ ys) (mapped-twice f g xs)
 
--- ---- what stands for known lists
+-- ---- the states of known lists
 
 module _ (P : List Bool → Type 0) (e : List Bool → List Bool) (same : (x y : List Bool) → P x → P y → e x ≡ e y → x ≡ y) where
   test-same : (x y : List Bool) → P x → P y → same_list (e x) (e y) ≡ same_list x y
@@ -63,7 +56,7 @@ module _ (P : List Bool → Type 0) (e : List Bool → List Bool) (same : (x y :
   different-mapped (l ∷ ls) all = ap (λ ss. e l ∷ filter (λ s. not (same_list (e l) s)) ss) (different-mapped ls all.1)
       ∙ ap (λ ss. e l ∷ ss) (sym (filter-kept l all.0 (different ls) (each-different P ls all.1)))
 
-  -- and where one stands
+  -- and the place of one
   pub place-mapped : (x : List Bool) → P x → (ls : List (List Bool)) → AllByRecursion P ls → position_or_len (is_same (e x)) (map e ls) ≡ position_or_len (λ o. same_list o x) ls
   place-mapped x p [] all = refl
   place-mapped x p (l ∷ ls) all = λ j. cond (not (test-same l x all.0 p j)) (1 + place-mapped x p ls all.1 j) 0

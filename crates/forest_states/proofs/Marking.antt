@@ -1,4 +1,4 @@
--- Which variables are marked, and in which trees the others stand.
+-- Which variables are marked, and in which trees the others are.
 use Rattle.std.proofs.Common.{◌≡◌, ℕ, zero, suc, ◌+◌, ◌-◌, ◌<◌, ◌≤◌, Bool, true, false, not, ◌&&◌, ◌||◌, List, [], ◌∷◌, ◌++◌, length, drop, set, replicate, get_or, get_or-set_same, get_or-set_other, refl, ap, sym, ◌∙◌, arith}
 use Rattle.std.specs.Prelude.{◌==◌, nat_lt, if◌then◌else◌}
 use Rattle.std.specs.List.{list_any, list_all}
@@ -52,7 +52,7 @@ along-closed (tree v below beside) bound c e = by (meets (v ∷ variables below)
   by false f l r = among-wider (variables beside ++ bound) ((v ∷ (variables below ++ variables beside)) ++ bound)
       (λ u g. whole u ∙ second (v == u) (is_among (variables below) u) (is_among (variables beside) u) (is_among bound u) (sym (list_any-append (λ x. x == u) (variables beside) bound) ∙ g)) c (r f)
 
--- one whose variables have bits or stand below has bits of all where it does not meet the ones below
+-- If its variables have bits or are below, and it meets none below, all have bits.
 pub ends-there : (ws bs : List ℕ) → ((u : ℕ) → is_among ws u ≡ true → is_among bs u ≡ false) → (c : Clause) → is_within (ws ++ bs) c ≡ true → is_within bs c ≡ not (meets ws c)
 ends-there ws bs apart [] e = refl
 ends-there ws bs apart (l ∷ c) e =
@@ -174,7 +174,7 @@ abbrev tree_of : Forest → ℕ → ℕ
 tree_of none u = 0
 tree_of (tree v below beside) u = if is_among (v ∷ variables below) u then 0 else suc (tree_of beside u)
 
--- At each variable its tree stands, and at others what stood there.
+-- At each variable is the number of its tree, and at others what was there.
 sided-read : (f : Forest) (j : ℕ) (m : List ℕ) (u : ℕ) → u < length m → is_once (variables f) ≡ true
     → get_or (sided j f m) u 0 ≡ (if is_among (variables f) u then j + tree_of f u else get_or m u 0)
 sided-read none j m u low once = refl
@@ -255,14 +255,6 @@ sides-are below rest m once = by (trees below == 1) refl where
   by false e = are-from (variables below) (numbered (trees below) 0 (trees below) (steps_of below ++ rest) m) (length m) 0 below once
       (λ u low there h. ap (λ ns. get_or ns u 0) (beside-numbered (trees below) 0 below rest m (omega arith)) ∙ sided-read below 0 m u low once ∙ ap (λ b. if b then 0 + tree_of below u else get_or m u 0) h)
       (λ u low there h. absurd (false≢true (sym h ∙ there)))
-
-pub length-numbered : (k begun left : ℕ) (steps : List Step) (m : List ℕ) → length (numbered k begun left steps m) ≡ length m
-length-numbered k begun left [] m = refl
-length-numbered k begun left (s ∷ steps) m = by (left == 0) (length-numbered k (begun_at k begun left) (left - 1 + s.trees) steps (set m s.var (begun_at k begun left - 1)) ∙ length-set m s.var (begun_at k begun left - 1)) where
-  by : (b : Bool) → length (numbered k (begun_at k begun left) (left - 1 + s.trees) steps (set m s.var (begun_at k begun left - 1))) ≡ length m
-      → length (if b then m else numbered k (begun_at k begun left) (left - 1 + s.trees) steps (set m s.var (begun_at k begun left - 1))) ≡ length m
-  by true rest = refl
-  by false rest = rest
 
 -- ---- the steps one after the other
 

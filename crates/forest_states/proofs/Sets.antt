@@ -15,7 +15,7 @@ use Rattle.branch_states.proofs.Finding.{place-front}
 use Rattle.forest_states.specs.inner.BitLists.{is_same}
 use Rattle.forest_states.specs.inner.Walked.{joined, lead}
 
--- bits behind others, if there are any
+-- bits after others, if there are any
 abbrev pub behind : List Bool → Option (List Bool) → Option (List Bool)
 behind bits None = None
 behind bits (Some more) = Some (bits ++ more)
@@ -40,7 +40,7 @@ joined-more ks (Some k) = by (is_among (different ks) k) (among-different ks k) 
   by true e = sym (append-nil (different ks)) ∙ ap (λ x. different ks ++ cond (not x) (k ∷ []) []) e
   by false e = ap (λ x. different ks ++ cond (not x) (k ∷ []) []) e
 
--- what is put behind the first ones has its place there
+-- what is added after the first ones has its place there
 pub place-ahead : (ks : List (List Bool)) (k : List Bool) (more : List (List Bool)) → position_or_len (is_same k) (different ks) ≡ position_or_len (is_same k) (different ((ks ++ k ∷ []) ++ more))
 place-ahead ks k more = by (is_among ks k) refl ∙ back where
   all : List (List Bool)

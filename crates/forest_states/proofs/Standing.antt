@@ -12,7 +12,7 @@ use Rattle.elimination_forests.specs.declared.steps.Weight.{Weight}
 use Rattle.elimination_forests.specs.Forests.{Forest, none, tree, trees, variables, is_among, meets, is_within, is_once, is_along, Place, decided, part, weigh, weight_at, forks_at}
 use Rattle.forest_states.specs.inner.Walked.{has_var, merged, meets_marked, within_marked, is_in_tree, goes_to, entry_at, Stand, met_at, table_at, decided_states, decided_forks, part_states, column, forks_found, stand_decided, stand_part, column_at, weight_of}
 use Rattle.forest_states.proofs.Turned.{is_open, is_walked, meets-more}
-use Rattle.forest_states.proofs.Leaving.{IsKnown, Ends, entry_of, table_of}
+use Rattle.forest_states.proofs.Leaving.{IsKnown, Ends, entry_of, table_of, twice}
 use Rattle.forest_states.proofs.Mapped.{mapped-twice}
 use Rattle.forest_states.proofs.Along.{at, state_of, flags_of, columns_of, known-apart, part-mapped, rows-mapped, meets_wider, known-decided, decided-mapped, forks-mapped}
 use Rattle.forest_states.proofs.Marking.{along-closed, ends-there, any-same, within-same, mark-bit, AreSides}
@@ -70,10 +70,6 @@ one-way : (h m o mm : Bool) → (h ≡ true → mm ≡ m) → ((m && o) && (h &&
 one-way false m o mm k = and_right (m && o) false refl
 one-way true true o mm k = and_right o (not mm) (ap not (k refl))
 one-way true false o mm k = refl
-
-twice : (x : Bool) → not (not x) ≡ x
-twice true = refl
-twice false = refl
 
 next-way : (h m w wm mb : Bool) → mb ≡ (h || m) → ((h || w) ≡ true → wm ≡ not w) → (((h || m) && (h || w)) && not wm) ≡ (mb && w)
 next-way true m w wm mb e k = ap not (k refl) ∙ twice w ∙ ap (λ x. x && w) (sym e)
@@ -248,9 +244,6 @@ module _ (clauses : List Clause) (of : List (List ℕ)) (seen : List Bool) (foun
       ∙ filter-within _ (λ n. is_open (variables below) (v ∷ bound) (clause n)) 0 (length clauses)
       (λ n k. next-way (has_var v (clause n)) (meets bound (clause n)) (meets (variables below) (clause n)) (within_marked v seen (clause n)) (meets (v ∷ bound) (clause n)) (meets-more v bound (clause n))
       (λ e. let there = meets-more v (variables below) (clause n) ∙ e in ends-is n (omega arith) there ∙ ends n (omega arith) there))
-
-  abbrev pub base_lists : List (List Bool)
-  base_lists = (decided v (at bound clauses lists)).lists
 
   pub base-is : IsBase clauses (variables below) below (v ∷ bound) (decided v (at bound clauses lists)).lists (stand_decided clauses of seen v s)
   base-is = record {

@@ -29,7 +29,7 @@ meets-more v bound [] = refl
 meets-more v bound (l ∷ c) = ap (λ b. ((v == var_of l) || is_among bound (var_of l)) || b) (meets-more v bound c)
     ∙ or_swap (v == var_of l) (is_among bound (var_of l)) (has_var v c) (meets bound c)
 
--- where it has not the variable
+-- if it does not have the variable
 pub true-apart : (v : ℕ) (bit : Bool) (c : Clause) → has_var v c ≡ false → has_true v bit c ≡ false
 true-apart v bit [] e = refl
 true-apart v bit (l ∷ c) e =

@@ -40,6 +40,13 @@ impl BitList {
         })
     }
 
+    /// How many bits there are.
+    pub(crate) fn len(&self) -> usize
+        ensures { result ≡ length self.now }
+    {
+        self.len
+    }
+
     /// The bit at a place, and 0 past the end.
     pub(crate) fn at(&self, place: usize) -> bool
         ensures { result ≡ bit_in self.now place }
@@ -64,7 +71,7 @@ impl BitList {
     }
 }
 
-// Writes a bit behind those that the words have.
+// Writes a bit after those that the words have.
 fn put_bit(words: &mut [u64], at: usize, bit: bool)
     requires { at < 64 * length words.old }
     ensures long { length words.new ≡ length words.old }

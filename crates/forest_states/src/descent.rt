@@ -22,7 +22,8 @@ pub struct Descended {
 
 /// Goes down a forest, and finds where the lists of each place lead to.
 ///
-/// The steps are those of a forest of the clauses. If the sum over its places is above the limit, the error is `Above`, and only then.
+/// The steps are those of a forest of the clauses, `weight` is what a list counts, and `top` is the limit. If the sum is above the limit,
+/// the error is `Above`, and only then.
 pub fn descend(
     alloc: Global,
     cnf: &Cnf,
@@ -44,8 +45,8 @@ pub fn descend(
 
 /// The sum over the places of a forest, and one for the base of all.
 ///
-/// The steps are those of a forest of the clauses. If the sum is above the limit, the error is `Above`, and only then. This keeps two
-/// places at a time, and those that are begun.
+/// The arguments and errors are those of `descend`. This keeps the states of two places at a time, and of those that are begun, and no
+/// forks.
 pub fn measure_along(
     alloc: Global,
     cnf: &Cnf,

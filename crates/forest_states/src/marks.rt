@@ -17,7 +17,7 @@ pub(crate) fn mark(marks: &mut Vec<bool>, var: u32)
     }
 }
 
-/// Writes at each variable of so many trees, which begin with these steps, the number of its tree, unless one stands alone.
+/// Writes at each variable the number of its tree, for so many trees, whose steps come first. One tree alone needs no numbers.
 pub(crate) fn number_trees(numbers: &mut Vec<u32>, trees: u32, steps: &[Step])
     ensures numbers { numbers.new.items ≡ numbers_at trees steps.now numbers.old.items }
     ensures long { length numbers.new.items ≡ length numbers.old.items }
@@ -43,7 +43,7 @@ fn write_trees(numbers: &mut Vec<u32>, trees: u32, steps: &[Step])
     }
 }
 
-// How many trees have begun at a step, where so many are left.
+// How many trees have begun at a step, if so many are left.
 fn begun_at(trees: u32, begun: u32, left: u128) -> u32
     requires some { 0 < left }
     requires few { left < 2 ^ 127 }
@@ -56,7 +56,7 @@ fn begun_at(trees: u32, begun: u32, left: u128) -> u32
     }
 }
 
-// How many trees are left below and behind a step.
+// How many trees are left after a step, with those below it.
 fn next_left(left: u128, trees: u32) -> u128
     requires some { 0 < left }
     requires few { left < 2 ^ 127 }
@@ -74,7 +74,7 @@ fn write(numbers: &mut Vec<u32>, var: u32, number: u32)
     }
 }
 
-/// Whether a clause has a variable that is not marked and stands in a tree.
+/// Whether a clause has a variable that is not marked and is in a tree.
 pub(crate) fn goes_to(
     cnf: &Cnf,
     trees: u32,
@@ -131,7 +131,7 @@ fn is_marked(marks: &[bool], literal: i32) -> bool
     var < marks.len() && marks[var]
 }
 
-/// The numbers of the clauses that have each variable, at its number.
+/// For each variable the numbers of the clauses that have it.
 pub(crate) fn find_clauses(alloc: Global, cnf: &Cnf) -> Result<Vec<Vec<u32>>, AllocError>
     ensures valid { is_clause_list cnf.now ≡ true }
     ensures long { IfOk result (λ of. length of.items ≡ cnf.now.vars + 1) }

@@ -1,10 +1,11 @@
-ghost use Rattle.std.specs.Prelude.{◌≡◌, ◌<◌, ◌≤◌, ◌+◌, ◌*◌, ◌^◌, ◌++◌, [], ◌∷◌, true, false, length, map, reverse, slice_set, slice_index_or, option_map, Some, IfOk, OnOk};
-ghost use Rattle.std.specs.List.{range_with_len, position_or_len};
+ghost use Rattle.std.specs.Prelude.{◌≡◌, ◌<◌, ◌≤◌, ◌+◌, ◌*◌, ◌^◌, ◌++◌, [], ◌∷◌, true, false, length, map, reverse, slice_set, slice_index_or, option_map, Some, IfOk, OnOk, ◌==◌, ◌&&◌};
+ghost use Rattle.std.specs.List.{list_all, range_with_len, position_or_len};
+ghost use Rattle.branch_states.specs.Branches.{different};
 ghost use Rattle.forest_states.specs.inner.BitLists.{is_same};
 ghost use Rattle.forest_states.specs.inner.Walked.{joined, lead, decided_states, decided_forks, part_states, column, met_at, table_at, numbered, goes_to, forks_of, row_at, stand_decided, stand_part, column_at, stands_below, columns_below, forks_below, first_stand, or_first, stand_of};
 
 use crate::bit_list::BitList;
-use crate::marks::{mark, meets_marked, number_trees};
+use crate::marks::{goes_to, mark, meets_marked, number_trees};
 use crate::tables::{Entry, find_flags, find_table, keep_open, keep_part, merge, pick, walk};
 use branch_states::Fork;
 use clause_encoder::Cnf;
@@ -19,7 +20,7 @@ pub(crate) struct Spot {
     pub(crate) states: IndexSet<BitList>,
 }
 
-/// Where the states of a place lead to: by its bit to those of a base, and these by columns to those of the trees on it.
+/// Where the states of a place lead to: by a bit to those of its base, and from there by a column into each tree on it.
 #[derive(Drop)]
 pub(crate) struct Leads {
     pub(crate) trees: u32,
@@ -27,7 +28,7 @@ pub(crate) struct Leads {
     pub(crate) leads: Vec<Fork>,
 }
 
-/// Where the states of a place lead to. Its variable is marked, and the places right below are put on others.
+/// Where the states of a place lead to. This marks its variable, and adds the places right below to those that are begun.
 pub(crate) fn go_down(
     alloc: Global,
     cnf: &Cnf,
@@ -52,13 +53,13 @@ pub(crate) fn go_down(
     let (leads, base) = go_by_bit(alloc, cnf, of, seen.as_slice(), step.var, spot)?;
     mark(seen, step.var);
     number_trees(numbers, step.trees, rest);
-    let columns = go_apart(
+    let columns = go_below(
         alloc,
         cnf,
         seen.as_slice(),
         numbers.as_slice(),
         step.trees,
-        &base,
+        base,
         pending,
     )?;
     Ok(Leads {
@@ -68,7 +69,7 @@ pub(crate) fn go_down(
     })
 }
 
-// Where the states of a place lead to by the bit of its variable, and what has come of them.
+// Where the states of a place lead to by the bit of its variable, and the base below.
 fn go_by_bit(
     alloc: Global,
     cnf: &Cnf,
@@ -116,7 +117,69 @@ fn find_met(
     merge(alloc, opened.as_slice(), begun.as_slice())
 }
 
-// For each tree on a base where the states lead to in it; the places of the trees are put on others, the first tree's last.
+// Where the states of a base lead to in each tree on it. A base of which all goes to one tree is the place of that tree.
+fn go_below(
+    alloc: Global,
+    cnf: &Cnf,
+    seen: &[bool],
+    numbers: &[u32],
+    trees: u32,
+    base: Spot,
+    pending: &mut Vec<Spot>,
+) -> Result<Vec<Vec<u32>>, AllocError>
+    requires few { length base.states.keys < 2 ^ 32 }
+    requires once { different base.states.keys ≡ base.states.keys }
+    ensures columns { IfOk result (λ columns. map (λ v. v.items) columns.items
+        ≡ map (λ j. column_at cnf.now.clauses trees seen.now numbers.now j (stand_of base)) (range_with_len 0 trees)) }
+    ensures pending { OnOk result (reverse (map stand_of pending.new.items)
+        ≡ map (λ j. stand_part cnf.now.clauses trees seen.now numbers.now j (stand_of base)) (range_with_len 0 trees)
+        ++ reverse (map stand_of pending.old.items)) }
+{
+    if !is_whole(cnf, trees, seen, numbers, &base) {
+        return go_apart(alloc, cnf, seen, numbers, trees, &base, pending);
+    }
+    let mut columns = Vec::with_capacity(alloc, 1)?;
+    columns.push(count_up(alloc, base.states.len())?)?;
+    pending.push(base)?;
+    Ok(columns)
+}
+
+// Whether there is one tree on a base, and each open clause, and so each bit of a state, goes to it.
+fn is_whole(cnf: &Cnf, trees: u32, seen: &[bool], numbers: &[u32], base: &Spot) -> bool
+    ensures { result ≡ ((trees == 1) && (list_all (goes_to cnf.now.clauses trees seen.now numbers.now 0) base.now.opened.items
+        && list_all (λ s. length s == length base.now.opened.items) base.now.states.keys)) }
+{
+    trees == 1
+        && all_go(cnf, trees, seen, numbers, base.opened.as_slice())
+        && have_len(base.opened.len(), &base.states)
+}
+
+fn all_go(cnf: &Cnf, trees: u32, seen: &[bool], numbers: &[u32], opened: &[u32]) -> bool
+    ensures { result ≡ list_all (goes_to cnf.now.clauses trees seen.now numbers.now 0) opened.now }
+{
+    opened
+        .iter()
+        .all(|number| goes_to(cnf, trees, seen, numbers, 0, *number))
+}
+
+fn have_len(size: usize, states: &IndexSet<BitList>) -> bool
+    ensures { result ≡ list_all (λ s. length s == size) states.now.keys }
+{
+    states.as_slice().iter().all(|state| state.len() == size)
+}
+
+fn count_up(alloc: Global, size: usize) -> Result<Vec<u32>, AllocError>
+    requires { size < 2 ^ 32 }
+    ensures { IfOk result (λ numbers. numbers.items ≡ range_with_len 0 size) }
+{
+    let mut numbers = Vec::with_capacity(alloc, size)?;
+    for number in 0..size as u32 {
+        numbers.push(number)?;
+    }
+    Ok(numbers)
+}
+
+// Where the states of a base lead to in each tree on it. The places of the trees are added, the first tree's last.
 fn go_apart(
     alloc: Global,
     cnf: &Cnf,
@@ -179,7 +242,7 @@ fn go_to(
     Ok((column, Spot { opened, states }))
 }
 
-// The part of each state that is flagged: where it stands, and all of them.
+// The flagged part of each state: its place among the parts, and the parts.
 fn part(
     alloc: Global,
     flags: &[bool],
@@ -197,7 +260,7 @@ fn part(
     Ok((column, parts))
 }
 
-// The place of a state among others, where it is from then on.
+// The place of a state among others, to which it is added if it is new.
 fn put(state: BitList, states: &mut IndexSet<BitList>) -> Result<u32, AllocError>
     requires { length states.old.keys < 2 ^ 32 }
     ensures few { OnOk result (length states.new.keys ≤ length states.old.keys + 1) }
@@ -208,7 +271,7 @@ fn put(state: BitList, states: &mut IndexSet<BitList>) -> Result<u32, AllocError
     Ok(place as u32)
 }
 
-// Where the states of a place lead to by a bit, and what has come of them.
+// Where the states of a place lead to by a bit, and the states there.
 fn decide(
     alloc: Global,
     table: &[Entry],
@@ -229,7 +292,7 @@ fn decide(
     Ok((leads, next))
 }
 
-// The place of a state, if it is one, which is among others from then on.
+// The place of a state, if there is one, among others, to which it is added if it is new.
 fn add(state: Option<BitList>, states: &mut IndexSet<BitList>) -> Result<Option<u32>, AllocError>
     requires { length states.old.keys < 2 ^ 32 }
     ensures few { OnOk result (length states.new.keys ≤ length states.old.keys + 1) }
@@ -260,7 +323,7 @@ impl Leads {
     }
 }
 
-// Adds the way that goes on with the rows of columns. The row is room for it.
+// Adds the way that goes on with a row of the columns. `row` is room for it.
 fn add_way(
     ways: &mut Ways,
     columns: &[Vec<u32>],
@@ -301,7 +364,7 @@ fn item(column: &Vec<u32>, at: u32) -> u32
     }
 }
 
-/// The last place that was begun, or that of a tree that stands on nothing.
+/// The last place that was begun, or that of a tree on the base of all.
 pub(crate) fn next_spot(alloc: Global, pending: &mut Vec<Spot>) -> Result<Spot, AllocError>
     ensures { IfOk result (λ spot. stand_of spot ∷ reverse (map stand_of pending.new.items) ≡ or_first (reverse (map stand_of pending.old.items))) }
 {
@@ -311,7 +374,7 @@ pub(crate) fn next_spot(alloc: Global, pending: &mut Vec<Spot>) -> Result<Spot, 
     }
 }
 
-// The place of a tree that stands on nothing.
+// The place of a tree on the base of all.
 fn begin(alloc: Global) -> Result<Spot, AllocError>
     ensures { IfOk result (λ spot. stand_of spot ≡ first_stand) }
 {

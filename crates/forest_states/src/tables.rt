@@ -89,7 +89,7 @@ pub(crate) fn walk(
     Ok(Some(left))
 }
 
-// Whether a clause is left after a bit, where `was` says so of before.
+// Whether a clause is left after a bit, if `was` says whether it was left before.
 fn is_left(entry: &Entry, bit: bool, was: bool) -> bool
     ensures { result ≡ ((entry.now.fresh || was) && not (true_at entry.now bit)) }
 {

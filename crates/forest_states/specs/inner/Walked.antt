@@ -33,7 +33,7 @@ abbrev pub with_bit : Bool → Option (List Bool) → Option (List Bool)
 with_bit b None = None
 with_bit b (Some bits) = Some (b ∷ bits)
 
--- with the bit of a clause before those of the next ones, unless it ends; where one ends that is left nothing is
+-- with the bit of a clause before those of the next ones, unless it ends; if it ends and is left, nothing is
 abbrev pub ended : Bool → Bool → Option (List Bool) → Option (List Bool)
 ended true true rest = None
 ended true false rest = rest
@@ -57,7 +57,7 @@ abbrev pub joined : List (List Bool) → Option (List Bool) → List (List Bool)
 joined states None = states
 joined states (Some s) = insert_key is_same states s
 
--- where one, if it is one, stands among states
+-- the place of a state among states, if there is one
 abbrev pub lead : List (List Bool) → Option (List Bool) → Option ℕ
 lead states None = None
 lead states (Some s) = Some (position_or_len (is_same s) states)
@@ -77,13 +77,13 @@ decided_forks table states =
 abbrev pub part_states : List Bool → List (List Bool) → List (List Bool)
 part_states flags states = different (map (picked flags) states)
 
--- where each has its part
+-- the place of each one's part among the parts
 abbrev pub column : List Bool → List (List Bool) → List ℕ
 column flags states = map (λ s. position_or_len (is_same (picked flags s)) (part_states flags states)) states
 
 -- ---- where states lead to in each of the trees below
 
--- what stands in a row of columns
+-- a row of columns
 abbrev pub row_at : List (List ℕ) → ℕ → List ℕ
 row_at columns n = map (λ c. slice_index_or c n 0) columns
 
@@ -113,7 +113,7 @@ merged (x ∷ xs) = λ ys. put_in x (merged xs) ys
 
 -- ---- variables below
 
--- how many trees have begun at a step, where so many are left, within trees and beside them
+-- how many trees have begun at a step, if so many are left, within trees and beside them
 abbrev pub begun_at : ℕ → ℕ → ℕ → ℕ
 begun_at trees begun left = if left + begun == trees then begun + 1 else begun
 
@@ -123,7 +123,7 @@ numbered trees begun left [] numbers = numbers
 numbered trees begun left (s ∷ steps) numbers =
     if left == 0 then numbers else numbered trees (begun_at trees begun left) (left - 1 + s.trees) steps (slice_set numbers s.var (begun_at trees begun left - 1))
 
--- Where one tree stands alone no number is needed.
+-- One tree alone needs no numbers.
 abbrev pub numbers_at : ℕ → List Step → List ℕ → List ℕ
 numbers_at trees steps numbers = if trees == 1 then numbers else numbered trees 0 trees steps numbers
 
@@ -143,7 +143,7 @@ meets_marked marks clause = list_any (λ l. bit_in marks (var_of l)) clause
 abbrev pub within_marked : ℕ → List Bool → Clause → Bool
 within_marked v marks clause = list_all (λ l. (v == var_of l) || bit_in marks (var_of l)) clause
 
--- one that is not marked stands in a tree
+-- a variable that is not marked is in a tree
 abbrev pub is_in_tree : ℕ → List Bool → List ℕ → ℕ → ℕ → Bool
 is_in_tree trees marks numbers tree v = not (bit_in marks v) && ((trees == 1) || (slice_index_or numbers v 0 == tree))
 
@@ -209,11 +209,11 @@ forks_below clauses of seen numbers step rest s =
 abbrev pub step_at : List Step → ℕ → Step
 step_at steps i = slice_index_or steps i (record { var = 0; trees = 0 })
 
--- that of a tree that stands on nothing
+-- that of a tree on the base of all
 abbrev pub first_stand : Stand
 first_stand = record { opened = []; states = [] ∷ [] }
 
--- the places that are begun, where there is one at least
+-- the places that are begun, or one on the base of all if none is
 abbrev pub or_first : List Stand → List Stand
 or_first [] = first_stand ∷ []
 or_first (s ∷ stands) = s ∷ stands

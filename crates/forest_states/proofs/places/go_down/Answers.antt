@@ -3,7 +3,14 @@ use Rattle.std.specs.List.{range_with_len}
 use Rattle.std.proofs.lemmas.List.{length-map}
 use Rattle.std.proofs.lemmas.List.FromFn.{length-range_with_len}
 use Rattle.forest_states.specs.inner.Walked.{decided_forks, table_at, forks_found, column_at, stand_decided, stand_part, stand_of}
+use Rattle.branch_states.specs.Branches.{different}
+use Rattle.elimination_forests.proofs.Chains.{different-different}
 use Rattle.forest_states.proofs.places.go_down.Goals as goal
+
+pub go_below-requires-clause-once : goal.go_below-requires-clause-once
+go_below-requires-clause-once c =
+    let base = c.in_ok-leads.ensures.base in
+    ap (λ s. different s.states) base ∙ different-different _ ∙ sym (ap (λ s. s.states) base)
 
 pub returns-clause-whole : goal.returns-clause-whole
 returns-clause-whole c =

@@ -208,6 +208,15 @@ pub record IsClimbing (cnf : ClauseList) (most : ℕ) (m : Maker) (stack : List 
   pub made : m.store.made ≤ 2 + 3 * all_sum spots
   pub handed : m.store.handed ≤ (4 + 2 * most) * all_sum spots
 
+-- The nodes at the base of all may be met, and the graph of what they meet in is right.
+pub record IsRoot (cnf : ClauseList) (forest : Forest) (m : Maker) (kids : List ℕ) : Type 0 where
+  pub within : AllByRecursion (λ k. k < length m.store.nodes) kids
+  pub apart : AreApart m.store.nodes kids
+  pub few : length kids ≤ BUDGET_LIMIT + 1
+  pub room : m.store.made < MADE_LIMIT
+  pub right : (new : Maker) (node : ℕ) (compiled : Compiled) → IsMeet m new kids node → IsGraph compiled.graph → IsFrozen new.store node compiled.graph → compiled.made ≡ new.store.made
+      → IsCompiledAlong forest cnf compiled
+
 -- the children of a place's nodes
 kids_few : (old new k most lists below all : ℕ) → new ≤ old + (4 + 2 * k) * lists → k ≤ most → old ≤ (4 + 2 * most) * below → lists + below ≡ all → new ≤ (4 + 2 * most) * all
 kids_few old new k most lists below all h low so_far e =
@@ -321,41 +330,33 @@ module _ (cnf : ClauseList) (steps : List Step) (forks : List Forks) (forest : F
           kids_are : taken top (begins forest (root cnf.clauses) all) ≡ kids
           kids_are = ap (taken top) same_numbers ∙ sym e
 
-          pub root_within : AllByRecursion (λ k. k < length m.store.nodes) kids
-          root_within = subst (AllByRecursion (λ k. k < length m.store.nodes)) kids_are its_begin.within
-
-          pub root_apart : AreApart m.store.nodes kids
-          root_apart = subst (AreApart m.store.nodes) kids_are its_begin.apart
-
           kids_many : length kids ≡ trees forest
           kids_many = ap length e ∙ length-taken top numbers root_held ∙ top_many
 
-          pub root_few : length kids ≤ BUDGET_LIMIT + 1
-          root_few = omega (arith, kids_many, trees_few forest (root cnf.clauses) all there, bounded)
-
-          pub root_room : m.store.made < MADE_LIMIT
-          root_room = omega (arith, climbing.made, sum_along forest (root cnf.clauses), bounded)
-
-          pub root_compiled : (new : Maker) (node : ℕ) (compiled : Compiled) → IsMeet m new kids node → IsGraph compiled.graph → IsFrozen new.store node compiled.graph → compiled.made ≡ new.store.made
-              → IsCompiledAlong forest cnf compiled
-          root_compiled new node compiled meet valid_graph frozen made = record {
-            decomposable = valid_graph;
-            vars = frozen.vars ∙ vars;
-            truth = λ a.
-                frozen.truth a
-                ∙ meet.truth a
-                ∙ ap (list_all (λ k. is_true m.store.nodes k a)) (sym kids_are)
-                ∙ its_begin.truth a
-                ∙ sym (full_holds forest (root cnf.clauses) a all (down_full forest (root cnf.clauses) all (root_down cnf forest is.forest_is (clauses-valid cnf valid).2)))
-                ∙ root_holds cnf.clauses a;
-            no_bare_kid = frozen.no_bare_kid meet.adds.maker.bare;
-            few_made = omega (arith, made, meet.adds.made, climbing.made, sum_along forest (root cnf.clauses));
-            few_alone = λ h. let alone = (meet.alone (omega (arith, h, kids_many))).made in omega (arith, made, alone, climbing.made, sum_along forest (root cnf.clauses));
-            few_nodes = omega (arith, frozen.few, made, vars);
-            few_edges = omega (arith, frozen.few_edges, meet.adds.handed, kids_many, trees_within forest, last_kids m.store.handed (width forest) (sum_on Lists forest (root cnf.clauses)) (subst (λ n. m.store.handed ≤ (4 + 2 * width forest) * n) (sum_along forest (root cnf.clauses)) climbing.handed));
+          pub root_is : IsRoot cnf forest m kids
+          root_is = record {
+            within = subst (AllByRecursion (λ k. k < length m.store.nodes)) kids_are its_begin.within;
+            apart = subst (AreApart m.store.nodes) kids_are its_begin.apart;
+            few = omega (arith, kids_many, trees_few forest (root cnf.clauses) all there, bounded);
+            room = omega (arith, climbing.made, sum_along forest (root cnf.clauses), bounded);
+            right = λ new node compiled meet valid_graph frozen made.
+                let vars : new.store.vars ≡ cnf.vars = meet.adds.vars ∙ climbing.vars in
+                record {
+                  decomposable = valid_graph;
+                  vars = frozen.vars ∙ vars;
+                  truth = λ a.
+                      frozen.truth a
+                      ∙ meet.truth a
+                      ∙ ap (list_all (λ k. is_true m.store.nodes k a)) (sym kids_are)
+                      ∙ its_begin.truth a
+                      ∙ sym (full_holds forest (root cnf.clauses) a all (down_full forest (root cnf.clauses) all (root_down cnf forest is.forest_is (clauses-valid cnf valid).2)))
+                      ∙ root_holds cnf.clauses a;
+                  no_bare_kid = frozen.no_bare_kid meet.adds.maker.bare;
+                  few_made = omega (arith, made, meet.adds.made, climbing.made, sum_along forest (root cnf.clauses));
+                  few_alone = λ h. let alone = (meet.alone (omega (arith, h, kids_many))).made in omega (arith, made, alone, climbing.made, sum_along forest (root cnf.clauses));
+                  few_nodes = omega (arith, frozen.few, made, vars);
+                  few_edges = omega (arith, frozen.few_edges, meet.adds.handed, kids_many, trees_within forest, last_kids m.store.handed (width forest) (sum_on Lists forest (root cnf.clauses)) (subst (λ n. m.store.handed ≤ (4 + 2 * width forest) * n) (sum_along forest (root cnf.clauses)) climbing.handed));
+                };
           } where
-            vars : new.store.vars ≡ cnf.vars
-            vars = meet.adds.vars ∙ climbing.vars
-
             last_kids : (handed k sum : ℕ) → handed ≤ (4 + 2 * k) * sum → handed + k ≤ (4 + 2 * k) * (1 + sum)
             last_kids handed k sum h = let e : (4 + 2 * k) * (1 + sum) ≡ (4 + 2 * k) * sum + (4 + 2 * k) = omega arith in omega (arith, h, e)

@@ -15,7 +15,8 @@ use std::alloc::Global;
 
 /// Compiles clauses along a forest of them with these steps, if its sum is within the budget.
 ///
-/// The sum counts one for each list of clauses at a place, and one more. It stops as soon as the sum is above the budget.
+/// The sum counts one for each list of clauses at a place, and one more. A sum above the budget is an error: `Above`, unless memory
+/// runs out first.
 pub fn compile_forest(
     alloc: Global,
     cnf: &Cnf,

@@ -1,10 +1,10 @@
-use Rattle.std.proofs.Common.{◌≡◌, ◌-◌, ◌<◌, ◌++◌, suc, length, replicate, get_or, refl, sym, ◌∙◌, subst, arith, rules}
+use Rattle.std.proofs.Common.{◌≡◌, ℕ, ◌-◌, ◌<◌, ◌++◌, suc, List, length, replicate, get_or, refl, sym, ◌∙◌, subst, arith, rules}
 use Rattle.std.proofs.lemmas.Option.{slice_get_read, slice_get-get_or}
 use Rattle.elimination_forests.specs.declared.steps.Step.{Step}
 use Rattle.elimination_forests.specs.Forests.{Forest, width}
 use Rattle.dnnf_compiler.specs.Along.{IsWay}
 use Rattle.dnnf_compiler.specs.inner.Placing.{IsReady}
-use Rattle.dnnf_compiler.proofs.Climbing.{spots_at, start, IsNext, IsClimbing, forks_long, next_way, climb_first, climb_ready, climb_more, root_held, root_within, root_apart, root_few, root_room, root_compiled}
+use Rattle.dnnf_compiler.proofs.Climbing.{spots_at, start, IsNext, IsClimbing, forks_long, next_way, climb_first, climb_ready, climb_more, root_held, IsRoot, root_is}
 use Rattle.dnnf_compiler.specs.inner.Meeting.{taken, AreHeld}
 use Rattle.dnnf_compiler.proofs.Meeting.{all_from}
 use Rattle.dnnf_compiler.proofs.along.compile_along.Goals as goal
@@ -94,38 +94,34 @@ taken-requires c =
     (root_held c.args.cnf.now c.args.steps.now c.args.forks.now c.requires.0 c.requires.1 c.vars.ensures.valid c.loop-place.maker c.loop-place.stack.items (at_root d c.requires.0 c.requires.1)
     c.in_ok-trees.trees.items c.take_top.new.stack.items c.in_ok-trees.ensures.taken (many d) c.in_ok-first.first.items c.len-count.result (long d) (zeros d)))
 
+its_root : (c : After-deref-2) (forest : Forest) → IsWay c.args.cnf.now c.args.steps.now c.args.forks.now forest → (kids : List ℕ) → kids ≡ taken c.in_ok-trees.trees.items c.in_ok-first.first.items
+    → IsRoot c.args.cnf.now forest c.loop-place.maker kids
+its_root c forest way =
+    root_is c.args.cnf.now c.args.steps.now c.args.forks.now forest way c.vars.ensures.valid c.loop-place.maker c.loop-place.stack.items (at_root c forest way)
+    c.in_ok-trees.trees.items c.take_top.new.stack.items c.in_ok-trees.ensures.taken (many c) c.in_ok-first.first.items c.len-count.result (long c) (zeros c)
+
 pub meet-requires-clause-within : goal.meet-requires-clause-within
 meet-requires-clause-within c =
-    let d = (goal.at.meet-requires-clause-within c).After-deref-2 in
-    all_from (λ k. k < length c.loop-place.maker.store.nodes) c.as_slice.result.now
-    (root_within c.args.cnf.now c.args.steps.now c.args.forks.now c.requires.0 c.requires.1 c.vars.ensures.valid c.loop-place.maker c.loop-place.stack.items (at_root d c.requires.0 c.requires.1)
-    c.in_ok-trees.trees.items c.take_top.new.stack.items c.in_ok-trees.ensures.taken (many d) c.in_ok-first.first.items c.len-count.result (long d) (zeros d)
-    c.as_slice.result.now (its_kids (goal.at.meet-requires-clause-within c).After-as_slice))
+    let at = goal.at.meet-requires-clause-within c in
+    all_from (λ k. k < length c.loop-place.maker.store.nodes) c.as_slice.result.now (its_root at.After-deref-2 c.requires.0 c.requires.1 c.as_slice.result.now (its_kids at.After-as_slice)).within
 
 pub meet-requires-clause-apart : goal.meet-requires-clause-apart
 meet-requires-clause-apart c =
-    let d = (goal.at.meet-requires-clause-apart c).After-deref-2 in
-    root_apart c.args.cnf.now c.args.steps.now c.args.forks.now c.requires.0 c.requires.1 c.vars.ensures.valid c.loop-place.maker c.loop-place.stack.items (at_root d c.requires.0 c.requires.1)
-    c.in_ok-trees.trees.items c.take_top.new.stack.items c.in_ok-trees.ensures.taken (many d) c.in_ok-first.first.items c.len-count.result (long d) (zeros d)
-    c.as_slice.result.now (its_kids (goal.at.meet-requires-clause-apart c).After-as_slice)
+    let at = goal.at.meet-requires-clause-apart c in
+    (its_root at.After-deref-2 c.requires.0 c.requires.1 c.as_slice.result.now (its_kids at.After-as_slice)).apart
 
 pub meet-requires-clause-few_kids : goal.meet-requires-clause-few_kids
 meet-requires-clause-few_kids c =
-    let d = (goal.at.meet-requires-clause-few_kids c).After-deref-2 in
-    root_few c.args.cnf.now c.args.steps.now c.args.forks.now c.requires.0 c.requires.1 c.vars.ensures.valid c.loop-place.maker c.loop-place.stack.items (at_root d c.requires.0 c.requires.1)
-    c.in_ok-trees.trees.items c.take_top.new.stack.items c.in_ok-trees.ensures.taken (many d) c.in_ok-first.first.items c.len-count.result (long d) (zeros d)
-    c.as_slice.result.now (its_kids (goal.at.meet-requires-clause-few_kids c).After-as_slice)
+    let at = goal.at.meet-requires-clause-few_kids c in
+    (its_root at.After-deref-2 c.requires.0 c.requires.1 c.as_slice.result.now (its_kids at.After-as_slice)).few
 
 pub meet-requires-clause-few : goal.meet-requires-clause-few
 meet-requires-clause-few c =
-    let d = (goal.at.meet-requires-clause-few c).After-deref-2 in
-    root_room c.args.cnf.now c.args.steps.now c.args.forks.now c.requires.0 c.requires.1 c.vars.ensures.valid c.loop-place.maker c.loop-place.stack.items (at_root d c.requires.0 c.requires.1)
-    c.in_ok-trees.trees.items c.take_top.new.stack.items c.in_ok-trees.ensures.taken (many d) c.in_ok-first.first.items c.len-count.result (long d) (zeros d)
-    c.as_slice.result.now (its_kids (goal.at.meet-requires-clause-few c).After-as_slice)
+    let at = goal.at.meet-requires-clause-few c in
+    (its_root at.After-deref-2 c.requires.0 c.requires.1 c.as_slice.result.now (its_kids at.After-as_slice)).room
 
 pub returns : goal.returns
 returns c = λ forest way.
-    let d = (goal.at.returns c).After-deref-2 in
-    root_compiled c.args.cnf.now c.args.steps.now c.args.forks.now forest way c.vars.ensures.valid c.loop-place.maker c.loop-place.stack.items (at_root d forest way)
-    c.in_ok-trees.trees.items c.take_top.new.stack.items c.in_ok-trees.ensures.taken (many d) c.in_ok-first.first.items c.len-count.result (long d) (zeros d)
-    c.as_slice.result.now (its_kids (goal.at.returns c).After-as_slice) c.meet.new.self c.in_ok-root.root c.in_ok-compiled.compiled c.in_ok-root.ensures c.in_ok-compiled.ensures.valid c.in_ok-compiled.ensures.graph c.in_ok-compiled.ensures.made
+    let at = goal.at.returns c in
+    (its_root at.After-deref-2 forest way c.as_slice.result.now (its_kids at.After-as_slice)).right
+    c.meet.new.self c.in_ok-root.root c.in_ok-compiled.compiled c.in_ok-root.ensures c.in_ok-compiled.ensures.valid c.in_ok-compiled.ensures.graph c.in_ok-compiled.ensures.made

@@ -1,14 +1,13 @@
 ghost use Rattle.std.specs.Prelude.{◌<◌, length};
 
 use branch_states::{BUDGET_LIMIT, MeasureError, measure};
-use clause_encoder::{Clause, Cnf, encode};
+use clause_encoder::{Cnf, encode};
 use device_model::Gate;
 use device_tests::{gates, is_true};
-use dnnf_compiler::{Compiled, compile, compile_along, compile_within};
-use elimination_forests::{Forks, Step, Ways};
+use dnnf_compiler::{Compiled, compile, compile_within};
 use node_store::Graph;
 use state_rules::NodeKind;
-use std::alloc::{AllocError, Global};
+use std::alloc::Global;
 use std::process::Abort;
 use std::test::Fail;
 
@@ -126,74 +125,5 @@ fn stops_above_a_limit(rt: HostRuntime) -> Result<(), Fail> {
     for (gate, count, sum) in [(Gate::Not, 1, 7), (Gate::Buff, 40, 202)] {
         assert!(&rt; stops(&rt, rt.alloc(), gate, count, sum)?);
     }
-    Ok(())
-}
-
-// Where the lists of a place lead to by one bit.
-fn ways(alloc: Global, trees: u32, ways: &[Option<&[u32]>]) -> Result<Ways, AllocError> {
-    let mut all = Ways::new(alloc, trees);
-    for way in ways {
-        all.push(*way)?;
-    }
-    Ok(all)
-}
-
-#[test]
-fn compiles_two_trees(rt: HostRuntime) -> Result<(), Fail> {
-    let alloc = rt.alloc();
-    // Two clauses that share no variable: each has a tree of its own.
-    let clauses = vec![in alloc; Clause::new(alloc, &[1, 2])?, Clause::new(alloc, &[3, 4])?]?;
-    let cnf = Cnf::of(alloc, 4, clauses)?;
-    let steps = [
-        Step { var: 1, trees: 1 },
-        Step { var: 2, trees: 0 },
-        Step { var: 3, trees: 1 },
-        Step { var: 4, trees: 0 },
-    ];
-    let mut forks = Vec::new(alloc);
-    for _clause in 0..2 {
-        forks.push(Forks {
-            zero: ways(alloc, 1, &[Some(&[0])])?,
-            one: ways(alloc, 1, &[Some(&[1])])?,
-        })?;
-        forks.push(Forks {
-            zero: ways(alloc, 0, &[None, Some(&[])])?,
-            one: ways(alloc, 0, &[Some(&[]), Some(&[])])?,
-        })?;
-    }
-    // Made are 2 constants, for each clause an or of both literals of the second variable, where the first one is 1, an and for each
-    // bit of the first one, and an or of these; and the and of both clauses. In the graph are no constants, but 8 literals.
-    let compiled = compile_along(alloc, &cnf, &steps, &forks)?;
-    assert_eq!(&rt; compiled.graph.len(), 17);
-    assert_eq!(&rt; compiled.made, 11);
-    Ok(())
-}
-
-#[test]
-fn compiles_two_trees_below_a_variable(rt: HostRuntime) -> Result<(), Fail> {
-    let alloc = rt.alloc();
-    // Two clauses that share a variable fall apart below it.
-    let clauses = vec![in alloc; Clause::new(alloc, &[1, 2])?, Clause::new(alloc, &[1, 3])?]?;
-    let cnf = Cnf::of(alloc, 3, clauses)?;
-    let steps = [
-        Step { var: 1, trees: 2 },
-        Step { var: 2, trees: 0 },
-        Step { var: 3, trees: 0 },
-    ];
-    let mut forks = Vec::new(alloc);
-    forks.push(Forks {
-        zero: ways(alloc, 2, &[Some(&[0, 0])])?,
-        one: ways(alloc, 2, &[Some(&[1, 1])])?,
-    })?;
-    for _clause in 0..2 {
-        forks.push(Forks {
-            zero: ways(alloc, 0, &[None, Some(&[])])?,
-            one: ways(alloc, 0, &[Some(&[]), Some(&[])])?,
-        })?;
-    }
-    // Made are 2 constants, an or of both literals of each variable below, and of the first one two ands of three children, and an or.
-    let compiled = compile_along(alloc, &cnf, &steps, &forks)?;
-    assert_eq!(&rt; compiled.graph.len(), 11);
-    assert_eq!(&rt; compiled.made, 7);
     Ok(())
 }

@@ -1,13 +1,13 @@
 use bench_reader::read_bench;
 use branch_states::{BUDGET_LIMIT, measure};
 use clause_encoder::{Cnf, encode};
-use clause_order::narrow;
 use std::test::Fail;
 use text_rules::TEXT_LIMIT;
+use tree_finder::narrow;
 
-// Netlists whose names put the clauses into a bad order, and what the sum is at most by a good one, which the same netlist has by
-// other names. Seven buffers in a row have 5 for each and 2 more where their names rise, and two bits of an adder 107 and 135 where
-// those of each bit stand together.
+// Netlists whose names put the clauses into a bad order, and the sum by a good one, which the same netlist has by other names. Seven
+// buffers in a row have 5 for each and 2 more if their names rise, and two bits of an adder 107 and 135 if those of each bit are
+// together. Along a forest the sum is no greater.
 const SCRAMBLED: [(&str, u32); 2] = [
     (
         "INPUT(a)\ne = BUFF(a)\nb = BUFF(e)\nf = BUFF(b)\nc = BUFF(f)\ng = BUFF(c)\nd = BUFF(g)\nh = BUFF(d)\n",
@@ -20,26 +20,28 @@ const SCRAMBLED: [(&str, u32); 2] = [
 ];
 
 #[test]
-fn finds_good_orders(rt: HostRuntime) -> Result<(), Fail> {
+fn finds_good_forests(rt: HostRuntime) -> Result<(), Fail> {
     let alloc = rt.alloc();
     for (text, good) in SCRAMBLED {
         assert!(rt; text.len() <= TEXT_LIMIT);
         let device = read_bench(alloc, text.as_bytes())?;
-        let before = measure(alloc, &encode(alloc, &device)?, BUDGET_LIMIT)?;
-        let found = narrow(alloc, encode(alloc, &device)?)?;
+        let cnf = encode(alloc, &device)?;
+        let before = measure(alloc, &cnf, BUDGET_LIMIT)?;
+        let found = narrow(alloc, &cnf)?;
         assert!(rt; good < before, "{text}");
-        assert!(rt; measure(alloc, &found, BUDGET_LIMIT)? <= good, "{text}");
+        assert!(rt; found.sum.unwrap_or(before) <= good, "{text}");
     }
     Ok(())
 }
 
-// Without clauses, and without variables, there is one state and nothing to look for.
+// Without clauses there is nothing to look for, and the sum is that of no variable.
 #[test]
 fn takes_an_empty_list(rt: HostRuntime) -> Result<(), Fail> {
     let alloc = rt.alloc();
     for vars in [0, 3] {
-        let found = narrow(alloc, Cnf::of(alloc, vars, Vec::new(alloc))?)?;
-        assert_eq!(rt; measure(alloc, &found, BUDGET_LIMIT), Ok(1));
+        let found = narrow(alloc, &Cnf::of(alloc, vars, Vec::new(alloc))?)?;
+        assert_eq!(rt; found.sum, Some(1));
+        assert!(rt; found.steps.is_empty());
     }
     Ok(())
 }

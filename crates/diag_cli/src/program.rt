@@ -41,8 +41,8 @@ fn run_over<H: Shelf, I: Source, O: Sink>(
 /// Does all that the program does: reads the file that the words name, if they name one, does what they ask for, and gives
 /// the status.
 ///
-/// `words` are those behind the program's name. `IsRun` says, clause by clause, what holds of each run, by some order of clauses where
-/// words ask for another one.
+/// `words` are those after the program's name. `IsRun` says, clause by clause, what holds of each run, by some choice of forests if the
+/// words ask for one.
 pub fn diag<H: Shelf, I: Source, O: Sink>(
     alloc: Global,
     words: &[String],

@@ -269,7 +269,7 @@ module _ (input new_input : Reading) (out new_out : Writing) (status : Status) w
 -- ---- what may be told without a look at the script
 
 -- an output that tells that memory ran out, or the one that the file comes to
-abbrev pub IsRight : (ClauseList → ClauseList) → List ℕ → Command → Output → List ℕ → Type 0
+abbrev pub IsRight : (ClauseList → Forest) → List ℕ → Command → Output → List ℕ → Type 0
 IsRight choose path command output file = (output ≡ no_memory) ⊎ (course_of choose (Some (Over path command)) file ≡ Tells output)
 
 -- some bytes are too many, those that are told where any are

@@ -1,7 +1,7 @@
 //! What a graph is asked through its distilled graph, and of all wires at once.
 ghost use Rattle.std.specs.Prelude.{◌≡◌, ◌<◌};
 
-use crate::fixtures::graph_of;
+use crate::fixtures::{are_below, are_positive, graph_of};
 use fault_graph::Distiller;
 use minimiser::{Step, Steps};
 use node_store::Graph;
@@ -145,10 +145,10 @@ fn distills<L: Ledger>(
 {
     let costs = row.costs;
     assert!(rt; graph.len() == 4 && graph.vars() == 4);
-    assert!(rt; row.words.iter().all(|word| *word < 3));
-    assert!(rt; row.point.iter().all(|s| *s < 2));
-    assert!(rt; costs.iter().all(|cost| 0 < *cost));
-    assert!(rt; costs.iter().all(|cost| *cost < 715_827_883));
+    assert!(rt; are_below(&row.words, 3));
+    assert!(rt; are_below(&row.point, 2));
+    assert!(rt; are_positive(&costs));
+    assert!(rt; are_below(&costs, 715_827_883));
     let mut distiller = Distiller::new(alloc, graph)?;
     let mut steps = Steps::<L>::new(blank);
     let mut values = [0; 4];
@@ -197,8 +197,8 @@ fn probes<L: Ledger>(rt: &impl Abort, blank: Blank, graph: &Graph, row: &Row)
 {
     let costs = row.costs;
     assert!(rt; graph.len() == 4 && graph.vars() == 4);
-    assert!(rt; row.words.iter().all(|word| *word < 3));
-    assert!(rt; costs.iter().all(|cost| *cost < 715_827_883));
+    assert!(rt; are_below(&row.words, 3));
+    assert!(rt; are_below(&costs, 715_827_883));
     let mut steps = Steps::<L>::new(blank);
     let mut words = row.words;
     let mut values = [0; 4];

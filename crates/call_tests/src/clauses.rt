@@ -79,7 +79,10 @@ fn writes_clauses(rt: HostRuntime) -> Result<(), Fail> {
 // How many clauses and variables so many exclusive ors of the same inputs have, or how many clauses are too many.
 fn counts(alloc: Global, inputs: u32, count: u32) -> Result<Result<(u32, u32), EncodeError>, Fail> {
     let device = gates(alloc, Gate::Xor, inputs, count, false)?;
-    Ok(encode(alloc, &device).map(|cnf| (cnf.len(), cnf.vars())))
+    Ok(match encode(alloc, &device) {
+        Ok(cnf) => Ok((cnf.len(), cnf.vars())),
+        Err(error) => Err(error),
+    })
 }
 
 /// Up to 262,144 clauses are written, and more are counted alone.

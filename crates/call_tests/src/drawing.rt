@@ -1,5 +1,5 @@
 //! The graph of the diagnoses as text.
-use crate::fixtures::graph_of;
+use crate::fixtures::{are_below, are_positive, graph_of};
 use crate::levels::EITHER;
 use diag_edge::MemSink;
 use node_store::Graph;
@@ -20,9 +20,9 @@ fn drawn(
 ) -> Result<MemSink, Fail> {
     assert!(rt; graph.len() == 3 && graph.vars() == 3);
     assert!(rt; graph.edges() == 2);
-    assert!(rt; words.iter().all(|word| *word < 3));
-    assert!(rt; costs.iter().all(|cost| 0 < *cost));
-    assert!(rt; costs.iter().all(|cost| *cost < 715_827_883));
+    assert!(rt; are_below(words, 3));
+    assert!(rt; are_positive(costs));
+    assert!(rt; are_below(costs, 715_827_883));
     let mut region = Region::new(alloc, 64)?;
     let mut out = MemSink::new(alloc, 1024, Vec::new(alloc), 0)?;
     let sets = PartSets::new(alloc, graph, 3)?;

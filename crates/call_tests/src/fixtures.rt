@@ -1,10 +1,27 @@
 //! Devices and graphs that several tests need.
+ghost use Rattle.std.specs.Prelude.{◌<◌, All};
+ghost use Rattle.std.specs.Bool.{OnTrue};
+
 use device_model::{Component, Device, Gate, Kind, Name, Wires};
 use nnf_text::read_nnf;
 use node_store::Graph;
 use std::alloc::Global;
 use std::test::Fail;
 use text_rules::TEXT_LIMIT;
+
+/// Whether all numbers are below a limit.
+pub fn are_below(numbers: &[u32], limit: u32) -> bool
+    ensures { OnTrue result (All (λ n. n < limit) numbers.now) }
+{
+    numbers.iter().all(|number| *number < limit)
+}
+
+/// Whether no number is 0.
+pub fn are_positive(numbers: &[u32]) -> bool
+    ensures { OnTrue result (All (λ n. 0 < n) numbers.now) }
+{
+    numbers.iter().all(|number| 0 < *number)
+}
 
 /// The graph of a text.
 pub fn graph_of(alloc: Global, text: &str) -> Result<Graph, Fail> {

@@ -2,7 +2,7 @@
 ghost use Rattle.std.specs.Prelude.{◌≡◌, ◌+◌, ◌*◌, ◌<◌, length, All};
 ghost use Rattle.level_lister.specs.Listing.{IsFor, cost_words};
 
-use crate::fixtures::graph_of;
+use crate::fixtures::{are_below, graph_of};
 use level_lister::{LevelStep, Levels, level_bits};
 use minimiser::Steps;
 use node_store::Graph;
@@ -140,8 +140,8 @@ fn steps_through<L: Ledger>(
     let mut words = row.words;
     let mut state = row.point.unwrap_or([0; 3]);
     let mut pointed = row.point.is_some();
-    assert!(rt; words.iter().all(|word| *word < 3));
-    assert!(rt; state.iter().all(|s| *s < 2));
+    assert!(rt; are_below(&words, 3));
+    assert!(rt; are_below(&state, 2));
     for (expected, cost) in row.listed {
         let step = levels.next(graph, &mut words, scratch, &mut state, pointed, &mut steps);
         assert_eq!(rt; (step, state), (LevelStep::Found(*cost), *expected));
@@ -156,7 +156,7 @@ fn lists(rt: &impl Abort, alloc: Global, graph: &Graph, row: &Row) -> Result<(),
     let costs = row.costs;
     let top = row.top;
     assert!(rt; graph.len() == 3 && graph.vars() == 3);
-    assert!(rt; costs.iter().all(|cost| *cost < 715_827_883));
+    assert!(rt; are_below(&costs, 715_827_883));
     assert!(rt; top < 2001);
     let levels = Levels::new(alloc, graph, &costs, top)?;
     let mut scratch = vec![in alloc; 7; levels.room(graph)]?;

@@ -24,6 +24,8 @@ mod levels;
 #[cfg(test)]
 mod memory;
 #[cfg(test)]
+mod serving;
+#[cfg(test)]
 mod sessions;
 #[cfg(test)]
 mod sums;

@@ -36,7 +36,7 @@ fn lends(pool: &mut Pool) -> bool
     match pool.take() {
         None => false,
         Some(block) => {
-            let is_zeroed = pool.words(&block).iter().all(|word| *word == 0);
+            let is_zeroed = pool.words(&block) == [0u32, 0, 0].as_slice();
             pool.words_mut(&block).fill(8);
             pool.give(block);
             is_zeroed
@@ -46,13 +46,15 @@ fn lends(pool: &mut Pool) -> bool
 
 // Whether a run of so many words can be carved, all of them 0. It is released at once.
 fn fits(region: &mut Region, n: usize) -> bool
-    requires { (1 ≤ n) × (length region.old.runs < RUN_LIMIT) }
+    requires some { 1 ≤ n }
+    requires few { n ≤ 5 }
+    requires runs { length region.old.runs < RUN_LIMIT }
     ensures { region.new.runs ≡ region.old.runs }
 {
     match region.carve(n) {
         None => false,
         Some(run) => {
-            let is_zeroed = region.run(&run).iter().all(|word| *word == 0);
+            let is_zeroed = region.run(&run) == &[0u32; 5][..n];
             region.release(run);
             is_zeroed
         }

@@ -15,12 +15,7 @@ returns-in-Some-Note c =
     let found = c.in-Some-Note.ensures.some in
     stays c.args.sessions.now _ _ (c.note.ensures c.args.name.now found.0 found.1) refl refl c.requires
 
-pub returns-in-Some-Point-eq0 : goal.returns-in-Some-Point-eq0
-returns-in-Some-Point-eq0 c =
-    let found = c.in-Some-Point-eq0.ensures.some in
+pub returns-in-Some-Point : goal.returns-in-Some-Point
+returns-in-Some-Point c =
+    let found = c.in-Some-Point.ensures.some in
     stays c.args.sessions.now _ _ (c.set_point.ensures.point c.args.name.now found.0 found.1) refl refl c.requires
-
-pub returns-in-Some-Point-eq1 : goal.returns-in-Some-Point-eq1
-returns-in-Some-Point-eq1 c =
-    let found = c.in-Some-Point-eq1.ensures.some in
-    stays c.args.sessions.now _ _ (c.set_point-in-Some-Point-eq1.ensures.point c.args.name.now found.0 found.1) refl refl c.requires

@@ -10,7 +10,7 @@ use std::test::Fail;
 pub const WORDS: [&str; 2] = ["serve", "f.bench"];
 
 // Calls that fail, and what is written.
-const STOPPED: [(Meeting, &[u8]); 4] = [
+static STOPPED: [(Meeting, &[u8]); 4] = [
     // the calls of the shelf: the pick, the read that brings the file, and the one that meets its end
     (
         Meeting {
@@ -46,7 +46,8 @@ const STOPPED: [(Meeting, &[u8]); 4] = [
 
 #[test]
 fn stops_where_a_read_fails(rt: HostRuntime) -> Result<(), Fail> {
-    for (meeting, out) in STOPPED {
+    for stopped in &STOPPED {
+        let (meeting, out) = *stopped;
         let row = Row {
             name: "f.bench",
             text: CHAIN,
@@ -97,14 +98,7 @@ fn writes_fail(
 #[test]
 fn each_write_fails_in_turn(rt: HostRuntime) -> Result<(), Fail> {
     for script in [TURNS, REPORTS, b"open S\ndnnf S\n".as_slice()] {
-        let ran = run(
-            rt.alloc(),
-            "f.bench",
-            CHAIN,
-            &WORDS,
-            script,
-            &NOTHING_FAILS,
-        )?;
+        let ran = run(rt.alloc(), "f.bench", CHAIN, &WORDS, script, &NOTHING_FAILS)?;
         for keep in [0, 1, 3] {
             writes_fail(&rt, rt.alloc(), script, ran.out.as_slice(), keep)?;
         }

@@ -6,20 +6,16 @@ pub const C17: &[u8] =
         11 = NAND(3, 6)\n16 = NAND(2, 11)\n19 = NAND(11, 7)\n22 = NAND(10, 16)\n23 = NAND(16, 19)\n";
 
 /// Two buffers, one after the other.
-pub const CHAIN: &[u8] =
-    b"INPUT(a)\nOUTPUT(c)\nb = BUFF(a)\nc = BUFF(b)\n";
+pub const CHAIN: &[u8] = b"INPUT(a)\nOUTPUT(c)\nb = BUFF(a)\nc = BUFF(b)\n";
 
 /// A netlist of one input.
-pub const INPUT: &[u8] =
-    b"INPUT(a)\n";
+pub const INPUT: &[u8] = b"INPUT(a)\n";
 
 /// An inverter.
-pub const NOT: &[u8] =
-    b"INPUT(a)\ny = NOT(a)\n";
+pub const NOT: &[u8] = b"INPUT(a)\ny = NOT(a)\n";
 
 /// A gate that has one wire at both its inputs.
-pub const SAME: &[u8] =
-    b"INPUT(a)\ny = NAND(a, a)\n";
+pub const SAME: &[u8] = b"INPUT(a)\ny = NAND(a, a)\n";
 
 /// An adder of two bits whose names begin with the kinds of the gates. By these its sum is 8531.
 pub const BY_KIND: &[u8] =
@@ -30,8 +26,7 @@ pub const BY_KIND: &[u8] =
         or_out1 = OR(and_both1, and_carried1)\n";
 
 /// The part says nothing of its wire, and no part has the other wire.
-pub const FREE: &[u8] =
-    b"type F a\nok 0\nok 1\nend\nblock M a d\npart u F a\nend\ntop M\n";
+pub const FREE: &[u8] = b"type F a\nok 0\nok 1\nend\nblock M a d\npart u F a\nend\ntop M\n";
 
 /// A valve that is stuck shut passes nothing on, and no valve makes pressure.
 pub const VALVE: &[u8] =
@@ -48,17 +43,13 @@ pub const DEAR: &[u8] =
         end\nblock M a d y\nwire b\npart p P a b\npart q Q b y\npart r R d\nend\ntop M\n";
 
 /// One of two parts is faulty.
-pub const EITHER_FAULTY: &[u8] =
-    b"nnf 3 2 2\nL -1\nL -2\nO 0 2 0 1\n";
+pub const EITHER_FAULTY: &[u8] = b"nnf 3 2 2\nL -1\nL -2\nO 0 2 0 1\n";
 
 /// Of three parts the first or the second is faulty.
-pub const EITHER_OF_THREE: &[u8] =
-    b"nnf 3 2 3\nL -1\nL -2\nO 0 2 0 1\n";
+pub const EITHER_OF_THREE: &[u8] = b"nnf 3 2 3\nL -1\nL -2\nO 0 2 0 1\n";
 
 /// Both of its variables are true.
-pub const BOTH_TRUE: &[u8] =
-    b"nnf 3 2 2\nL 1\nL 2\nA 2 0 1\n";
+pub const BOTH_TRUE: &[u8] = b"nnf 3 2 2\nL 1\nL 2\nA 2 0 1\n";
 
 /// It is not decomposable.
-pub const SHARED: &[u8] =
-    b"nnf 3 2 1\nL 1\nL -1\nA 2 0 1\n";
+pub const SHARED: &[u8] = b"nnf 3 2 1\nL 1\nL -1\nA 2 0 1\n";

@@ -2,7 +2,7 @@
 use crate::files::{BOTH_TRUE, EITHER_FAULTY, EITHER_OF_THREE, SHARED};
 use crate::rows::Row;
 
-pub const GRAPHS: [Row<'static>; 21] = [
+pub static GRAPHS: [Row<'static>; 21] = [
     Row {
         name: "f.nnf",
         text: b"nnf 3 2 1\nL 1\nL -1\nO 1 2 0 1\n",

@@ -3,6 +3,7 @@ use crate::files::CHAIN;
 use crate::rows::{Row, answer};
 use crate::running::NOTHING_FAILS;
 use std::alloc::{AllocError, Global};
+use std::process::Abort;
 use std::test::Fail;
 
 // What is before the copies of a piece, the piece, how many there are of it, and what is after them. In a piece `%` is the number of
@@ -51,7 +52,7 @@ struct LongRow {
     status: u8,
 }
 
-const LONG: [LongRow; 36] = [
+static LONG: [LongRow; 36] = [
     // Buffers in a row, of which the sum is five for each and two more.
     LongRow {
         name: "f.bench",
@@ -551,20 +552,24 @@ const LONG: [LongRow; 36] = [
     },
 ];
 
+fn answer_long(rt: &impl Abort, alloc: Global, long: &LongRow) -> Result<(), Fail> {
+    let text = whole(alloc, &long.text)?;
+    let script = whole(alloc, &long.script)?;
+    let row = Row {
+        name: long.name,
+        text: &text,
+        words: long.words,
+        script: &script,
+        out: long.out,
+        status: long.status,
+    };
+    answer(rt, alloc, &row, &NOTHING_FAILS)
+}
+
 #[test]
 fn answers_long_texts(rt: HostRuntime) -> Result<(), Fail> {
     for long in &LONG {
-        let text = whole(rt.alloc(), &long.text)?;
-        let script = whole(rt.alloc(), &long.script)?;
-        let row = Row {
-            name: long.name,
-            text: &text,
-            words: long.words,
-            script: &script,
-            out: long.out,
-            status: long.status,
-        };
-        answer(&rt, rt.alloc(), &row, &NOTHING_FAILS)?;
+        answer_long(&rt, rt.alloc(), long)?;
     }
     Ok(())
 }

@@ -2,7 +2,7 @@
 use crate::files::{BY_KIND, C17, CHAIN, INPUT, NOT, SAME};
 use crate::rows::Row;
 
-pub const NETLISTS: [Row<'static>; 47] = [
+pub static NETLISTS: [Row<'static>; 47] = [
     // The inputs are 0, so 22 and 23 are to be 0.
     Row {
         name: "f.bench",
@@ -71,7 +71,16 @@ pub const NETLISTS: [Row<'static>; 47] = [
     Row {
         name: "f.bench",
         text: b"q = DFF(n)\nn = NOT(q)\n",
-        words: &["serve", "f.bench", "--sessions", "2", "--frames", "3", "--budget", "1000"],
+        words: &[
+            "serve",
+            "f.bench",
+            "--sessions",
+            "2",
+            "--frames",
+            "3",
+            "--budget",
+            "1000",
+        ],
         script: b"open S\nsee S q@0001=0\nsee S q@0003=1\nlist S 5\n",
         out: b"ready 2 6\nS open\nS ok\nS ok\nS diag n\nS diag q\nS end\n",
         status: 0,
@@ -425,7 +434,9 @@ pub const NETLISTS: [Row<'static>; 47] = [
     Row {
         name: "f.bench",
         text: b"q = DFF(n)\nn = NOT(q)\n",
-        words: &["serve", "f.bench", "--levels", "2", "--narrow", "--frames", "3"],
+        words: &[
+            "serve", "f.bench", "--levels", "2", "--narrow", "--frames", "3",
+        ],
         script: b"open S\nsee S q@0001=0\nsee S q@0003=1\nlevels S 9\n",
         out: b"ready 2 6\nS open\nS ok\nS ok\nS level 1 n\nS level 1 q\nS level 2 n q\nS end\n",
         status: 0,

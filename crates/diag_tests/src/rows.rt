@@ -14,6 +14,7 @@ use std::process::Abort;
 use std::test::Fail;
 
 /// The one file of the shelf, the words and the script of a run, and what it writes and ends with.
+#[derive(Clone, Copy)]
 pub struct Row<'a> {
     pub name: &'a str,
     pub text: &'a [u8],
@@ -24,12 +25,7 @@ pub struct Row<'a> {
 }
 
 /// Runs a row.
-pub fn answer(
-    rt: &impl Abort,
-    alloc: Global,
-    row: &Row<'_>,
-    meeting: &Meeting,
-) -> Result<(), Fail>
+pub fn answer(rt: &impl Abort, alloc: Global, row: &Row<'_>, meeting: &Meeting) -> Result<(), Fail>
     requires { 0 < meeting.now.piece }
 {
     let words = row.words;
@@ -64,7 +60,7 @@ fn answers_rows(rt: HostRuntime) -> Result<(), Fail> {
 
 #[test]
 fn refuses_words(rt: HostRuntime) -> Result<(), Fail> {
-    for words in WRONG {
+    for words in &WRONG {
         let row = Row {
             name: "f.bench",
             text: CHAIN,
@@ -80,7 +76,8 @@ fn refuses_words(rt: HostRuntime) -> Result<(), Fail> {
 
 #[test]
 fn refuses_files(rt: HostRuntime) -> Result<(), Fail> {
-    for (name, text, out) in REFUSED {
+    for refused in &REFUSED {
+        let (name, text, out) = *refused;
         let command = if name == "f.nnf" { "check" } else { "serve" };
         let row = Row {
             name,

@@ -19,7 +19,7 @@ pub const REPORTS_OUT: &[u8] =
     b"ready 2 3\nS open\nS min 0\nS diag\nS end\nT error 6 no session\nS probe a 0 0\nS probe b 0 0\nS probe c 0 0\nS end\n\
     S blame b never\nS blame c never\nS end\n";
 
-pub const SCRIPTS: [Row<'static>; 12] = [
+pub static SCRIPTS: [Row<'static>; 12] = [
     // Two sessions side by side, and no third. In S the end of the chain is wrong, in T nothing is.
     Row {
         name: "f.bench",

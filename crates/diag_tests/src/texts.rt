@@ -27,7 +27,7 @@ struct Written {
 // no clause, and 8 of the valve. A graph that is compiled has at most three nodes for each of the sum, two for each
 // variable and two, and the text of what a session allows one more for each part that is held, and one. The text of the diagnoses has
 // at most as many nodes as a graph has nodes and edges, two for each part, and one.
-const WRITTEN: [Written; 15] = [
+static WRITTEN: [Written; 15] = [
     // where the inverter is faulty each row is allowed, and where it is ok those in which its wires differ
     Written {
         name: "f.bench",
@@ -150,7 +150,10 @@ const WRITTEN: [Written; 15] = [
         before: b"",
         vars: 4,
         nodes: 40,
-        allowed: &[0b0000, 0b0001, 0b0010, 0b0011, 0b0100, 0b0101, 0b0110, 0b1000, 0b1010, 0b1100, 0b1110, 0b1111],
+        allowed: &[
+            0b0000, 0b0001, 0b0010, 0b0011, 0b0100, 0b0101, 0b0110, 0b1000, 0b1010, 0b1100, 0b1110,
+            0b1111,
+        ],
         end: b"\n",
     },
     Written {
@@ -161,7 +164,10 @@ const WRITTEN: [Written; 15] = [
         before: b"",
         vars: 4,
         nodes: 40,
-        allowed: &[0b0000, 0b0001, 0b0010, 0b0100, 0b0110, 0b1000, 0b1010, 0b1011, 0b1100, 0b1101, 0b1110, 0b1111],
+        allowed: &[
+            0b0000, 0b0001, 0b0010, 0b0100, 0b0110, 0b1000, 0b1010, 0b1011, 0b1100, 0b1101, 0b1110,
+            0b1111,
+        ],
         end: b"\n",
     },
     Written {
@@ -172,7 +178,10 @@ const WRITTEN: [Written; 15] = [
         before: b"",
         vars: 4,
         nodes: 40,
-        allowed: &[0b0000, 0b0010, 0b0011, 0b0100, 0b0101, 0b0110, 0b0111, 0b1000, 0b1001, 0b1010, 0b1100, 0b1110],
+        allowed: &[
+            0b0000, 0b0010, 0b0011, 0b0100, 0b0101, 0b0110, 0b0111, 0b1000, 0b1001, 0b1010, 0b1100,
+            0b1110,
+        ],
         end: b"\n",
     },
     Written {
@@ -183,7 +192,10 @@ const WRITTEN: [Written; 15] = [
         before: b"",
         vars: 4,
         nodes: 46,
-        allowed: &[0b0000, 0b0001, 0b0010, 0b0100, 0b0110, 0b0111, 0b1000, 0b1010, 0b1011, 0b1100, 0b1101, 0b1110],
+        allowed: &[
+            0b0000, 0b0001, 0b0010, 0b0100, 0b0110, 0b0111, 0b1000, 0b1010, 0b1011, 0b1100, 0b1101,
+            0b1110,
+        ],
         end: b"\n",
     },
     Written {
@@ -260,7 +272,7 @@ fn writes_what_is_allowed(rt: HostRuntime) -> Result<(), Fail> {
 }
 
 // A netlist that is compiled, and what is asked of what was written: the words, the script and what is written.
-const ASKED: [(&[u8], [&str; 3], &[u8], &[u8]); 2] = [
+static ASKED: [(&[u8], [&str; 3], &[u8], &[u8]); 2] = [
     // The parts b and c of the chain are the variables 1 and 2, and its wires a, b and c the next three.
     (
         CHAIN,
@@ -279,7 +291,8 @@ const ASKED: [(&[u8], [&str; 3], &[u8], &[u8]); 2] = [
 
 #[test]
 fn asks_what_was_compiled(rt: HostRuntime) -> Result<(), Fail> {
-    for (text, words, script, out) in ASKED {
+    for asked in &ASKED {
+        let (text, words, script, out) = *asked;
         let compiled = run(
             rt.alloc(),
             "f.bench",

@@ -1,6 +1,6 @@
 //! Words that ask for nothing that the program does.
 
-pub const WRONG: [&[&str]; 80] = [
+pub static WRONG: [&[&str]; 80] = [
     &[],
     &["serve"],
     &["--help"],

@@ -4,20 +4,28 @@
 #[cfg(test)]
 mod adapters;
 #[cfg(test)]
-mod besides;
+mod designs;
 #[cfg(test)]
 mod failing;
 #[cfg(test)]
-mod greatest;
+mod files;
+#[cfg(test)]
+mod graphs;
+#[cfg(test)]
+mod long;
+#[cfg(test)]
+mod netlists;
+#[cfg(test)]
+mod refused;
 #[cfg(test)]
 mod rows;
 #[cfg(test)]
 mod running;
 #[cfg(test)]
-mod sessions;
+mod scripts;
 #[cfg(test)]
 mod sure;
 #[cfg(test)]
 mod texts;
 #[cfg(test)]
-mod turns;
+mod words;

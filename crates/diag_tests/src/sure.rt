@@ -1,18 +1,31 @@
 //! Runs over ends whose calls never fail.
-use crate::running::CHAIN;
-use device_tests::owned;
+use crate::failing::WORDS;
+use crate::files::CHAIN;
+use crate::running::owned;
+use crate::scripts::{TURNS, TURNS_OUT};
 use diag_cli::diag;
 use diag_edge::{MemSink, SureShelf, SureSource, TallySink};
 use std::test::Fail;
 
-const WORDS: [&str; 2] = ["serve", "chain.bench"];
+#[test]
+fn answers_all_where_no_call_can_fail(rt: HostRuntime) -> Result<(), Fail> {
+    let alloc = rt.alloc();
+    let words = owned(alloc, &WORDS)?;
+    let mut shelf = SureShelf::new(Vec::from_slice(alloc, CHAIN)?);
+    let mut input = SureSource::new(Vec::from_slice(alloc, TURNS)?, 4096);
+    let mut out = MemSink::new(alloc, 4096, Vec::new(alloc), 0)?;
+    let status = diag(alloc, &words, &mut shelf, &mut input, &mut out);
+    assert_eq!(rt; status.number(), 0);
+    assert_eq!(rt; out.as_slice(), TURNS_OUT);
+    Ok(())
+}
 
 // Of each `min S` the reply has eight bytes, and the two lines before them have ten and seven.
 #[test]
 fn answers_a_long_script(rt: HostRuntime) -> Result<(), Fail> {
     let alloc = rt.alloc();
     let words = owned(alloc, &WORDS)?;
-    let mut shelf = SureShelf::new(Vec::from_slice(alloc, CHAIN.text.as_bytes())?);
+    let mut shelf = SureShelf::new(Vec::from_slice(alloc, CHAIN)?);
     let mut script = Vec::from_slice(alloc, b"open S\n")?;
     for _ in 0..200_000 {
         script.extend_from_slice(b"min S\n")?;

@@ -175,7 +175,34 @@ fn distills<L: Ledger>(
         &mut steps,
     );
     assert_eq!(rt; (step, state), (row.step, row.next));
+    assert_eq!(rt; words, row.words);
+    Ok(())
+}
+
+// The verdicts through the distilled graph.
+fn blames<L: Ledger>(
+    rt: &impl Abort,
+    alloc: Global,
+    blank: Blank,
+    graph: &Graph,
+    row: &Row,
+) -> Result<(), AllocError>
+    requires name { blank.name ≡ L.name }
+    requires parts { blank.parts ≡ L.parts }
+    requires some { 0 < blank.parts }
+{
+    let costs = row.costs;
+    assert!(rt; graph.len() == 4 && graph.vars() == 4);
+    assert!(rt; are_below(&row.words, 3));
+    assert!(rt; are_positive(&costs));
+    assert!(rt; are_below(&costs, 715_827_883));
+    let mut distiller = Distiller::new(alloc, graph)?;
+    let mut steps = Steps::<L>::new(blank);
+    let mut values = [0; 4];
+    let mut words = row.words;
+    let mut state = [0; 3];
     let mut verdicts = [Blame::Never; 3];
+    distiller.prepare(graph, &words, &costs, &mut values, &mut steps)?;
     distiller.blame_all(
         graph,
         &mut words,
@@ -220,6 +247,7 @@ fn asks(rt: HostRuntime) -> Result<(), Fail> {
     let graph = graph_of(rt.alloc(), HIGH)?;
     for row in &ROWS {
         distills::<Brand>(&rt, rt.alloc(), Blank::new(1), &graph, row)?;
+        blames::<Brand>(&rt, rt.alloc(), Blank::new(1), &graph, row)?;
         probes::<Brand>(&rt, Blank::new(1), &graph, row);
     }
     Ok(())

@@ -10,6 +10,3 @@ first-least-requires-clause-total g c = few_costs c.args.row.now.costs (search r
 
 pub next-step-requires-clause-total : goal.next-step-requires-clause-total
 next-step-requires-clause-total g c = few_costs c.args.row.now.costs (search rules) (search rules)
-
-pub blame_all-requires-clause-total : goal.blame_all-requires-clause-total
-blame_all-requires-clause-total g c = few_costs c.args.row.now.costs (search rules) (search rules)

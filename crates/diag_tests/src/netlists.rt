@@ -1,8 +1,8 @@
-//! Rows over netlists. In the last ones the clauses are put into another order.
+//! Rows over netlists. The last ones go along a forest.
 use crate::files::{BY_KIND, C17, CHAIN, INPUT, NOT, SAME};
 use crate::rows::Row;
 
-pub static NETLISTS: [Row<'static>; 47] = [
+pub static NETLISTS: [Row<'static>; 23] = [
     // The inputs are 0, so 22 and 23 are to be 0.
     Row {
         name: "f.bench",
@@ -221,6 +221,10 @@ pub static NETLISTS: [Row<'static>; 47] = [
         out: b"error: sum above 8530\n",
         status: 3,
     },
+];
+
+/// The same with options, and netlists that are large.
+pub static WITH_OPTIONS: [Row<'static>; 24] = [
     // States by rising cost: one of the buffers is faulty, or both are. The listing goes on from any state.
     Row {
         name: "f.bench",
@@ -382,7 +386,7 @@ pub static NETLISTS: [Row<'static>; 47] = [
                  S probe aA@0001 0 0\nS probe aA@0002 0 0\nS end\n",
         status: 0,
     },
-    // The same in another order of the clauses.
+    // The same along a forest.
     Row {
         name: "f.bench",
         text: b"q = DFF(n)\nn = NOT(q)\n",
@@ -391,7 +395,7 @@ pub static NETLISTS: [Row<'static>; 47] = [
         out: b"ready 2 6\nS open\nS ok\nS ok\nS diag n\nS diag q\nS end\n",
         status: 0,
     },
-    // In another order it is far smaller. All that is added is 0, so the upper sum is to be 0: a diagnosis is its own gate,
+    // Along a forest it is far smaller. All that is added is 0, so the upper sum is to be 0: a diagnosis is its own gate,
     // its half sum, or one of those that carry. They are told in the order of the names.
     Row {
         name: "f.bench",
@@ -413,7 +417,7 @@ pub static NETLISTS: [Row<'static>; 47] = [
                  S end\n",
         status: 0,
     },
-    // Both of its clauses name its variables in the same order, so that each order of them has the same sum.
+    // Both of its clauses have all of its variables, so that each way through them has the same sum.
     Row {
         name: "f.bench",
         text: NOT,
@@ -441,7 +445,7 @@ pub static NETLISTS: [Row<'static>; 47] = [
         out: b"ready 2 6\nS open\nS ok\nS ok\nS level 1 n\nS level 1 q\nS level 2 n q\nS end\n",
         status: 0,
     },
-    // In another order the sum is far smaller, and so are the bits.
+    // Along a forest the sum is far smaller, and so are the bits.
     Row {
         name: "f.bench",
         text: BY_KIND,

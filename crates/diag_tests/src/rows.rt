@@ -4,7 +4,7 @@ ghost use Rattle.std.specs.Prelude.{◌<◌};
 use crate::designs::DESIGNS;
 use crate::files::CHAIN;
 use crate::graphs::GRAPHS;
-use crate::netlists::NETLISTS;
+use crate::netlists::{NETLISTS, WITH_OPTIONS};
 use crate::refused::REFUSED;
 use crate::running::{Meeting, NOTHING_FAILS, run};
 use crate::scripts::SCRIPTS;
@@ -36,26 +36,43 @@ pub fn answer(rt: &impl Abort, alloc: Global, row: &Row<'_>, meeting: &Meeting) 
 }
 
 // Each row, with the script in one piece, in pieces of 7 bytes, and byte by byte.
-#[test]
-fn answers_rows(rt: HostRuntime) -> Result<(), Fail> {
-    for rows in [
-        NETLISTS.as_slice(),
-        DESIGNS.as_slice(),
-        GRAPHS.as_slice(),
-        SCRIPTS.as_slice(),
-    ] {
-        for row in rows {
-            for piece in [1, 7, 4096] {
-                let meeting = Meeting {
-                    piece,
-                    ..NOTHING_FAILS
-                };
-                assert!(&rt; 0 < meeting.piece);
-                answer(&rt, rt.alloc(), row, &meeting)?;
-            }
+fn answer_rows(rt: &impl Abort, alloc: Global, rows: &[Row<'_>]) -> Result<(), Fail> {
+    for row in rows {
+        for piece in [1, 7, 4096] {
+            let meeting = Meeting {
+                piece,
+                ..NOTHING_FAILS
+            };
+            assert!(rt; 0 < meeting.piece);
+            answer(rt, alloc, row, &meeting)?;
         }
     }
     Ok(())
+}
+
+#[test]
+fn answers_netlists(rt: HostRuntime) -> Result<(), Fail> {
+    answer_rows(&rt, rt.alloc(), &NETLISTS)
+}
+
+#[test]
+fn answers_netlists_with_options(rt: HostRuntime) -> Result<(), Fail> {
+    answer_rows(&rt, rt.alloc(), &WITH_OPTIONS)
+}
+
+#[test]
+fn answers_designs(rt: HostRuntime) -> Result<(), Fail> {
+    answer_rows(&rt, rt.alloc(), &DESIGNS)
+}
+
+#[test]
+fn answers_graphs(rt: HostRuntime) -> Result<(), Fail> {
+    answer_rows(&rt, rt.alloc(), &GRAPHS)
+}
+
+#[test]
+fn answers_scripts(rt: HostRuntime) -> Result<(), Fail> {
+    answer_rows(&rt, rt.alloc(), &SCRIPTS)
 }
 
 #[test]

@@ -153,8 +153,8 @@ class Child:
             raise self.ended()
         with self._a_step():
             if LOG.isEnabledFor(logging.DEBUG):
-                for request in requests:
-                    LOG.debug("to %d: %s", self._process.pid, request.line)
+                for line in text.decode("utf-8", "surrogateescape").splitlines():
+                    LOG.debug("to %d: %s", self._process.pid, line)
             self._unsent += text
             self._awaited.extend(requests)
             self._watch(self._input, selectors.EVENT_WRITE)
@@ -246,23 +246,31 @@ class Child:
 
     def _read(self) -> None:
         came = os.read(self._output.fileno(), PIECE)
-        if not came:
-            self._ignore(self._output)
-            self._last_line = self._text(self._begun) or self._last_line
+        self._begun += came
+        if came and not LOG.isEnabledFor(logging.DEBUG) and self._is_known():
             return
-        whole, feed, rest = came.rpartition(b"\n")
-        if not feed:
-            self._begun += came
-            return
-        lines = self._text(self._begun + whole).split("\n")
-        self._begun = bytearray(rest)
+        whole, feed, self._begun = self._begun.rpartition(b"\n")
         is_logged = LOG.isEnabledFor(logging.DEBUG)
-        for line in lines:
+        for line in self._text(whole).split("\n") if feed else []:
             self._last_line = line
             if is_logged:
                 LOG.debug("from %d: %s", self._process.pid, line)
             if not self._input.closed or self._awaited:
                 self._hand(line)
+        if not came:
+            self._ignore(self._output)
+            self._last_line = self._text(self._begun) or self._last_line
+
+    def _is_known(self) -> bool:
+        """Takes whole replies that came as they were known. Whether what is left begins such a reply."""
+        while self._awaited and (known := self._awaited[0].known):
+            if not self._begun.startswith(known):
+                return known.startswith(self._begun)
+            del self._begun[:len(known)]
+            request = self._awaited.popleft()
+            self._last_line = request.take_known()
+            request.is_answered = True
+        return not self._begun
 
     def _hand(self, line: str) -> None:
         """Gives a line to the request that it answers. If it answers none, the program ends, or is none that answers scripts."""

@@ -109,7 +109,7 @@ class Pipes(unittest.TestCase):
     def test_the_program_itself(self):
         with Service(C17) as service, service.session("S" * 64) as session:
             lines = [session._change("see", f"{wire}={number % 2}") for number in range(1000) for wire in service.wires]
-            session._carry_out(lines)
+            session.service.do(lines)
             self.assertEqual(len(lines), 11_000)
             self.assertEqual(set(session.seen.values()), {1})
 
@@ -128,14 +128,14 @@ class Interrupts(unittest.TestCase):
             for begin in (lambda: session.see(a=1), lambda: None, lambda: session.after("p3")):
                 begin()
                 first = [str(diagnosis) for diagnosis in session.diagnoses(3)]
-                self.interrupted(lambda: session._carry_out([pause_of(session), *session._placing(("p7",)), page_of(session)]))
+                self.interrupted(lambda: session.service.do([pause_of(session), *session.placing(("p7",)), page_of(session)]))
                 self.assertEqual([str(diagnosis) for diagnosis in session.diagnoses(3)], first)
             self.assertEqual(first, ["p4", "p5", "p6"])
 
     def test_what_was_seen_stays(self):
         """A reading whose reply was not waited for is known to the next listing."""
         with served("lists") as service, service.session("S") as session, service.session("T") as other:
-            self.interrupted(lambda: session._carry_out([pause_of(other), session._change("see", "a=1")]))
+            self.interrupted(lambda: session.service.do([pause_of(other), session._change("see", "a=1")]))
             self.assertEqual([str(diagnosis) for diagnosis in session.diagnoses(1)], ["p1"])
             self.assertEqual(dict(session.seen), {"a": 1})
 
@@ -165,7 +165,7 @@ class Interrupts(unittest.TestCase):
                 with self.assertRaises(Refused):
                     service.session("T")
                 other.see(a=1)
-            self.interrupted(lambda: session._carry_out([pause_of(session), session._closing(), session._opening()]))
+            self.interrupted(lambda: session.service.do([pause_of(session), session._closing(), session._opening()]))
             session.close()
             session.close()
             self.assertFalse(session.is_open)
@@ -196,9 +196,9 @@ class Interrupts(unittest.TestCase):
         """If it cannot be known how far a reply was read, the program is stopped and the error says so."""
         with served("is good") as service, service.session("S") as session:
             request = session._change("see", "a=1")
-            request.take = lambda _: (_ for _ in ()).throw(KeyboardInterrupt())
+            request.take_known = lambda: (_ for _ in ()).throw(KeyboardInterrupt())
             with self.assertRaises(KeyboardInterrupt):
-                session._carry_out([request])
+                session.service.do([request])
             with self.assertRaisesRegex(Ended, "in the midst of a reply"):
                 session.see(a=1)
 

@@ -2,6 +2,7 @@
 
 import contextlib
 import io
+import json
 import os
 import signal
 import threading
@@ -206,6 +207,31 @@ class Interrupts(unittest.TestCase):
         """An interrupt at the terminal goes to all of a group of processes."""
         with served("is good") as service:
             self.assertNotEqual(os.getpgid(service._child._process.pid), os.getpgrp())
+
+
+class InOnePiece(unittest.TestCase):
+    """Readings go out in one piece, and the replies are known beforehand. Of those that are others each line counts."""
+
+    def test_all_are_taken(self):
+        seen = {f"w{number}": number % 2 for number in range(20_000)}
+        with served("is good") as service, service.session("S") as session:
+            session.see(seen)
+            self.assertEqual((dict(session.seen), session.changes), (seen, len(seen)))
+
+    def test_some_are_refused(self):
+        canned = {"see S b=1": "S error 9 no wire", "see S c=2": "error 3 wrong word"}
+        with Service("any.bench", program=[*stand_in("tells"), json.dumps(canned)]) as service, service.session("S") as session:
+            with self.assertRaises(Refused) as caught:
+                session.see(a=True, b=1, c=2, d=0)
+            self.assertEqual((caught.exception.number, caught.exception.line), (9, "see S b=1"))
+            self.assertEqual((dict(session.seen), session.changes), ({"a": 1, "d": 0}, 2))
+
+    def test_it_ends_among_them(self):
+        service = served("dies")
+        session = service.session("S")
+        with self.assertRaises(Ended):
+            session.see(a=0, b=1, c=1)
+        self.assertEqual(dict(session.seen), {"a": 0})
 
 
 class Closed(unittest.TestCase):

@@ -256,28 +256,29 @@ class Child:
             return
         lines = self._text(self._begun + whole).split("\n")
         self._begun = bytearray(rest)
-        is_logged = LOG.isEnabledFor(logging.DEBUG)
-        for line in lines:
-            self._last_line = line
-            if is_logged:
+        self._last_line = lines[-1]
+        if LOG.isEnabledFor(logging.DEBUG):
+            for line in lines:
                 LOG.debug("from %d: %s", self._process.pid, line)
-            if not self._input.closed or self._awaited:
-                self._hand(line)
+        self._hand(lines)
 
-    def _hand(self, line: str) -> None:
-        """Gives a line to the request that it answers. If it answers none, the program ends, or is none that answers scripts."""
-        try:
-            if not self._awaited:
-                raise NotAReply(line)
-            if self._awaited[0].take(line):
-                self._awaited.popleft().is_answered = True
-        except NotAReply:
-            # With such a line the program itself says why it ends.
-            if not line.startswith("error: "):
-                asked = self._awaited[0].line if self._awaited else ""
-                self._stray = line, f"unexpected reply `{line}`" + (f" to `{asked}`" if asked else "")
-            self._give_up()
-            self._hang_up()
+    def _hand(self, lines: Sequence[str]) -> None:
+        """Gives each line to the request that it answers. If it answers none, the program ends, or is none that answers scripts."""
+        awaited = self._awaited
+        for line in lines:
+            try:
+                if awaited:
+                    if awaited[0].take(line):
+                        awaited.popleft().is_answered = True
+                elif not self._input.closed:
+                    raise NotAReply(line)
+            except NotAReply:
+                # With such a line the program itself says why it ends.
+                if not line.startswith("error: "):
+                    asked = awaited[0].line if awaited else ""
+                    self._stray = line, f"unexpected reply `{line}`" + (f" to `{asked}`" if asked else "")
+                self._give_up()
+                self._hang_up()
 
     def _hear(self) -> None:
         """What is said on standard error is passed on, and the last line kept."""

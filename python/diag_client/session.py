@@ -401,10 +401,10 @@ class Session:
         ...     request.line, request.lines, request.refused
         ('min S', ['S min 0'], None)
         """
-        if command in ("open", "close") or command.startswith("#"):
-            raise ValueError(f"not a command of a session that is open: {command!r}")
         if command in CHANGES:
             return self._change(command, *words)
+        if command in ("open", "close") or command.startswith("#"):
+            raise ValueError(f"not a command of a session that is open: {command!r}")
         return AnyLine(self._line(command, *words), self.name)
 
     def change(self, command: str, *words: str) -> None:
@@ -438,7 +438,14 @@ class Session:
         return below, above
 
     def _line(self, command: str, *words: str) -> str:
-        return " ".join(map(_word, (command, self.name, *words)))
+        texts = [command, self.name, *map(str, words)]
+        line = " ".join(texts)
+        if line.split() != texts:
+            # Some that Python takes for a blank is none in a script. Whether a word is one that is known is the program's to say.
+            for text in texts:
+                if not text or BLANK.search(text):
+                    raise ValueError(f"not a word of a script, which is not empty and has no blanks: {text!r}")
+        return line
 
     def _carry_out(self, requests: Sequence[Request]) -> None:
         """Asks all at once. The first refusal is raised when all are answered."""
@@ -577,14 +584,6 @@ def case_lines(script: str | Iterable[str], of: str | None = None) -> list[list[
         elif name == about and command != "close":
             found.append([command, *words])
     return found
-
-
-def _word(text: str) -> str:
-    """A name or a value as a word of a line. Whether it is one that is known is the program's to say."""
-    text = str(text)
-    if not text or BLANK.search(text):
-        raise ValueError(f"not a word of a script, which is not empty and has no blanks: {text!r}")
-    return text
 
 
 def _bit(bit: int) -> str:

@@ -1,5 +1,6 @@
 """The script `examples/many-sessions`."""
 
+import os
 import shutil
 import subprocess
 import tempfile
@@ -8,8 +9,13 @@ import unittest
 from support import C17, PROGRAM, TOP, needs_program
 
 
+def has_parallel():
+    """There is another program of this name."""
+    return shutil.which("parallel") and "GNU" in subprocess.run(["parallel", "--version"], capture_output=True, text=True).stdout
+
+
 @needs_program
-@unittest.skipUnless(shutil.which("parallel"), "there is no GNU parallel")
+@unittest.skipUnless(has_parallel(), "there is no GNU parallel")
 class ManySessions(unittest.TestCase):
     """It answers as one process does, by the program that DIAG_PROGRAM names."""
 
@@ -19,7 +25,10 @@ class ManySessions(unittest.TestCase):
             script.flush()
             words = [script.name if word == "SCRIPT" else word for word in words]
             self.expected = subprocess.run([PROGRAM, "serve", C17], input=text, capture_output=True, text=True).stdout
-            return subprocess.run([TOP / "examples/many-sessions", *words], capture_output=True, text=True)
+            # It keeps files of its own in the home folder.
+            with tempfile.TemporaryDirectory() as home:
+                words = [TOP / "examples/many-sessions", *words]
+                return subprocess.run(words, capture_output=True, text=True, env={**os.environ, "HOME": home})
 
     def test_options_anywhere(self):
         for words in (("--sessions", "4", C17, "SCRIPT"), (C17, "--narrow", "SCRIPT", "--jobs", "2"), (C17, "SCRIPT", "--least", "--alone")):

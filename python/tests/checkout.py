@@ -40,7 +40,10 @@ def make_checkout(folder, program=None):
     """Makes the checkout. The program, if it is given, is there as `rt ci` leaves it."""
     top = pathlib.Path(folder)
     shutil.copy(TOP / "diag", top)
-    shutil.copytree(TOP / "python", top / "python", ignore=shutil.ignore_patterns("tests", "__pycache__", "build", "*.egg-info"))
+    # What tools leave in that folder, caches and builds, stays there.
+    shutil.copytree(TOP / "python/diag_client", top / "python/diag_client", ignore=shutil.ignore_patterns("__pycache__", "bin"))
+    for name in ("build-wheel", "pyproject.toml"):
+        shutil.copy(TOP / "python" / name, top / "python")
     for name, text in {
         "crates.txt": "# Lines in any order\ndiag: low std\nlow staticlib: std\ndiag_tests: diag\n", "HANDLES": "Handles allowed: none.\n",
         "crates/diag/src/main.rt": "fn main() {}\n", "crates/low/src/lib.rt": "fn low() {}\n", "crates/low/specs/Low.antt": "low\n",

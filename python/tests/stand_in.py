@@ -77,7 +77,7 @@ def answers(how, canned):
             misbehave(how, session)
         if how == "dozes" and command == "min":
             # Longer than anyone waits.
-            time.sleep(120)
+            time.sleep(900)
         if how == "sleeps" and command == "min":
             say(f"{session} ", end="")
             signal.sigwait({GO_ON})

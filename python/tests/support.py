@@ -16,8 +16,8 @@ TESTS = TOP / "python/tests"
 # The built program itself, and not the launcher, which asks whether a source is newer. Some tests go to another folder.
 PROGRAM = os.environ["DIAG_PROGRAM"] = os.path.abspath(os.environ.get("DIAG_PROGRAM") or TOP / "crates/diag/out/diag")
 needs_program = unittest.skipUnless(os.access(PROGRAM, os.X_OK), "the program is not built")
-# So many seconds something is waited for that has to come, on a slow and busy machine too.
-SOON = 60.0
+# So many seconds something is waited for that has to come, on a starved machine too.
+SOON = 300.0
 
 sys.path.insert(0, str(TOP / "python"))
 

@@ -15,7 +15,6 @@ def has_parallel():
 
 
 @needs_program
-@unittest.skipUnless(has_parallel(), "there is no GNU parallel")
 class ManySessions(unittest.TestCase):
     """It answers as one process does, by the program that DIAG_PROGRAM names."""
 
@@ -30,11 +29,13 @@ class ManySessions(unittest.TestCase):
                 words = [TOP / "examples/many-sessions", *words]
                 return subprocess.run(words, capture_output=True, text=True, env={**os.environ, "HOME": home})
 
+    @unittest.skipUnless(has_parallel(), "there is no GNU parallel")
     def test_options_anywhere(self):
         for words in (("--sessions", "4", C17, "SCRIPT"), (C17, "--narrow", "SCRIPT", "--jobs", "2"), (C17, "SCRIPT", "--least", "--alone")):
             done = self.run_script(*words)
             self.assertEqual((done.returncode, done.stdout), (0, self.expected), done.stderr)
 
+    @unittest.skipUnless(has_parallel(), "there is no GNU parallel")
     def test_refused_device(self):
         """The program says why, and nothing else is said of it."""
         done = self.run_script(C17, "SCRIPT", "--budget", "1")
@@ -43,7 +44,8 @@ class ManySessions(unittest.TestCase):
 
     def test_refusals(self):
         for words, why in (
-            (("--jobs", "0", C17, "SCRIPT"), "0 is no number from 1 on"), ((C17, "nowhere"), "nowhere"), ((C17, "SCRIPT", "--wide"), "--wide"),
+            (("--jobs", "0", C17, "SCRIPT"), "0 is no number from 1 on"), ((C17, "SCRIPT", "--wide"), "--wide"),
+            ((C17, "nowhere"), "nowhere" if has_parallel() else "it needs GNU parallel"),
         ):
             done = self.run_script(*words)
             self.assertNotEqual(done.returncode, 0)

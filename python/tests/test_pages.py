@@ -31,6 +31,12 @@ class Help(unittest.TestCase):
         said = " ".join([section.title for section in self.found] + [text for row in entries for text in (row.head, row.text, row.notes)])
         self.assertEqual(sorted(said.replace(":", " ").split()), sorted(self.text.replace(":", " ").split()))
 
+    def test_each_entry_is_explained(self):
+        """Two blanks part what is explained from the explanation."""
+        for entry in [entry for section in self.found for entry in section.entries]:
+            self.assertTrue(entry.text, entry.head)
+            self.assertTrue(all(option.text for option in entry.options), entry.head)
+
     def test_commands(self):
         usages = manual.usages(self.found)
         self.assertEqual(usages["see"].words, ("w=b",))
@@ -40,6 +46,11 @@ class Help(unittest.TestCase):
 
 class Page(unittest.TestCase):
     """`docs/diag.1`."""
+
+    def test_sections(self):
+        titles = re.findall(r"^\.SH (.*)$", PAGE.read_text(), re.MULTILINE)
+        self.assertEqual([title for title in ("SYNOPSIS", "FILES", "EXAMPLES", "SEE ALSO") if title not in titles], [])
+        self.assertRegex(PAGE.read_text(), r"(?s)\.TH DIAG 1 [0-9-]{10}\n.*\.SH SYNOPSIS\n.*diag \\-\\-build\n.*\.SH DESCRIPTION")
 
     def test_is_the_help(self):
         self.assertEqual(

@@ -293,20 +293,21 @@ class Served(unittest.TestCase):
         self.assertIn(b"drawn without diagnoses", done.stderr)
 
     def test_interrupt(self):
-        """While a device is compiled, an interrupt ends it without a traceback."""
+        """While a device is compiled, an interrupt ends the picture, and the terminal, without a traceback."""
         env = {**os.environ, "PYTHONPATH": str(TOP / "python")}
         with tempfile.TemporaryDirectory() as folder:
             waits = pathlib.Path(folder, "waits")
             waits.write_text("#!/bin/sh\necho started >&2\nexec sleep 100\n")
             waits.chmod(0o755)
-            words = [sys.executable, "-m", "diag_client", "picture", C17, "--program", waits]
-            with subprocess.Popen(words, stderr=subprocess.PIPE, env=env) as child:
-                self.assertEqual(child.stderr.readline(), b"started\n")
-                child.send_signal(signal.SIGINT)
-                said = child.stderr.read()
-                self.assertEqual(child.wait(), 130)
-        self.assertIn(b"interrupted", said)
-        self.assertNotIn(b"Traceback", said)
+            for command in ("picture", "shell"):
+                words = [sys.executable, "-m", "diag_client", command, C17, "--program", waits]
+                with subprocess.Popen(words, stderr=subprocess.PIPE, env=env) as child:
+                    self.assertEqual(child.stderr.readline(), b"started\n")
+                    child.send_signal(signal.SIGINT)
+                    said = child.stderr.read()
+                    self.assertEqual(child.wait(), 130)
+                self.assertIn(b"interrupted", said)
+                self.assertNotIn(b"Traceback", said)
 
     def test_without_dot(self):
         with tempfile.TemporaryDirectory() as folder:

@@ -1,10 +1,12 @@
 """The terminal, by lines and by its completion."""
 
 import contextlib
+import importlib
 import io
 import pathlib
 import re
 import signal
+import sys
 import tempfile
 import unittest
 from unittest import mock
@@ -267,6 +269,11 @@ class Interrupts(unittest.TestCase):
                 interrupt_at(self.service, "min S")
                 self.assertEqual(shell.run(self.service), 0)
         self.assertEqual(self.service._child._process.returncode, -signal.SIGKILL)
+
+    def test_import(self):
+        """What looks at all modules, as a browser of their docstrings does, starts nothing."""
+        sys.modules.pop("diag_client.__main__", None)
+        self.assertTrue(importlib.import_module("diag_client.__main__").main)
 
     def test_lines_as_they_come(self):
         """What has come of a long listing is printed before the rest of it."""

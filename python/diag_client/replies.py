@@ -164,6 +164,8 @@ class Request:
 
     def refuse(self, line: str) -> bool:
         """Whether a line refuses the request: as the session's own reply, or as that to a line that names none."""
+        if "error " not in line:
+            return False
         said = REFUSAL.fullmatch(line) or REFUSAL.fullmatch(line.removeprefix(f"{self.session} "))
         if said is not None:
             self.refused = Refused(int(said[1]), said[2], self.line)
@@ -318,11 +320,11 @@ class AnyLine(Request):
 
     def take(self, line: str) -> bool:
         # Only the first line of a reply can be a refusal that names no session.
-        if self._has_begun and REFUSAL.fullmatch(line):
-            return True
         if not self._has_begun:
             self._has_begun = True
             self.refuse(line)
+        elif line.startswith("error ") and REFUSAL.fullmatch(line):
+            return True
         if self._is_wanted:
             self.lines.append(line)
         return False

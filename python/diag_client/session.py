@@ -417,10 +417,10 @@ class Session:
         ...     request.line, request.lines, request.refused
         ('min S', ['S min 0'], None)
         """
-        if command in ("open", "close") or command.startswith("#"):
-            raise ValueError(f"not a command of a session that is open: {command!r}")
         if command in CHANGES:
             return self._change(command, *words)
+        if command in ("open", "close") or command.startswith("#"):
+            raise ValueError(f"not a command of a session that is open: {command!r}")
         return AnyLine(self._line(command, *words), self.name)
 
     def change(self, command: str, *words: str) -> None:
@@ -454,7 +454,12 @@ class Session:
         return below, above
 
     def _line(self, command: str, *words: str) -> str:
-        return " ".join(map(_word, (command, self.name, *words)))
+        texts = [command, self.name, *map(str, words)]
+        line = " ".join(texts)
+        if line.split() != texts:
+            # Some that Python takes for a blank is none in a script.
+            _check_words(texts)
+        return line
 
     def _told(self, request: Listing, word: str) -> list[list[str]]:
         """What follows the word, in each line of the reply that begins with it."""
@@ -541,8 +546,7 @@ class Session:
         """Lines that change the case, one for each word, as one request."""
         texts = list(map(str, words))
         if "" in texts or BLANK.search("".join(texts)):
-            for text in texts:
-                _word(text)
+            _check_words(texts)
         return [Change(self.name, functools.partial(self._note, command), f"{command} {self.name} ", texts)] if texts else []
 
     def _note(self, command: str, words: Sequence[str]) -> None:
@@ -598,12 +602,11 @@ def case_lines(script: str | Iterable[str], of: str | None = None) -> list[list[
     return found
 
 
-def _word(text: str) -> str:
-    """A name or a value as a word of a line. Whether it is one that is known is the program's to say."""
-    text = str(text)
-    if not text or BLANK.search(text):
-        raise ValueError(f"not a word of a script, which is not empty and has no blanks: {text!r}")
-    return text
+def _check_words(texts: Iterable[str]) -> None:
+    """Names and values are words of a line. Whether one is known is the program's to say."""
+    for text in texts:
+        if not text or BLANK.search(text):
+            raise ValueError(f"not a word of a script, which is not empty and has no blanks: {text!r}")
 
 
 def _cost(text: str) -> int | None:

@@ -8,7 +8,7 @@ import signal
 import threading
 import unittest
 
-from support import C17, EXAMPLES, needs_program, stand_in
+from support import C17, EXAMPLES, interrupt_at, needs_program, stand_in
 
 from diag_client import Ended, NotBuilt, Refused, Service
 from diag_client.replies import Listing
@@ -142,13 +142,12 @@ class Interrupts(unittest.TestCase):
 
     def test_while_it_waits(self):
         with served("sleeps") as service, service.session("S") as session:
-            alarm = threading.Timer(0.2, signal.pthread_kill, [threading.get_ident(), signal.SIGINT])
-            with self.assertRaises(KeyboardInterrupt):
-                alarm.start()
-                while True:
-                    session.minimum()
+            interrupt_at(service, "min S")
+            self.interrupted(session.minimum)
             # The reply that was not waited for comes first, and is none to this.
+            service._child._process.send_signal(signal.SIGUSR1)
             session.see(a=1)
+            service._child._process.send_signal(signal.SIGUSR1)
             self.assertEqual(session.minimum().cost, 0)
             self.assertEqual(dict(session.seen), {"a": 1})
 

@@ -28,14 +28,14 @@ PYTHON = next(
 )
 PAGE = TOP / "docs/PYTHON.md"
 # A repair, from what its terminal shows on: the advice is taken, and after it the board is tried again.
-REPAIR = {
-    "list": "diag 10\ndiag 22\nend",
-    "best": "measure 10: of 2 diagnoses 1 goes on with 0 and 1 with 1, so that 1.0 are expected to be left",
-    "see 10=1": "ok",
-    "list 9": "diag 22\nend",
-    "see 22=0": "ok",
-    "min": "min 0",
-}
+REPAIR = [
+    ("list 9", "diag 10\ndiag 22\nend"),
+    ("best", "measure 10: of 2 diagnoses 1 goes on with 0 and 1 with 1, so that 1.0 are expected to be left"),
+    ("see 10=1", "ok"),
+    ("list 9", "diag 22\nend"),
+    ("see 22=0", "ok"),
+    ("min", "min 0"),
+]
 
 
 @needs_program
@@ -93,11 +93,11 @@ class Wheel(unittest.TestCase):
         shutil.copy(PAGE, self.folder)
         self.run_tool("python", "-m", "doctest", "-o", "ELLIPSIS", PAGE.name)
         shown = re.search(r"Type \? for help\.\n(diag> .*?)```", PAGE.read_text(), re.DOTALL)[1]
-        rows = dict(row.rstrip("\n").split("\n", 1) for row in shown.split("diag> ")[1:]) | REPAIR
+        rows = [tuple(row.rstrip("\n").split("\n", 1)) for row in shown.split("diag> ")[1:]] + REPAIR
         # From a pipe the terminal says with its status that a line was refused: here the mistyped reading of the page.
         words = [self.folder / "env/bin/diag-shell", "examples/c17.bench"]
-        done = subprocess.run(words, input="\n".join(rows), capture_output=True, text=True, cwd=self.folder, env=self.plain())
-        self.assertEqual((done.stdout, done.stderr, done.returncode), ("".join(f"{told}\n" for told in rows.values()), "", 1))
+        done = subprocess.run(words, input="\n".join(typed for typed, _ in rows), capture_output=True, text=True, cwd=self.folder, env=self.plain())
+        self.assertEqual((done.stdout, done.stderr, done.returncode), ("".join(f"{told}\n" for _, told in rows), "", 1))
 
     def test_not_built(self):
         make_checkout(self.folder)

@@ -18,8 +18,8 @@ def words_of() -> argparse.ArgumentParser:
     served = argparse.ArgumentParser(add_help=False)
     served.add_argument("file", metavar="FILE", help="a netlist (.bench) or a design (.dev)")
     narrow = argparse.BooleanOptionalAction
-    order = "look for an order in which the sum is small, or use that of the names"
-    served.add_argument("--narrow", action=narrow, default=True, help=order)
+    forest = "compile along a forest of variables by which the sum is small, or by the order of the names"
+    served.add_argument("--narrow", action=narrow, default=True, help=forest)
     served.add_argument("--budget", type=int, metavar="N", help="the greatest sum of a device that is served")
     served.add_argument("--frames", type=int, metavar="F", help="serve a netlist with flip-flops over F times")
     served.add_argument("--program", metavar="PATH", help="the program or launcher to start")

@@ -25,7 +25,7 @@ FILES = {
 }
 EXAMPLES = {
     "The faults of a netlist that explain a script's readings:": ["diag serve examples/c17.bench < examples/c17.script"],
-    "How large a netlist is, in an order that is looked for:": ["diag plan examples/ttl_74283.bench --narrow"],
+    "How large a netlist is along a forest that is looked for:": ["diag plan examples/ttl_74283.bench --narrow"],
 }
 SUMMARY = (
     "`diag` reads the design of a digital device, and then what was seen on its wires. Where the readings disagree with the design, it says"

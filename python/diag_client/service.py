@@ -130,7 +130,7 @@ class Service:
 
     `file` is a netlist (`.bench`) or a design (`.dev`). `budget`, `sessions`, `frames`, `levels` and `least` are the options of `diag
     serve`. As many sessions as the program allows may be open at a time; with None it is the program's own default. The program looks for
-    an order in which the device is small unless `narrow` is False, which asks for the order of the names. With
+    a forest by which the device is small unless `narrow` is False, which asks for the order of the names. With
     `health=N` the file is a graph (`.nnf`) whose first N variables are parts, and `diag ask` serves it. `program` is the program or
     launcher to start, a path or words; see `find_program` for what is started otherwise. `timeout` is how many seconds a call, this one
     too, may wait for its answer; then it raises `TimedOut`.

@@ -19,7 +19,7 @@ mod graphs;
 #[cfg(test)]
 mod netlists;
 #[cfg(test)]
-mod orders;
+mod forests;
 #[cfg(test)]
 mod reading;
 #[cfg(test)]

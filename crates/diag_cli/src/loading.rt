@@ -13,10 +13,10 @@ ghost use Rattle.diag_cli.specs.inner.Loading.{IsSummaryOf, IsInStep, Loads, lis
 ghost use Rattle.diag_cli.specs.inner.Serving.{IsServable};
 
 use crate::costs::costs_of;
-use crate::graphs::graph_within;
+use crate::graphs::compiled_by_names;
 use crate::words::DEFAULT_BUDGET;
 use adder_load::{Found, PLACE_LIMIT, adder_text, note_readings, sample};
-use device_files::{Count, Refusal, Status, netlist_device, put_count, put_counts, tell};
+use device_files::{Count, Refusal, Status, clauses_of, netlist_device, put_count, put_counts, tell};
 use device_model::{Device, Name};
 use diag_edge::{Sink, WriteFailed, put_line};
 use fault_graph::Distiller;
@@ -102,7 +102,10 @@ fn summary_within(alloc: Global, device: Device, places: u32) -> Result<Summary,
     ensures summary { Loads (summary_of places (Ok device)) result }
     ensures in_step { IfOk result IsInStep }
 {
-    let (cnf, graph) = graph_within(alloc, &device, DEFAULT_BUDGET, false)?;
+    // Its contract says that a device has few parts and wires.
+    let _parts = device.parts();
+    let cnf = clauses_of(alloc, &device)?;
+    let graph = compiled_by_names(alloc, &cnf, DEFAULT_BUDGET)?;
     let clauses = u64::from(cnf.len());
     Ok(summary_by::<Brand>(alloc, Blank::new(1), device, &graph, clauses, places)?)
 }

@@ -3,7 +3,7 @@ ghost use Rattle.text_rules.specs.Tokens.{spaced};
 ghost use Rattle.text_rules.specs.Expected.{Fulfils};
 ghost use Rattle.diag_edge.specs.Edge.{HasCause, Puts, RoseExactly};
 ghost use Rattle.session_rules.specs.GraphSystems.{system_of};
-ghost use Rattle.device_files.specs.Orders.{ByClauses};
+ghost use Rattle.device_files.specs.Choices.{ByClauses};
 ghost use Rattle.diag_cli.specs.Courses.{answers_of, if_within, served_device, served_or_refused};
 ghost use Rattle.device_files.specs.Describing.{described};
 ghost use Rattle.device_files.specs.Refusals.{told_by};

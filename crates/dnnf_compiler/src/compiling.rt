@@ -3,13 +3,12 @@ ghost use Rattle.branch_states.specs.declared.measuring.TheConstants.{BUDGET_LIM
 ghost use Rattle.branch_states.specs.declared.measuring.MeasureError.TheVariants.{Above};
 ghost use Rattle.branch_states.specs.Branches.{sum_of};
 ghost use Rattle.dnnf_compiler.specs.Compiled.{IsCompiled, most_nodes};
-ghost use Rattle.dnnf_compiler.specs.inner.Rooting.{IsRoot};
 
-use crate::forks::{count_forks, find_forks};
-use crate::maker::Maker;
+use crate::along::compile_along;
+use crate::forks::{find_forks, steps_down};
 use branch_states::{BUDGET_LIMIT, Descent, MeasureError};
 use clause_encoder::Cnf;
-use node_store::{Graph, Store};
+use node_store::Graph;
 use std::alloc::{AllocError, Global};
 
 /// The graph of clauses, and how often a node was made for it.
@@ -42,32 +41,13 @@ pub fn compile(alloc: Global, cnf: &Cnf) -> Result<Compiled, AllocError>
 /// Each level's states are found once, and counted as they are. It stops as soon as the sum is above the limit.
 pub fn compile_within(alloc: Global, cnf: &Cnf, top: u32) -> Result<Compiled, MeasureError>
     requires { top ≤ BUDGET_LIMIT }
-    // Where the sum is above the limit the answer is an error, and the error says so only there.
+    // If the sum is above the limit, the answer is an error, and the error says so only then.
     ensures within { IfOk result (λ _. sum_of cnf.now.clauses ≤ top) }
     ensures above { result ≡ Err Above → top < sum_of cnf.now.clauses }
     ensures compiled { IfOk result (IsCompiled cnf.now) }
 {
     let mut descent = Descent::begin(alloc, cnf, top)?;
-    let levels = find_forks(alloc, &mut descent)?;
-    let last = descent.count();
-    let mut branches = descent.into_branches();
-    // Mostly there are no more nodes than states.
-    let mut maker = Maker::new(alloc, cnf.vars(), count_forks(&levels))?;
-    let mut nodes = vec![in alloc; maker.yes; last]?;
-    for level in (0..branches.len()).rev() {
-        branches.up();
-        nodes = maker.make_level(alloc, branches.var(), &levels[level as usize], &nodes)?;
-    }
-    Ok(frozen(cnf, maker.store, nodes[0])?)
-}
-
-// The graph of the node of all clauses.
-fn frozen(cnf: &Cnf, store: Store, root: u32) -> Result<Compiled, AllocError>
-    requires { IsRoot cnf.now store root }
-    ensures { IfOk result (IsCompiled cnf.now) }
-{
-    match store.freeze(root) {
-        Ok((graph, made)) => Ok(Compiled { graph, made }),
-        Err((_, error)) => Err(error),
-    }
+    let forks = find_forks(alloc, &mut descent)?;
+    let steps = steps_down(alloc, descent.into_branches())?;
+    Ok(compile_along(alloc, cnf, &steps, &forks)?)
 }

@@ -90,13 +90,13 @@ fn compiles_chains(rt: HostRuntime) -> Result<(), Fail> {
     // made from the last variable to the first; what the wire before a part may be is written as a state.
     // - 2 at the beginning: what is everywhere true, and what is nowhere.
     // - 1 at the last wire: for the state in which it may be anything. In the other two it has to be 0, or 1, which is a literal.
-    // - 3 at each wire between two parts: for anything an or of two ands, which stand for 0 and 1 alone too.
-    // - 5 at each part but the first, whose input is 0 or 1: an or of two ands for each, and the and of the faulty part once.
+    // - 5 at each wire between two parts: an and for 0, an and for 1, and for anything an or of two ands.
+    // - 6 at each part but the first, whose input is 0 or 1: an or of two ands for each.
     // - 6 at wire 0: an or of two ands where part 1 is faulty, and where it is ok.
     // - 3 at part 1: an or of two ands.
-    // So there are 8 a buffer, and 4. In the graph are all but the two constants, and both literals of each of the 2 * count + 1
+    // So there are 11 a buffer, and 1. In the graph are all but the two constants, and both literals of each of the 2 * count + 1
     // variables.
-    for (count, made, nodes) in [(1, 12, 16), (40, 324, 484), (1000, 8_004, 12_004)] {
+    for (count, made, nodes) in [(1, 12, 16), (40, 441, 484), (1000, 11_001, 12_004)] {
         let cnf = encode(alloc, &gates(alloc, Gate::Buff, 1, count, true)?)?;
         let compiled = compiled(alloc, &cnf)?;
         assert_eq!(&rt; compiled.made, made);

@@ -1,0 +1,3 @@
+pub mod Forests
+pub mod Levels
+pub mod Ways

@@ -1,0 +1,105 @@
+-- A base of which all goes to one tree.
+use Rattle.std.proofs.Common.{◌≡◌, ℕ, zero, suc, ◌+◌, Bool, true, false, not, ◌&&◌, cond, List, [], ◌∷◌, map, length, refl, ap, sym, ◌∙◌, subst, arith}
+use Rattle.std.specs.Prelude.{◌==◌, if◌then◌else◌}
+use Rattle.std.specs.List.{filter, list_all, position_or_len, range_with_len, AllByRecursion}
+use Rattle.std.proofs.lemmas.Bool.{and_parts, eqb-true}
+use Rattle.state_rules.proofs.Bits.{pointwise-refl}
+use Rattle.clause_encoder.specs.Clauses.{Clause}
+use Rattle.branch_states.specs.Branches.{same_list, different}
+use Rattle.branch_states.proofs.Lists.{each-filter}
+use Rattle.forest_states.specs.inner.BitLists.{is_same}
+use Rattle.forest_states.specs.inner.Walked.{picked, part_states, goes_to, Stand, column_at, stand_part}
+use Rattle.forest_states.proofs.Mapped.{mapped-agree, mapped-twice}
+
+-- ---- different lists
+
+abbrev AreDistinct : List (List Bool) → Type 0
+AreDistinct [] = Unit {0}
+AreDistinct (l ∷ ls) = AllByRecursion (λ s. same_list l s ≡ false) ls × AreDistinct ls
+
+distinct-filter : (p : List Bool → Bool) (ls : List (List Bool)) → AreDistinct ls → AreDistinct (filter p ls)
+distinct-filter p [] distinct = tt
+distinct-filter p (l ∷ ls) distinct = by (p l) (distinct-filter p ls distinct.1) where
+  by : (b : Bool) → AreDistinct (filter p ls) → AreDistinct (cond b (l ∷ filter p ls) (filter p ls))
+  by true rest = (each-filter (λ s. same_list l s ≡ false) (λ s. same_list l s ≡ false) p (λ s h _. h) ls distinct.0, rest)
+  by false rest = rest
+
+others-differ : (l : List Bool) (ls : List (List Bool)) → AllByRecursion (λ s. same_list l s ≡ false) (filter (λ s. not (same_list l s)) ls)
+others-differ l [] = tt
+others-differ l (m ∷ ls) = by (same_list l m) refl (others-differ l ls) where
+  by : (b : Bool) → same_list l m ≡ b → AllByRecursion (λ s. same_list l s ≡ false) (filter (λ s. not (same_list l s)) ls)
+      → AllByRecursion (λ s. same_list l s ≡ false) (cond (not b) (m ∷ filter (λ s. not (same_list l s)) ls) (filter (λ s. not (same_list l s)) ls))
+  by true e rest = rest
+  by false e rest = (e, rest)
+
+distinct-different : (ls : List (List Bool)) → AreDistinct (different ls)
+distinct-different [] = tt
+distinct-different (l ∷ ls) = (others-differ l (different ls), distinct-filter (λ s. not (same_list l s)) (different ls) (distinct-different ls))
+
+-- each has its own place
+next-range : (a n : ℕ) → map (λ k. 1 + k) (range_with_len a n) ≡ range_with_len (a + 1) n
+next-range a zero = refl
+next-range a (suc n) = let more : 1 + a ≡ a + 1 = omega arith in λ j. more j ∷ next-range (a + 1) n j
+
+own-places : (ls : List (List Bool)) → AreDistinct ls → map (λ s. position_or_len (is_same s) ls) ls ≡ range_with_len 0 (length ls)
+own-places [] distinct = refl
+own-places (l ∷ ls) distinct = let rest = own-places ls distinct.1 in λ j. cond (not (pointwise-refl l j)) (1 + position_or_len (is_same l) ls) 0 ∷ later rest j where
+  later : map (λ s. position_or_len (is_same s) ls) ls ≡ range_with_len 0 (length ls) → map (λ s. position_or_len (is_same s) (l ∷ ls)) ls ≡ range_with_len (0 + 1) (length ls)
+  later rest =
+      mapped-agree (λ s. same_list l s ≡ false) _ (λ s. 1 + position_or_len (is_same s) ls) (λ s e. ap (λ b. cond (not b) (1 + position_or_len (is_same s) ls) 0) e) ls distinct.0
+      ∙ sym (mapped-twice (λ k. 1 + k) (λ s. position_or_len (is_same s) ls) ls)
+      ∙ ap (map (λ k. 1 + k)) rest ∙ next-range 0 (length ls)
+
+-- ---- all of each list is picked
+
+kept : (p : ℕ → Bool) (ns : List ℕ) → list_all p ns ≡ true → filter p ns ≡ ns
+kept p [] all = refl
+kept p (n ∷ ns) all =
+    let parts = and_parts (p n) (list_all p ns) all in
+    λ j. cond (parts.0 j) (n ∷ kept p ns parts.1 j) (kept p ns parts.1 j)
+
+picked-whole : (p : ℕ → Bool) (ns : List ℕ) → list_all p ns ≡ true → (state : List Bool) → length state ≡ length ns → picked (map p ns) state ≡ state
+picked-whole p [] all [] long = refl
+picked-whole p [] all (b ∷ state) long = absurd (omega (arith, long))
+picked-whole p (n ∷ ns) all [] long = absurd (omega (arith, long))
+picked-whole p (n ∷ ns) all (b ∷ state) long =
+    let parts = and_parts (p n) (list_all p ns) all in
+    (λ j. if parts.0 j then b ∷ picked (map p ns) state else picked (map p ns) state) ∙ ap (λ bits. b ∷ bits) (picked-whole p ns parts.1 state (omega (arith, long)))
+
+all-picked : (p : ℕ → Bool) (ns : List ℕ) → list_all p ns ≡ true → (states : List (List Bool)) → list_all (λ s. length s == length ns) states ≡ true → map (picked (map p ns)) states ≡ states
+all-picked p ns all [] long = refl
+all-picked p ns all (s ∷ states) long =
+    let parts = and_parts (length s == length ns) (list_all (λ t. length t == length ns) states) long in
+    λ j. picked-whole p ns all s (eqb-true (length s) (length ns) parts.0) j ∷ all-picked p ns all states parts.1 j
+
+-- ---- the place of the tree
+
+module _ (clauses : List Clause) (trees : ℕ) (seen : List Bool) (numbers : List ℕ) (s : Stand) (once : different s.states ≡ s.states)
+    (whole : ((trees == 1) && (list_all (goes_to clauses trees seen numbers 0) s.opened && list_all (λ x. length x == length s.opened) s.states)) ≡ true) where
+  abbrev goes : ℕ → Bool
+  goes = goes_to clauses trees seen numbers 0
+
+  parts : ((trees == 1) ≡ true) × ((list_all goes s.opened && list_all (λ x. length x == length s.opened) s.states) ≡ true)
+  parts = and_parts (trees == 1) (list_all goes s.opened && list_all (λ x. length x == length s.opened) s.states) whole
+
+  both : (list_all goes s.opened ≡ true) × (list_all (λ x. length x == length s.opened) s.states ≡ true)
+  both = and_parts (list_all goes s.opened) (list_all (λ x. length x == length s.opened) s.states) parts.1
+
+  picks : map (picked (map goes s.opened)) s.states ≡ s.states
+  picks = all-picked goes s.opened both.0 s.states both.1
+
+  states-same : part_states (map goes s.opened) s.states ≡ s.states
+  states-same = ap different picks ∙ once
+
+  pub whole-stands : map (λ j. stand_part clauses trees seen numbers j s) (range_with_len 0 trees) ≡ s ∷ []
+  whole-stands =
+      ap (λ n. map (λ j. stand_part clauses trees seen numbers j s) (range_with_len 0 n)) (eqb-true trees 1 parts.0)
+      ∙ (λ i. (record { opened = kept goes s.opened both.0 i; states = states-same i }) ∷ [])
+
+  pub whole-columns : map (λ j. column_at clauses trees seen numbers j s) (range_with_len 0 trees) ≡ range_with_len 0 (length s.states) ∷ []
+  whole-columns =
+      ap (λ n. map (λ j. column_at clauses trees seen numbers j s) (range_with_len 0 n)) (eqb-true trees 1 parts.0)
+      ∙ ap (λ ns. ns ∷ []) ((λ i. map (λ x. position_or_len (is_same (picked (map goes s.opened) x)) (states-same i)) s.states)
+      ∙ sym (mapped-twice (λ x. position_or_len (is_same x) s.states) (picked (map goes s.opened)) s.states)
+      ∙ ap (map (λ x. position_or_len (is_same x) s.states)) picks
+      ∙ own-places s.states (subst AreDistinct once (distinct-different s.states)))

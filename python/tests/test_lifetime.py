@@ -14,7 +14,7 @@ import unittest
 import warnings
 from unittest import mock
 
-from support import C17, SOON, TOP, interrupt_at, needs_program, stand_in, wait_until
+from support import C17, SOON, TOP, interrupt_at, kill, needs_program, stand_in, wait_until
 
 from diag_client import Ended, Minimum, OtherProcess, Service, TimedOut, child
 from diag_client.progress import Progress
@@ -102,6 +102,11 @@ class Left(unittest.TestCase):
         with self.assertRaises(KeyError), served("dies") as service, service.session("S") as session:
             with contextlib.suppress(Ended):
                 session.see(a=0, b=1)
+            raise KeyError
+
+    def test_own_error_after_an_end_that_nobody_saw(self):
+        with self.assertRaises(KeyError), served("is good") as service, service.session("S"):
+            kill(service)
             raise KeyError
 
     def test_own_error_while_it_runs(self):

@@ -91,6 +91,14 @@ class Left(unittest.TestCase):
             session.minimum()
         self.assertTrue(self.was_killed(service))
 
+    def test_interrupt_within_a_step(self):
+        """The program is stopped once something is sent to it, and that is no error of its own."""
+        with self.assertRaises(KeyboardInterrupt), served("is good") as service, service.session("S") as session:
+            request = session.request("see", "a=1")
+            request.take_known = mock.Mock(side_effect=KeyboardInterrupt)
+            service.carry_out([request])
+        self.assertTrue(self.was_killed(service))
+
     def test_interrupt_in_a_copy(self):
         with self.assertRaises(KeyboardInterrupt), served("dozes") as service, service.session("S") as session:
             with session.copy("T") as other:

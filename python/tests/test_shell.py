@@ -11,7 +11,7 @@ import tempfile
 import unittest
 from unittest import mock
 
-from support import C17, EXAMPLES, TOP, interrupt_at, needs_program, replies, stand_in
+from support import C17, EXAMPLES, SOON, TOP, interrupt_at, needs_program, replies, stand_in
 
 from diag_client import Proposal, Service, manual, shell
 
@@ -275,6 +275,8 @@ class Interrupts(unittest.TestCase):
     def test_quit(self):
         """It waits for nothing, and ends the program that is at work."""
         self.session.abandon()
+        # If it does wait, that is an error and not for ever.
+        self.service._child._timeout = SOON
         with mock.patch("builtins.input", side_effect=["min", EOFError]), contextlib.redirect_stdout(io.StringIO()):
             with mock.patch("sys.stdin.isatty", lambda: True), mock.patch.object(shell, "readline", None):
                 interrupt_at(self.service, "min S")

@@ -13,6 +13,8 @@ if TYPE_CHECKING:
 
 # So many diagnoses are at hand if nothing else is said.
 AT_HAND = 100
+# So many wires at least are counted by diagnoses. To hold all parts takes longer than to ask a few wires.
+MANY = 50
 
 
 @dataclasses.dataclass(frozen=True)
@@ -63,8 +65,9 @@ def rank(session: Session, among: Iterable[str] | None, limit: int) -> list[Prop
         # If the least cost rises with a bit, no diagnosis goes on with it, and so all do with the other one.
         counts = {row.wire: [len(at_hand) if bit == cost else 0 for bit in (row.if_zero, row.if_one)] for row in rows}
         either = [wire for wire, (zero, one) in counts.items() if zero and one]
-        # Two lists for each wire, or one for each diagnosis: whatever is less.
-        counts |= (by_wire if 2 * len(either) < len(at_hand) else by_diagnosis)(scratch, at_hand, either)
+        # Two lists for each wire, or one for each diagnosis.
+        count = by_diagnosis if len(either) >= max(MANY, len(at_hand) // 2) else by_wire
+        counts |= count(scratch, at_hand, either)
     proposals = [Proposal(wire, len(at_hand), *both, len(found) <= limit) for wire, both in counts.items()]
     return sorted(proposals, key=lambda row: (-row.reduction, max(row.with_zero, row.with_one), row.wire))
 

@@ -64,9 +64,10 @@ class Chains(unittest.TestCase):
                 self.assertEqual(([str(diagnosis) for diagnosis in session.diagnoses()], measured), ([f"w{faulty}"], 3))
 
     def test_many_wires(self):
-        """They are not asked one by one, each by two lists."""
-        with mock.patch.object(Session, "diagnoses_with", side_effect=AssertionError):
-            self.assertEqual(self.session.best_probe().wire, "w4")
+        """They are not asked one by one, each by two lists, and the answer is the same."""
+        ranked = self.session.rank_probes()
+        with mock.patch.object(advice, "MANY", 7), mock.patch.object(Session, "diagnoses_with", side_effect=AssertionError):
+            self.assertEqual(self.session.rank_probes(), ranked)
 
     def test_among(self):
         self.assertEqual(self.session.best_probe(among=["w7", "w2", "w0"]).wire, "w2")

@@ -233,6 +233,7 @@ class Shell(cmd.Cmd):
 
     def do_picture(self, rest: str) -> bool:
         """A picture of the case."""
+        picture.check_drawable(self.service)
         out = graphviz.check_output(_path(rest, "picture OUT: into which file? out.svg, say"))
         case = self._waited("picture", lambda: picture.Case.of(self.session))
         print("wrote", picture.render(picture.dot_text(read_device(self.service.file), case, self.service.title), out))

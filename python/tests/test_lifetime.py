@@ -14,7 +14,7 @@ import unittest
 import warnings
 from unittest import mock
 
-from support import C17, SOON, TOP, interrupt_at, needs_program, stand_in, wait_until
+from support import C17, SOON, TOP, interrupt_at, kill, needs_program, stand_in, wait_until
 
 from diag_client import Ended, Minimum, OtherProcess, Service, TimedOut, child
 from diag_client.progress import Progress
@@ -91,6 +91,14 @@ class Left(unittest.TestCase):
             session.minimum()
         self.assertTrue(self.was_killed(service))
 
+    def test_interrupt_within_a_step(self):
+        """The program is stopped once something is sent to it, and that is no error of its own."""
+        with self.assertRaises(KeyboardInterrupt), served("is good") as service, service.session("S") as session:
+            request = session.request("see", "a=1")
+            request.take_known = mock.Mock(side_effect=KeyboardInterrupt)
+            service.carry_out([request])
+        self.assertTrue(self.was_killed(service))
+
     def test_interrupt_in_a_copy(self):
         with self.assertRaises(KeyboardInterrupt), served("dozes") as service, service.session("S") as session:
             with session.copy("T") as other:
@@ -102,6 +110,11 @@ class Left(unittest.TestCase):
         with self.assertRaises(KeyError), served("dies") as service, service.session("S") as session:
             with contextlib.suppress(Ended):
                 session.see(a=0, b=1)
+            raise KeyError
+
+    def test_own_error_after_an_end_that_nobody_saw(self):
+        with self.assertRaises(KeyError), served("is good") as service, service.session("S"):
+            kill(service)
             raise KeyError
 
     def test_own_error_while_it_runs(self):

@@ -233,6 +233,13 @@ class Written(unittest.TestCase):
                     picture.render("graph {}", self.out)
                 self.assertEqual(self.out.read_text(), "before")
 
+    def test_no_room(self):
+        self.dot("cat >/dev/null; echo drawn")
+        with mock.patch("os.replace", side_effect=OSError), self.assertRaises(OSError):
+            picture.render("graph {}", self.out)
+        self.assertEqual(self.out.read_text(), "before")
+        self.assertEqual(sorted(path.name for path in self.folder.iterdir()), ["dot", "out.svg"])
+
     def test_slow(self):
         self.dot("exec sleep 100")
         with mock.patch.object(graphviz, "PATIENCE", 0.1), self.assertRaisesRegex(DiagError, "--most"):

@@ -111,8 +111,8 @@ class Board:
 
 
 def by_client(board, patterns, program, timeout=None, **options):
-    """The least cost and all sets as the client finds them, or None if it took too long; its seconds, from the opening of the first session
-    on; and the search."""
+    """The least cost and all sets as the client finds them; and the search. What took too long is None. Before them are the seconds for
+    the first set and for all, from the opening of the first session on."""
     with Service(board.file, sessions=1024, program=program, **options) as service:
         sessions = []
         start = time.monotonic()
@@ -120,29 +120,35 @@ def by_client(board, patterns, program, timeout=None, **options):
             sessions.append(service.session())
             sessions[-1].see(seen)
         joint = service.together(sessions, timeout=timeout)
+        times, cost, sets = [None, None], None, None
         try:
-            answer = joint.minimum().cost, {tuple(sorted(row.faulty)) for row in joint.diagnoses()}
+            cost = joint.minimum().cost
+            times[0] = time.monotonic() - start
+            sets = {tuple(sorted(row.faulty)) for row in joint.diagnoses()}
+            times[1] = time.monotonic() - start
         except TimeoutError:
-            answer = None
-        return answer, time.monotonic() - start, joint.progress
+            pass
+        return times, cost, sets, joint.progress
 
 
 def row_of(what, board, faults, count, program, seed="", limit=120, **options):
     """A row of the table: both over the same patterns."""
     _, patterns = board.patterns(random.Random(f"{what}{seed}"), faults, count)
-    ours, seconds, progress = by_client(board, patterns, program, limit, **options)
+    ours, cost, sets, progress = by_client(board, patterns, program, limit, **options)
     with tempfile.TemporaryDirectory() as place:
         ground, grounding = grounded(pathlib.Path(place), facts(board.inputs, board.gates, [(seen, {}) for seen in patterns]))
         one, first, is_done = solved(ground, f"--time-limit={limit}")
         every, each, is_all = solved(ground, f"--time-limit={limit}", "--opt-mode=optN", "-n", "0")
-    if ours and is_done and ours[0] != one[0] or ours and is_all and ours != every:
-        sys.exit(f"bench/many_patterns: {what}: the client has {ours}, and clasp {every if is_all else one}")
-    told = f"{ours[0]}, {len(ours[1])}" if ours else f"cut after {limit} s"
-    times = [f"{grounding + first:.2f}" if is_done else "cut", f"{grounding + each:.2f}" if is_all else "cut"]
-    return [what, str(len(board.gates)), str(faults), str(count), told, f"{seconds:.2f}", *times, str(progress)]
+    if cost is not None and is_done and cost != one[0] or sets is not None and is_all and (cost, sets) != every:
+        sys.exit(f"bench/many_patterns: {what}: the client has {cost}, {sets}, and clasp {every if is_all else one}")
+    told = f"{'cut' if cost is None else cost}, {'cut' if sets is None else len(sets)}"
+    theirs = [grounding + first if is_done else None, grounding + each if is_all else None]
+    times = ["cut" if seconds is None else f"{seconds:.3f}" for pair in zip(ours, theirs) for seconds in pair]
+    return [what, str(len(board.gates)), str(faults), str(count), told, *times, str(progress)]
 
 
-HEADER = ["Device", "Parts", "Faults planted", "Patterns", "Least cost, sets", "Client, s", "clasp for one, s", "clasp for all, s", "The search"]
+HEADER = ["Device", "Parts", "Faults planted", "Patterns", "Least cost, sets", "Client for one, s", "clasp for one, s",
+          "Client for all, s", "clasp for all, s", "The search"]
 
 
 def main(words):

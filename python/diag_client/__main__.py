@@ -28,6 +28,7 @@ def words_of() -> argparse.ArgumentParser:
     draw.add_words(draws)
 
     asks = commands.add_parser("shell", parents=[served], help="ask a device interactively")
+    asks.add_argument("--health", type=int, metavar="N", help="FILE is a graph (.nnf), of which the first N variables are parts")
     asks.add_argument("--levels", type=int, metavar="C", help="what is next best may be asked for, up to a cost of C")
     asks.add_argument("--least", action="store_true", help="the graph of the diagnoses may be asked for")
     patterns = "begin with the test patterns of a table (.csv): wires in its first row, then 0, 1 or nothing"
@@ -46,7 +47,7 @@ def main() -> int:
             return 0
         if words.command == "bench":
             return bench.run(words)
-        names = ("narrow", "budget", "frames", "levels", "least", "program")
+        names = ("narrow", "budget", "frames", "health", "levels", "least", "program")
         given: dict[str, Any] = {name: value for name in names if (value := getattr(words, name, None)) is not None}
         if words.command == "picture":
             return draw.draw(words, lambda: progress.serve(words.file, **given))

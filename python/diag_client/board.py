@@ -3,6 +3,7 @@
 from __future__ import annotations
 
 import sys
+from collections.abc import Sequence
 from typing import Any
 
 from .holding import JointProgress
@@ -45,7 +46,7 @@ class BoardShell(Shell):
 
     def parseline(self, line: str) -> tuple[str | None, str | None, str]:
         """The words of a line; of one that is for all patterns, those of `all` before it."""
-        return super().parseline(f"all {line.strip()}" if self._is_for_all(line) else line)
+        return super().parseline(f"all {line.strip()}" if self._is_for_all(line.split(None, 1)) else line)
 
     def do_all(self, rest: str) -> bool:
         """What is asked of all patterns together, and what is said of the board."""
@@ -145,14 +146,14 @@ class BoardShell(Shell):
         """The commands that begin so."""
         return [f"{name} " for name in TOGETHER if name.startswith(text)]
 
-    def _is_for_all(self, line: str) -> bool:
-        return len(self.sessions) > 1 and line.split(None, 1)[:1] in [[name] for name in (*TOGETHER, "hold", "unhold")]
+    def _is_for_all(self, words: Sequence[str]) -> bool:
+        return len(self.sessions) > 1 and bool(words) and words[0] in (*TOGETHER, "hold", "unhold")
 
-    def _asked(self, line: str) -> Asked:
+    def _asked(self, words: Sequence[str]) -> Asked:
         # A line from a pipe that is for all patterns is not one of the present session.
-        if self._is_for_all(line) and not self._is_one:
+        if len(self.sessions) > 1 and not self._is_one and self._is_for_all(words):
             raise ValueError("for all patterns")
-        return super()._asked(line)
+        return super()._asked(words)
 
     def _ask_one(self, line: str) -> bool:
         self._is_one = True

@@ -11,7 +11,7 @@ from collections.abc import Callable, Iterator, Sequence
 from typing import TYPE_CHECKING
 
 from .errors import DiagError, Inconsistent
-from .replies import Listing, NotAReply, Request
+from .replies import Lines, Listing, NotAReply, Request
 
 if TYPE_CHECKING:
     from .session import Session
@@ -99,30 +99,6 @@ class Parts:
         return sum(self.bits[name] for name in names)
 
 
-class Lines(Request):
-    """Lines that each answer `ok`, and one that opens a session or closes it."""
-
-    def __init__(self, session: str, lines: list[str]) -> None:
-        super().__init__(session, lines[0])
-        self._lines = lines
-        self._left = len(lines)
-        self._done = [f"{session} {word}" for word in ("ok", "open", "closed")]
-
-    @property
-    def sent(self) -> str:
-        """All lines."""
-        return "\n".join(self._lines) + "\n"
-
-    def take(self, line: str) -> bool:
-        # Of several refusals the first says why: where a session is not opened, it refuses all that follows.
-        first = self.refused
-        if line not in self._done and not self.refuse(line):
-            raise NotAReply(line)
-        self.refused = first or self.refused
-        self._left -= 1
-        return self._left == 0
-
-
 class Listed(Request):
     """What is least of a session, and the first sets of that cost. Both are asked in one, since the second is then at hand."""
 
@@ -197,32 +173,29 @@ class Copy:
         self._held = {True: 0, False: 0}
         for part, mode in session.held.items():
             self._held[mode == "bad"] |= parts.bits[part]
-        self._case = [f"see {self.name} {wire}={bit}" for wire, bit in session.seen.items()]
-        self._case += [f"hold {self.name} {part}={mode}" for part, mode in session.held.items()]
+        self._case = session.restoring(self.name)
 
-    def opening(self) -> Request:
-        """The lines that open it."""
-        return Lines(self.name, [f"open {self.name}", *self._case])
+    def opening(self) -> list[Request]:
+        """The lines that open it. If it is not opened, the others are refused after that."""
+        return [Lines(self.name, f"open {self.name}", reply="open"), *self._case]
 
     def closing(self) -> Request:
         """The line that closes it, if it is open."""
-        return Lines(self.name, [f"close {self.name}"])
+        return Lines(self.name, f"close {self.name}", reply="closed")
 
     def held(self, bad: int, ok: int | None) -> list[Request]:
         """The lines that leave just these parts held, and put the point of the listing at its start."""
         was_bad, was_ok = self._held[True], self._held[False]
         ok = was_ok & ~bad if ok is None else ok
-        lines = []
-        for change, line in (
-            (bad & ~was_bad, "hold {} {}=bad"), (ok & ~was_ok, "hold {} {}=ok"), ((was_bad | was_ok) & ~(bad | ok), "unhold {} {}"),
-        ):
-            lines += [line.format(self.name, self._parts.name(bit)) for bit in self._parts.each(change)]
+        changes = [(bad & ~was_bad, "hold", "=bad"), (ok & ~was_ok, "hold", "=ok"), ((was_bad | was_ok) & ~(bad | ok), "unhold", "")]
         self._held = {True: bad, False: ok}
-        if not lines and self._parts.names:
+        if not any(change for change, _, _ in changes) and self._parts.names:
             bit = (bad | ok | 1) & -(bad | ok | 1)
-            name = self._parts.name(bit)
-            lines = [f"hold {self.name} {name}={'ok' if bit & ok else 'bad'}"] + [f"unhold {self.name} {name}"] * (not bit & (bad | ok))
-        return [Lines(self.name, lines)] if lines else []
+            changes = [(bit, "hold", "=ok" if bit & ok else "=bad"), (bit & ~(bad | ok), "unhold", "")]
+        return [
+            Lines(self.name, f"{command} {self.name} ", [f"{name}{mode}" for name in self._parts.names_of(change)])
+            for change, command, mode in changes if change
+        ]
 
 
 class Copies:
@@ -295,13 +268,10 @@ class Copies:
         if self._copies:
             return []
         self._copies = [Copy(session, self.parts) for session in self.sessions]
-        return [copy.opening() for copy in self._copies]
+        return [request for copy in self._copies for request in copy.opening()]
 
     def _ask(self, requests: Sequence[Request], questions: int) -> None:
-        self.service.carry_out(requests)
-        for request in requests:
-            if request.refused is not None:
-                raise request.refused
+        self.service.do(requests)
         self.questions += questions
         self._tell()
 

@@ -14,6 +14,7 @@ from __future__ import annotations
 import dataclasses
 import functools
 import heapq
+import itertools
 import operator
 import sys
 from collections.abc import Iterator
@@ -141,7 +142,7 @@ class Search:
             # What is found out raises the costs of regions, so those that cost more are told apart first.
             dearer = [region for region in waiting if region.cost > cost]
             self._regions = [region for region in waiting if region.cost == cost]
-            sets = iter(heapq.merge(*(self._solutions(region, cost) for region in self._regions), reverse=True))
+            sets = self._in_order(cost)
             first = next(sets, None)
             if first is not None:
                 yield first
@@ -159,6 +160,27 @@ class Search:
             for region in self._regions
             if not (region.bad & ok or region.ok & bad)
         )
+
+    def _in_order(self, cost: int) -> Iterator[int]:
+        """The sets of this cost in all regions, in name order. A region is looked into once no other has a set before all of its own."""
+        waiting: list[tuple[int, int, Iterator[int] | None]] = []
+        for place, region in enumerate(self._regions):
+            heapq.heappush(waiting, (-self._before_all(region, cost), place, None))
+        while waiting:
+            first, place, sets = heapq.heappop(waiting)
+            if sets is None:
+                sets = self._solutions(self._regions[place], cost)
+            else:
+                yield -first
+            for found in itertools.islice(sets, 1):
+                heapq.heappush(waiting, (-found, place, sets))
+
+    def _before_all(self, region: Region, cost: int) -> int:
+        """A set that no set of this cost in a region is before, in name order."""
+        free = region.among & ~region.bad & ~region.ok
+        if self._is_plain:
+            free = sum(itertools.islice(self._copies.parts.each(free), max(0, cost - region.bad.bit_count())))
+        return region.bad | free
 
     def _root(self) -> Region | None:
         """All that the parts that are held leave open. A pattern that nothing explains alone is named."""

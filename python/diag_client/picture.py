@@ -285,10 +285,15 @@ def dot_text(device: Device, case: Case, title: str, most: int = MOST) -> str:
 
 def picture(service: Service, script: Iterable[str] | None, name: str | None, most: int) -> str:
     """The text of the picture of what is served, in the case at the end of a script."""
-    if service.file.suffix not in (".bench", ".dev"):
-        raise DiagError(f"{service.file.name} has no gates: only a netlist or a design can be drawn")
+    check_drawable(service)
     case = case_of_script(service, script, name)
     return dot_text(read_device(service.file), case, service.title, most)
+
+
+def check_drawable(service: Service) -> None:
+    """Raises `DiagError` if what is served is a graph."""
+    if service.file.suffix not in (".bench", ".dev"):
+        raise DiagError(f"{service.file.name} has no gates: only a netlist or a design can be drawn")
 
 
 def picture_alone(

@@ -61,8 +61,8 @@ class Progress:
 
 def compiling(file: str | os.PathLike[str], options: Mapping[str, Any]) -> Progress:
     """The progress of a service while it is made."""
-    search = "" if options.get("narrow") is False else "searching a forest and "
-    return Progress(f"{search}compiling {os.path.basename(os.fspath(file))}")
+    work = "compiling" if options.get("narrow") is False else "searching a forest and compiling"
+    return Progress(f"{work if options.get('health') is None else 'reading'} {os.path.basename(os.fspath(file))}")
 
 
 def serve(file: str | os.PathLike[str], **options: Any) -> Service:

@@ -7,7 +7,7 @@ import enum
 import os
 import pathlib
 import re
-from collections.abc import Callable, Iterator
+from collections.abc import Callable, Iterator, Sequence
 from typing import Literal
 
 from . import display
@@ -146,11 +146,17 @@ class Request:
         self.line = line
         self.is_answered = False
         self.refused: Refused | None = None
+        # The whole reply, if it is known beforehand.
+        self.known = b""
 
     @property
     def sent(self) -> str:
         """What is written for it."""
         return f"{self.line}\n"
+
+    def take_known(self) -> str:
+        """Takes the whole reply, which came as it was known. The last line of it is given back."""
+        raise NotImplementedError
 
     def take(self, line: str) -> bool:
         """Takes the next line of the reply, and says whether it was the last one."""
@@ -158,6 +164,8 @@ class Request:
 
     def refuse(self, line: str) -> bool:
         """Whether a line refuses the request: as the session's own reply, or as that to a line that names none."""
+        if "error " not in line:
+            return False
         said = REFUSAL.fullmatch(line) or REFUSAL.fullmatch(line.removeprefix(f"{self.session} "))
         if said is not None:
             self.refused = Refused(int(said[1]), said[2], self.line)
@@ -212,22 +220,57 @@ class Listing(Request):
         return [row[1:] for row in self.rows if row[0] == word]
 
 
-class Change(Request):
-    """A line that changes what a session knows, and what is to be noted once it is carried out."""
+class Lines(Request):
+    """Lines that have the same beginning and the same reply each, unless they are refused. `line` is the one that was answered last, and
+    `refused` says why the first that was refused is."""
 
-    def __init__(self, session: str, line: str, reply: str, note: Callable[[], None]) -> None:
-        super().__init__(session, line)
+    def __init__(self, session: str, begins: str, rests: Sequence[str] = ("",), reply: str = "ok") -> None:
+        super().__init__(session, begins + rests[0])
+        self._begins = begins
+        self._rests = rests
         self._done = f"{session} {reply}"
-        self._note = note
+        self._answered = 0
+        # The lines of the replies.
         self.lines: list[str] = []
+        self.known = f"{self._done}\n".encode("utf-8", "surrogateescape") * len(rests)
+
+    @property
+    def sent(self) -> str:
+        """The lines that are still to be answered."""
+        return self._begins + f"\n{self._begins}".join(self._rests[self._answered:]) + "\n"
+
+    def take_known(self) -> str:
+        self.lines = [self._done] * len(self._rests)
+        self._note(self._rests)
+        return self._done
 
     def take(self, line: str) -> bool:
+        rest, first = self._rests[self._answered], self.refused
+        self.known, self.line = b"", self._begins + rest
         if line == self._done:
-            self._note()
+            self._note([rest])
         elif not self.refuse(line):
             raise NotAReply(line)
+        self.refused = first or self.refused
         self.lines.append(line)
-        return True
+        self._answered += 1
+        return self._answered == len(self._rests)
+
+    def _note(self, rests: Sequence[str]) -> None:
+        """The lines that end so were carried out."""
+
+
+class Change(Lines):
+    """Lines that change what a session knows, and what notes how those end that were carried out."""
+
+    def __init__(
+        self, session: str, note: Callable[[Sequence[str]], None], begins: str, rests: Sequence[str] = ("",), reply: str = "ok"
+    ) -> None:
+        super().__init__(session, begins, rests, reply)
+        self._notes = note
+
+    def _note(self, rests: Sequence[str]) -> None:
+        self._notes(rests)
 
 
 class GraphText(Request):
@@ -277,11 +320,11 @@ class AnyLine(Request):
 
     def take(self, line: str) -> bool:
         # Only the first line of a reply can be a refusal that names no session.
-        if self._has_begun and REFUSAL.fullmatch(line):
-            return True
         if not self._has_begun:
             self._has_begun = True
             self.refuse(line)
+        elif line.startswith("error ") and REFUSAL.fullmatch(line):
+            return True
         if self._is_wanted:
             self.lines.append(line)
         return False

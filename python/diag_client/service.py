@@ -295,11 +295,13 @@ class Service:
         ...     print({name: session.minimum().cost for name, session in patterns.items()}, service.together(patterns.values()).minimum())
         {'p1': 1, 'p2': 1} Minimum(cost=1, faulty=('10',))
         """
-        opened: dict[str, Session] = {}
+        rows = read_table(source, self.wires)
+        opened = {row.name: Session(self, row.name) for row in rows}
+        self._given.update(opened)
         try:
-            for row in read_table(source, self.wires):
-                opened[row.name] = self.session(row.name)
-                opened[row.name].see(row.seen)
+            # A session that was open before is not to see anything.
+            self.do([session.opening() for session in opened.values()])
+            self.do([request for row in rows for request in opened[row.name].seeing(row.seen)])
         except BaseException:
             for session in opened.values():
                 session.abandon()
@@ -340,6 +342,11 @@ class Service:
         """Asks all of these at once, and waits for their replies. Raises `Ended` if the program ends before."""
         self._child.ask(requests)
 
+    def do(self, requests: Sequence[Request]) -> None:
+        """The same, and then raises the first refusal."""
+        self.carry_out(requests)
+        _raise_refused(requests)
+
     def follow(self, requests: Sequence[Request]) -> Iterator[None]:
         """The same, but comes back each time that a piece of the replies was read, so that they can be printed as they come."""
         return self._child.follow(requests)
@@ -375,10 +382,8 @@ class Service:
                 if isinstance(request, Change) and not request.is_answered and not request.line.startswith("open ")
             ]
             child.ask([*known, *again])
-            refused = next((request.refused for request in known if request.refused is not None), None)
-            if refused is not None:
-                # The file is another one by now.
-                raise refused
+            # One is refused if the file is another one by now.
+            _raise_refused(known)
         except BaseException:
             child.stop()
             raise
@@ -445,3 +450,9 @@ class Service:
             with self.session() as session:
                 self._names = (tuple(row.part for row in session.blame()), tuple(row.wire for row in session.probes()))
         return self._names
+
+
+def _raise_refused(requests: Iterable[Request]) -> None:
+    refused = next((request.refused for request in requests if request.refused is not None), None)
+    if refused is not None:
+        raise refused

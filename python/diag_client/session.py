@@ -3,14 +3,16 @@
 from __future__ import annotations
 
 import contextlib
+import functools
+import itertools
 import re
 import types
-from collections.abc import Callable, Iterable, Iterator, Mapping, Sequence
+from collections.abc import Iterable, Iterator, Mapping, Sequence
 from typing import TYPE_CHECKING
 
 from . import advice, display
 from .errors import DiagError, Inconsistent
-from .replies import AnyLine, Blame, Change, Diagnosis, Graph, GraphText, Level, Listing, Minimum, Mode, Probe, Request, Verdict
+from .replies import AnyLine, Blame, Change, Diagnosis, Graph, GraphText, Level, Lines, Listing, Minimum, Mode, Probe, Request, Verdict
 
 if TYPE_CHECKING:
     from .advice import Proposal
@@ -19,6 +21,8 @@ if TYPE_CHECKING:
 
 BLANKS = " \t\r\n"
 BLANK = re.compile(f"[{BLANKS}]")
+# True is written as 1.
+BITS = {0: "0", 1: "1"}
 FIRST_PAGE = 8
 LARGEST_PAGE = 512
 # The commands that list states: the word of their lines, and how many words are between it and the names of the faulty parts.
@@ -95,9 +99,16 @@ class Session:
 
     def open(self) -> None:
         """Opens the session. `Service.session` has done so."""
+        self.service.do([self.opening()])
+
+    def opening(self) -> Change:
+        """The line that opens the session, for `Service.carry_out`."""
         self._opened_by = self._opening()
-        self._carry_out([self._opened_by])
-        self._opened_by = None
+        return self._opened_by
+
+    def seeing(self, seen: Mapping[str, int]) -> list[Change]:
+        """The lines of `see`, for `Service.carry_out`."""
+        return self._changed("see", [f"{wire}={BITS.get(bit, bit)}" for wire, bit in seen.items()])
 
     def close(self) -> None:
         """Closes the session, and what it knew is gone. Does nothing if it, or the service, is closed, or belongs to another process."""
@@ -105,7 +116,7 @@ class Session:
             return
         self.service.catch_up()
         if self._is_open:
-            self._carry_out([self._closing()])
+            self.service.do([self._closing()])
 
     def abandon(self) -> None:
         """Closes the session without waiting for anything: it is closed once what was asked before is answered. Raises no `DiagError`.
@@ -134,12 +145,11 @@ class Session:
             ...
         diag_client.errors.Refused: no wire (error 9): see s1 nowhere=1
         """
-        values = {**(seen or {}), **wires}
-        self._carry_out([self._change("see", f"{wire}={_bit(bit)}") for wire, bit in values.items()])
+        self.service.do(self.seeing({**(seen or {}), **wires}))
 
     def unsee(self, *wires: str) -> None:
         """Nothing was seen of these wires."""
-        self._carry_out([self._change("unsee", wire) for wire in wires])
+        self.service.do(self._changed("unsee", wires))
 
     def hold(self, held: Mapping[str, Mode] | None = None, /, **parts: Mode) -> None:
         """Parts were `ok` or `bad` when the readings were taken, for instance if one was tested by itself. The board after a repair is
@@ -152,11 +162,11 @@ class Session:
         Minimum(cost=1, faulty=('half',))
         """
         values = {**(held or {}), **parts}
-        self._carry_out([self._change("hold", f"{part}={mode}") for part, mode in values.items()])
+        self.service.do(self._changed("hold", [f"{part}={mode}" for part, mode in values.items()]))
 
     def unhold(self, *parts: str) -> None:
         """These parts are held no more."""
-        self._carry_out([self._change("unhold", part) for part in parts])
+        self.service.do(self._changed("unhold", parts))
 
     def minimum(self) -> Minimum:
         """The least cost of a set of faulty parts that explains the case, and the first such set.
@@ -215,10 +225,10 @@ class Session:
         [Diagnosis(faulty=('22',))]
         """
 
-        def note() -> None:
+        def note(_: Sequence[str]) -> None:
             self._start = faulty
 
-        self._carry_out([self._noting("after", faulty, note)])
+        self.service.do([Change(self.name, note, self._line("after", *faulty))])
 
     def probe(self, wire: str) -> Probe:
         """The least cost if the wire is seen as 0 too, and if it is seen as 1 too.
@@ -318,7 +328,7 @@ class Session:
         see S 22=1
         hold S 10=ok
         """
-        return "".join(f"{request.line}\n" for request in self.restoring())
+        return "".join(request.sent for request in self.restoring(self.name))
 
     def load(self, script: str | Iterable[str], of: str | None = None) -> None:
         """Adds the case of a script, a text or its lines: that of the session that it names last, or of the one that is named.
@@ -330,7 +340,13 @@ class Session:
         ...     dict(session.seen)
         {'1': 0, '22': 1}
         """
-        self._carry_out([self.request(*words) for words in case_lines(script, of)])
+        requests: list[Request] = []
+        for (command, count), rows in itertools.groupby(case_lines(script, of), lambda row: (row[0], len(row))):
+            if command in CHANGES and count == 2:
+                requests += self._changed(command, [word for _, word in rows])
+            else:
+                requests += [self.request(*words) for words in rows]
+        self.service.do(requests)
 
     def expected(self) -> dict[str, int]:
         """The bits that wires have if all parts are ok, given the inputs that were seen. Wires that these do not fix are left out.
@@ -389,7 +405,7 @@ class Session:
         (['S ok'], ['S diag', 'S end'])
         """
         request = self.request(command, *words)
-        self._carry_out([request])
+        self.service.do([request])
         return request.lines
 
     def request(self, command: str = "", *words: str) -> Change | AnyLine:
@@ -401,10 +417,10 @@ class Session:
         ...     request.line, request.lines, request.refused
         ('min S', ['S min 0'], None)
         """
-        if command in ("open", "close") or command.startswith("#"):
-            raise ValueError(f"not a command of a session that is open: {command!r}")
         if command in CHANGES:
             return self._change(command, *words)
+        if command in ("open", "close") or command.startswith("#"):
+            raise ValueError(f"not a command of a session that is open: {command!r}")
         return AnyLine(self._line(command, *words), self.name)
 
     def change(self, command: str, *words: str) -> None:
@@ -416,14 +432,14 @@ class Session:
         {'22': 1}
         """
         makes = {"open": self._opening, "close": self._closing}
-        self._carry_out([makes[command](*words) if command in makes else self._change(command, *words)])
+        self.service.do([makes[command](*words) if command in makes else self._change(command, *words)])
 
     def probe_each(self, wires: Iterable[str]) -> list[Probe]:
         """`probe` of each of these wires, all asked at once."""
         if isinstance(wires, str):
             raise TypeError(f"wires are given as a list of names, as [{wires!r}]")
         requests = [Listing(self.name, self._line("probe", wire), last="probe inconsistent") for wire in wires]
-        self._carry_out(requests)
+        self.service.do(requests)
         return [_probe(row) for request in requests for row in self._rows(request, "probe")]
 
     def diagnoses_with(self, wire: str, limit: int) -> tuple[list[Diagnosis], list[Diagnosis]]:
@@ -433,23 +449,21 @@ class Session:
         """
         lists = [Listing(self.name, self._line("list", str(limit)), last="end inconsistent", more="diag", most=limit) for _ in range(2)]
         zero, one = (self._change("see", f"{wire}={bit}") for bit in (0, 1))
-        self._carry_out([zero, lists[0], one, lists[1], self._change("unsee", wire)])
+        self.service.do([zero, lists[0], one, lists[1], self._change("unsee", wire)])
         below, above = ([Diagnosis(tuple(names)) for names in request.told("diag")] for request in lists)
         return below, above
 
     def _line(self, command: str, *words: str) -> str:
-        return " ".join(map(_word, (command, self.name, *words)))
-
-    def _carry_out(self, requests: Sequence[Request]) -> None:
-        """Asks all at once. The first refusal is raised when all are answered."""
-        self.service.carry_out(requests)
-        refused = next((request.refused for request in requests if request.refused is not None), None)
-        if refused is not None:
-            raise refused
+        texts = [command, self.name, *map(str, words)]
+        line = " ".join(texts)
+        if line.split() != texts:
+            # Some that Python takes for a blank is none in a script.
+            _check_words(texts)
+        return line
 
     def _told(self, request: Listing, word: str) -> list[list[str]]:
         """What follows the word, in each line of the reply that begins with it."""
-        self._carry_out([request])
+        self.service.do([request])
         return self._rows(request, word)
 
     def _rows(self, request: Listing, word: str) -> list[list[str]]:
@@ -459,7 +473,7 @@ class Session:
 
     def _graph(self, command: str) -> Graph:
         request = GraphText(self.name, self._line(command), command)
-        self._carry_out([request])
+        self.service.do([request])
         return Graph(request.text)
 
     def _listed(self, command: str, limit: int | None) -> Iterator[list[str]]:
@@ -486,66 +500,78 @@ class Session:
         """The next lines after a point, at most so many. It is placed for each page, since other listings move the program's own too."""
         word, _ = LISTINGS[command]
         page = Listing(self.name, self._line(command, str(size)), last="end inconsistent", more=word, most=size)
-        self._carry_out([*self._placing(point), page])
+        self.service.do([*self.placing(point), page])
         return self._rows(page, word)
 
     @staticmethod
     def _faulty(command: str, row: list[str]) -> tuple[str, ...]:
         return tuple(row[LISTINGS[command][1]:])
 
-    def _placing(self, point: tuple[str, ...] | None) -> list[Request]:
+    def placing(self, point: tuple[str, ...] | None) -> list[Request]:
         """Lines that put the program's point somewhere, or take it back, and change nothing else."""
         if point is not None:
             return [self._answered("after", *point)]
-        for request in self.restoring():
-            return [request]
+        for command, words in self._known():
+            return [Lines(self.name, f"{command} {self.name} {next(words)}")]
         # Nothing is known, so nothing is lost. A session that is closed stays so.
         return [self._answered("close", reply="closed"), self._answered("open", reply="open")] if self._is_open else []
 
-    def restoring(self) -> Iterator[Request]:
-        """Lines that make the case once more what it is. Nothing is noted of them."""
-        yield from (self._answered("see", f"{wire}={bit}") for wire, bit in self._seen.items())
-        yield from (self._answered("hold", f"{part}={mode}") for part, mode in self._held.items())
+    def restoring(self, name: str) -> list[Lines]:
+        """Lines that make the case of the session with this name what it is here. Nothing is noted of them."""
+        return [Lines(name, f"{command} {name} ", list(words)) for command, words in self._known()]
 
     def reopening(self) -> list[Request]:
         """Lines that give a program that is started anew what this session knows."""
         after = [] if self._start is None else [self._answered("after", *self._start)]
-        return [self._answered("open", reply="open"), *self.restoring(), *after]
+        return [self._answered("open", reply="open"), *self.restoring(self.name), *after]
+
+    def _known(self) -> Iterator[tuple[str, Iterator[str]]]:
+        """What is seen and held, if anything is, by the command that says so."""
+        for command, known in (("see", self._seen), ("hold", self._held)):
+            if known:
+                yield command, (f"{name}={value}" for name, value in known.items())
 
     def _inputs_seen(self) -> dict[str, int]:
         return {wire: self._seen[wire] for wire in sorted(self._seen.keys() & self.service.inputs)}
 
     def _answered(self, command: str, *words: str, reply: str = "ok") -> Request:
         """A line whose reply is one word, of which nothing is noted."""
-        return Listing(self.name, self._line(command, *words), last=reply)
+        return Lines(self.name, self._line(command, *words), reply=reply)
 
     def _change(self, command: str, *words: str) -> Change:
         """A line that changes the case."""
+        return Change(self.name, lambda _: self._note(command, words[:1]), self._line(command, *words))
 
-        def note() -> None:
-            name, _, value = words[0].partition("=")
-            if command == "see":
-                self._seen[name] = int(value)
-            elif command == "hold":
-                self._held[name] = "ok" if value == "ok" else "bad"
-            elif command == "unsee":
-                self._seen.pop(name, None)
-            else:
-                self._held.pop(name, None)
-            self._changes += 1
-            self._start = None
+    def _changed(self, command: str, words: Iterable[str]) -> list[Change]:
+        """Lines that change the case, one for each word, as one request."""
+        texts = list(map(str, words))
+        if "" in texts or BLANK.search("".join(texts)):
+            _check_words(texts)
+        return [Change(self.name, functools.partial(self._note, command), f"{command} {self.name} ", texts)] if texts else []
 
-        return self._noting(command, words, note)
+    def _note(self, command: str, words: Sequence[str]) -> None:
+        """Lines of a command that changes the case were carried out, one for each word."""
+        rows = [word.partition("=") for word in words]
+        if command == "see":
+            self._seen.update((wire, int(bit)) for wire, _, bit in rows)
+        elif command == "hold":
+            self._held.update((part, "ok" if mode == "ok" else "bad") for part, _, mode in rows)
+        else:
+            known: dict[str, int] | dict[str, Mode] = self._seen if command == "unsee" else self._held
+            for name, _, _ in rows:
+                known.pop(name, None)
+        self._changes += len(words)
+        self._start = None
 
     def _opening(self, *words: str) -> Change:
-        def note() -> None:
+        def note(_: Sequence[str]) -> None:
             self._is_open = True
             self.service.note_open(self)
 
-        return self._noting("open", words, note, "open")
+        return Change(self.name, note, self._line("open", *words), reply="open")
 
     def _closing(self, *words: str) -> Change:
-        def note() -> None:
+        def note(_: Sequence[str]) -> None:
             self._is_open = False
             self.service.note_closed(self)
             self._seen.clear()
@@ -553,10 +579,7 @@ class Session:
             self._changes += 1
             self._start = None
 
-        return self._noting("close", words, note, "closed")
-
-    def _noting(self, command: str, words: Iterable[str], note: Callable[[], None], reply: str = "ok") -> Change:
-        return Change(self.name, self._line(command, *words), reply, note)
+        return Change(self.name, note, self._line("close", *words), reply="closed")
 
 
 def case_lines(script: str | Iterable[str], of: str | None = None) -> list[list[str]]:
@@ -579,16 +602,11 @@ def case_lines(script: str | Iterable[str], of: str | None = None) -> list[list[
     return found
 
 
-def _word(text: str) -> str:
-    """A name or a value as a word of a line. Whether it is one that is known is the program's to say."""
-    text = str(text)
-    if not text or BLANK.search(text):
-        raise ValueError(f"not a word of a script, which is not empty and has no blanks: {text!r}")
-    return text
-
-
-def _bit(bit: int) -> str:
-    return str(int(bit)) if bit in (0, 1) else str(bit)
+def _check_words(texts: Iterable[str]) -> None:
+    """Names and values are words of a line. Whether one is known is the program's to say."""
+    for text in texts:
+        if not text or BLANK.search(text):
+            raise ValueError(f"not a word of a script, which is not empty and has no blanks: {text!r}")
 
 
 def _cost(text: str) -> int | None:

@@ -59,7 +59,7 @@ def history_file() -> pathlib.Path:
     return pathlib.Path(os.environ.get("DIAG_HISTORY") or pathlib.Path.home() / ".diag_history")
 
 
-@dataclasses.dataclass
+@dataclasses.dataclass(slots=True)
 class Asked:
     """A line that is carried out. What it does to the case is counted if it names several wires or parts."""
 
@@ -82,6 +82,8 @@ class Shell(cmd.Cmd):
         self.session = session
         self.has_refused = False
         self.commands = {name: usage for name, usage in manual.usages(manual.read_help()).items() if name not in ("open", "close")}
+        # Those that take one name, so that several are asked one after the other.
+        self.for_each = {name for name, usage in self.commands.items() if len(usage.words) == 1 and usage.words[0] != "k"}
         self.intro = f"{service.title}. Type ? for help." if self.prompt else None
         # Whether an interrupt left the program at work on what nobody waits for.
         self.was_interrupted = False
@@ -135,7 +137,7 @@ class Shell(cmd.Cmd):
         if line == "EOF":
             return self.do_quit("")
         if not line.startswith("#"):
-            self.carry_out([self._asked(line)])
+            self.carry_out([self._asked(line.split())])
         return False
 
     def carry_out(self, asked: Sequence[Asked]) -> None:
@@ -149,7 +151,9 @@ class Shell(cmd.Cmd):
                 for _ in self.service.follow(requests):
                     self._tell(left, progress.clear)
             finally:
-                for request in requests:
+                for request in reversed(requests):
+                    if request.is_answered:
+                        break
                     if isinstance(request, AnyLine):
                         request.forget()
         self.was_interrupted = False
@@ -158,12 +162,12 @@ class Shell(cmd.Cmd):
         """Carries out lines that came at once, those that are commands of scripts in one piece. Says whether it is the end."""
         asked: list[Asked] = []
         for line in lines:
-            words = line.split(None, 1)
+            words = line.split()
             if not words or words[0].startswith("#"):
                 continue
             if words[0] in self.commands or not hasattr(self, f"do_{self.parseline(line)[0]}"):
                 try:
-                    asked.append(self._asked(line))
+                    asked.append(self._asked(words))
                     continue
                 except ValueError:
                     # The reason is printed once the lines before it are answered.
@@ -229,6 +233,7 @@ class Shell(cmd.Cmd):
 
     def do_picture(self, rest: str) -> bool:
         """A picture of the case."""
+        picture.check_drawable(self.service)
         out = graphviz.check_output(_path(rest, "picture OUT: into which file? out.svg, say"))
         case = self._waited("picture", lambda: picture.Case.of(self.session))
         print("wrote", picture.render(picture.dot_text(read_device(self.service.file), case, self.service.title), out))
@@ -286,20 +291,20 @@ class Shell(cmd.Cmd):
 
     complete_save = complete_picture = complete_load
 
-    def _asked(self, line: str) -> Asked:
-        command, *words = line.split()
+    def _asked(self, words: Sequence[str]) -> Asked:
+        command = words[0]
         if command in ("open", "close"):
             raise ValueError("there is one session here, which is open to the end")
         if command in CHANGES and any(word.startswith("=") or word.endswith("=") for word in words):
             raise ValueError(f"refused: write {command} name=value without blanks around =; nothing of this line was taken")
-        usage = self.commands.get(command)
-        takes_one = usage is not None and len(usage.words) == 1 and usage.words[0] != "k"
-        rows = [[word] for word in words] if takes_one and len(words) > 1 else [words]
-        return Asked([self.session.request(command, *row) for row in rows], command in CHANGES and len(rows) > 1)
+        if len(words) > 2 and command in self.for_each:
+            return Asked([self.session.request(command, word) for word in words[1:]], command in CHANGES)
+        return Asked([self.session.request(*words)])
 
     def _tell(self, left: collections.deque[Asked], clear: Callable[[], None]) -> None:
         """Prints what has come by now of the replies that are left."""
         texts: list[str] = []
+        begin = f"{self.session.name} "
         while left:
             row = left[0]
             if row.is_counted:
@@ -307,7 +312,7 @@ class Shell(cmd.Cmd):
                     break
                 texts.append(self._counted(row.requests))
             else:
-                texts += self._told(row)
+                texts += self._told(row, begin)
                 if row.told < len(row.requests):
                     break
             left.popleft()
@@ -315,14 +320,14 @@ class Shell(cmd.Cmd):
             clear()
             print("\n".join(texts), flush=True)
 
-    def _told(self, row: Asked) -> list[str]:
-        """What has come by now of the replies to a line and is not printed yet."""
+    def _told(self, row: Asked, begin: str) -> list[str]:
+        """What has come by now of the replies to a line and is not printed yet. The words that they begin with are left out."""
         texts: list[str] = []
         for request in row.requests[row.told:]:
-            lines = request.lines[:]
-            request.lines.clear()
+            lines, request.lines = request.lines, []
             if request.refused is None:
-                texts += [self._in_words(line.removeprefix(f"{self.session.name} ")) for line in lines]
+                told = [line.removeprefix(begin) for line in lines]
+                texts += map(in_words, told) if self.prompt else told
             elif lines:
                 self.has_refused = True
                 texts.append(f"refused: {self._why(request.refused)}")
@@ -330,9 +335,6 @@ class Shell(cmd.Cmd):
                 break
             row.told += 1
         return texts
-
-    def _in_words(self, reply: str) -> str:
-        return f"{reply} (nothing is wrong)" if reply in NOTHING_WRONG and self.prompt else reply
 
     def _counted(self, requests: Sequence[Change | AnyLine]) -> str:
         """How many lines that change the case were carried out, and which were refused."""
@@ -404,6 +406,11 @@ class Shell(cmd.Cmd):
         same = [name for name in known if name.lower() == missing.lower()]
         near = same or difflib.get_close_matches(missing, known, NEAR)
         return missing + (f"; near it: {', '.join(near)}" if near else "")
+
+
+def in_words(reply: str) -> str:
+    """A reply, as a person is told."""
+    return f"{reply} (nothing is wrong)" if reply in NOTHING_WRONG else reply
 
 
 def _hint(given: str) -> str:

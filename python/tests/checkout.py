@@ -1,11 +1,9 @@
 """A small checkout for tests of the launcher: the launcher itself, the sources of three crates, and a program."""
 
-import os
 import pathlib
 import shutil
-import time
 
-from support import TOP
+from support import TOP, wait_until
 
 # Ends as FAKE says: with a status, or by a signal. Else it copies standard input to standard output.
 FAKE_PROGRAM = """#!/bin/sh
@@ -20,9 +18,9 @@ FAKE_RT = """#!/bin/sh
 echo "$PWD: rt $*" >>"$RT_SAID"
 case $1 in
   all)
-    # A file's own time is that of the last tick of the clock.
-    sleep 0.1
     mkdir -p ../low/out/rlib
+    # A file's own time is that of the last tick of the clock.
+    until [ ../low/out/rlib -nt out/build.begun ]; do sleep 0.01; touch ../low/out/rlib; done
     until [ -e "${RT_GOES_ON-/}" ]; do sleep 0.1; done
     printf '== low\\nfn low::f: proved\\n'
     : >../low/out/rlib/stamp
@@ -42,11 +40,14 @@ def make_checkout(folder, program=None):
     """Makes the checkout. The program, if it is given, is there as `rt ci` leaves it."""
     top = pathlib.Path(folder)
     shutil.copy(TOP / "diag", top)
-    shutil.copytree(TOP / "python", top / "python", ignore=shutil.ignore_patterns("tests", "__pycache__"))
+    # What tools leave in that folder, caches and builds, stays there.
+    shutil.copytree(TOP / "python/diag_client", top / "python/diag_client", ignore=shutil.ignore_patterns("__pycache__", "bin"))
+    for name in ("build-wheel", "pyproject.toml"):
+        shutil.copy(TOP / "python" / name, top / "python")
     for name, text in {
         "crates.txt": "# Lines in any order\ndiag: low std\nlow staticlib: std\ndiag_tests: diag\n", "HANDLES": "Handles allowed: none.\n",
         "crates/diag/src/main.rt": "fn main() {}\n", "crates/low/src/lib.rt": "fn low() {}\n", "crates/low/specs/Low.antt": "low\n",
-        "crates/diag_tests/src/lib.rt": "fn test() {}\n",
+        "crates/diag_tests/src/lib.rt": "fn test() {}\n", "crates/diag/proofs/Main.antt": "main\n",
     }.items():
         path = top / name
         path.parent.mkdir(parents=True, exist_ok=True)
@@ -54,12 +55,24 @@ def make_checkout(folder, program=None):
     if program is not None:
         out = top / "crates/diag/out"
         out.mkdir()
-        # A file's own time is that of the last tick of the clock.
-        time.sleep(0.02)
+        wait_past(out, out)
         (out / "diag.o").touch()
-        os.utime(out / "diag.o", (time.time() - 1,) * 2)
+        wait_past(out, out / "diag.o")
         put_program(top, program)
     return top
+
+
+def wait_past(out, file):
+    """Waits until what is written now is newer than a file, by the clock of the file system, of which a tick may be long."""
+    probe = out / "clock"
+
+    def is_past():
+        probe.touch()
+        return probe.stat().st_ctime_ns > max(written.st_mtime_ns, written.st_ctime_ns)
+
+    written = file.stat()
+    wait_until(is_past)
+    probe.unlink()
 
 
 def put_program(top, program):

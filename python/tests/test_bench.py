@@ -1,12 +1,9 @@
 """Cases and boards of the page at the bench."""
 
-import os
-import signal
-import time
 import unittest
 from unittest import mock
 
-from support import C17, EXAMPLES, needs_program
+from support import C17, EXAMPLES, SOON, kill, needs_program
 
 from diag_client.bench import boards, cases
 from diag_client.bench.cases import Bad, Case
@@ -90,6 +87,7 @@ class OnC17(unittest.TestCase):
 
     def setUp(self):
         self.board = self.bench.open_board()
+        self.enterContext(mock.patch.object(boards, "LONGEST", SOON))
 
     def do(self, act, **more):
         return self.board.do({"act": act, **more})
@@ -242,8 +240,7 @@ class OnC17(unittest.TestCase):
 
     def test_the_program_is_started_again(self):
         before = self.enter()
-        os.kill(self.bench.service._child._process.pid, signal.SIGKILL)
-        time.sleep(0.1)
+        kill(self.bench.service)
         after = self.do("hold", part="16", mode="ok")
         self.assertEqual(after["candidates"], before["candidates"])
         self.assertEqual(after["restarts"], before["restarts"] + 1)

@@ -12,12 +12,24 @@ import time
 import unittest
 from unittest import mock
 
-from support import C17, needs_program
+from support import C17, SOON, needs_program
 
+from diag_client import bench
 from diag_client.bench import boards, server
 
 
+def is_reachable():
+    """Whether this machine reaches itself, which a closed box may not."""
+    try:
+        with socket.create_server(("127.0.0.1", 0)) as here:
+            socket.create_connection(here.getsockname(), timeout=SOON).close()
+    except OSError:
+        return False
+    return True
+
+
 @needs_program
+@unittest.skipUnless(is_reachable(), "this machine does not reach 127.0.0.1")
 class Served(unittest.TestCase):
     """A bench that is served on a free port."""
 
@@ -38,7 +50,7 @@ class Served(unittest.TestCase):
 
     def ask(self, method, path, body=None, **headers):
         """The status, the headers and the body of an answer."""
-        connection = http.client.HTTPConnection("127.0.0.1", self.server.port, timeout=20)
+        connection = http.client.HTTPConnection("127.0.0.1", self.server.port, timeout=SOON)
         headers = {name.replace("_", "-"): value for name, value in headers.items()}
         connection.putrequest(method, path, skip_host="Host" in headers)
         for name, value in headers.items():
@@ -156,15 +168,14 @@ class Served(unittest.TestCase):
         with mock.patch.object(server, "PATIENCE", 0.5):
             head = f"POST {self.path} HTTP/1.1\r\nHost: {self.host}\r\nOrigin: http://{self.host}\r\n"
             for begun in (b"", b"GET ", f"{head}Content-Type: application/json\r\nContent-Length: 9\r\n\r\n".encode()):
-                with socket.create_connection(("127.0.0.1", self.server.port), timeout=20) as slow:
-                    begin = time.monotonic()
+                with socket.create_connection(("127.0.0.1", self.server.port), timeout=SOON) as slow:
+                    end = time.monotonic() + SOON
                     slow.sendall(begun)
                     # A byte now and then does not win more time.
                     with self.assertRaises(OSError):
-                        while True:
+                        while time.monotonic() < end:
                             slow.sendall(b" ")
                             time.sleep(0.1)
-                    self.assertLess(time.monotonic() - begin, 10)
 
     def test_watching(self):
         top = f"/{self.server.watch_token}/"
@@ -197,7 +208,7 @@ class Words(unittest.TestCase):
 
     def refused(self, *words):
         parser = argparse.ArgumentParser()
-        server.add_words(parser)
+        bench.add_words(parser)
         given = parser.parse_args(words, argparse.Namespace(file=C17, narrow=None, budget=None, frames=None, program=None))
         with mock.patch.object(server, "Bench"), self.assertRaises((OSError, ValueError)) as caught:
             server.run(given)

@@ -1,13 +1,10 @@
 """One service for many threads: turns, and what comes between the questions of advice and of a search."""
 
-import os
-import signal
 import threading
-import time
 import unittest
 from unittest import mock
 
-from support import C17, needs_program
+from support import C17, SOON, kill, needs_program, wait_until
 
 from diag_client.bench import boards, shared
 from diag_client.holding import Lines
@@ -15,8 +12,6 @@ from diag_client.replies import Change
 from diag_client.service import Service
 
 ZEROS = "1=0 2=0 3=0 6=0 7=0"
-# So many seconds something is waited for that has to come.
-SOON = 10.0
 
 
 class Order(unittest.TestCase):
@@ -33,8 +28,7 @@ class Order(unittest.TestCase):
             for name, rank in (("advice", shared.ADVICE), ("search", shared.SEARCH), ("click", shared.CLICK), ("later click", shared.CLICK)):
                 threads.append(threading.Thread(target=take, args=(rank, name)))
                 threads[-1].start()
-                while len(turns._waiting) < len(threads):
-                    time.sleep(0.001)
+                wait_until(lambda: len(turns._waiting) == len(threads))
             self.assertEqual(order, [])
         for thread in threads:
             thread.join(SOON)
@@ -83,6 +77,8 @@ class Together(unittest.TestCase):
     def setUp(self):
         self.bench = boards.Bench(C17)
         self.addCleanup(self.bench.close)
+        # A search may be stopped for longer than a page waits for its answer.
+        self.enterContext(mock.patch.object(boards, "LONGEST", 2 * SOON))
         self.board = self.bench.open_board()
         self.board.do({"act": "readings", "text": f"{ZEROS} 22=1 23=0"})
 
@@ -113,8 +109,7 @@ class Together(unittest.TestCase):
         self.assertTrue(stopped.reached.wait(SOON))
         click, clicked = threading.Thread(target=lambda: self.board.do({"act": "turn", "wire": "19"})), self.board._newest
         click.start()
-        while self.board._newest == clicked:
-            time.sleep(0.001)
+        wait_until(lambda: self.board._newest != clicked)
         asked = stopped.free
         stopped.go_on.set()
         thread.join(SOON)
@@ -162,8 +157,7 @@ class Together(unittest.TestCase):
         stopped = Stopped(self, shared.ADVICE, 4)
         thread, answers = self.begin("advise")
         self.assertTrue(stopped.reached.wait(SOON))
-        os.kill(self.bench.service._child._process.pid, signal.SIGKILL)
-        time.sleep(0.1)
+        kill(self.bench.service)
         self.assertEqual(self.bench.open_board().do({"act": "turn", "wire": "22"})["restarts"], 1)
         stopped.go_on.set()
         thread.join(SOON)
@@ -190,7 +184,7 @@ class Together(unittest.TestCase):
         for thread in threads:
             thread.start()
         for thread in threads:
-            thread.join(60)
+            thread.join(2 * SOON)
         self.assertEqual(found.count(("22", texts["22"])), 20)
         self.assertEqual(found.count(("23", texts["23"])), 20)
 

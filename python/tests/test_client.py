@@ -401,7 +401,7 @@ class Services(unittest.TestCase):
         with tempfile.TemporaryDirectory() as top, mock.patch.dict("os.environ"):
             top = pathlib.Path(top)
             del os.environ["DIAG_PROGRAM"]
-            os.environ["PATH"] = f"{top}/path:{os.environ['PATH']}"
+            os.environ["PATH"] = f"{top}/path"
             with mock.patch.object(service, "TOP", top), mock.patch.object(service, "PACKED", top / "bin/diag"):
                 with self.assertRaisesRegex(NotBuilt, "DIAG_PROGRAM"):
                     find_program()

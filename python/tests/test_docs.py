@@ -5,6 +5,7 @@ import inspect
 import os
 import pathlib
 import re
+import shutil
 import subprocess
 import sys
 import unittest
@@ -44,6 +45,7 @@ class Examples(unittest.TestCase):
         """Every method of a session is tried in its docstring, except some, which other tests try."""
         tried_elsewhere = {
             "open", "close", "unsee", "unhold", "probes", "probe_each", "rank_probes", "diagnoses_with", "restoring", "reopening",
+            "opening", "seeing", "placing",
         }
         for name, method in vars(diag_client.Session).items():
             if inspect.isfunction(method) and not name.startswith("_") and name not in tried_elsewhere:
@@ -54,8 +56,9 @@ class Examples(unittest.TestCase):
 class Troubleshoot(unittest.TestCase):
     """The script finds what it put in, in fewer measurements than in name order."""
 
-    def run_script(self, *words):
-        done = subprocess.run([sys.executable, TOP / "examples/troubleshoot", *words], capture_output=True, text=True, check=False)
+    def run_script(self, *words, **variables):
+        words = [sys.executable, TOP / "examples/troubleshoot", *words]
+        done = subprocess.run(words, capture_output=True, text=True, check=False, env={**os.environ, **variables})
         return done.returncode, done.stdout, done.stderr
 
     def test_repair(self):
@@ -73,6 +76,12 @@ class Troubleshoot(unittest.TestCase):
         self.assertEqual(status, 0)
         advised, named = map(float, re.findall(r": ([0-9.]+) measurements on average", told))
         self.assertLess(advised, named)
+
+    def test_looks_for_an_order(self):
+        """Unless it is to take that of the names."""
+        for words, is_narrow in (((C17,), True), ((C17, "--no-narrow"), False)):
+            _, _, said = self.run_script(*words, DIAG_PROGRAM=shutil.which("false"))
+            self.assertEqual("--narrow" in said, is_narrow, said)
 
     def test_says_what_is_wrong(self):
         for words, why in (

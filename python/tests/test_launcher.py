@@ -2,17 +2,26 @@
 
 import os
 import pathlib
+import re
 import shutil
 import signal
 import subprocess
 import tempfile
-import time
 import unittest
+from unittest import mock
 
-from checkout import FAKE_PROGRAM, FAKE_RT, make_checkout, put_program
-from support import EXAMPLES, TOP
+from checkout import FAKE_PROGRAM, FAKE_RT, make_checkout, put_program, wait_past
+from support import EXAMPLES, SOON, TOP, wait_until
 
 HELP = (TOP / "python/diag_client/help.txt").read_text()
+SETPRIV = pathlib.Path("/usr/bin/setpriv")
+
+
+def failing(path):
+    """Makes a program that fails at once."""
+    path.write_text("#!/bin/sh\nexit 1\n")
+    path.chmod(0o755)
+    return path
 
 
 class InCheckout(unittest.TestCase):
@@ -23,13 +32,16 @@ class InCheckout(unittest.TestCase):
     def setUp(self):
         folder = tempfile.TemporaryDirectory()
         self.addCleanup(folder.cleanup)
-        self.top = make_checkout(pathlib.Path(folder.name, "top") if os.mkdir(f"{folder.name}/top") is None else "", self.program)
         self.elsewhere = pathlib.Path(folder.name)
+        self.top = self.elsewhere / "top"
+        self.top.mkdir()
+        make_checkout(self.top, self.program)
 
     def run_diag(self, *words, top=None, text="", **variables):
         """The status, standard output and standard error."""
         env = {**os.environ, **variables}
-        done = subprocess.run([(top or self.top) / "diag", *words], input=text, capture_output=True, text=True, cwd=self.elsewhere, env=env, timeout=60)
+        words = [(top or self.top) / "diag", *words]
+        done = subprocess.run(words, input=text, capture_output=True, text=True, cwd=self.elsewhere, env=env, timeout=2 * SOON)
         return done.returncode, done.stdout, done.stderr
 
     def is_current(self, top=None):
@@ -37,6 +49,11 @@ class InCheckout(unittest.TestCase):
         status, told, said = self.run_diag("--path", top=top)
         self.assertEqual((status, told), (0, f"{(top or self.top).resolve()}/crates/diag/out/diag\n") if not status else (1, ""))
         return status == 0, said
+
+    def wait_past(self, name):
+        """Waits until what is written now is newer than a file beside the program."""
+        out = self.top / "crates/diag/out"
+        wait_past(out, out / name)
 
 
 class Says(InCheckout):
@@ -49,6 +66,12 @@ class Says(InCheckout):
 
     def test_version(self):
         self.assertEqual(self.run_diag("--version")[1], "diag, commit unknown\nthe program is proved and built from these sources\n")
+
+    @unittest.skipUnless(shutil.which("git"), "there is no git")
+    def test_version_in_a_repository(self):
+        # A hook of git gives those that it starts its own repository, and the configuration of whoever runs this may sign commits.
+        others = {name: value for name, value in os.environ.items() if not name.startswith("GIT_")}
+        self.enterContext(mock.patch.dict(os.environ, {**others, "GIT_CONFIG_GLOBAL": os.devnull, "GIT_CONFIG_NOSYSTEM": "1"}, clear=True))
         git = ["git", "-C", str(self.top), "-c", "user.name=a", "-c", "user.email=a"]
         subprocess.run([*git, "init", "-q"], check=True)
         subprocess.run([*git, "add", "crates.txt"], check=True)
@@ -57,8 +80,9 @@ class Says(InCheckout):
         (self.top / "crates.txt").write_text("diag: low\n")
         _, told, _ = self.run_diag("--version")
         self.assertRegex(told, r"^diag, commit [0-9a-f]+ of 2026-11-05, changed since\nthe program is not known to be built from these")
+        # Without it, it is the commit that was noted with the checksums.
         shutil.rmtree(self.top / ".git")
-        self.assertIn("commit unknown\n", self.run_diag("--version")[1])
+        self.assertRegex(self.run_diag("--version")[1], r"^diag, commit [0-9a-f]+ of 2026-11-05\n")
 
 
 class IsCurrent(InCheckout):
@@ -78,7 +102,7 @@ class IsCurrent(InCheckout):
         self.assertEqual(self.is_current(), (False, ""))
 
     def test_source_after_the_gate(self):
-        time.sleep(0.02)
+        self.wait_past("diag")
         (self.top / "crates/low/src/lib.rt").touch()
         self.assertEqual(self.is_current(), (False, ""))
 
@@ -90,7 +114,7 @@ class IsCurrent(InCheckout):
             (lambda: (source.write_text("high\n"), os.utime(source, (1, 1))), False),
             (lambda: source.write_text("low\n"), True),
             (lambda: (self.top / "crates/diag_tests/src/lib.rt").write_text(""), True),
-            (lambda: (self.top / "crates/diag/proofs").mkdir(), True),
+            (lambda: (self.top / "crates/low/proofs").mkdir(), True),
             (lambda: (self.top / "crates/diag/proofs/New.antt").write_text("x\n"), False),
             (lambda: (self.top / "crates/diag/proofs/New.antt").unlink(), True),
             (lambda: (self.top / "HANDLES").write_text("\n"), False),
@@ -99,9 +123,18 @@ class IsCurrent(InCheckout):
             (lambda: (self.top / "crates/lower").rename(self.top / "crates/low"), True),
             (lambda: put_program(self.top, "#!/bin/sh\n"), False),
         ):
-            time.sleep(0.01)
+            self.wait_past("diag.sources")
             change()
             self.assertEqual(self.is_current()[0], wanted)
+
+    def test_nothing_is_compared_twice(self):
+        """If nothing has changed since then, no checksum is made."""
+        self.is_current()
+        path = f"{failing(self.elsewhere / 'sha256sum').parent}:{os.environ['PATH']}"
+        self.assertEqual(self.run_diag("--path", PATH=path)[0], 0)
+        self.wait_past("diag.sources")
+        (self.top / "crates.txt").touch()
+        self.assertEqual(self.run_diag("--path", PATH=path)[0], 1)
 
     def test_copies(self):
         self.is_current()
@@ -132,6 +165,7 @@ class Hints(InCheckout):
             ("serve plain.bench --budget 8388608 --narrow", 3, "a smaller piece"), ("plan plain.bench --narrow", 3, "a smaller piece"),
             ("serve no.bench", 4, "there is no file no.bench"), ("serve .", 4, ". is a folder"), ("serve --narrow plain.bench", 2, "FILE --narrow"),
             ("--narrow serve plain.bench", 2, "options come after the file"), ("srve plain.bench", 2, "no form `srve`"), ("serve plain.txt", 2, ".bench or .dev"),
+            ("plan /dev/stdin", 2, ".bench or .dev"),
             ("serve", 2, ".bench or .dev"), ("check plain.bench", 2, ".nnf"), ("load 801", 2, "from 1 to 800"), ("serve plain.bench --wide", 2, "an option of `serve`"),
         ):
             got, told, said = self.run_diag(*words.split(), FAKE=str(status))
@@ -159,7 +193,14 @@ class Passes(InCheckout):
             self.addCleanup(end.close)
         child.stdin.write(b"here\n")
         self.assertEqual(child.stdout.readline(), b"here\n")
+        # The program is there, and the launcher hands on signals once it catches the last of them.
+        wait_until(lambda: self.caught(child.pid) >> (signal.SIGUSR2 - 1) & 1)
         return child
+
+    @staticmethod
+    def caught(process):
+        """The signals that a process catches, a bit for each."""
+        return int(re.search("SigCgt:\\s*(.*)", pathlib.Path(f"/proc/{process}/status").read_text())[1], 16)
 
     def test_bytes(self):
         data = bytes(range(256)) * 1000
@@ -171,19 +212,19 @@ class Passes(InCheckout):
             child = self.start()
             os.kill(child.pid, number)
             # The program ends though its input does not.
-            self.assertEqual(child.wait(10), -number)
+            self.assertEqual(child.wait(SOON), -number)
             self.assertEqual((child.stdout.read(), child.stderr.read()), (b"", b""))
 
     def test_interrupt_at_the_terminal(self):
         child = self.start()
         os.killpg(child.pid, signal.SIGINT)
-        self.assertEqual((child.wait(10), child.communicate()), (-signal.SIGINT, (b"", b"")))
+        self.assertEqual((child.wait(SOON), child.communicate()), (-signal.SIGINT, (b"", b"")))
 
-    @unittest.skipUnless(shutil.which("setpriv"), "there is no setpriv")
+    @unittest.skipUnless(os.access(SETPRIV, os.X_OK) and not SETPRIV.is_symlink(), "there is no setpriv")
     def test_killed_launcher(self):
         child = self.start()
         child.kill()
-        self.assertEqual(child.wait(10), -signal.SIGKILL)
+        self.assertEqual(child.wait(SOON), -signal.SIGKILL)
         self.assertEqual(child.stdout.read(), b"")
 
     def test_killed_program(self):
@@ -233,6 +274,7 @@ class Builds(InCheckout):
         self.assertIn("2 of 2 crates ok\ndiag: not built", said)
         self.assertEqual(self.is_current(), (False, ""))
 
+    @unittest.skipIf(shutil.which("rt", path="/usr/bin:/bin"), "the kit is where the tools of the system are")
     def test_no_kit(self):
         status, _, said = self.run_diag("--build", PATH="/usr/bin:/bin")
         self.assertEqual((status, said), (127, "diag: the kit's command `rt` is not on this machine\n"))
@@ -242,12 +284,15 @@ class QuickCheck(unittest.TestCase):
     """`examples/check`, whose lines for the program's own answers come first."""
 
     def test_wrong_program(self):
-        with subprocess.Popen([TOP / "examples/check"], stdout=subprocess.PIPE, env={**os.environ, "DIAG_PROGRAM": shutil.which("false")}) as check:
-            lines = [check.stdout.readline().decode() for _ in range(40)]
-            check.terminate()
-            check.stdout.read()
+        with tempfile.TemporaryDirectory() as tools:
+            # Without a Python it leaves out tests such as this one.
+            program = failing(pathlib.Path(tools, "python3"))
+            env = {**os.environ, "PATH": f"{tools}:{os.environ['PATH']}", "DIAG_PROGRAM": str(program)}
+            done = subprocess.run([TOP / "examples/check"], capture_output=True, text=True, env=env)
+        *lines, _ = done.stdout.splitlines()
         wrong = [line for line in lines if not line.startswith("FAILED ") and "has an entry for each file" not in line]
-        self.assertEqual(wrong, [])
+        self.assertEqual((wrong, done.returncode), ([], 1))
+        self.assertGreater(len(lines), 100)
 
     def test_no_program(self):
         done = subprocess.run([TOP / "examples/check"], capture_output=True, text=True, env={**os.environ, "DIAG_PROGRAM": "/nonexistent"})

@@ -10,19 +10,14 @@ import signal
 import subprocess
 import sys
 import tempfile
-import threading
-import time
 import unittest
 import warnings
 from unittest import mock
 
-from support import C17, TOP, needs_program, stand_in
+from support import C17, SOON, TOP, interrupt_at, kill, needs_program, stand_in, wait_until
 
 from diag_client import Ended, Minimum, OtherProcess, Service, TimedOut, child
 from diag_client.progress import Progress
-
-# Much less than the stand-in dozes, and more than a slow machine needs.
-SOON = 20
 
 
 def served(how, **options):
@@ -37,17 +32,16 @@ def is_alive(process):
     return True
 
 
-def interrupt_after(seconds):
-    alarm = threading.Timer(seconds, signal.pthread_kill, [threading.get_ident(), signal.SIGINT])
-    alarm.start()
-    return alarm
-
-
 @contextlib.contextmanager
-def soon(test):
-    begun = time.monotonic()
-    yield
-    test.assertLess(time.monotonic() - begun, SOON)
+def warnings_of(device):
+    """What is warned of that names a device; what else is dropped meanwhile is not from here."""
+    found = []
+    gc.collect()
+    with warnings.catch_warnings(record=True) as warned:
+        warnings.simplefilter("always")
+        yield found
+        gc.collect()
+    found += [row.category for row in warned if device in str(row.message)]
 
 
 class Dropped(unittest.TestCase):
@@ -56,23 +50,18 @@ class Dropped(unittest.TestCase):
     def test_last_reference(self):
         service = served("is good")
         process = service._child._process.pid
-        with warnings.catch_warnings(record=True) as warned:
-            warnings.simplefilter("always")
+        with warnings_of("any.bench") as warned:
             del service
-            gc.collect()
         self.assertFalse(is_alive(process))
-        self.assertEqual([row.category for row in warned], [ResourceWarning])
-        self.assertIn("any.bench", str(warned[0].message))
+        self.assertEqual(warned, [ResourceWarning])
 
     def test_with_something_awaited(self):
         service = served("dozes")
         process = service._child._process.pid
         session = service.session("S")
         service.send([session._change("see", "a=1"), session.request("min")])
-        with warnings.catch_warnings():
-            warnings.simplefilter("ignore")
+        with warnings_of("any.bench"):
             del service, session
-            gc.collect()
         self.assertFalse(is_alive(process))
 
     def test_interpreter_ends(self):
@@ -82,32 +71,50 @@ class Dropped(unittest.TestCase):
         self.assertFalse(is_alive(int(done.stdout)))
 
     def test_closed_ones_warn_of_nothing(self):
-        with warnings.catch_warnings():
-            warnings.simplefilter("error")
+        with warnings_of("any.bench") as warned:
             service = served("is good")
             service.close()
             del service
-            gc.collect()
+        self.assertEqual(warned, [])
 
 
 class Left(unittest.TestCase):
     """The end of `with` waits for nothing once there is an error, and the error stays what it is."""
 
+    def was_killed(self, service):
+        """It did not end by itself."""
+        return service._child._process.returncode == -signal.SIGKILL
+
     def test_interrupt(self):
-        with soon(self), self.assertRaises(KeyboardInterrupt), served("dozes") as service, service.session("S") as session:
-            interrupt_after(0.2)
+        with self.assertRaises(KeyboardInterrupt), served("dozes") as service, service.session("S") as session:
+            interrupt_at(service, "min S")
             session.minimum()
+        self.assertTrue(self.was_killed(service))
+
+    def test_interrupt_within_a_step(self):
+        """The program is stopped once something is sent to it, and that is no error of its own."""
+        with self.assertRaises(KeyboardInterrupt), served("is good") as service, service.session("S") as session:
+            request = session.request("see", "a=1")
+            request.take_known = mock.Mock(side_effect=KeyboardInterrupt)
+            service.carry_out([request])
+        self.assertTrue(self.was_killed(service))
 
     def test_interrupt_in_a_copy(self):
-        with soon(self), self.assertRaises(KeyboardInterrupt), served("dozes") as service, service.session("S") as session:
-            interrupt_after(0.2)
-            with session.copy() as other:
+        with self.assertRaises(KeyboardInterrupt), served("dozes") as service, service.session("S") as session:
+            with session.copy("T") as other:
+                interrupt_at(service, "min T")
                 other.minimum()
+        self.assertTrue(self.was_killed(service))
 
     def test_own_error(self):
         with self.assertRaises(KeyError), served("dies") as service, service.session("S") as session:
             with contextlib.suppress(Ended):
                 session.see(a=0, b=1)
+            raise KeyError
+
+    def test_own_error_after_an_end_that_nobody_saw(self):
+        with self.assertRaises(KeyError), served("is good") as service, service.session("S"):
+            kill(service)
             raise KeyError
 
     def test_own_error_while_it_runs(self):
@@ -219,7 +226,7 @@ class Waits(unittest.TestCase):
     """What is known while an answer is awaited."""
 
     def test_timeout(self):
-        with soon(self), self.assertRaises(TimedOut), served("dozes", timeout=5) as service, service.session("S") as session:
+        with self.assertRaises(TimedOut), served("dozes", timeout=SOON) as service, service.session("S") as session:
             # The start took longer than this, perhaps.
             service._child._timeout = 0.2
             session.minimum()
@@ -232,6 +239,7 @@ class Waits(unittest.TestCase):
                 session.minimum()
             self.assertTrue(service.is_behind)
             service._child._timeout = SOON
+            service._child._process.send_signal(signal.SIGUSR1)
             session.see(a=1)
             self.assertFalse(service.is_behind)
 
@@ -253,8 +261,8 @@ class Waits(unittest.TestCase):
 
         stream = Terminal()
         with mock.patch("diag_client.progress.PAUSE", 0.05), Progress("counting", stream):
-            time.sleep(0.5)
-        self.assertRegex(stream.getvalue(), "counting: 0 s")
+            wait_until(stream.getvalue)
+        self.assertRegex(stream.getvalue(), "counting: [0-9]+ s")
         self.assertTrue(stream.getvalue().endswith("\r\x1b[K"))
         with Progress("counting", io.StringIO()) as quiet:
             self.assertIsNone(quiet._thread)

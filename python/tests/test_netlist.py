@@ -4,10 +4,12 @@ import contextlib
 import doctest
 import graphlib
 import io
+import os
 import pathlib
 import random
 import shutil
 import subprocess
+import sys
 import tempfile
 import unittest
 
@@ -202,8 +204,7 @@ class AtRandom(Converts):
         tried = random.Random(SEED)
         for _ in range(4):
             path, _ = self.convert(random_blif(tried, 20, 2, True), out="new.bench")
-            command = f"cec {self.folder / 'given.blif'} {path}"
-            done = subprocess.run([ABC, "-q", command], capture_output=True, text=True, cwd=self.folder)
+            done = subprocess.run([ABC, "-q", f"cec given.blif {path.name}"], capture_output=True, text=True, cwd=self.folder)
             self.assertIn("Networks are equivalent", done.stdout)
 
     def test_cells(self):
@@ -286,10 +287,8 @@ class ByHand(Converts):
         self.assertEqual(path.read_text().split("\n")[1:], ["INPUT(a)", "OUTPUT(q)", "q = DFF(d)", "d = XOR(a, q)", "z = BUFF(a)", ""])
 
     def test_command(self):
-        done = subprocess.run(
-            ["python3", "-m", "diag_client.netlist", VERILOG / "gray.blif", "-o", self.folder / "gray.bench"],
-            capture_output=True, text=True, env={"PYTHONPATH": str(TOP / "python"), "PATH": "/usr/bin:/bin"}, check=True,
-        )
+        words = [sys.executable, "-m", "diag_client.netlist", VERILOG / "gray.blif", "-o", self.folder / "gray.bench"]
+        done = subprocess.run(words, capture_output=True, text=True, env={**os.environ, "PYTHONPATH": str(TOP / "python")}, check=True)
         self.assertIn("14 gates, 3 flip-flops, 2 inputs\n", done.stdout)
 
     def test_docstrings(self):

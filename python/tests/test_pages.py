@@ -3,6 +3,7 @@
 import os
 import pathlib
 import re
+import shlex
 import shutil
 import subprocess
 import tempfile
@@ -30,6 +31,12 @@ class Help(unittest.TestCase):
         said = " ".join([section.title for section in self.found] + [text for row in entries for text in (row.head, row.text, row.notes)])
         self.assertEqual(sorted(said.replace(":", " ").split()), sorted(self.text.replace(":", " ").split()))
 
+    def test_each_entry_is_explained(self):
+        """Two blanks part what is explained from the explanation."""
+        for entry in [entry for section in self.found for entry in section.entries]:
+            self.assertTrue(entry.text, entry.head)
+            self.assertTrue(all(option.text for option in entry.options), entry.head)
+
     def test_commands(self):
         usages = manual.usages(self.found)
         self.assertEqual(usages["see"].words, ("w=b",))
@@ -40,15 +47,23 @@ class Help(unittest.TestCase):
 class Page(unittest.TestCase):
     """`docs/diag.1`."""
 
+    def test_sections(self):
+        titles = re.findall(r"^\.SH (.*)$", PAGE.read_text(), re.MULTILINE)
+        self.assertEqual([title for title in ("SYNOPSIS", "FILES", "EXAMPLES", "SEE ALSO") if title not in titles], [])
+        self.assertRegex(PAGE.read_text(), r"(?s)\.TH DIAG 1 [0-9-]{10}\n.*\.SH SYNOPSIS\n.*diag \\-\\-build\n.*\.SH DESCRIPTION")
+
     def test_is_the_help(self):
         self.assertEqual(
             PAGE.read_text(), manual.page(manual.read_help()), "docs/diag.1: make it anew by `PYTHONPATH=python python3 -m diag_client man`"
         )
 
-    @unittest.skipUnless(shutil.which("man"), "there is no man")
+    # A small machine may have a script in its place that only says that it is not there.
+    @unittest.skipUnless(shutil.which("man") and shutil.which("groff"), "there is no man")
     def test_is_set(self):
-        env = {"MANWIDTH": "200", "PATH": os.environ["PATH"], "LC_ALL": "C.UTF-8"}
-        done = subprocess.run(["man", "--warnings", "-l", str(PAGE)], capture_output=True, text=True, check=True, env=env)
+        # Without a filter of system calls, which an emulated machine has not.
+        env = {"PATH": os.environ["PATH"], "LC_ALL": "C", "MANWIDTH": "200", "MAN_DISABLE_SECCOMP": "1"}
+        words = ["man", "--warnings", "--no-hyphenation", "--no-justification", "-l", str(PAGE)]
+        done = subprocess.run(words, capture_output=True, text=True, check=True, env=env)
         self.assertEqual(done.stderr, "")
         text = " ".join(re.sub("\x1b\\[[0-9]*m|.\b", "", done.stdout).split())
         for section in manual.read_help():
@@ -71,7 +86,7 @@ class Completion(unittest.TestCase):
             'printf "%s\\n" "${COMPREPLY[@]}"'
         )
         with tempfile.NamedTemporaryFile("r") as asked:
-            words = ["bash", "-c", script.replace("3>asked", f"3>{asked.name}"), "bash", str(completion), *words]
+            words = ["bash", "-c", script.replace("3>asked", f"3>{shlex.quote(asked.name)}"), "bash", str(completion), *words]
             done = subprocess.run(words, capture_output=True, text=True, check=True, cwd=folder)
             self.offered_as = asked.read().strip()
         self.assertEqual(done.stderr, "")
@@ -124,7 +139,7 @@ class Completion(unittest.TestCase):
             completion.parent.mkdir()
             shutil.copy(COMPLETION, completion)
             pathlib.Path(folder, "c.nnf").write_text(text)
-            launcher.write_text(f"#!/usr/bin/env bash\ncat {folder}/c.nnf\n")
+            launcher.write_text(f"#!/usr/bin/env bash\ncat {shlex.quote(folder)}/c.nnf\n")
             launcher.chmod(0o755)
             for words, wanted in (
                 ("t", ["tell"]), ("tell c", ["c.nnf", "completions"]), ("tell c.nnf ", []), ("tell c.nnf 1 ", ["--narrow", "--wide"]),

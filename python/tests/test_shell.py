@@ -1,17 +1,17 @@
 """The terminal, by lines and by its completion."""
 
 import contextlib
+import importlib
 import io
 import pathlib
 import re
 import signal
+import sys
 import tempfile
-import threading
-import time
 import unittest
 from unittest import mock
 
-from support import C17, TOP, needs_program, replies, stand_in
+from support import C17, EXAMPLES, SOON, TOP, interrupt_at, needs_program, replies, stand_in
 
 from diag_client import Proposal, Service, manual, shell
 
@@ -170,8 +170,9 @@ class Lines(unittest.TestCase):
     def from_pipe(self, data):
         """The status of a terminal whose input is a pipe, and what it prints."""
         self.session.close()
-        with mock.patch("sys.stdin", io.TextIOWrapper(io.BytesIO(data), "utf-8")), contextlib.redirect_stdout(io.StringIO()) as told:
-            return shell.run(self.service), told.getvalue().splitlines()
+        out = io.TextIOWrapper(io.BytesIO(), "utf-8", write_through=True)
+        with mock.patch("sys.stdin", io.TextIOWrapper(io.BytesIO(data), "utf-8")), contextlib.redirect_stdout(out):
+            return shell.run(self.service), out.buffer.getvalue().decode("utf-8", "surrogateescape").splitlines()
 
     def test_pipe(self):
         """Lines are answered in order whatever they are, and the status says whether one was refused."""
@@ -189,6 +190,16 @@ class Lines(unittest.TestCase):
             status, told = self.from_pipe(b"see 22=1\n" + b"min\n" * 200)
         self.assertEqual((status, told), (0, ["ok"] + ["min 0"] * 200))
         self.assertLess(follow.call_count, 5)
+
+    def test_graph(self):
+        """It is asked as a netlist is, and not drawn."""
+        lines = io.TextIOWrapper(io.BytesIO(b"see 00005=0\nmin\npicture out.svg\n"))
+        words = ["diag_client", "shell", str(EXAMPLES / "lamps.nnf"), "--health", "3"]
+        with mock.patch("sys.argv", words), mock.patch("sys.stdin", lines), contextlib.redirect_stdout(io.StringIO()) as told:
+            self.assertEqual(importlib.import_module("diag_client.__main__").main(), 1)
+        *answers, drawn = told.getvalue().splitlines()
+        self.assertEqual([f"S {line}" for line in answers], (EXAMPLES / "lamps.expected").read_text().splitlines()[2:4])
+        self.assertIn("has no gates", drawn)
 
     def test_completion(self):
         def complete(line):
@@ -227,56 +238,69 @@ class Interrupts(unittest.TestCase):
         self.shell = shell.Shell(self.service, self.session)
         self.shell.use_rawinput = True
 
-    def say(self, line, seconds=None):
-        if seconds is not None:
-            threading.Timer(seconds, signal.pthread_kill, [threading.get_ident(), signal.SIGINT]).start()
+    def say(self, line):
         with contextlib.redirect_stdout(io.StringIO()) as told:
             self.shell.onecmd(line)
         return told.getvalue()
 
+    def interrupted(self, line):
+        """What is said if an interrupt comes while the reply is awaited."""
+        command, *words = line.split()
+        interrupt_at(self.service, " ".join([command, "S", *words]))
+        return self.say(line)
+
     def test_twice(self):
         self.say("see a=1 b=0")
-        self.assertIn("Ctrl-C once more", self.say("min", 0.3))
+        self.assertIn("Ctrl-C once more", self.interrupted("min"))
         # It waits for the reply to the line before it.
-        self.assertIn("the case is as it was", self.say("see c=1", 0.3))
+        self.assertIn("the case is as it was", self.interrupted("see c=1"))
         self.assertEqual(dict(self.session.seen), {"a": 1, "b": 0, "c": 1})
         self.assertEqual(self.say("see d=1"), "ok\n")
 
     def test_first_of_another_command(self):
         """What was interrupted and answered by now does not count."""
-        self.say("min", 0.3)
+        self.interrupted("min")
         self.service.restart()
         self.say("see a=1")
-        self.assertIn("Ctrl-C once more", self.say("min", 0.3))
+        self.assertIn("Ctrl-C once more", self.interrupted("min"))
 
     def test_while_it_starts(self):
         self.say("see a=1")
-        self.say("min", 0.3)
+        self.interrupted("min")
         with mock.patch.object(self.service, "_start", side_effect=KeyboardInterrupt):
-            self.assertIn("The next command starts", self.say("min", 0.3))
+            self.assertIn("The next command starts", self.interrupted("list 1"))
         self.assertIn("the case is as it was\nok", self.say("see b=1"))
         self.assertEqual(dict(self.session.seen), {"a": 1, "b": 0} | {"b": 1})
 
     def test_quit(self):
-        """It waits for nothing."""
-        begun = time.monotonic()
-        self.say("min", 0.3)
+        """It waits for nothing, and ends the program that is at work."""
+        self.session.abandon()
+        # If it does wait, that is an error and not for ever.
+        self.service._child._timeout = SOON
         with mock.patch("builtins.input", side_effect=["min", EOFError]), contextlib.redirect_stdout(io.StringIO()):
-            self.session.abandon()
-            with Service("any.bench", program=stand_in("dozes")) as other, mock.patch("sys.stdin.isatty", lambda: True):
-                threading.Timer(1, signal.pthread_kill, [threading.get_ident(), signal.SIGINT]).start()
-                with mock.patch.object(shell, "readline", None):
-                    self.assertEqual(shell.run(other), 0)
-        self.assertLess(time.monotonic() - begun, 30)
+            with mock.patch("sys.stdin.isatty", lambda: True), mock.patch.object(shell, "readline", None):
+                interrupt_at(self.service, "min S")
+                self.assertEqual(shell.run(self.service), 0)
+        self.assertEqual(self.service._child._process.returncode, -signal.SIGKILL)
+
+    def test_import(self):
+        """What looks at all modules, as a browser of their docstrings does, starts nothing."""
+        sys.modules.pop("diag_client.__main__", None)
+        self.assertTrue(importlib.import_module("diag_client.__main__").main)
 
     def test_lines_as_they_come(self):
         """What has come of a long listing is printed before the rest of it."""
-        printed = []
-        request = mock.Mock(lines=["S diag p1", "S diag p2"], refused=None, is_answered=False)
-        with mock.patch.object(self.service, "follow", lambda _: iter([printed.append(self.told.getvalue()), None])):
-            with contextlib.redirect_stdout(io.StringIO()) as self.told:
-                self.shell.carry_out([shell.Asked([request])])
-        self.assertEqual(self.told.getvalue(), "diag p1\ndiag p2\n")
+        request = mock.Mock(refused=None, is_answered=False)
+
+        def follow(_):
+            for part in ("p1", "p2"):
+                request.lines = [f"S diag {part}"]
+                yield
+                self.assertTrue(told.getvalue().endswith(f"diag {part}\n"))
+
+        with mock.patch.object(self.service, "follow", follow), contextlib.redirect_stdout(io.StringIO()) as told:
+            self.shell.carry_out([shell.Asked([request])])
+        self.assertEqual(told.getvalue(), "diag p1\ndiag p2\n")
 
 
 if __name__ == "__main__":

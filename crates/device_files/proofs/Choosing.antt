@@ -1,31 +1,31 @@
 -- By which choice of forests a run goes.
 use Rattle.std.proofs.Common.{◌≡◌, ◌<◌, ◌≤◌, ℕ, Bool, true, false, Option, None, Some, Result, Ok, Err, nat_lt, refl, sym, ap, subst, ◌∙◌, arith}
-use Rattle.std.specs.Prelude.{IfOk, IfErr, IfSome}
+use Rattle.std.specs.Prelude.{IfOk, IfErr}
+use Rattle.std.specs.Option.{option_map_or}
 use Rattle.std.specs.Result.{result_map_both}
 use Rattle.text_rules.specs.Expected.{IsExpectedFault, Fulfils}
 use Rattle.device_model.specs.Devices.{Device}
 use Rattle.clause_encoder.specs.declared.encoding.EncodeError.{EncodeError}
 use Rattle.clause_encoder.specs.Clauses.{ClauseList}
-use Rattle.branch_states.specs.Branches.{order, sum_of}
+use Rattle.branch_states.specs.Branches.{sum_of}
 use Rattle.elimination_forests.specs.declared.steps.Weight.TheVariants.{Lists}
-use Rattle.elimination_forests.specs.Forests.{Forest, forest_sum, chain}
+use Rattle.elimination_forests.specs.Forests.{Forest, forest_sum}
 use Rattle.tree_finder.specs.declared.narrowing.Narrowed.{Narrowed}
 use Rattle.tree_finder.specs.Narrowing.{IsFound}
-use Rattle.tree_finder.proofs.Chains.{chain-narrow}
-use Rattle.tree_finder.proofs.Choosing.{order_of, order_narrows, order_finds}
+use Rattle.tree_finder.proofs.Choosing.{choice_of, choice_narrows, choice_finds}
 use Rattle.device_files.specs.declared.status.Status.TheVariants.{AboveBudget}
 use Rattle.device_files.specs.declared.refusal.Refusal.{Refusal}
 use Rattle.device_files.specs.declared.refusal.Refusal.TheVariants.{Sum}
 use Rattle.device_files.specs.Output.{says}
 use Rattle.device_files.specs.Refusals.{told_by}
-use Rattle.device_files.specs.Choices.{Weighed, weighed_by, ByForest, ByClauses, IsChosen, HasSum, IsListOf}
+use Rattle.device_files.specs.Choices.{Weighed, by_names, along, weighed_by, ByForest, ByClauses, IsChosen, HasSum, IsListOf}
 use Rattle.device_files.specs.Weighing.{within, sum_line}
 
 -- what holds by every choice holds by the order of the names
-pub by_any : {Holds : (ClauseList → Forest) → Type 0} → ((choose : ClauseList → Forest) → Holds choose) → ByForest Holds
-by_any each = record { choose = λ list. chain (order list.clauses); narrows = chain-narrow; holds = each (λ list. chain (order list.clauses)) }
+pub by_any : {Holds : (ClauseList → Option Forest) → Type 0} → ((choose : ClauseList → Option Forest) → Holds choose) → ByForest Holds
+by_any each = record { choose = λ list. None; narrows = λ list. tt; holds = each (λ list. None) }
 
-pub by_same : {Holds Others : (ClauseList → Forest) → Type 0} → ByForest Holds → ((choose : ClauseList → Forest) → Holds choose → Others choose) → ByForest Others
+pub by_same : {Holds Others : (ClauseList → Option Forest) → Type 0} → ByForest Holds → ((choose : ClauseList → Option Forest) → Holds choose → Others choose) → ByForest Others
 by_same some gives = record { choose = some.choose; narrows = some.narrows; holds = gives some.choose some.holds }
 
 -- ---- the sum by what was chosen
@@ -33,22 +33,22 @@ by_same some gives = record { choose = some.choose; narrows = some.narrows; hold
 module _ (list : ClauseList) where
   -- there is one
   pub has_sum : (narrow : Bool) (chosen : Option Narrowed) → IsChosen narrow list chosen → (sum : ℕ) × HasSum list chosen sum
-  has_sum false None is = (sum_of list.clauses, refl)
-  has_sum false (Some found) is = absurd is
-  has_sum true None is = absurd is
-  has_sum true (Some found) is = (forest_sum Lists is.forest list.clauses, (is, refl))
+  has_sum narrow None is = (sum_of list.clauses, refl)
+  has_sum narrow (Some found) is = (forest_sum Lists is.1.forest list.clauses, (is.1, refl))
 
   -- What holds of the clauses with that sum holds by some choice.
   pub chosen_gives : (narrow : Bool) (chosen : Option Narrowed) → IsChosen narrow list chosen → (Gives : Weighed → Type 0)
       → ((sum : ℕ) → HasSum list chosen sum → Gives (record { list = list; sum = sum })) → ByForest (λ choose. Gives (weighed_by narrow choose list))
+  chosen_gives true None is Gives given = record { choose = λ other. None; narrows = λ other. tt; holds = given (sum_of list.clauses) refl }
   chosen_gives false None is Gives given = by_any (λ choose. given (sum_of list.clauses) refl)
-  chosen_gives false (Some found) is Gives given = absurd is
-  chosen_gives true None is Gives given = absurd is
-  chosen_gives true (Some found) is Gives given = record {
-    choose = order_of list is.forest is.narrow;
-    narrows = order_narrows list is.forest is.narrow;
-    holds = subst (λ forest. Gives (record { list = list; sum = forest_sum Lists forest list.clauses })) (sym (order_finds list is.forest is.narrow)) (given (forest_sum Lists is.forest list.clauses) (is, refl));
-  }
+  chosen_gives false (Some found) is Gives given = absurd (let no : ⊥ = cc in no)
+  chosen_gives true (Some found) is Gives given =
+      let forest = is.1.forest in
+      record {
+        choose = choice_of list forest is.1.narrow;
+        narrows = choice_narrows list forest is.1.narrow;
+        holds = subst (λ chosen. Gives (option_map_or (λ f. along f list) chosen (by_names list))) (sym (choice_finds list forest is.1.narrow)) (given (forest_sum Lists forest list.clauses) (is.1, refl));
+      }
 
 -- the same of the clauses of a device
 pub list_gives : (narrow : Bool) (device : Device) (list : ClauseList) (chosen : Option Narrowed) → IsListOf device list → IsChosen narrow list chosen → (Gives : Result Weighed EncodeError → Type 0)
@@ -72,13 +72,11 @@ refused_above budget weighed many = rw above
     above = grind arith
 
 -- along a forest that was found
-module _ (list : ClauseList) (found : Narrowed) (is : IsFound list found) (budget sum : ℕ) (along : sum ≡ forest_sum Lists is.forest list.clauses) where
-  pub found_or_above : (result : Result ℕ Refusal) → IfOk result (λ n. found.sum ≡ Some n) → IfOk result (λ n. n ≤ budget) → IfErr result (λ refusal. refusal ≡ Sum budget)
-      → IfErr result (λ (_ : Refusal). budget < forest_sum Lists is.forest list.clauses)
+module _ (list : ClauseList) (found : Narrowed) (is : IsFound list found) (budget sum : ℕ) (is_along : sum ≡ forest_sum Lists is.forest list.clauses) where
+  pub found_or_above : (result : Result ℕ Refusal) → IfOk result (λ n. n ≡ found.sum) → IfOk result (λ n. n ≤ budget) → IfErr result (λ refusal. refusal ≡ Sum budget)
+      → IfErr result (λ (_ : Refusal). budget < found.sum)
       → Fulfils (λ (_ : ℕ). record { list = list; sum = sum }) told_by (within budget (Ok (record { list = list; sum = sum }))) result
-  found_or_above (Ok n) same few fault above =
-      let whole : n ≡ forest_sum Lists is.forest list.clauses = subst (λ o. IfSome o (λ n. n ≡ forest_sum Lists is.forest list.clauses)) same is.sum in
-      kept_within budget (record { list = list; sum = sum }) (omega (arith, whole, few, along))
+  found_or_above (Ok n) same few fault above = kept_within budget (record { list = list; sum = sum }) (omega (arith, same, few, is.sum, is_along))
   found_or_above (Err refusal) same few fault above =
       subst (λ r. IsExpectedFault (told_by r) (within budget (Ok (record { list = list; sum = sum })))) (sym fault)
-      (refused_above budget (record { list = list; sum = sum }) (omega (arith, above, along)))
+      (refused_above budget (record { list = list; sum = sum }) (omega (arith, above, is.sum, is_along)))

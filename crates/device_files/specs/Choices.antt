@@ -1,5 +1,6 @@
 -- Which sum of clauses a budget limits: that by the order of their names, or that along a forest.
-use Rattle.std.specs.Prelude.{◌≡◌, ℕ, Bool, true, false, Option, None, Some, Result, Ok, if◌then◌else◌}
+use Rattle.std.specs.Prelude.{◌≡◌, ℕ, Bool, true, Option, None, Some, Result, Ok, if◌then◌else◌}
+use Rattle.std.specs.Option.{option_map_or}
 use Rattle.std.specs.Result.{result_map_both}
 use Rattle.device_model.specs.Devices.{Device}
 use Rattle.clause_encoder.specs.declared.encoding.EncodeError.{EncodeError}
@@ -24,17 +25,17 @@ by_names cnf = record { list = cnf; sum = sum_of cnf.clauses }
 abbrev pub along : Forest → ClauseList → Weighed
 along forest cnf = record { list = cnf; sum = forest_sum Lists forest cnf.clauses }
 
--- along the one that is chosen for them, if that is asked for
-abbrev pub weighed_by : Bool → (ClauseList → Forest) → ClauseList → Weighed
-weighed_by narrow choose cnf = if narrow then along (choose cnf) cnf else by_names cnf
+-- along the one that is chosen for them, if that is asked for and one is
+abbrev pub weighed_by : Bool → (ClauseList → Option Forest) → ClauseList → Weighed
+weighed_by narrow choose cnf = if narrow then option_map_or (λ forest. along forest cnf) (choose cnf) (by_names cnf) else by_names cnf
 
 -- and those of a device
-abbrev pub clauses_by : Bool → (ClauseList → Forest) → Device → Result Weighed EncodeError
+abbrev pub clauses_by : Bool → (ClauseList → Option Forest) → Device → Result Weighed EncodeError
 clauses_by narrow choose device = result_map_both (weighed_by narrow choose) (λ error. error) (encoded device)
 
--- Something holds by some choice of forests, by which no sum is greater.
-pub record ByForest (Holds : (ClauseList → Forest) → Type 0) : Type 0 where
-  pub choose : ClauseList → Forest
+-- Something holds by some choice of forests, along which no sum is greater than by the order of the names.
+pub record ByForest (Holds : (ClauseList → Option Forest) → Type 0) : Type 0 where
+  pub choose : ClauseList → Option Forest
   pub narrows : Narrows choose
   pub holds : Holds choose
 
@@ -44,12 +45,10 @@ ByClauses narrow Holds = ByForest (λ choose. Holds (clauses_by narrow choose))
 
 -- ---- what is found
 
--- such a forest, if one is asked for
+-- such a forest or none, and none if none is asked for
 abbrev pub IsChosen : Bool → ClauseList → Option Narrowed → Type 0
-IsChosen false list None = Unit {0}
-IsChosen false list (Some found) = ⊥
-IsChosen true list None = ⊥
-IsChosen true list (Some found) = IsFound list found
+IsChosen narrow list None = Unit {0}
+IsChosen narrow list (Some found) = (narrow ≡ true) × IsFound list found
 
 -- the sum by the order of the names, or along the forest that was found
 abbrev pub HasSum : ClauseList → Option Narrowed → ℕ → Type 0

@@ -68,6 +68,6 @@ told_decomposable graph = says (decomposable_line graph) Done
 -- ---- all inspections
 
 -- what each prints of a file, by the choice of forests, if one is asked for
-abbrev pub inspected : (ClauseList → Forest) → List ℕ → Inspection → List ℕ → Output
+abbrev pub inspected : (ClauseList → Option Forest) → List ℕ → Inspection → List ℕ → Output
 inspected choose path (Plan narrow) file = told_or_refused planned (sizes_in (clauses_by narrow choose) (described path file))
 inspected choose path Check file = told_or_refused told_decomposable (graph_in file)

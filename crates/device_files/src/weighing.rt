@@ -1,11 +1,9 @@
-ghost use Rattle.std.specs.Prelude.{◌≡◌, ◌<◌, ◌≤◌, ℕ, Bool, Ok, Some, IfOk, IfErr};
+ghost use Rattle.std.specs.Prelude.{◌≡◌, ◌<◌, ◌≤◌, ℕ, Bool, Option, Ok, IfOk, IfErr};
 ghost use Rattle.text_rules.specs.Expected.{IsExpectedFault, Fulfils};
 ghost use Rattle.clause_encoder.specs.Clauses.{ClauseList};
 ghost use Rattle.clause_encoder.specs.Encoding.{encoded, Describes};
 ghost use Rattle.branch_states.specs.Branches.{sum_of};
-ghost use Rattle.elimination_forests.specs.declared.steps.Weight.TheVariants.{Lists};
-ghost use Rattle.elimination_forests.specs.Forests.{Forest, forest_sum};
-ghost use Rattle.tree_finder.specs.Narrowing.{IsFound};
+ghost use Rattle.elimination_forests.specs.Forests.{Forest};
 ghost use Rattle.device_files.specs.Choices.{clauses_by, ByClauses, IsChosen, HasSum, IsListOf};
 ghost use Rattle.device_files.specs.Weighing.{within};
 ghost use Rattle.device_files.specs.Refusals.{told_by};
@@ -20,7 +18,7 @@ use tree_finder::{Narrowed, narrow};
 /// The clauses of a device. An error says that there are too many, whatever the budget, or that memory ran out.
 pub fn clauses_of(alloc: Global, device: &Device) -> Result<Cnf, Refusal>
     ensures list { IfOk result (IsListOf device.now) }
-    ensures fault { IfErr result (λ refusal. (is_narrow : Bool) (choose : ClauseList → Forest) (budget : ℕ)
+    ensures fault { IfErr result (λ refusal. (is_narrow : Bool) (choose : ClauseList → Option Forest) (budget : ℕ)
         → IsExpectedFault (told_by refusal) (within budget (clauses_by is_narrow choose device.now))) }
 {
     match encode(alloc, device) {
@@ -32,15 +30,14 @@ pub fn clauses_of(alloc: Global, device: &Device) -> Result<Cnf, Refusal>
     }
 }
 
-/// The forest along which clauses are compiled, if one is asked for; otherwise that is by the order of their names.
+/// The forest along which clauses are compiled, if one is asked for and found; otherwise that is by the order of their names.
 pub fn forest_of(alloc: Global, cnf: &Cnf, is_narrow: bool) -> Result<Option<Narrowed>, AllocError>
     ensures { IfOk result (IsChosen is_narrow cnf.now) }
 {
     if !is_narrow {
         return Ok(None);
     }
-    let found = narrow(alloc, cnf)?;
-    Ok(Some(found))
+    narrow(alloc, cnf)
 }
 
 /// The clauses of a device and their sum, if it is within a budget.
@@ -76,16 +73,15 @@ pub fn sum_within(alloc: Global, cnf: &Cnf, forest: &Option<Narrowed>, budget: u
 
 /// The sum along a forest that was found, if it is within a budget.
 pub fn found_within(found: &Narrowed, budget: u32) -> Result<u32, Refusal>
-    requires { budget ≤ BUDGET_LIMIT }
-    ensures sum { IfOk result (λ sum. found.now.sum ≡ Some sum) }
+    ensures sum { IfOk result (λ sum. sum ≡ found.now.sum) }
     ensures few { IfOk result (λ sum. sum ≤ budget) }
     ensures fault { IfErr result (λ refusal. refusal ≡ Refusal.Sum budget) }
-    ensures above { (list : ClauseList) (is : IsFound list found.now) → IfErr result (λ refusal. budget < forest_sum Lists is.forest list.clauses) }
+    ensures above { IfErr result (λ refusal. budget < found.now.sum) }
 {
-    match found.sum {
-        Some(sum) if sum <= budget => Ok(sum),
-        _ => Err(Refusal::Sum { budget }),
+    if budget < found.sum {
+        return Err(Refusal::Sum { budget });
     }
+    Ok(found.sum)
 }
 
 // The sum by the order of the names, in words of 64 bits, if it is within a budget.

@@ -40,11 +40,11 @@ same_file file bytes (Some all) same is = same ∙ is
 -- ---- a file may be too long
 
 -- a file that is short enough has the course of the command
-short_course : (choose : ClauseList → Forest) (path : List ℕ) (command : Command) (file : List ℕ) → length file ≤ TEXT_LIMIT → course_of choose (Some (Over path command)) file ≡ course_by choose path command file
+short_course : (choose : ClauseList → Option Forest) (path : List ℕ) (command : Command) (file : List ℕ) → length file ≤ TEXT_LIMIT → course_of choose (Some (Over path command)) file ≡ course_by choose path command file
 short_course choose path command file short = let few : nat_le (length file) TEXT_LIMIT ≡ true = grind arith in rw few
 
 -- a file that is too long has this output
-long_course : (choose : ClauseList → Forest) (path : List ℕ) (command : Command) (file : List ℕ) → TEXT_LIMIT < length file → course_of choose (Some (Over path command)) file ≡ Tells (says long_file_line Refused)
+long_course : (choose : ClauseList → Option Forest) (path : List ℕ) (command : Command) (file : List ℕ) → TEXT_LIMIT < length file → course_of choose (Some (Over path command)) file ≡ Tells (says long_file_line Refused)
 long_course choose path command file long = let many : nat_le (length file) TEXT_LIMIT ≡ false = grind arith in rw many
 
 -- words with a form may run out of memory
@@ -209,7 +209,7 @@ module _ (input new_input : Reading) (out new_out : Writing) (status : Status) w
 
   -- ---- runs
 
-  module _ (choose : ClauseList → Forest) (path : List ℕ) (command : Command) (held : List ℕ → Holding) (shelf new_shelf : Reading) where
+  module _ (choose : ClauseList → Option Forest) (path : List ℕ) (command : Command) (held : List ℕ → Holding) (shelf new_shelf : Reading) where
     -- what the command comes to over a file, which may be too long
     abbrev course : List ℕ → Course
     course file = course_of choose (Some (Over path command)) file
@@ -269,7 +269,7 @@ module _ (input new_input : Reading) (out new_out : Writing) (status : Status) w
 -- ---- what may be told without a look at the script
 
 -- an output that tells that memory ran out, or the one that the file comes to
-abbrev pub IsRight : (ClauseList → Forest) → List ℕ → Command → Output → List ℕ → Type 0
+abbrev pub IsRight : (ClauseList → Option Forest) → List ℕ → Command → Output → List ℕ → Type 0
 IsRight choose path command output file = (output ≡ no_memory) ⊎ (course_of choose (Some (Over path command)) file ≡ Tells output)
 
 -- some bytes are too many, those that are told where any are
@@ -281,13 +281,13 @@ long_file limit None long = let some = too_many limit in (some.0, tt, some.1)
 long_file limit (Some file) long = (file, refl, long)
 
 -- and so it is right to tell that
-long_is_right : (choose : ClauseList → Forest) (path : List ℕ) (command : Command) (told : Option (List ℕ)) → IfSome told (λ file. TEXT_LIMIT < length file) → IfSome told (IsRight choose path command (says long_file_line Refused))
+long_is_right : (choose : ClauseList → Option Forest) (path : List ℕ) (command : Command) (told : Option (List ℕ)) → IfSome told (λ file. TEXT_LIMIT < length file) → IfSome told (IsRight choose path command (says long_file_line Refused))
 long_is_right choose path command None long = tt
 long_is_right choose path command (Some file) long = inr (long_course choose path command file long)
 
 -- ---- runs in which the script is not begun
 
-module _ (choose : ClauseList → Forest) (held : List ℕ → Holding) (shelf new_shelf input : Reading) (out new_out : Writing) (status : Status) where
+module _ (choose : ClauseList → Option Forest) (held : List ℕ → Holding) (shelf new_shelf input : Reading) (out new_out : Writing) (status : Status) where
   idle : IsIdle input input
   idle = record { left = refl; taken = refl; faults = refl }
 

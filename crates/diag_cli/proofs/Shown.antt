@@ -38,7 +38,7 @@ pub served_shown : {answers : List (List ℕ) → List Item} {status : Status} {
     → IsServed answers input new_input out new_out status → IsServed answers input_shown new_input_shown out_shown new_out_shown status
 served_shown {answers} {status} a b c d served = at_ends (λ x y u v. IsServed answers x y u v status) a b c d served
 
-pub run_shown : {choose : ClauseList → Forest} {form : Option Form} {held : List ℕ → Holding} {status : Status}
+pub run_shown : {choose : ClauseList → Option Forest} {form : Option Form} {held : List ℕ → Holding} {status : Status}
     {shelf new_shelf input new_input shelf_shown new_shelf_shown input_shown new_input_shown : Reading} {out new_out out_shown new_out_shown : Writing}
     → shelf_shown ≡ shelf → new_shelf_shown ≡ new_shelf → input_shown ≡ input → new_input_shown ≡ new_input → out_shown ≡ out → new_out_shown ≡ new_out
     → IsRun choose form held shelf new_shelf input new_input out new_out status → IsRun choose form held shelf_shown new_shelf_shown input_shown new_input_shown out_shown new_out_shown status

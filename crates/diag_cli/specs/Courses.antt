@@ -125,7 +125,7 @@ whole_output (Tells output) left = Some output
 whole_output (Serves answers) left = option_map (wholly_served answers) left
 
 -- by the command, over a file, and by the choice of forests, if one is asked for
-abbrev pub course_by : (ClauseList → Forest) → List ℕ → Command → List ℕ → Course
+abbrev pub course_by : (ClauseList → Option Forest) → List ℕ → Command → List ℕ → Course
 course_by choose path (Serve options) file =
     served_or_refused (served_device options) options.sessions (if_within options (clauses_by options.narrow choose) (described path file))
 course_by choose path (ServeFrames frames options) file =
@@ -135,7 +135,7 @@ course_by choose path (Inspect inspection) file = Tells (inspected choose path i
 course_by choose path (Compile budget narrow) file = Tells (compiled budget (clauses_by narrow choose) (described path file))
 
 -- by the form; of a file that is too long, that is told
-abbrev pub course_of : (ClauseList → Forest) → Option Form → List ℕ → Course
+abbrev pub course_of : (ClauseList → Option Forest) → Option Form → List ℕ → Course
 course_of choose None file = Tells (says usage_line Usage)
 course_of choose (Some (Load places)) file = Tells (loaded places)
 course_of choose (Some (Over path command)) file =

@@ -23,7 +23,7 @@ GivesUnlessShort form output status before after = (IsSome form × Gives no_memo
 
 -- What was done by the bytes of a file: those that are told, where any are. They were taken, and of a file that is too long one
 -- byte more than the limit.
-pub record IsDone (choose : ClauseList → Forest) (form : Option Form) (told : Option (List ℕ)) (shelf new_shelf input new_input : Reading) (out new_out : Writing) (status : Status) : Type 0 where
+pub record IsDone (choose : ClauseList → Option Forest) (form : Option Form) (told : Option (List ℕ)) (shelf new_shelf input new_input : Reading) (out new_out : Writing) (status : Status) : Type 0 where
   pub file : List ℕ
   pub is_told : IfSome told (λ bytes. file ≡ bytes)
   pub taken : new_shelf.taken ≡ shelf.taken + min (length file) (TEXT_LIMIT + 1)
@@ -31,7 +31,7 @@ pub record IsDone (choose : ClauseList → Forest) (form : Option Form) (told : 
 
 -- What a run does by its words, over a shelf that holds this, with its input and its output. If the words ask for
 -- a forest of clauses, one is chosen.
-pub record IsRun (choose : ClauseList → Forest) (form : Option Form) (held : List ℕ → Holding) (shelf new_shelf input new_input : Reading) (out new_out : Writing) (status : Status) : Type 0 where
+pub record IsRun (choose : ClauseList → Option Forest) (form : Option Form) (held : List ℕ → Holding) (shelf new_shelf input new_input : Reading) (out new_out : Writing) (status : Status) : Type 0 where
   -- Whatever is told of the file, the input and the output: where no read of the file failed, it has bytes by which all was done;
   -- or memory ran out before the script was begun.
   pub done : new_shelf.faults ≡ shelf.faults → IsDone choose form (told_file held (named_file form)) shelf new_shelf input new_input out new_out status

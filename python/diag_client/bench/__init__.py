@@ -12,6 +12,24 @@ How it is made:
   and all of it is drawn. Names of wires and parts are put in as text, never as HTML.
 """
 
-from .server import add_words, run
+from __future__ import annotations
 
-__all__ = ["add_words", "run"]
+import argparse
+
+
+def add_words(parser: argparse.ArgumentParser) -> None:
+    """What `bench` takes beside the file and what all commands take."""
+    levels = "explanations that are not the cheapest may be asked for, up to a cost of C"
+    parser.add_argument("--levels", type=int, metavar="C", help=levels)
+    parser.add_argument("--listen", metavar="ADDRESS", default="127.0.0.1", help="take requests here, and not from this machine alone")
+    parser.add_argument("--port", type=int, metavar="N", default=0, help="the port; else one that is free")
+    parser.add_argument("--read-only", action="store_true", help="print a second address, for those who only watch")
+    parser.add_argument("--no-browser", action="store_true", help="print the address alone, and open no browser")
+
+
+def run(words: argparse.Namespace) -> int:
+    """Serves the page until an interrupt, and gives the exit status."""
+    # The other commands begin sooner without all that a server needs.
+    from .server import run as serve
+
+    return serve(words)

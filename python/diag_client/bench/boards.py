@@ -21,7 +21,6 @@ from ..advice import Proposal
 from ..errors import DiagError, Ended, Inconsistent, Refused
 from ..joint import Joint, JointProposal
 from ..replies import Listing, Mode, Request, Verdict
-from ..service import Service
 from ..session import Session
 from .cases import MOST_LINES, MOST_TEXT, Bad, Case, Known, Pattern, read_readings, read_script, take_readings
 from .drawing import Json, Scene
@@ -408,7 +407,7 @@ class Board:
             if pattern.name not in self._sessions:
                 self._sessions[pattern.name] = self.bench.session(self)
             changes += _changes(self._sessions[pattern.name], pattern.seen, self.case.held)
-        _carry_out(self.bench.service, changes)
+        self.bench.service.do(changes)
         return [(pattern, self._sessions[pattern.name]) for pattern in self.case.patterns]
 
     def _read(self) -> list[tuple[Pattern, Session]]:
@@ -527,14 +526,6 @@ def _changes(session: Session, seen: Mapping[str, int], held: Mapping[str, Mode]
     ]
 
 
-def _carry_out(service: Service, requests: Sequence[Request]) -> None:
-    """Asks all of these at once. The first refusal is raised."""
-    service.carry_out(requests)
-    refused = next((request.refused for request in requests if request.refused is not None), None)
-    if refused is not None:
-        raise refused
-
-
 def _explain(answers: Answers, asked: Session | Joint, view: View) -> None:
     """The explanations. Raises `Inconsistent` if there are none."""
     if isinstance(asked, Session):
@@ -554,11 +545,7 @@ def _explained(session: Session, view: View) -> tuple[int, dict[str, Verdict], l
     blamed = Listing(name, f"blame {name}", last="end inconsistent", more="blame")
     listed = Listing(name, f"{command} {name} {most}", last="end inconsistent", more=word, most=most)
     # A listing goes on after the one before it. A reading that is sent again makes it begin at the first.
-    again = next(session.restoring(), None)
-    if again is None:
-        session.close()
-        session.open()
-    _carry_out(session.service, [*([] if again is None else [again]), least, blamed, listed])
+    session.service.do([*session.placing(None), least, blamed, listed])
     if least.is_inconsistent:
         raise Inconsistent(name)
     cost = int(least.told("min")[0][0])

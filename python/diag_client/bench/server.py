@@ -310,16 +310,6 @@ def _same(words: list[str], token: str) -> bool:
     return bool(words) and secrets.compare_digest(words[0].encode("utf-8", "replace"), token.encode())
 
 
-def add_words(parser: argparse.ArgumentParser) -> None:
-    """What `bench` takes beside the file and what all commands take."""
-    levels = "explanations that are not the cheapest may be asked for, up to a cost of C"
-    parser.add_argument("--levels", type=int, metavar="C", help=levels)
-    parser.add_argument("--listen", metavar="ADDRESS", default="127.0.0.1", help="take requests here, and not from this machine alone")
-    parser.add_argument("--port", type=int, metavar="N", default=0, help="the port; else one that is free")
-    parser.add_argument("--read-only", action="store_true", help="print a second address, for those who only watch")
-    parser.add_argument("--no-browser", action="store_true", help="print the address alone, and open no browser")
-
-
 def _listening(bench: Bench, words: argparse.Namespace) -> Server:
     try:
         return Server(bench, words.listen, words.port, words.read_only)

@@ -11,8 +11,7 @@ from collections.abc import Callable, Iterator, Sequence
 from typing import Any
 
 from ..errors import DiagError
-from ..holding import Lines
-from ..replies import Change, Request
+from ..replies import Lines, Request
 from ..service import Service
 
 # What is asked for, the most urgent first: an answer to a click, a search over several patterns, the next measurement.
@@ -146,7 +145,7 @@ def pieces(requests: Sequence[Request]) -> Iterator[list[Request]]:
     piece: list[Request] = []
     for request in requests:
         piece.append(request)
-        if not isinstance(request, (Change, Lines)):
+        if not isinstance(request, Lines):
             yield piece
             piece = []
     if piece:

@@ -8,4 +8,4 @@ returns-in-Some-clause-list c = λ sum has.
     let cnf = c.args.cnf.now in
     let along = subst (λ forest. HasSum cnf forest sum) c.in-Some.is has in
     let found = c.found_within.ensures in
-    found_or_above cnf c.in-Some.found along.0 c.args.budget sum along.1 c.found_within.result found.sum found.few found.fault (found.above cnf along.0)
+    found_or_above cnf c.in-Some.found along.0 c.args.budget sum along.1 c.found_within.result found.sum found.few found.fault found.above

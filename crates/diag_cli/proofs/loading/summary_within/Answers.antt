@@ -1,10 +1,9 @@
-use Rattle.std.proofs.Common.{false, Ok, sym, subst, arith}
+use Rattle.std.proofs.Common.{false, Ok, None, sym, subst, arith}
 use Rattle.std.specs.Result.{result_map_both}
 use Rattle.std.proofs.lemmas.Result.{err_from_is_err_and}
 use Rattle.text_rules.specs.Expected.{IsExpectedFault}
 use Rattle.clause_encoder.specs.Encoding.{encoded}
 use Rattle.branch_states.specs.Branches.{sum_of}
-use Rattle.elimination_forests.specs.Forests.{none}
 use Rattle.device_files.specs.Choices.{by_names}
 use Rattle.device_files.specs.Refusals.{told_by}
 use Rattle.device_files.specs.Weighing.{within}
@@ -18,7 +17,7 @@ pub returns-in_err-cnf-clause-summary : goal.returns-in_err-cnf-clause-summary
 returns-in_err-cnf-clause-summary c =
     let p = err_from_is_err_and c.from_residual.result c.from_residual.ensures.1 in
     rw (p.1, p.2) (refusal_told (summary_by c.args.places c.args.device) (told_by c.in_err-cnf.field-0.0)
-    (within DEFAULT_BUDGET (result_map_both by_names (λ error. error) (encoded c.args.device))) (c.in_err-cnf.ensures.fault false (λ list. none) DEFAULT_BUDGET))
+    (within DEFAULT_BUDGET (result_map_both by_names (λ error. error) (encoded c.args.device))) (c.in_err-cnf.ensures.fault false (λ list. None) DEFAULT_BUDGET))
 
 pub returns-in_err-graph-clause-summary : goal.returns-in_err-graph-clause-summary
 returns-in_err-graph-clause-summary c =

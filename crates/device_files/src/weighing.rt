@@ -58,7 +58,12 @@ pub(crate) fn clauses_within(
 }
 
 /// The sum of clauses by the order of their names, or along a forest that was found for them, if it is within a budget.
-pub fn sum_within(alloc: Global, cnf: &Cnf, forest: &Option<Narrowed>, budget: u32) -> Result<u32, Refusal>
+pub fn sum_within(
+    alloc: Global,
+    cnf: &Cnf,
+    forest: &Option<Narrowed>,
+    budget: u32,
+) -> Result<u32, Refusal>
     requires { budget ≤ BUDGET_LIMIT }
     ensures list { (sum : ℕ) → HasSum cnf.now forest.now sum
         → Fulfils (λ _. record { list = cnf.now; sum = sum }) told_by (within budget (Ok (record { list = cnf.now; sum = sum }))) result }

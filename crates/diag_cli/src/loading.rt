@@ -16,7 +16,9 @@ use crate::costs::costs_of;
 use crate::graphs::compiled_by_names;
 use crate::words::DEFAULT_BUDGET;
 use adder_load::{Found, PLACE_LIMIT, adder_text, note_readings, sample};
-use device_files::{Count, Refusal, Status, clauses_of, netlist_device, put_count, put_counts, tell};
+use device_files::{
+    Count, Refusal, Status, clauses_of, netlist_device, put_count, put_counts, tell,
+};
 use device_model::{Device, Name};
 use diag_edge::{Sink, WriteFailed, put_line};
 use fault_graph::Distiller;

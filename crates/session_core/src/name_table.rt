@@ -8,10 +8,19 @@ use std::alloc::{AllocError, Global};
 use std::marker::Model;
 
 /// Names in their order, of which each is found by its bytes.
-#[derive(Drop)]
 pub(crate) struct NameTable {
     names: Vec<Name>,
     places: IndexSet<Vec<u8>>,
+}
+
+// One call, so that the prover does not go through the table at each place that lets one go.
+impl Drop for NameTable {
+    fn drop(self) {
+        let NameTable {
+            names: _,
+            places: _,
+        } = self;
+    }
 }
 
 impl Model for NameTable {

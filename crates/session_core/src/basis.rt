@@ -95,11 +95,13 @@ impl Basis {
     {
         // a graph is one whose children stand before it and share no variable below an and
         let _nodes = graph.len();
+        let parts = NameTable::of(alloc, parts)?;
+        let wires = NameTable::of(alloc, wires)?;
         let levels = levels_of(alloc, &graph, &costs, extras.levels)?;
         let sets = sets_of(alloc, &graph, costs.len(), extras)?;
         Ok(Basis {
-            parts: NameTable::of(alloc, parts)?,
-            wires: NameTable::of(alloc, wires)?,
+            parts,
+            wires,
             costs,
             graph,
             levels,

@@ -1,9 +1,8 @@
 -- Worked rows: netlists of which a reader can say the device or the fault beforehand. Their check computes both sides.
 use Rattle.std.proofs.Common.{◌≡◌, ℕ, zero, suc, List, [], ◌∷◌, ◌++◌, codes, replicate, refl}
 use Rattle.text_rules.specs.Names.{Name}
-use Rattle.device_model.specs.declared.component.Kind.TheVariants.{Gate as OfGate}
-use Rattle.device_model.specs.declared.gates.Gate.{Gate}
-use Rattle.device_model.specs.declared.gates.Gate.TheVariants.{And, Nand, Xor, Not, Buff}
+use Rattle.device_model.specs.declared.gates.Kind.{Kind}
+use Rattle.device_model.specs.declared.gates.Kind.TheVariants.{And, Nand, Xor, Not, Buff}
 use Rattle.device_model.specs.declared.component.Component.{Component}
 use Rattle.device_model.specs.Devices.{Device}
 use Rattle.std.specs.Prelude.{Result, Ok, Err}
@@ -36,8 +35,8 @@ more_of_a (suc n) = codes ",a" ++ more_of_a n
 abbrev gate_of_a : List ℕ → ℕ → List ℕ
 gate_of_a kind more = codes "y = " ++ kind ++ codes "(a" ++ more_of_a more
 
-abbrev part : List ℕ → Gate → List ℕ → Component
-part name gate ports = record { name = name; kind = OfGate gate; ports = ports }
+abbrev part : List ℕ → Kind → List ℕ → Component
+part name gate ports = record { name = name; kind = gate; ports = ports }
 
 abbrev device : List Component → List Name → Device
 device parts wires = record { parts = parts; wires = wires; tables = [] }

@@ -198,7 +198,7 @@ fn kind_fault(flip_flops: FlipFlops, kind: NamedKind, inputs: usize) -> Option<B
     }
     match kind.part_gate() {
         None => Some(BenchFault::Kind),
-        Some(gate) => (!gate.takes(inputs)).then_some(BenchFault::Inputs),
+        Some(gate) => (!gate.takes_inputs(inputs)).then_some(BenchFault::Inputs),
     }
 }
 

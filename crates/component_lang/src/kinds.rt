@@ -68,7 +68,7 @@ impl<'a> Library<'a> {
         ensures { result ≡ takes_args self.now.types.items self.now.blocks.items kind args }
     {
         match kind {
-            UsedKind::Gate(gate) => gate.takes(args.saturating_sub(1)),
+            UsedKind::Gate(kind) => kind.takes_inputs(args.saturating_sub(1)),
             UsedKind::Shape(place) => match self.types.get(place as usize) {
                 Some(shape) => usize::from(shape.table.ports()) == args,
                 None => false,

@@ -8,11 +8,12 @@ ghost use Rattle.device_files.specs.Choices.{clauses_by, ByClauses, IsChosen, Ha
 ghost use Rattle.device_files.specs.Weighing.{within};
 ghost use Rattle.device_files.specs.Refusals.{told_by};
 
+use crate::Memory;
 use crate::refusal::{Refusal, above};
 use branch_states::{BUDGET_LIMIT, MeasureError, measure};
 use clause_encoder::{CLAUSE_LIMIT, Cnf, EncodeError, encode};
 use device_model::Device;
-use std::alloc::{AllocError, Global};
+use std::alloc::Global;
 use tree_finder::{Narrowed, narrow};
 
 /// The clauses of a device. An error says that there are too many, whatever the budget, or that memory ran out.
@@ -31,7 +32,7 @@ pub fn clauses_of(alloc: Global, device: &Device) -> Result<Cnf, Refusal>
 }
 
 /// The forest along which clauses are compiled, if one is asked for and found; otherwise that is by the order of their names.
-pub fn forest_of(alloc: Global, cnf: &Cnf, is_narrow: bool) -> Result<Option<Narrowed>, AllocError>
+pub fn forest_of(alloc: Global, cnf: &Cnf, is_narrow: bool) -> Result<Option<Narrowed>, Memory>
     ensures { IfOk result (IsChosen is_narrow cnf.now) }
 {
     if !is_narrow {

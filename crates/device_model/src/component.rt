@@ -2,10 +2,11 @@ ghost use Rattle.std.specs.Prelude.{◌≡◌, ◌<◌, ◌^◌, length, map, sl
 ghost use Rattle.state_rules.specs.Bits.{has_bit};
 ghost use Rattle.device_model.specs.TruthTable.{set_of_all, is_table};
 
-use crate::gates::Gate;
+use crate::Memory;
+use crate::gates::Kind;
 use crate::limits::COST_LIMIT;
 use crate::names::Name;
-use std::alloc::{AllocError, Global};
+use std::alloc::Global;
 use std::marker::Model;
 
 /// The wires at the ports of a part, by their places.
@@ -24,7 +25,7 @@ impl Model for Wires {
 
 impl Wires {
     /// Copies a list of places.
-    pub fn new(alloc: Global, items: &[u32]) -> Result<Wires, AllocError>
+    pub fn new(alloc: Global, items: &[u32]) -> Result<Wires, Memory>
         ensures { IfOk result (λ wires. wires ≡ items.now) }
     {
         let items = Vec::from_slice(alloc, items)?;
@@ -54,13 +55,6 @@ impl Wires {
             *place = places[*place as usize];
         }
     }
-}
-
-/// What a part is: a gate, or a part of a type, by the place of its table in the device's list of tables.
-#[derive(Clone, Copy, Debug, PartialEq, Eq)]
-pub enum Kind {
-    Gate(Gate),
-    Table(u32),
 }
 
 /// A part: its name, its kind and the wires at its ports. The ports of a gate are its inputs and then its output.

@@ -2,10 +2,12 @@ ghost use Rattle.std.specs.Prelude.{◌≡◌, ◌<◌, true, length, slice_inde
 ghost use Rattle.device_model.specs.TruthTable.{is_cost};
 ghost use Rattle.device_model.specs.Devices.{IsDevice, place_of, part_names, part_costs};
 
-use crate::component::{Component, Kind, Table};
+use crate::Memory;
+use crate::component::{Component, Table};
+use crate::gates::Rule;
 use crate::names::Name;
 use indexmap::IndexSet;
-use std::alloc::{AllocError, Global};
+use std::alloc::Global;
 use std::marker::Model;
 
 /// Parts and wires, each in the order of their names.
@@ -39,7 +41,7 @@ impl Device {
         parts: Vec<Component>,
         wires: Vec<Name>,
         tables: Vec<Table>,
-    ) -> Result<Device, AllocError>
+    ) -> Result<Device, Memory>
         requires { IsDevice (record { parts = parts.items; wires = wires.items; tables = tables.items }) }
         ensures { IfOk result (λ d.
             d ≡ record { parts = parts.items; wires = wires.items; tables = tables.items }) }
@@ -91,9 +93,9 @@ impl Device {
         ensures cost { result ≡ slice_index (part_costs self.now) part }
         ensures within { is_cost result ≡ true }
     {
-        match self.parts[part as usize].kind {
-            Kind::Table(table) => self.tables[table as usize].cost(),
-            _ => 1,
+        match self.parts[part as usize].kind.rule() {
+            Rule::Gate(_) => 1,
+            Rule::Table(table) => self.tables[table as usize].cost(),
         }
     }
 
@@ -112,7 +114,7 @@ impl Device {
     }
 
     /// The names of the parts and of the wires, each in order.
-    pub fn take_names(self, alloc: Global) -> Result<(Vec<Name>, Vec<Name>), AllocError>
+    pub fn take_names(self, alloc: Global) -> Result<(Vec<Name>, Vec<Name>), Memory>
         ensures parts { IfOk result (λ names. names.0.items ≡ part_names self.parts) }
         ensures wires { IfOk result (λ names. names.1.items ≡ self.wires) }
     {

@@ -1,8 +1,7 @@
 -- Worked rows: the devices of some designs, and the counts of a large one.
 use Rattle.std.proofs.Common.{◌≡◌, ℕ, zero, suc, true, List, [], ◌∷◌, ◌++◌, map, Ok, Err, refl, ◌∙◌}
 use Rattle.std.specs.Prelude.{codes}
-use Rattle.device_model.specs.declared.component.Kind.TheVariants.{Gate as OfGate, Table}
-use Rattle.device_model.specs.declared.gates.Gate.TheVariants.{Not, Buff}
+use Rattle.device_model.specs.declared.gates.Kind.TheVariants.{Not, Buff, Table}
 use Rattle.component_lang.specs.declared.design.UsedKind.TheVariants.{Gate, Shape as OfShape, Block as OfBlock}
 use Rattle.component_lang.specs.declared.design.Block.{Block}
 use Rattle.component_lang.specs.Designs.{Design, is_design}
@@ -45,7 +44,7 @@ two_read = refl
 
 -- Each instance has its own inner wire, and the wire that is passed to it is no other wire.
 two_flat : flattened two ≡ Ok (record {
-  parts = record { name = codes "u.g"; kind = OfGate Not; ports = 0 ∷ 1 ∷ [] } ∷ record { name = codes "v.g"; kind = OfGate Not; ports = 0 ∷ 2 ∷ [] } ∷ [];
+  parts = record { name = codes "u.g"; kind = Not; ports = 0 ∷ 1 ∷ [] } ∷ record { name = codes "v.g"; kind = Not; ports = 0 ∷ 2 ∷ [] } ∷ [];
   wires = codes "a" ∷ codes "u.w" ∷ codes "v.w" ∷ [];
   tables = [];
 })
@@ -78,7 +77,7 @@ dashed = record {
 }
 
 dashed_flat : flattened dashed ≡ Ok (record {
-  parts = record { name = codes "u-g"; kind = OfGate Buff; ports = 0 ∷ 1 ∷ [] } ∷ record { name = codes "u.g"; kind = OfGate Not; ports = 1 ∷ 2 ∷ [] } ∷ [];
+  parts = record { name = codes "u-g"; kind = Buff; ports = 0 ∷ 1 ∷ [] } ∷ record { name = codes "u.g"; kind = Not; ports = 1 ∷ 2 ∷ [] } ∷ [];
   wires = codes "a" ∷ codes "u-p" ∷ codes "u.p" ∷ [];
   tables = [];
 })

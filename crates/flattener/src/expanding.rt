@@ -39,9 +39,7 @@ pub(crate) fn expand(
         let name = with_prefix(alloc, &mut prefix, used.name.as_slice())?;
         read_positions(used.args.as_slice(), passed, start, &mut ports)?;
         match used.kind {
-            UsedKind::Gate(gate) => {
-                push_part(alloc, name, Kind::Gate(gate), &ports, &mut flat.parts)?
-            }
+            UsedKind::Gate(gate) => push_part(alloc, name, gate, &ports, &mut flat.parts)?,
             UsedKind::Shape(table) => {
                 push_part(alloc, name, Kind::Table(table), &ports, &mut flat.parts)?
             }

@@ -17,7 +17,7 @@ ghost use Rattle.session_core.specs.inner.Bases.{AreKnown};
 ghost use Rattle.session_core.specs.inner.Desks.{asked_case, agreeing, least_asked, diagnoses_asked, later_asked, least_seen, blame_asked};
 
 use crate::basis::Basis;
-use crate::memory::Memory;
+use crate::desk_memory::DeskMemory;
 use conditioner::is_open;
 use diag_edge::{Sink, WriteFailed};
 use fault_graph::Distiller;
@@ -77,7 +77,7 @@ impl Desk {
     pub(crate) fn new(alloc: Global, basis: Basis) -> Result<Desk, AllocError>
         ensures { IfOk result (λ desk. desk.subject ≡ basis) }
     {
-        let Memory {
+        let DeskMemory {
             known,
             values,
             state,
@@ -85,7 +85,7 @@ impl Desk {
             numbers,
             distiller,
             room,
-        } = Memory::new(alloc, &basis)?;
+        } = DeskMemory::new(alloc, &basis)?;
         Ok(Desk {
             basis,
             known,

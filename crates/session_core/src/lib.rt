@@ -4,12 +4,12 @@
 mod asking;
 mod basis;
 mod desk;
+mod desk_memory;
 mod laws;
 mod levelling;
 mod limits;
 mod line_buffer;
 mod listing;
-mod memory;
 mod name_table;
 mod probing;
 mod replies;
@@ -24,3 +24,4 @@ pub use replies::put_faulty;
 pub use service::Service;
 pub use serving::{READ_LIMIT, ServeEnd};
 pub use state_rules::Extras;
+pub use std::alloc::AllocError as Memory;

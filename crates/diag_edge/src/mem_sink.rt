@@ -47,16 +47,13 @@ impl MemSink {
           faults = 0;
         }) }
     {
-        match Vec::with_capacity(alloc, room) {
-            Ok(bytes) => Ok(MemSink {
-                bytes,
-                room,
-                keep,
-                calls: NumberedCalls::new(failing),
-                faults: 0,
-            }),
-            Err(_) => Err(Memory),
-        }
+        Ok(MemSink {
+            bytes: Vec::with_capacity(alloc, room)?,
+            room,
+            keep,
+            calls: NumberedCalls::new(failing),
+            faults: 0,
+        })
     }
 
     /// The bytes accepted so far.

@@ -12,10 +12,6 @@ pub struct ReadFailed;
 #[derive(Clone, Copy, Debug, PartialEq, Eq)]
 pub struct WriteFailed;
 
-/// There was no memory.
-#[derive(Clone, Copy, Debug, PartialEq, Eq)]
-pub struct Memory;
-
 /// What bytes come from.
 pub trait Source {
     /// The bytes still to come, if they are shown.

@@ -17,7 +17,7 @@ ghost use Rattle.session_core.specs.inner.Bases.{AreKnown};
 ghost use Rattle.session_core.specs.inner.Desks.{asked_case, agreeing, least_asked, diagnoses_asked, later_asked, least_seen, blame_asked};
 
 use crate::basis::Basis;
-use crate::memory::Memory;
+use crate::desk_memory::DeskMemory;
 use conditioner::is_open;
 use diag_edge::{Sink, WriteFailed};
 use fault_graph::Distiller;
@@ -25,12 +25,11 @@ use level_lister::LevelStep;
 use minimiser::{Step, Steps};
 use probe_report::{Blame, cost_of, probe, probe_all};
 use scratch_pool::Region;
-use script_lang::Noted;
+use script_lang::{Noted, each_name};
 use smooth_nnf::write_least;
 use std::alloc::{AllocError, Global};
 use std::marker::Model;
 use std::sync::ledger::Ledger;
-use text_rules::Tokens;
 
 /// What is asked over, the words of the case that is asked, and the memory that answers are worked out in. All of it is taken when
 /// a desk is made.
@@ -78,7 +77,7 @@ impl Desk {
     pub(crate) fn new(alloc: Global, basis: Basis) -> Result<Desk, AllocError>
         ensures { IfOk result (λ desk. desk.subject ≡ basis) }
     {
-        let Memory {
+        let DeskMemory {
             known,
             values,
             state,
@@ -86,7 +85,7 @@ impl Desk {
             numbers,
             distiller,
             room,
-        } = Memory::new(alloc, &basis)?;
+        } = DeskMemory::new(alloc, &basis)?;
         Ok(Desk {
             basis,
             known,
@@ -373,7 +372,7 @@ fn mark_named(basis: &Basis, names: &[u8], state: &mut [u32]) -> bool
     // the names of parts rise, so that no two parts have one name
     let _parts = basis.parts();
     state.fill(0);
-    for name in Tokens::words(names) {
+    for name in each_name(names) {
         match basis.find(Noted::Part, name) {
             None => return false,
             Some(part) => state[part as usize] = 1,

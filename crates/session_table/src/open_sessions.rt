@@ -9,11 +9,11 @@ ghost use Rattle.session_table.specs.Tables.{StandsAt, fresh_entry, Fits, count_
 
 use crate::block::Layout;
 use crate::in_order::{Open, find_place};
-use crate::in_pool;
 use crate::short_name::ShortName;
+use crate::{Memory, in_pool};
 use scratch_pool::Pool;
 use script_lang::Noted;
-use std::alloc::{AllocError, Global};
+use std::alloc::Global;
 use std::marker::Model;
 
 /// The open sessions, in the order of their names. All memory is taken when it is made. It is not `Drop`: [`OpenSessions::finish`]
@@ -52,7 +52,7 @@ impl OpenSessions {
         wires: u32,
         vars: u32,
         sessions: u32,
-    ) -> Result<OpenSessions, AllocError>
+    ) -> Result<OpenSessions, Memory>
         requires vars { parts + wires ≤ vars }
         requires words { sessions * (vars + 1 + parts) < POOL_LIMIT }
         ensures { IfOk result (λ opened. opened

@@ -6,7 +6,7 @@ use Rattle.fault_graph.specs.Distilled.{Serves}
 use Rattle.scratch_pool.specs.Regions.{Carved}
 use Rattle.session_rules.proofs.CaseWords.{zeros-are}
 use Rattle.session_core.specs.inner.Bases.{AreEnough, AreKnown}
-use Rattle.session_core.proofs.memory.Memory.new.Goals as goal
+use Rattle.session_core.proofs.desk_memory.DeskMemory.new.Goals as goal
 
 pub returns : goal.returns
 returns c =

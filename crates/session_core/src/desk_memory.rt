@@ -11,7 +11,7 @@ use std::alloc::{AllocError, Global};
 
 /// What a desk works with besides what is asked over.
 #[derive(Drop)]
-pub(crate) struct Memory {
+pub(crate) struct DeskMemory {
     pub(crate) known: Vec<u32>,
     pub(crate) values: Vec<u32>,
     pub(crate) state: Vec<u32>,
@@ -21,9 +21,9 @@ pub(crate) struct Memory {
     pub(crate) room: Region,
 }
 
-impl Memory {
+impl DeskMemory {
     /// Memory for whatever is asked over a basis. Of the first case nothing is known.
-    pub(crate) fn new(alloc: Global, basis: &Basis) -> Result<Memory, AllocError>
+    pub(crate) fn new(alloc: Global, basis: &Basis) -> Result<DeskMemory, AllocError>
         ensures { IfOk result (λ memory. FitsTogether (record {
           subject = basis.now;
           known = memory.known.items;
@@ -34,7 +34,7 @@ impl Memory {
     {
         let parts = basis.parts().len();
         let wires = basis.wires().len();
-        Ok(Memory {
+        Ok(DeskMemory {
             known: zeros(alloc, basis.vars())?,
             values: zeros(alloc, basis.nodes())?,
             state: zeros(alloc, parts)?,

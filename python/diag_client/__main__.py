@@ -4,6 +4,7 @@ from __future__ import annotations
 
 import argparse
 import functools
+import os
 import sys
 from typing import Any
 
@@ -28,7 +29,7 @@ def words_of() -> argparse.ArgumentParser:
     draw.add_words(draws)
 
     asks = commands.add_parser("shell", parents=[served], help="ask a device interactively")
-    asks.add_argument("--health", type=int, metavar="N", help="FILE is a graph (.nnf), of which the first N variables are parts")
+    asks.add_argument("--health", type=int, metavar="N", help="FILE is a graph (.nnf) whose first N variables are parts")
     asks.add_argument("--levels", type=int, metavar="C", help="what is next best may be asked for, up to a cost of C")
     asks.add_argument("--least", action="store_true", help="the graph of the diagnoses may be asked for")
     patterns = "begin with the test patterns of a table (.csv): wires in its first row, then 0, 1 or nothing"
@@ -56,6 +57,10 @@ def main() -> int:
     except KeyboardInterrupt:
         print("diag_client: interrupted", file=sys.stderr)
         return 130
+    except BrokenPipeError:
+        # Nobody reads what is written. Python would try once more at its end.
+        os.dup2(os.open(os.devnull, os.O_WRONLY), sys.stdout.fileno())
+        return 1
     except (DiagError, OSError, ValueError) as error:
         print(f"diag_client: {error}", file=sys.stderr)
         return 1

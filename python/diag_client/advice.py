@@ -68,7 +68,7 @@ def rank(session: Session, among: Iterable[str] | None, limit: int) -> list[Prop
         # Two lists for each wire, or one for each diagnosis.
         count = by_diagnosis if len(either) >= max(MANY, len(at_hand) // 2) else by_wire
         counts |= count(scratch, at_hand, either)
-    proposals = [Proposal(wire, len(at_hand), *both, len(found) <= limit) for wire, both in counts.items()]
+    proposals = [Proposal(wire, len(at_hand), zero, one, len(found) <= limit) for wire, (zero, one) in counts.items()]
     return sorted(proposals, key=lambda row: (-row.reduction, max(row.with_zero, row.with_one), row.wire))
 
 

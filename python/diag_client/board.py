@@ -94,20 +94,11 @@ class BoardShell(Shell):
             raise ValueError(f"this COMMAND: one of {', '.join(TOGETHER)}")
         return super().do_best(rest[len("best"):]) if rest.startswith("best") else self._ask_one(rest)
 
-    def do_save(self, rest: str) -> bool:
-        """All patterns as a script."""
+    def _saved(self) -> tuple[str, str]:
         if len(self.sessions) == 1:
-            return super().do_save(rest)
-        path = _path(rest, "save FILE: into which file? board.script, say")
-        self.service.catch_up()
-        if path.exists() and not path.read_bytes().startswith(b"open "):
-            raise ValueError(f"{path} is there and is not a saved case: choose another name")
+            return super()._saved()
         text = "".join(f"open {name}\n{session.script()}" for name, session in self.sessions.items())
-        beside = path.with_name(path.name + ".new")
-        beside.write_text(text, encoding="utf-8", errors="surrogateescape")
-        beside.replace(path)
-        print(f"wrote {path}: {len(self.sessions)} patterns, {len(self.session.held)} parts held")
-        return False
+        return text, f"{len(self.sessions)} patterns, {len(self.session.held)} parts held"
 
     def do_load(self, rest: str) -> bool:
         """A script that was saved: one pattern, or many."""
@@ -149,7 +140,7 @@ class BoardShell(Shell):
     def _is_for_all(self, words: Sequence[str]) -> bool:
         return len(self.sessions) > 1 and bool(words) and words[0] in (*TOGETHER, "hold", "unhold")
 
-    def _asked(self, words: Sequence[str]) -> Asked:
+    def _asked(self, words: list[str]) -> Asked:
         # A line from a pipe that is for all patterns is not one of the present session.
         if len(self.sessions) > 1 and not self._is_one and self._is_for_all(words):
             raise ValueError("for all patterns")

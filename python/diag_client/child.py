@@ -247,26 +247,12 @@ class Child:
     def _read(self) -> None:
         came = os.read(self._output.fileno(), PIECE)
         self._begun += came
-        is_logged = LOG.isEnabledFor(logging.DEBUG)
+        self._hand_whole()
         if not came:
             self._ignore(self._output)
-            self._hand_whole(is_logged)
             self._last_line = self._text(self._begun) or self._last_line
-        elif is_logged or not self._is_known():
-            self._hand_whole(is_logged)
 
-    def _is_known(self) -> bool:
-        """Takes whole replies that came as they were known. Whether what is left begins such a reply."""
-        while self._awaited and (known := self._awaited[0].known):
-            if not self._begun.startswith(known):
-                return known.startswith(self._begun)
-            del self._begun[:len(known)]
-            request = self._awaited.popleft()
-            self._last_line = request.take_known()
-            request.is_answered = True
-        return not self._begun
-
-    def _hand_whole(self, is_logged: bool) -> None:
+    def _hand_whole(self) -> None:
         """Hands on the whole lines that came."""
         whole, feed, rest = self._begun.rpartition(b"\n")
         if not feed:
@@ -274,28 +260,29 @@ class Child:
         self._begun = rest
         lines = self._text(whole).split("\n")
         self._last_line = lines[-1]
-        if is_logged:
+        if LOG.isEnabledFor(logging.DEBUG):
             for line in lines:
                 LOG.debug("from %d: %s", self._process.pid, line)
         self._hand(lines)
 
     def _hand(self, lines: Sequence[str]) -> None:
         """Gives each line to the request that it answers. If it answers none, the program ends, or is none that answers scripts."""
-        awaited = self._awaited
-        for line in lines:
-            try:
-                if awaited:
-                    if awaited[0].take(line):
-                        awaited.popleft().is_answered = True
-                elif not self._input.closed:
-                    raise NotAReply(line)
-            except NotAReply:
-                # With such a line the program itself says why it ends.
-                if not line.startswith("error: "):
-                    asked = awaited[0].line if awaited else ""
-                    self._stray = line, f"unexpected reply `{line}`" + (f" to `{asked}`" if asked else "")
-                self._give_up()
-                self._hang_up()
+        awaited, place = self._awaited, 0
+        try:
+            while awaited and place < len(lines):
+                place = awaited[0].take_from(lines, place)
+                if awaited[0].is_answered:
+                    awaited.popleft()
+            if place < len(lines) and not self._input.closed:
+                raise NotAReply(lines[place])
+        except NotAReply as stray:
+            line = str(stray)
+            # With such a line the program itself says why it ends.
+            if not line.startswith("error: "):
+                asked = awaited[0].line if awaited else ""
+                self._stray = line, f"unexpected reply `{line}`" + (f" to `{asked}`" if asked else "")
+            self._give_up()
+            self._hang_up()
 
     def _hear(self) -> None:
         """What is said on standard error is passed on, and the last line kept."""

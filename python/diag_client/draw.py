@@ -4,7 +4,6 @@ from __future__ import annotations
 
 import argparse
 import contextlib
-import os
 import sys
 from collections.abc import Callable, Iterable
 
@@ -52,7 +51,9 @@ def draw(words: argparse.Namespace, serve: Callable[[], Service]) -> int:
             script = stack.enter_context(opened)
         text = _text(words, serve, script)
     if output is None:
-        return _print(text)
+        sys.stdout.buffer.write(text.encode())
+        sys.stdout.buffer.flush()
+        return 0
     written = picture.render(text, output)
     if written == output:
         return 0
@@ -70,14 +71,3 @@ def _text(words: argparse.Namespace, serve: Callable[[], Service], script: Itera
             raise
         print(f"diag_client: {ended}; drawn without diagnoses", file=sys.stderr)
         return picture.picture_alone(words.file, words.frames, script, words.session, words.most, ended.last_line.removeprefix("error: "))
-
-
-def _print(text: str) -> int:
-    try:
-        sys.stdout.buffer.write(text.encode())
-        sys.stdout.buffer.flush()
-    except BrokenPipeError:
-        # Nobody reads what is written. Python would try once more at its end.
-        os.dup2(os.open(os.devnull, os.O_WRONLY), sys.stdout.fileno())
-        return 1
-    return 0

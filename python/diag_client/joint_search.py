@@ -129,7 +129,7 @@ class Search:
         self._first = list(range(len(copies.sessions)))
         self._regions: list[Region] = []
         self._enough = [Enough() for _ in copies.sessions]
-        # The patterns of which all pairs are still to be asked.
+        # The patterns whose pairs are all still to be asked.
         self._with_pairs: set[int] = set()
 
     def found(self) -> Iterator[int]:
@@ -300,7 +300,7 @@ class Search:
             self._enough[place].note(least)
 
     def _unsure(self, sets: set[int], place: int, known: Least | None) -> set[int]:
-        """Those of the sets of which it is not known that they explain a pattern."""
+        """Those of the sets that are not known to explain a pattern."""
         if not self._is_plain:
             return set(sets)
         enough, listed = self._enough[place], () if known is None or known.cost <= 2 else known.listed
@@ -319,7 +319,7 @@ class Search:
         return Question(place, bad, None if len(group) == 1 else self._copies.parts.all & ~free)
 
     def _left(self, group: set[int], place: int, least: Least | None, cost: int) -> tuple[set[int], set[int]]:
-        """Of a group that was asked about, the sets of which nothing is known yet, and those that do not explain the pattern."""
+        """After a question about a group: its sets that are still open, and those that do not explain the pattern."""
         if least is None or least.cost > cost:
             return set(), group
         if least.cost < cost:
@@ -341,7 +341,7 @@ class Search:
         return self._groups(place, with_it) + self._groups(place, left - with_it)
 
     def _parted(self, region: Region, cost: int) -> Iterator[Region]:
-        """Regions that cost more, with all that explains the patterns within a region of which nothing does at this cost."""
+        """Nothing in a region explains the patterns at this cost. Gives regions that cost more, with all of it that does."""
         ways = [region]
         while ways:
             within = ways.pop()

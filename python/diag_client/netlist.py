@@ -16,7 +16,7 @@ from .netlist_readers import READERS, TABLES, TO_PLAIN_CELLS
 
 # A name that is longer is replaced.
 LONGEST_NAME = 32
-# A type has at most so many ports, of which the output is one.
+# A type has at most so many ports. The output is one of them.
 MOST_PORTS = 6
 # So many wires are on a line of a design.
 WIRES_ON_A_LINE = 12

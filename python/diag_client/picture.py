@@ -133,7 +133,7 @@ class Drawing:
         else:
             begun = [name for wire in self.readings for name in self.wiring.before(wire) + self.wiring.after(wire)]
             found = self.wiring.nearest(begun or self.wiring.parts)
-            which = "nearest to what was seen" if begun else "of which nothing was seen"
+            which = "nearest to what was seen" if begun else "that come first by name"
         marked = [name for wire in [self.following, *wrong] if wire is not None for name in self.wiring.before(wire)]
         order = list(dict.fromkeys([*suspects, *marked, *found]))
         of = f"{most} of {len(order)}" if most < len(order) else str(len(order))
@@ -152,8 +152,8 @@ class Drawing:
         verdict = self.case.verdicts.get(part.name, Verdict.NEVER)
         held = self.case.held.get(part.name)
         # The wire has no node of its own then that could say it.
-        tells = part.is_directed and part.wires[-1] == part.name and self._is_edge(part.name)
-        lines = [(part.name, ""), (part.kind, self._expectation(part.name) if tells else "")]
+        has_bits = part.is_directed and part.wires[-1] == part.name and self._is_edge(part.name)
+        lines = [(part.name, ""), (part.kind, self._expectation(part.name) if has_bits else "")]
         lines += ([(str(verdict), "")] if verdict is not Verdict.NEVER else []) + ([(f"held {held}", "")] if held else [])
         style: dict[str, object] = {"label": label(lines), "shape": shape(part.kind), "fillcolor": FILLS[verdict]}
         if style["shape"] == ONE_INPUT_SHAPE:

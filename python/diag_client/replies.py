@@ -16,6 +16,7 @@ from .errors import Refused
 REFUSAL = re.compile(r"error ([0-9]+) (.+)")
 # A command that there is not, so that its reply marks the end of what came before.
 MARK = "."
+MARKED = "error 1 unknown command"
 
 Mode = Literal["ok", "bad"]
 
@@ -141,34 +142,45 @@ class Graph:
 class Request:
     """One line of a script, and its reply as it comes."""
 
+    is_answered = False
+
     def __init__(self, session: str, line: str) -> None:
         self.session = session
         self.line = line
-        self.is_answered = False
-        self.refused: Refused | None = None
-        # The whole reply, if it is known beforehand.
-        self.known = b""
+        self.refusals: list[Refused] = []
+
+    @property
+    def refused(self) -> Refused | None:
+        """Why it is refused, if it is: the first reason."""
+        return self.refusals[0] if self.refusals else None
 
     @property
     def sent(self) -> str:
         """What is written for it."""
         return f"{self.line}\n"
 
-    def take_known(self) -> str:
-        """Takes the whole reply, which came as it was known. The last line of it is given back."""
-        raise NotImplementedError
-
     def take(self, line: str) -> bool:
         """Takes the next line of the reply, and says whether it was the last one."""
         raise NotImplementedError
 
-    def refuse(self, line: str) -> bool:
-        """Whether a line refuses the request: as the session's own reply, or as that to a line that names none."""
+    def take_from(self, lines: Sequence[str], place: int) -> int:
+        """Takes what these lines have of the reply, which goes on at a place. Gives the place after it."""
+        while place < len(lines) and not self.is_answered:
+            self.is_answered = self.take(lines[place])
+            place += 1
+        return place
+
+    def refusal(self, line: str) -> re.Match[str] | None:
+        """What a line says if it is a refusal: the session's own reply, or that to a line that names none."""
         if "error " not in line:
-            return False
-        said = REFUSAL.fullmatch(line) or REFUSAL.fullmatch(line.removeprefix(f"{self.session} "))
+            return None
+        return REFUSAL.fullmatch(line) or REFUSAL.fullmatch(line.removeprefix(f"{self.session} "))
+
+    def refuse(self, line: str) -> bool:
+        """Whether a line of the reply refuses the request."""
+        said = self.refusal(line)
         if said is not None:
-            self.refused = Refused(int(said[1]), said[2], self.line)
+            self.refusals.append(Refused(int(said[1]), said[2], self.line))
         return said is not None
 
 
@@ -221,56 +233,53 @@ class Listing(Request):
 
 
 class Lines(Request):
-    """Lines that have the same beginning and the same reply each, unless they are refused. `line` is the one that was answered last, and
-    `refused` says why the first that was refused is."""
+    """Lines that have the same beginning and the same reply each, unless they are refused. `line` is the one that was answered last.
 
-    def __init__(self, session: str, begins: str, rests: Sequence[str] = ("",), reply: str = "ok") -> None:
+    If they change what a session knows, `note` is called with how those end that were carried out.
+    """
+
+    def __init__(
+        self, session: str, begins: str, rests: Sequence[str] = ("",), reply: str = "ok", note: Callable[[Sequence[str]], None] | None = None
+    ) -> None:
         super().__init__(session, begins + rests[0])
         self._begins = begins
         self._rests = rests
         self._done = f"{session} {reply}"
         self._answered = 0
+        self.note = note
         # The lines of the replies.
         self.lines: list[str] = []
-        self.known = f"{self._done}\n".encode("utf-8", "surrogateescape") * len(rests)
 
     @property
     def sent(self) -> str:
         """The lines that are still to be answered."""
         return self._begins + f"\n{self._begins}".join(self._rests[self._answered:]) + "\n"
 
-    def take_known(self) -> str:
-        self.lines = [self._done] * len(self._rests)
-        self._note(self._rests)
-        return self._done
+    def take_from(self, lines: Sequence[str], place: int) -> int:
+        rests = self._rests[self._answered:self._answered + len(lines) - place]
+        told = lines[place:place + len(rests)]
+        if told.count(self._done) < len(told):
+            return super().take_from(lines, place)
+        # All of them are carried out.
+        if self.note is not None:
+            self.note(rests)
+        self.lines += told
+        self.line = self._begins + rests[-1]
+        self._answered += len(told)
+        self.is_answered = self._answered == len(self._rests)
+        return place + len(told)
 
     def take(self, line: str) -> bool:
-        rest, first = self._rests[self._answered], self.refused
-        self.known, self.line = b"", self._begins + rest
-        if line == self._done:
-            self._note([rest])
-        elif not self.refuse(line):
-            raise NotAReply(line)
-        self.refused = first or self.refused
+        rest = self._rests[self._answered]
+        self.line = self._begins + rest
+        if line != self._done:
+            if not self.refuse(line):
+                raise NotAReply(line)
+        elif self.note is not None:
+            self.note([rest])
         self.lines.append(line)
         self._answered += 1
         return self._answered == len(self._rests)
-
-    def _note(self, rests: Sequence[str]) -> None:
-        """The lines that end so were carried out."""
-
-
-class Change(Lines):
-    """Lines that change what a session knows, and what notes how those end that were carried out."""
-
-    def __init__(
-        self, session: str, note: Callable[[Sequence[str]], None], begins: str, rests: Sequence[str] = ("",), reply: str = "ok"
-    ) -> None:
-        super().__init__(session, begins, rests, reply)
-        self._notes = note
-
-    def _note(self, rests: Sequence[str]) -> None:
-        self._notes(rests)
 
 
 class GraphText(Request):
@@ -304,27 +313,40 @@ class GraphText(Request):
         return "".join(f"{line}\n" for line in self.lines)
 
 
-class AnyLine(Request):
-    """Any line of a script that has a reply. A mark is sent after it, and the reply to the mark ends that to the line."""
+class AnyLines(Request):
+    """Any lines of a script that have a reply. A mark is sent after each, and the reply to the mark ends that to the line.
 
-    def __init__(self, line: str, session: str = "") -> None:
-        super().__init__(session, line)
-        self.lines: list[str] = []
+    `lines` are those of all replies, and `line` is the one that was answered last. `note` is called for each that is answered by `ok`.
+    """
+
+    def __init__(self, asked: Sequence[str], session: str = "", note: Callable[[str], None] | None = None) -> None:
+        super().__init__(session, asked[0])
+        self._asked = asked
+        self._answered = 0
         self._has_begun = False
+        self._done = f"{session} ok"
+        self.note = note
         self._is_wanted = True
+        self.lines: list[str] = []
 
     @property
     def sent(self) -> str:
-        """The line, and the mark."""
-        return f"{self.line}\n{MARK}\n"
+        """The lines, and the marks."""
+        return f"\n{MARK}\n".join([*self._asked, ""])
 
     def take(self, line: str) -> bool:
-        # Only the first line of a reply can be a refusal that names no session.
         if not self._has_begun:
+            # Only the first line of a reply can be a refusal that names no session.
             self._has_begun = True
-            self.refuse(line)
-        elif line.startswith("error ") and REFUSAL.fullmatch(line):
-            return True
+            self.line = self._asked[self._answered]
+            if line != self._done:
+                self.refuse(line)
+            elif self.note is not None:
+                self.note(self.line)
+        elif line == MARKED:
+            self._has_begun = False
+            self._answered += 1
+            return self._answered == len(self._asked)
         if self._is_wanted:
             self.lines.append(line)
         return False

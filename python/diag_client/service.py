@@ -17,7 +17,7 @@ from .child import Child
 from .devices import input_wires
 from .errors import Ended, NotBuilt
 from .joint import Joint
-from .replies import AnyLine, Change, Ready, Request
+from .replies import AnyLines, Lines, Ready, Request
 from .session import BLANKS, CHANGES, Session
 from .tables import Rows, read_table
 
@@ -379,7 +379,7 @@ class Service:
             # Nobody has a session whose opening was not answered, so it is not opened again.
             again = [
                 request for request in old.unanswered
-                if isinstance(request, Change) and not request.is_answered and not request.line.startswith("open ")
+                if isinstance(request, Lines) and request.note and not (request.is_answered or request.line.startswith("open "))
             ]
             child.ask([*known, *again])
             # One is refused if the file is another one by now.
@@ -435,7 +435,7 @@ class Service:
             raise
         return child
 
-    def _request(self, line: str) -> Change | AnyLine | None:
+    def _request(self, line: str) -> Lines | AnyLines | None:
         """A line, ready to be carried out; None if it has no reply."""
         if "\n" in line:
             raise ValueError(f"more than one line: {line!r}")
@@ -443,7 +443,7 @@ class Service:
         if not words[0] or words[0].startswith("#"):
             return None
         session = self._open.get(words[1]) if len(words) > 1 and words[0] in CHANGES else None
-        return AnyLine(line) if session is None else session.request(words[0], *filter(None, words[2:]))
+        return AnyLines([line]) if session is None else session.request(words[0], *filter(None, words[2:]))
 
     def _all_names(self) -> tuple[tuple[str, ...], tuple[str, ...]]:
         if self._names is None:

@@ -12,7 +12,7 @@ from typing import TYPE_CHECKING
 
 from . import advice, display
 from .errors import DiagError, Inconsistent
-from .replies import AnyLine, Blame, Change, Diagnosis, Graph, GraphText, Level, Lines, Listing, Minimum, Mode, Probe, Request, Verdict
+from .replies import AnyLines, Blame, Diagnosis, Graph, GraphText, Level, Lines, Listing, Minimum, Mode, Probe, Request, Verdict
 
 if TYPE_CHECKING:
     from .advice import Proposal
@@ -54,7 +54,7 @@ class Session:
         self._seen: dict[str, int] = {}
         self._held: dict[str, Mode] = {}
         self._is_open = False
-        self._opened_by: Change | None = None
+        self._opened_by: Lines | None = None
         self._changes = 0
         # Where `diagnoses` and `levels` begin.
         self._start: tuple[str, ...] | None = None
@@ -101,12 +101,12 @@ class Session:
         """Opens the session. `Service.session` has done so."""
         self.service.do([self.opening()])
 
-    def opening(self) -> Change:
+    def opening(self) -> Lines:
         """The line that opens the session, for `Service.carry_out`."""
         self._opened_by = self._opening()
         return self._opened_by
 
-    def seeing(self, seen: Mapping[str, int]) -> list[Change]:
+    def seeing(self, seen: Mapping[str, int]) -> list[Lines]:
         """The lines of `see`, for `Service.carry_out`."""
         return self._changed("see", [f"{wire}={BITS.get(bit, bit)}" for wire, bit in seen.items()])
 
@@ -228,7 +228,7 @@ class Session:
         def note(_: Sequence[str]) -> None:
             self._start = faulty
 
-        self.service.do([Change(self.name, note, self._line("after", *faulty))])
+        self.service.do([Lines(self.name, self._line("after", *faulty), note=note)])
 
     def probe(self, wire: str) -> Probe:
         """The least cost if the wire is seen as 0 too, and if it is seen as 1 too.
@@ -340,13 +340,7 @@ class Session:
         ...     dict(session.seen)
         {'1': 0, '22': 1}
         """
-        requests: list[Request] = []
-        for (command, count), rows in itertools.groupby(case_lines(script, of), lambda row: (row[0], len(row))):
-            if command in CHANGES and count == 2:
-                requests += self._changed(command, [word for _, word in rows])
-            else:
-                requests += [self.request(*words) for words in rows]
-        self.service.do(requests)
+        self.service.do(self.requests(case_lines(script, of)))
 
     def expected(self) -> dict[str, int]:
         """The bits that wires have if all parts are ok, given the inputs that were seen. Wires that these do not fix are left out.
@@ -408,7 +402,7 @@ class Session:
         self.service.do([request])
         return request.lines
 
-    def request(self, command: str = "", *words: str) -> Change | AnyLine:
+    def request(self, command: str = "", *words: str) -> Lines | AnyLines:
         """A line that changes the case, or that asks, ready to be carried out by `Service.carry_out` or `Service.follow`.
 
         >>> with Service("examples/c17.bench") as service, service.session("S") as session:
@@ -421,7 +415,21 @@ class Session:
             return self._change(command, *words)
         if command in ("open", "close") or command.startswith("#"):
             raise ValueError(f"not a command of a session that is open: {command!r}")
-        return AnyLine(self._line(command, *words), self.name)
+        return AnyLines([self._line(command, *words)], self.name)
+
+    def requests(self, rows: Iterable[Sequence[str]]) -> list[Lines | AnyLines]:
+        """The same for many commands with their words. Those that follow each other and change the case alike are one request."""
+        made: list[Lines | AnyLines] = []
+        for (command, count), alike in itertools.groupby(rows, lambda row: (row[0], len(row))):
+            if command in CHANGES and count == 2:
+                made += self._changed(command, [word for _, word in alike])
+            else:
+                made += [self.request(*words) for words in alike]
+        return made
+
+    def piece(self, rows: Iterable[Sequence[str]]) -> AnyLines:
+        """The same as one request. The words have no blanks."""
+        return AnyLines([" ".join([command, self.name, *words]) for command, *words in rows], self.name, self._note_line)
 
     def change(self, command: str, *words: str) -> None:
         """Carries out a line of a script that opens or closes the session, or changes its case: `see`, `unsee`, `hold` or `unhold`.
@@ -527,7 +535,8 @@ class Session:
 
     def _known(self) -> Iterator[tuple[str, Iterator[str]]]:
         """What is seen and held, if anything is, by the command that says so."""
-        for command, known in (("see", self._seen), ("hold", self._held)):
+        cases: dict[str, Mapping[str, object]] = {"see": self._seen, "hold": self._held}
+        for command, known in cases.items():
             if known:
                 yield command, (f"{name}={value}" for name, value in known.items())
 
@@ -535,19 +544,19 @@ class Session:
         return {wire: self._seen[wire] for wire in sorted(self._seen.keys() & self.service.inputs)}
 
     def _answered(self, command: str, *words: str, reply: str = "ok") -> Request:
-        """A line whose reply is one word, of which nothing is noted."""
+        """A line whose reply is one word. Nothing is noted of it."""
         return Lines(self.name, self._line(command, *words), reply=reply)
 
-    def _change(self, command: str, *words: str) -> Change:
+    def _change(self, command: str, *words: str) -> Lines:
         """A line that changes the case."""
-        return Change(self.name, lambda _: self._note(command, words[:1]), self._line(command, *words))
+        return Lines(self.name, self._line(command, *words), note=lambda _: self._note(command, words[:1]))
 
-    def _changed(self, command: str, words: Iterable[str]) -> list[Change]:
+    def _changed(self, command: str, words: Iterable[str]) -> list[Lines]:
         """Lines that change the case, one for each word, as one request."""
         texts = list(map(str, words))
         if "" in texts or BLANK.search("".join(texts)):
             _check_words(texts)
-        return [Change(self.name, functools.partial(self._note, command), f"{command} {self.name} ", texts)] if texts else []
+        return [Lines(self.name, f"{command} {self.name} ", texts, note=functools.partial(self._note, command))] if texts else []
 
     def _note(self, command: str, words: Sequence[str]) -> None:
         """Lines of a command that changes the case were carried out, one for each word."""
@@ -563,14 +572,20 @@ class Session:
         self._changes += len(words)
         self._start = None
 
-    def _opening(self, *words: str) -> Change:
+    def _note_line(self, line: str) -> None:
+        """A line was carried out."""
+        command, _, *words = line.split(" ")
+        if command in CHANGES:
+            self._note(command, words)
+
+    def _opening(self, *words: str) -> Lines:
         def note(_: Sequence[str]) -> None:
             self._is_open = True
             self.service.note_open(self)
 
-        return Change(self.name, note, self._line("open", *words), reply="open")
+        return Lines(self.name, self._line("open", *words), reply="open", note=note)
 
-    def _closing(self, *words: str) -> Change:
+    def _closing(self, *words: str) -> Lines:
         def note(_: Sequence[str]) -> None:
             self._is_open = False
             self.service.note_closed(self)
@@ -579,7 +594,7 @@ class Session:
             self._changes += 1
             self._start = None
 
-        return Change(self.name, note, self._line("close", *words), reply="closed")
+        return Lines(self.name, self._line("close", *words), reply="closed", note=note)
 
 
 def case_lines(script: str | Iterable[str], of: str | None = None) -> list[list[str]]:

@@ -17,7 +17,7 @@ from . import graphviz, manual, picture
 from .devices import read_device
 from .errors import DiagError, Ended, Inconsistent, Refused
 from .progress import Progress
-from .replies import AnyLine, Change
+from .replies import AnyLines, Lines
 from .service import Service
 from .session import CHANGES, Session, case_lines
 
@@ -61,10 +61,11 @@ def history_file() -> pathlib.Path:
 
 @dataclasses.dataclass(slots=True)
 class Asked:
-    """A line that is carried out. What it does to the case is counted if it names several wires or parts."""
+    """Commands with their words, which are carried out. What a line that names several wires or parts does to the case is counted."""
 
-    requests: list[Change | AnyLine]
+    rows: list[list[str]]
     is_counted: bool = False
+    requests: list[Lines | AnyLines] = dataclasses.field(default_factory=list)
     told: int = 0
 
 
@@ -144,9 +145,12 @@ class Shell(cmd.Cmd):
         """Asks what these lines ask, all at once, and prints the replies as they come."""
         if not self.service.is_running and self.use_rawinput:
             self._restart()
+        for row in asked:
+            is_piece = len(row.rows) > 1 and not row.is_counted
+            row.requests = [self.session.piece(row.rows)] if is_piece else self.session.requests(row.rows)
         requests = [request for row in asked for request in row.requests]
         left = collections.deque(asked)
-        with Progress(requests[0].line if len(requests) == 1 else "at work") as progress:
+        with Progress(requests[0].line if sum(len(row.rows) for row in asked) == 1 else "at work") as progress:
             try:
                 for _ in self.service.follow(requests):
                     self._tell(left, progress.clear)
@@ -154,7 +158,7 @@ class Shell(cmd.Cmd):
                 for request in reversed(requests):
                     if request.is_answered:
                         break
-                    if isinstance(request, AnyLine):
+                    if isinstance(request, AnyLines):
                         request.forget()
         self.was_interrupted = False
 
@@ -167,7 +171,11 @@ class Shell(cmd.Cmd):
                 continue
             if words[0] in self.commands or not hasattr(self, f"do_{self.parseline(line)[0]}"):
                 try:
-                    asked.append(self._asked(words))
+                    row = self._asked(words)
+                    if asked and not (asked[-1].is_counted or row.is_counted):
+                        asked[-1].rows += row.rows
+                    else:
+                        asked.append(row)
                     continue
                 except ValueError:
                     # The reason is printed once the lines before it are answered.
@@ -212,24 +220,29 @@ class Shell(cmd.Cmd):
     def do_load(self, rest: str) -> bool:
         """The case of a script."""
         text = _path(rest, "load FILE: which script?").read_text(encoding="utf-8", errors="surrogateescape")
-        requests = [self.session.request(*words) for words in case_lines(text)]
-        if not requests:
+        rows = case_lines(text)
+        if not rows:
             raise ValueError("nothing is seen or held in this script")
-        self.carry_out([Asked(requests, is_counted=True)])
+        self.carry_out([Asked(rows, is_counted=True)])
         return False
 
     def do_save(self, rest: str) -> bool:
         """The case as a script."""
         path = _path(rest, "save FILE: into which file? board.script, say")
         self._waited("save", self.service.catch_up)
-        begin = f"open {self.session.name}\n"
         if path.exists() and not path.read_bytes().startswith(b"open "):
             raise ValueError(f"{path} is there and is not a saved case: choose another name")
+        text, told = self._saved()
         beside = path.with_name(path.name + ".new")
-        beside.write_text(begin + self.session.script(), encoding="utf-8", errors="surrogateescape")
+        beside.write_text(text, encoding="utf-8", errors="surrogateescape")
         beside.replace(path)
-        print(f"wrote {path}: {len(self.session.seen)} seen, {len(self.session.held)} held")
+        print(f"wrote {path}: {told}")
         return False
+
+    def _saved(self) -> tuple[str, str]:
+        """The case as a script, and what is in it."""
+        seen, held = len(self.session.seen), len(self.session.held)
+        return f"open {self.session.name}\n{self.session.script()}", f"{seen} seen, {held} held"
 
     def do_picture(self, rest: str) -> bool:
         """A picture of the case."""
@@ -291,15 +304,16 @@ class Shell(cmd.Cmd):
 
     complete_save = complete_picture = complete_load
 
-    def _asked(self, words: Sequence[str]) -> Asked:
+    def _asked(self, words: list[str]) -> Asked:
         command = words[0]
         if command in ("open", "close"):
             raise ValueError("there is one session here, which is open to the end")
-        if command in CHANGES and any(word.startswith("=") or word.endswith("=") for word in words):
+        text = " ".join([*words, ""])
+        if command in CHANGES and (" =" in text or "= " in text):
             raise ValueError(f"refused: write {command} name=value without blanks around =; nothing of this line was taken")
         if len(words) > 2 and command in self.for_each:
-            return Asked([self.session.request(command, word) for word in words[1:]], command in CHANGES)
-        return Asked([self.session.request(*words)])
+            return Asked([[command, word] for word in words[1:]], command in CHANGES)
+        return Asked([words])
 
     def _tell(self, left: collections.deque[Asked], clear: Callable[[], None]) -> None:
         """Prints what has come by now of the replies that are left."""
@@ -324,23 +338,27 @@ class Shell(cmd.Cmd):
         """What has come by now of the replies to a line and is not printed yet. The words that they begin with are left out."""
         texts: list[str] = []
         for request in row.requests[row.told:]:
-            lines, request.lines = request.lines, []
-            if request.refused is None:
+            # To say why something is refused, the program may be asked for names, so that more comes.
+            while lines := request.lines:
+                refusals, request.lines, request.refusals = request.refusals, [], []
                 told = [line.removeprefix(begin) for line in lines]
+                if refusals:
+                    self.has_refused = True
+                    whys = map(self._why, refusals)
+                    told = [f"refused: {next(whys)}" if request.refusal(line) else text for line, text in zip(lines, told)]
                 texts += map(in_words, told) if self.prompt else told
-            elif lines:
-                self.has_refused = True
-                texts.append(f"refused: {self._why(request.refused)}")
             if not request.is_answered:
                 break
             row.told += 1
         return texts
 
-    def _counted(self, requests: Sequence[Change | AnyLine]) -> str:
+    def _counted(self, requests: Sequence[Lines | AnyLines]) -> str:
         """How many lines that change the case were carried out, and which were refused."""
-        taken = collections.Counter(request.line.split()[0] for request in requests if request.refused is None)
-        texts = [f"{count} {COUNTED[command][count > 1]}" for command, count in taken.items()]
-        refused = [request.refused for request in requests if request.refused is not None]
+        taken: collections.Counter[str] = collections.Counter()
+        for request in requests:
+            taken[request.line.split()[0]] += len(request.lines) - len(request.refusals)
+        texts = [f"{count} {COUNTED[command][count > 1]}" for command, count in taken.items() if count]
+        refused = [refused for request in requests for refused in request.refusals]
         if refused:
             self.has_refused = True
             whys = "; ".join(dict.fromkeys(map(self._why, refused)))

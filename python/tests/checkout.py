@@ -63,7 +63,7 @@ def make_checkout(folder, program=None):
 
 
 def wait_past(out, file):
-    """Waits until what is written now is newer than a file, by the clock of the file system, of which a tick may be long."""
+    """Waits until what is written now is newer than a file, by the clock of the file system, whose ticks may be long."""
     probe = out / "clock"
 
     def is_past():

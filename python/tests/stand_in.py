@@ -23,7 +23,7 @@ def interrupt_the_asker():
 
 
 def lists():
-    """Sessions over one wire and nine parts, of which each alone explains whatever is seen. `interrupt` interrupts whoever asks it."""
+    """Sessions over one wire and nine parts. Each part alone explains whatever is seen. `interrupt` interrupts whoever asks it."""
     say("ready 9 1")
     points = {}
     for line in sys.stdin:

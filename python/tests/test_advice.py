@@ -35,7 +35,7 @@ class Counts(unittest.TestCase):
 
 @needs_program
 class Chains(unittest.TestCase):
-    """In a row of buffers of which the last is wrong each may be faulty, and to measure in the middle halves them."""
+    """If the last of a row of buffers is wrong each may be faulty, and to measure in the middle halves them."""
 
     def setUp(self):
         file = self.enterContext(tempfile.NamedTemporaryFile(suffix=".bench", mode="w"))

@@ -7,8 +7,7 @@ from unittest import mock
 from support import C17, SOON, kill, needs_program, wait_until
 
 from diag_client.bench import boards, shared
-from diag_client.holding import Lines
-from diag_client.replies import Change
+from diag_client.replies import Lines
 from diag_client.service import Service
 
 ZEROS = "1=0 2=0 3=0 6=0 7=0"
@@ -141,7 +140,7 @@ class Together(unittest.TestCase):
 
         def count(service, requests):
             if (rank := service._errand().rank) in turns:
-                turns[rank].append(sum(not isinstance(request, (Change, Lines)) for request in requests))
+                turns[rank].append(sum(not isinstance(request, Lines) for request in requests))
             real(service, requests)
 
         with mock.patch.object(Service, "carry_out", count):

@@ -268,6 +268,10 @@ class Builds(InCheckout):
         self.assertEqual(self.is_current(), (True, ""))
         self.assertIn("is built from these sources already\n", self.build()[2])
 
+    def test_nothing_follows(self):
+        """A file after it is a mistake, and half an hour would be lost."""
+        self.assertEqual(self.run_diag("--build", "c17.bench"), (2, "", "diag: nothing follows `--build`\n"))
+
     def test_not_proved(self):
         status, _, said = self.build(RT_FAILS="1")
         self.assertEqual(status, 1)

@@ -95,7 +95,7 @@ class Left(unittest.TestCase):
         """The program is stopped once something is sent to it, and that is no error of its own."""
         with self.assertRaises(KeyboardInterrupt), served("is good") as service, service.session("S") as session:
             request = session.request("see", "a=1")
-            request.take_known = mock.Mock(side_effect=KeyboardInterrupt)
+            request.take_from = mock.Mock(side_effect=KeyboardInterrupt)
             service.carry_out([request])
         self.assertTrue(self.was_killed(service))
 

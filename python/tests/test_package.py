@@ -38,6 +38,16 @@ REPAIR = [
 ]
 
 
+class Types(unittest.TestCase):
+    """They are checked, if there is what checks them."""
+
+    @unittest.skipUnless(shutil.which("mypy"), "there is no mypy")
+    def test_strict(self):
+        words = ["mypy", "--strict", "--python-version=3.11", "--cache-dir=/dev/null", TOP / "python/diag_client"]
+        done = subprocess.run(words, capture_output=True, text=True)
+        self.assertEqual(done.returncode, 0, done.stdout + done.stderr)
+
+
 @needs_program
 @unittest.skipUnless(PYTHON, "there is no Python with setuptools, wheel, venv and pip")
 class Wheel(unittest.TestCase):

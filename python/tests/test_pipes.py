@@ -196,7 +196,7 @@ class Interrupts(unittest.TestCase):
         """If it cannot be known how far a reply was read, the program is stopped and the error says so."""
         with served("is good") as service, service.session("S") as session:
             request = session._change("see", "a=1")
-            request.take_known = lambda: (_ for _ in ()).throw(KeyboardInterrupt())
+            request.take_from = lambda *_: (_ for _ in ()).throw(KeyboardInterrupt())
             with self.assertRaises(KeyboardInterrupt):
                 session.service.do([request])
             with self.assertRaisesRegex(Ended, "in the midst of a reply"):

@@ -3,9 +3,11 @@
 import contextlib
 import importlib
 import io
+import os
 import pathlib
 import re
 import signal
+import subprocess
 import sys
 import tempfile
 import unittest
@@ -189,7 +191,16 @@ class Lines(unittest.TestCase):
         with mock.patch.object(self.service._child, "follow", side_effect=self.service._child.follow) as follow:
             status, told = self.from_pipe(b"see 22=1\n" + b"min\n" * 200)
         self.assertEqual((status, told), (0, ["ok"] + ["min 0"] * 200))
-        self.assertLess(follow.call_count, 5)
+        self.assertLess(sum(len(call.args[0]) for call in follow.call_args_list), 5)
+
+    def test_nobody_reads(self):
+        """It ends without a word."""
+        words, python = [sys.executable, "-m", "diag_client", "shell", str(C17)], {"PYTHONPATH": str(TOP / "python")}
+        pipes = dict.fromkeys(("stdin", "stdout", "stderr"), subprocess.PIPE)
+        with subprocess.Popen(words, env=os.environ | python, **pipes) as shell_run:
+            shell_run.stdout.close()
+            self.assertEqual(shell_run.communicate(b"min\n")[1], b"")
+        self.assertEqual(shell_run.returncode, 1)
 
     def test_graph(self):
         """It is asked as a netlist is, and not drawn."""
@@ -290,7 +301,8 @@ class Interrupts(unittest.TestCase):
 
     def test_lines_as_they_come(self):
         """What has come of a long listing is printed before the rest of it."""
-        request = mock.Mock(refused=None, is_answered=False)
+        request = mock.Mock(refusals=[], is_answered=False)
+        self.enterContext(mock.patch.object(self.session, "requests", return_value=[request]))
 
         def follow(_):
             for part in ("p1", "p2"):
@@ -299,7 +311,7 @@ class Interrupts(unittest.TestCase):
                 self.assertTrue(told.getvalue().endswith(f"diag {part}\n"))
 
         with mock.patch.object(self.service, "follow", follow), contextlib.redirect_stdout(io.StringIO()) as told:
-            self.shell.carry_out([shell.Asked([request])])
+            self.shell.carry_out([shell.Asked([["list", "2"]])])
         self.assertEqual(told.getvalue(), "diag p1\ndiag p2\n")
 
 

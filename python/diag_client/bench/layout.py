@@ -198,7 +198,7 @@ def _link(here: Node, at: float, there: Node, port: float) -> None:
 
 
 def _order(layers: list[list[Node]]) -> None:
-    """Orders each layer so that few lines cross: sweeps by barycentre, of which the best is kept."""
+    """Orders each layer so that few lines cross. It sweeps by barycentre and keeps the best."""
     _number(layers)
     best, kept = _crossings(layers), [list(layer) for layer in layers]
     for sweep in range(SWEEPS):

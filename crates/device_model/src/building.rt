@@ -119,7 +119,7 @@ impl Device {
         let places = places_of(alloc, &wires)?;
         renumber_all(&mut parts, &places);
         let wires = names_of(alloc, wires)?;
-        Ok(Device::of_sorted(alloc, parts, wires, tables)?)
+        Ok(Device::of_sorted(parts, wires, tables))
     }
 }
 

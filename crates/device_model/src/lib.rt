@@ -10,7 +10,7 @@ mod names;
 
 pub use building::BuildError;
 pub use component::{Component, Table, Wires};
-pub use device::Device;
+pub use device::{Device, place_of};
 pub use gates::{Gate, Kind, Reduction, Rule, gate_named};
 pub use limits::{COST_LIMIT, INPUT_LIMIT, NAME_LIMIT, PART_LIMIT, TYPE_PORT_LIMIT, WIRE_LIMIT};
 pub use names::{Name, Names};

@@ -48,7 +48,7 @@ pub record IsRun (choose : ClauseList → Option Forest) (form : Option Form) (h
   pub no_name : named_file form ≡ None → IsIdle shelf new_shelf
   -- Of the shelf at most one byte more than the limit of a file is taken.
   pub file_taken : new_shelf.taken ≤ shelf.taken + TEXT_LIMIT + 1
-  -- No byte of the file is taken twice.
+  -- No more bytes are taken than the file has.
   pub file_once : IfSome (told_file held (named_file form)) (λ file. new_shelf.taken ≤ shelf.taken + length file)
   -- A file that is absent cannot be read. Where the file is not read, the script is not begun, and one line is written.
   pub absent_file : IfSome (named_file form) (λ name. held name ≡ absent → shelf.faults < new_shelf.faults)

@@ -18,3 +18,4 @@ mod words;
 pub use laws::{loads_agree, netlists_agree};
 pub use program::diag;
 pub use saying::{say, say_load_error, say_usage};
+pub use system_edge::{FileShelf, StdSink, StdSource};

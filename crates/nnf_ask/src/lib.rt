@@ -7,3 +7,4 @@ mod names;
 
 pub use laws::answers_for_device;
 pub use names::{AskError, ask_costs, ask_names};
+pub use std::alloc::AllocError as Memory;

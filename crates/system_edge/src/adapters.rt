@@ -4,8 +4,9 @@ ghost use Rattle.std.specs.Io.{ReadsAtMost};
 ghost use Rattle.std.specs.Io.KnownBytes.{ReadConsumes};
 ghost use Rattle.diag_edge.specs.Edge.{untold, Rose};
 
+use crate::Memory;
 use diag_edge::{ReadFailed, Shelf, Sink, Source, WriteFailed};
-use std::alloc::{AllocError, Global};
+use std::alloc::Global;
 use std::fs::File;
 use std::io::{ErrorKind, Read, Write};
 use std::{env, fs};
@@ -210,7 +211,7 @@ impl<W: Write + Drop> Sink for StdSink<W> {
 
 /// The words after the program's name. If they cannot be had as text there are none, so that they are answered as
 /// wrong words. An error is want of memory.
-pub fn words_of(rt: &HostRuntime, alloc: Global) -> Result<Vec<String>, AllocError> {
+pub fn words_of(rt: &HostRuntime, alloc: Global) -> Result<Vec<String>, Memory> {
     let mut words = Vec::new(alloc);
     match env::args(rt) {
         Ok(args) => {
@@ -218,7 +219,7 @@ pub fn words_of(rt: &HostRuntime, alloc: Global) -> Result<Vec<String>, AllocErr
                 words.push(word)?;
             }
         }
-        Err(error) if error.kind() == ErrorKind::OutOfMemory => return Err(AllocError),
+        Err(error) if error.kind() == ErrorKind::OutOfMemory => return Err(Memory),
         Err(_) => {}
     }
     Ok(words)

@@ -2,8 +2,10 @@
 #![tactic(auto)]
 
 mod answering;
+mod blaming;
 mod distiller;
 mod distilling;
 mod marking;
 
+pub use blaming::blame_all;
 pub use distiller::Distiller;

@@ -1,8 +1,8 @@
 //! The search for the next state.
 ghost use Rattle.std.specs.Prelude.{◌≡◌, ℕ, ◌+◌, ◌*◌, ◌<◌, ◌≤◌, length, All, Some, MatchOption, slice_index};
 ghost use Rattle.conditioner.specs.Words.{bits_of};
-ghost use Rattle.minimiser.specs.Listing.{fault_count};
-ghost use Rattle.minimiser.specs.inner.Fixing.{fixed_bits};
+ghost use Rattle.diagnosis_lister.specs.Listing.{fault_count};
+ghost use Rattle.diagnosis_lister.specs.inner.Fixing.{fixed_bits};
 ghost use Rattle.level_lister.specs.Listing.{IsFor, cost_words, point_if};
 ghost use Rattle.level_lister.specs.Passes.{AreEnough, fixing_passes, point_faults};
 ghost use Rattle.level_lister.specs.inner.Searching.{FindsFirst, FindsNext};

@@ -1,8 +1,8 @@
 //! Parts that are fixed one after the other, so that one state of a cost is left.
 ghost use Rattle.std.specs.Prelude.{◌≡◌, ◌≢◌, ◌↔◌, ℕ, ◌+◌, ◌*◌, ◌<◌, ◌≤◌, length, All, IsTrue, MatchOption, slice_index};
 ghost use Rattle.conditioner.specs.Words.{bits_of};
-ghost use Rattle.minimiser.specs.Listing.{fault_count};
-ghost use Rattle.minimiser.specs.inner.Fixing.{IsFirst, fixed_bits};
+ghost use Rattle.diagnosis_lister.specs.Listing.{fault_count};
+ghost use Rattle.diagnosis_lister.specs.inner.Fixing.{IsFirst, fixed_bits};
 ghost use Rattle.level_lister.specs.Listing.{cost_words};
 ghost use Rattle.level_lister.specs.Passes.{AreEnough, fixing_passes};
 ghost use Rattle.level_lister.specs.inner.Searching.{OfCost, HasCost, NoneAfter, Leaves};

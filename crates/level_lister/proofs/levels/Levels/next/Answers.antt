@@ -1,6 +1,6 @@
 use Rattle.std.proofs.Common.{◌≡◌, ◌++◌, drop, length, get_or, sym, ◌∙◌, ap, arith}
 use Rattle.conditioner.specs.Words.{bits_of}
-use Rattle.minimiser.specs.inner.Fixing.{fixed_bits}
+use Rattle.diagnosis_lister.specs.inner.Fixing.{fixed_bits}
 use Rattle.level_lister.specs.Listing.{point_if}
 use Rattle.level_lister.specs.Passes.{fixing_passes}
 use Rattle.level_lister.specs.declared.levels.LevelStep.TheVariants.{Found}

@@ -2,8 +2,8 @@ use Rattle.std.specs.Prelude.{MatchOption}
 use Rattle.std.proofs.Common.{◌≡◌, ◌+◌, ℕ, Option, Some, None, true, List, length, refl, sym, ◌∙◌, ap, subst, arith}
 use Rattle.state_rules.specs.Ranking.{cost, is_before}
 use Rattle.conditioner.specs.Words.{bits_of}
-use Rattle.minimiser.specs.inner.Fixing.{IsFirst, fixed_bits}
-use Rattle.minimiser.proofs.OpenMarks.{length-bits}
+use Rattle.diagnosis_lister.specs.inner.Fixing.{IsFirst, fixed_bits}
+use Rattle.diagnosis_lister.proofs.OpenMarks.{length-bits}
 use Rattle.level_lister.specs.inner.Searching.{OfCost, NoneAfter, FindsFirst, IsListed}
 use Rattle.level_lister.specs.inner.Skips.{IsEnough}
 use Rattle.level_lister.proofs.Leaving.{leaves-first}

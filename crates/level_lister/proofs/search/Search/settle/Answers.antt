@@ -1,9 +1,9 @@
 use Rattle.std.proofs.Common.{◌≡◌, ◌+◌, ◌<◌, ◌≤◌, length, get_or, set, ap, subst, ◌∙◌, arith, lit<}
 use Rattle.std.proofs.lemmas.List.Elements.{All-set}
-use Rattle.minimiser.specs.Listing.{fault_count}
-use Rattle.minimiser.specs.inner.Fixing.{fixed_bits}
-use Rattle.minimiser.proofs.Faults.{faults-kept, faults-added}
-use Rattle.minimiser.proofs.Fixing.{FixesOk}
+use Rattle.diagnosis_lister.specs.Listing.{fault_count}
+use Rattle.diagnosis_lister.specs.inner.Fixing.{fixed_bits}
+use Rattle.diagnosis_lister.proofs.Faults.{faults-kept, faults-added}
+use Rattle.diagnosis_lister.proofs.Fixing.{FixesOk}
 use Rattle.scratch_pool.proofs.Counted.{block-below}
 use Rattle.level_lister.specs.inner.Pairs.{FaultIn, OkAmong}
 use Rattle.level_lister.proofs.Exact.{Refines-start, settle_end}

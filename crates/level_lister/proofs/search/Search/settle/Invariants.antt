@@ -1,6 +1,6 @@
 use Rattle.std.proofs.Common.{ℕ, ◌+◌, ◌-◌, ◌*◌, ◌<◌, ◌≤◌, All, length}
-use Rattle.minimiser.specs.Listing.{fault_count}
-use Rattle.minimiser.specs.inner.Fixing.{fixed_bits}
+use Rattle.diagnosis_lister.specs.Listing.{fault_count}
+use Rattle.diagnosis_lister.specs.inner.Fixing.{fixed_bits}
 use Rattle.level_lister.specs.Passes.{AreEnough}
 use Rattle.level_lister.proofs.Exact.{Settling}
 use Rattle.level_lister.proofs.search.Search.settle.Given as goal

@@ -9,3 +9,4 @@ mod marking;
 
 pub use blaming::blame_all;
 pub use distiller::Distiller;
+pub use std::alloc::AllocError as Memory;

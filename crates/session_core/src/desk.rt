@@ -27,7 +27,7 @@ use minimiser::Steps;
 use probe_report::{Blame, cost_of, probe, probe_all};
 use scratch_pool::Region;
 use script_lang::Noted;
-use smooth_nnf::write_least;
+use smooth_nnf::write_least_with;
 use std::alloc::{AllocError, Global};
 use std::marker::Model;
 use std::sync::ledger::Ledger;
@@ -236,7 +236,7 @@ impl Desk {
         let pointed = start_at(&mut self.state, point);
         let levels = self.basis.levels().unwrap();
         let run = self.room.carve(self.basis.level_room(levels)).unwrap();
-        let step = levels.next(
+        let step = levels.next_in(
             self.basis.graph(),
             &mut self.known,
             self.room.run_mut(&run),
@@ -256,7 +256,7 @@ impl Desk {
         ensures same { self.new ≡ self.old }
         ensures cause { HasCause (O.faults out.old) (O.faults out.new) result }
     {
-        write_least(
+        write_least_with(
             self.basis.graph(),
             self.basis.part_sets(),
             &self.known,

@@ -60,10 +60,10 @@ pub returns-then-own-top-clause-steps : goal.returns-then-own-top-clause-steps
 returns-then-own-top-clause-steps g c = omega arith
 
 pub returns-in-Some-clause-steps : goal.returns-in-Some-clause-steps
-returns-in-Some-clause-steps g c search h = omega (arith, c.in-Some.ensures.steps, c.settle.ensures.steps search h)
+returns-in-Some-clause-steps g c wide search h = omega (arith, c.in-Some.ensures.steps, c.settle.ensures.steps (omega (arith, wide)) search h)
 
 pub returns-in-None-clause-steps : goal.returns-in-None-clause-steps
-returns-in-None-clause-steps g c = more c.find_from.result _ _ _ _ (λ s. omega (arith, c.in-None.ensures.steps, s)) (λ n s search h. omega (arith, c.in-None.ensures.steps, s search h)) c.find_from.ensures.steps
+returns-in-None-clause-steps g c = more c.find_from.result _ _ _ _ (λ s. omega (arith, c.in-None.ensures.steps, s)) (λ n s wide search h. omega (arith, c.in-None.ensures.steps, s (omega (arith, wide)) search h)) c.find_from.ensures.steps
 
 pub settle-requires-clause-enough : goal.settle-requires-clause-enough
 settle-requires-clause-enough g c = enough_more c.args.self.now.graph.now c.args.self.now.skips.now c.args.self.now.levels.now.costs c.args.self.now.levels.now.top c.args.words.now c.leave.new.words c.in-Some.ensures.left.kept c.requires.enough

@@ -9,7 +9,7 @@ use Rattle.level_lister.specs.inner.Pairs.{FaultIn, OkAmong}
 use Rattle.level_lister.proofs.Exact.{Refines-start, settle_end}
 use Rattle.level_lister.proofs.Grouping.{settle_ok, settle_found}
 use Rattle.level_lister.proofs.Skips.{enough_more}
-use Rattle.level_lister.proofs.search.Search.settle.Goals as goal
+use Rattle.level_lister.proofs.search.Search.settle_by_groups.Goals as goal
 
 pub loop-part-init : goal.loop-part-init
 loop-part-init g c = record {

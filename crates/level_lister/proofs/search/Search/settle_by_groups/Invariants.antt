@@ -3,7 +3,7 @@ use Rattle.diagnosis_lister.specs.Listing.{fault_count}
 use Rattle.diagnosis_lister.specs.inner.Fixing.{fixed_bits}
 use Rattle.level_lister.specs.Passes.{AreEnough}
 use Rattle.level_lister.proofs.Exact.{Settling}
-use Rattle.level_lister.proofs.search.Search.settle.Given as goal
+use Rattle.level_lister.proofs.search.Search.settle_by_groups.Given as goal
 
 -- the parts before one are fixed, and each fault was searched
 abbrev pub invariant-loop-part : goal.invariant-loop-part

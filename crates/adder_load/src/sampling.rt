@@ -4,8 +4,9 @@ ghost use Rattle.conditioner.specs.Models.{least_under, diagnoses_under, total_c
 ghost use Rattle.conditioner.specs.Words.{bits_of};
 ghost use Rattle.fault_graph.specs.Distilled.{Serves};
 
+use diagnosis_lister::Step;
 use fault_graph::Distiller;
-use minimiser::{Step, Steps, TOTAL_LIMIT};
+use minimiser::{Steps, TOTAL_LIMIT};
 use node_store::Graph;
 use std::sync::ledger::Ledger;
 

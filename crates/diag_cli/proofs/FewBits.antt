@@ -8,7 +8,6 @@ use Rattle.state_rules.specs.declared.extras.Extras.{Extras}
 use Rattle.state_rules.specs.Graphs.{Graph, edges}
 use Rattle.dnnf_compiler.specs.Compiled.{most_nodes}
 use Rattle.level_lister.specs.Listing.{cost_words}
-use Rattle.level_lister.specs.declared.levels.TheConstants.{TOP_LIMIT}
 use Rattle.session_core.specs.declared.limits.TheConstants.{SERVED_BITS}
 use Rattle.session_core.specs.Services.{CanList, CanDraw}
 use Rattle.device_files.specs.declared.status.Status.TheVariants.{Refused}
@@ -23,10 +22,9 @@ use Rattle.diag_cli.specs.inner.Serving.{CanTell}
 -- ---- few bits of the greatest graph are few of each
 
 module _ (graph : Graph) (parts sum vars : ℕ) (few : length graph.nodes ≤ most_nodes sum vars) where
-  can_list : (levels : Option ℕ) → IfSome levels (λ top. top ≤ TOP_LIMIT) → levels_bits sum vars parts levels ≤ SERVED_BITS → IfSome levels (CanList graph parts)
-  can_list None top bits = tt
-  can_list (Some top) top_is bits = record {
-    top_is = top_is;
+  can_list : (levels : Option ℕ) → levels_bits sum vars parts levels ≤ SERVED_BITS → IfSome levels (CanList graph parts)
+  can_list None bits = tt
+  can_list (Some top) bits = record {
     few = le_trans (mul-le-mul_right (parts + 32 * cost_words top) few) bits;
   }
 
@@ -37,9 +35,9 @@ module _ (graph : Graph) (parts sum vars : ℕ) (few : length graph.nodes ≤ mo
     few = le_trans (mul-le-mul_right (32 * (2 + (parts + 31) / 32)) few) bits;
   }
 
-  can_tell : (extras : Extras) → (extras.least ≡ true → length graph.nodes + edges graph.nodes + 2 * parts + 1 < 2 ^ 32) → IfSome extras.levels (λ top. top ≤ TOP_LIMIT)
+  can_tell : (extras : Extras) → (extras.least ≡ true → length graph.nodes + edges graph.nodes + 2 * parts + 1 < 2 ^ 32)
       → levels_bits sum vars parts extras.levels ≤ SERVED_BITS → least_bits sum vars parts extras.least ≤ SERVED_BITS → CanTell extras graph parts
-  can_tell extras lines top listed drawn = record { levels = can_list extras.levels top listed; least = can_draw extras.least lines drawn }
+  can_tell extras lines listed drawn = record { levels = can_list extras.levels listed; least = can_draw extras.least lines drawn }
 
 -- ---- what is refused
 
@@ -74,11 +72,11 @@ few_of_all extras parts weighed fits =
 -- ---- what the calls answer
 
 -- what is told besides can be told over a graph that was compiled, if that fits and lines can be numbered
-pub tells_in_few : (extras : Extras) (parts : ℕ) (weighed : Weighed) (graph : Graph) → IfSome extras.levels (λ top. top ≤ TOP_LIMIT)
+pub tells_in_few : (extras : Extras) (parts : ℕ) (weighed : Weighed) (graph : Graph)
     → in_few_bits extras parts (Ok weighed) ≡ Ok weighed → IsGraphBy weighed graph → (extras.least ≡ true → length graph.nodes + edges graph.nodes + 2 * parts + 1 < 2 ^ 32) → CanTell extras graph parts
-tells_in_few extras parts weighed graph top fits by lines =
+tells_in_few extras parts weighed graph fits by lines =
     let bits = few_of_all extras parts weighed fits in
-    can_tell graph parts weighed.sum weighed.list.vars by.few_nodes extras lines top bits.0 bits.1
+    can_tell graph parts weighed.sum weighed.list.vars by.few_nodes extras lines bits.0 bits.1
 
 pub if_ok_map : {T E : Type 0} {A B : T → Type 0} (result : Result T E) → ((t : T) → A t → B t) → IfOk result A → IfOk result B
 if_ok_map (Ok t) f is = f t is

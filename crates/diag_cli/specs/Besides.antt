@@ -13,7 +13,7 @@ use Rattle.device_files.specs.Output.{Output, says, result_and_then}
 
 -- the bits of states by rising cost, where these are told, over the greatest graph that is compiled from clauses of this sum
 abbrev pub levels_bits : (sum vars parts : ℕ) → Option ℕ → ℕ
-levels_bits sum vars parts levels = option_map_or (level_bits (most_nodes sum vars) parts) levels 0
+levels_bits sum vars parts levels = option_map_or (level_bits sum vars parts) levels 0
 
 -- and those with which the graph of the diagnoses is drawn
 abbrev pub least_bits : (sum vars parts : ℕ) → Bool → ℕ

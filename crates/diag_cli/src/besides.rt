@@ -127,7 +127,7 @@ fn levels_bits(sum: u32, vars: u32, parts: u32, levels: Option<u32>) -> u64
 {
     match levels {
         None => 0,
-        Some(top) => level_bits(most_nodes(sum, vars), parts, top),
+        Some(top) => level_bits(u64::from(sum), vars, parts, top),
     }
 }
 

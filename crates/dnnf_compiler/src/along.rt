@@ -47,8 +47,9 @@ fn graph_of(store: Store, root: u32) -> Result<Compiled, AllocError>
     ensures valid { IfOk result (λ compiled. IsGraph compiled.graph) }
     ensures made { IfOk result (λ compiled. compiled.made ≡ store.made) }
 {
+    let made = store.made();
     match store.freeze(root) {
-        Ok((graph, made)) => Ok(Compiled { graph, made }),
+        Ok(graph) => Ok(Compiled { graph, made }),
         Err((_, error)) => Err(error),
     }
 }

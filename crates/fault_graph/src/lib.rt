@@ -2,8 +2,11 @@
 #![tactic(auto)]
 
 mod answering;
+mod blaming;
 mod distiller;
 mod distilling;
 mod marking;
 
+pub use blaming::blame_all;
 pub use distiller::Distiller;
+pub use std::alloc::AllocError as Memory;

@@ -6,3 +6,4 @@ mod lists;
 
 pub use flat::FlatLists;
 pub use lists::Lists;
+pub use std::alloc::AllocError as Memory;

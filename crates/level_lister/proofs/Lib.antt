@@ -27,3 +27,5 @@ pub mod Faulting
 pub mod FaultGrowing
 pub mod FaultNodes
 pub mod Skips
+pub mod ByParts
+pub mod Rooms

@@ -9,9 +9,4 @@ pub mod OnePass
 pub mod Models
 pub mod Derivations
 pub mod Sweeping
-pub mod Faults
-pub mod OpenMarks
-pub mod Fixing
-pub mod Points
-pub mod Answering
 mod Examples

@@ -2,10 +2,11 @@
 ghost use Rattle.std.specs.Prelude.{◌≡◌, ◌≤◌, IfOk};
 ghost use Rattle.part_sets.specs.PartSets.{AreFor};
 
+use crate::Memory;
 use crate::below::parts_below;
 use crate::lacking::nodes_lacking;
 use node_store::Graph;
-use std::alloc::{AllocError, Global};
+use std::alloc::Global;
 use std::marker::Model;
 
 /// Sets are kept of at most so many parts.
@@ -32,7 +33,7 @@ impl Model for PartSets {
 
 impl PartSets {
     /// The sets of a graph with so many parts among its variables. `Err` means that memory ran out.
-    pub fn new(alloc: Global, graph: &Graph, parts: usize) -> Result<PartSets, AllocError>
+    pub fn new(alloc: Global, graph: &Graph, parts: usize) -> Result<PartSets, Memory>
         requires few { parts ≤ PART_LIMIT }
         ensures for_graph { IfOk result (λ sets. AreFor graph.now parts sets) }
     {

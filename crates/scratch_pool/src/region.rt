@@ -2,8 +2,9 @@ ghost use Rattle.std.specs.Prelude.{◌≡◌, ◌↔◌, ◌<◌, ◌≤◌, �
 ghost use Rattle.std.specs.Borrow.{sem};
 ghost use Rattle.scratch_pool.specs.Regions.{IsLast, IsSound, words_used, free_words, run_words, carved};
 
+use crate::Memory;
 use crate::parts::{part, zero};
-use std::alloc::{AllocError, Global};
+use std::alloc::Global;
 use std::marker::Model;
 
 /// The words of a region are fewer.
@@ -57,7 +58,7 @@ impl Region {
     ghost use Rattle.scratch_pool.specs.Lending.{LendsRun};
 
     /// A region of so many words. None is carved.
-    pub fn new(alloc: Global, words: usize) -> Result<Region, AllocError>
+    pub fn new(alloc: Global, words: usize) -> Result<Region, Memory>
         requires { words < REGION_LIMIT }
         ensures { IfOk result (λ region. region ≡ record { words = replicate words 0; runs = [] }) }
     {

@@ -7,7 +7,7 @@ ghost use Rattle.text_rules.specs.Tokens.{words};
 ghost use Rattle.state_rules.specs.Ranking.{rest};
 ghost use Rattle.diag_edge.specs.Edge.{HasCause, Puts};
 ghost use Rattle.conditioner.specs.Words.{bits_of};
-ghost use Rattle.minimiser.specs.Listing.{step_of};
+ghost use Rattle.diagnosis_lister.specs.Listing.{step_of};
 ghost use Rattle.probe_report.specs.Probed.{probed};
 ghost use Rattle.level_lister.specs.Listing.{level_step, point_if};
 ghost use Rattle.session_rules.specs.Sessions.{state_of};
@@ -20,13 +20,14 @@ use crate::basis::Basis;
 use crate::desk_memory::DeskMemory;
 use conditioner::is_open;
 use diag_edge::{Sink, WriteFailed};
+use diagnosis_lister::Step;
 use fault_graph::Distiller;
 use level_lister::LevelStep;
-use minimiser::{Step, Steps};
+use minimiser::Steps;
 use probe_report::{Blame, cost_of, probe, probe_all};
 use scratch_pool::Region;
 use script_lang::{Noted, each_name};
-use smooth_nnf::write_least;
+use smooth_nnf::write_least_with;
 use std::alloc::{AllocError, Global};
 use std::marker::Model;
 use std::sync::ledger::Ledger;
@@ -234,7 +235,7 @@ impl Desk {
         let pointed = start_at(&mut self.state, point);
         let levels = self.basis.levels().unwrap();
         let run = self.room.carve(self.basis.level_room(levels)).unwrap();
-        let step = levels.next(
+        let step = levels.next_in(
             self.basis.graph(),
             &mut self.known,
             self.room.run_mut(&run),
@@ -254,7 +255,7 @@ impl Desk {
         ensures same { self.new ≡ self.old }
         ensures cause { HasCause (O.faults out.old) (O.faults out.new) result }
     {
-        write_least(
+        write_least_with(
             self.basis.graph(),
             self.basis.part_sets(),
             &self.known,

@@ -21,5 +21,5 @@ returns-clause-list c = λ sum has.
 pub returns-clause-told : goal.returns-clause-told
 returns-clause-told c =
     let some = c.requires.sum in
-    tells_in_few c.args.options.extras c.args.parts (record { list = c.args.cnf.now; sum = some.0 }) c.in_ok-graph.graph c.requires.options.top
+    tells_in_few c.args.options.extras c.args.parts (record { list = c.args.cnf.now; sum = some.0 }) c.in_ok-graph.graph
     (c.in_ok-check_bits.ensures.few some.0 some.1) (c.in_ok-graph.ensures.graph some.0 some.1) c.in_ok-check_lines.ensures.few

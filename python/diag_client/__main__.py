@@ -5,11 +5,14 @@ from __future__ import annotations
 import argparse
 import functools
 import os
+import re
 import sys
 from typing import Any
 
 from . import bench, board, draw, manual, progress, shell
 from .errors import DiagError
+
+OPTION = re.compile(r"\b(budget|frames|health)=(\w+)")
 
 
 def words_of() -> argparse.ArgumentParser:
@@ -62,7 +65,8 @@ def main() -> int:
         os.dup2(os.open(os.devnull, os.O_WRONLY), sys.stdout.fileno())
         return 1
     except (DiagError, OSError, ValueError) as error:
-        print(f"diag_client: {error}", file=sys.stderr)
+        # What Python gives as frames=N is an option here.
+        print("diag_client:", OPTION.sub(r"--\1 \2", str(error).replace("narrow=True", "--narrow")), file=sys.stderr)
         return 1
 
 

@@ -22,6 +22,8 @@ from .errors import Ended, OtherProcess, TimedOut
 from .replies import NotAReply, Request
 
 PIECE = 65536
+# A signal that comes just before a wait begins does not end it. So no wait takes more seconds than this.
+LONGEST_WAIT = 0.5
 # So many seconds a program that writes nothing more may take to end.
 PATIENCE = 10.0
 # So much of what was said on standard error is kept.
@@ -208,11 +210,11 @@ class Child:
         if self._is_out():
             self._finish()
             raise self.ended()
-        left = None if deadline is None else max(0.0, deadline - time.monotonic())
+        left = LONGEST_WAIT if deadline is None else max(0.0, min(deadline - time.monotonic(), LONGEST_WAIT))
         if not self._turn(left) and deadline is not None and self._timeout is not None and time.monotonic() >= deadline:
             raise TimedOut(self._timeout)
 
-    def _turn(self, seconds: float | None = None) -> bool:
+    def _turn(self, seconds: float = LONGEST_WAIT) -> bool:
         """Waits until some end is ready, and serves those that are: False if none was in time. An interrupt comes while it waits."""
         ready = [key.fileobj for key, _ in self._selector.select(seconds)]
         with self._a_step():

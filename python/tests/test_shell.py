@@ -202,6 +202,15 @@ class Lines(unittest.TestCase):
             self.assertEqual(shell_run.communicate(b"min\n")[1], b"")
         self.assertEqual(shell_run.returncode, 1)
 
+    def test_options_in_words(self):
+        """What Python gives as budget=N is an option at the terminal."""
+        for hint, *given in (
+            ("try --narrow, then --budget 8388608", str(C17), "--no-narrow", "--budget", "1"), ("needs --health N", "c17.nnf"),
+        ):
+            with mock.patch("sys.argv", ["diag_client", "shell", *given]), contextlib.redirect_stderr(io.StringIO()) as said:
+                self.assertEqual(importlib.import_module("diag_client.__main__").main(), 1)
+            self.assertIn(hint, said.getvalue())
+
     def test_graph(self):
         """It is asked as a netlist is, and not drawn."""
         lines = io.TextIOWrapper(io.BytesIO(b"see 00005=0\nmin\npicture out.svg\n"))

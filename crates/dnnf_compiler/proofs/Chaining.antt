@@ -9,4 +9,3 @@ trees_few (u ∷ us) = omega arith
 pub width_few : (us : List ℕ) → width (chain us) ≤ 1
 width_few [] = omega arith
 width_few (u ∷ us) = omega (arith, width_few us)
-

@@ -103,7 +103,8 @@ fn go_along(
     let mut forks = Vec::new(alloc);
     let mut leads_on = true;
     for at in 0..steps.len() {
-        let Some(found) = front.next_place(alloc, cnf, of.as_slice(), steps, at, weight, top)? else {
+        let Some(found) = front.next_place(alloc, cnf, of.as_slice(), steps, at, weight, top)?
+        else {
             return Ok(None);
         };
         leads_on = found.has_way();

@@ -1,6 +1,6 @@
 //! The levels of a clause list, what is left at each, and their sum.
 use crate::fixtures::{adder, gates};
-use branch_states::{Branches, Descent, MeasureError, measure};
+use branch_states::{Branches, MeasureError, measure};
 use clause_encoder::{Cnf, encode};
 use device_model::Gate;
 use std::alloc::Global;
@@ -14,12 +14,12 @@ fn clauses_of(alloc: Global, gate: Gate, count: u32, in_a_row: bool) -> Result<C
 }
 
 // What a state of one word leaves for a bit, if that is living.
-fn left_of(rt: &impl Abort, branches: &Branches<'_>, state: u64, bit: bool) -> Option<u64> {
+fn left_of(rt: &impl Abort, branches: &Branches, cnf: &Cnf, state: u64, bit: bool) -> Option<u64> {
     assert!(rt;
         branches.level() < branches.len() && branches.words() == 1 && branches.after() == 1
     );
     let mut next = [9];
-    let living = branches.step(&[state], bit, &mut next);
+    let living = branches.step(cnf, &[state], bit, &mut next);
     living.then_some(next[0])
 }
 
@@ -49,35 +49,12 @@ fn walks_the_levels(rt: HostRuntime) -> Result<(), Fail> {
     ];
     for steps in levels {
         for (state, bit, expected) in steps {
-            let left = left_of(&rt, &branches, state, bit);
+            let left = left_of(&rt, &branches, &cnf, state, bit);
             assert_eq!(&rt; left, expected, "{state} {bit}");
         }
         assert!(&rt; branches.level() < branches.len());
         branches.down();
     }
-    Ok(())
-}
-
-/// The forks of an inverter's levels are where its lists lead by 0 and by 1, and the sum grows with each level.
-#[test]
-fn descends_with_forks(rt: HostRuntime) -> Result<(), Fail> {
-    let alloc = rt.alloc();
-    let cnf = clauses_of(alloc, Gate::Not, 1, true)?;
-    let mut descent = Descent::begin(alloc, &cnf, 7)?;
-    let levels: [(&[(Option<u32>, Option<u32>)], u32); 3] = [
-        (&[(Some(0), Some(1))], 3),
-        (&[(Some(0), Some(0)), (Some(1), Some(2))], 6),
-        (&[(Some(0), Some(0)), (None, Some(0)), (Some(0), None)], 7),
-    ];
-    for (ways, sum) in levels {
-        assert!(&rt; descent.left() > 0 && descent.count() == ways.len());
-        let forks = descent.go_down(alloc)?;
-        for (fork, way) in forks.iter().zip(ways) {
-            assert_eq!(&rt; (fork.zero, fork.one), *way);
-        }
-        assert_eq!(&rt; descent.sum(), sum);
-    }
-    assert!(&rt; descent.left() == 0 && descent.count() == 1);
     Ok(())
 }
 

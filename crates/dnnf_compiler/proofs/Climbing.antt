@@ -13,10 +13,10 @@ use Rattle.state_rules.proofs.Lists.{AllByRecursion-append}
 use Rattle.node_store.specs.Stores.{IsFrozen}
 use Rattle.node_store.specs.declared.store.TheConstants.{MADE_LIMIT}
 use Rattle.clause_encoder.specs.Clauses.{ClauseList, is_clause_list}
-use Rattle.branch_states.specs.Branches.{same_list}
+use Rattle.elimination_forests.specs.Branches.{same_list}
 use Rattle.branch_states.specs.declared.measuring.TheConstants.{BUDGET_LIMIT}
-use Rattle.branch_states.proofs.Lists.{is_among as is_listed}
-use Rattle.branch_states.proofs.Ordering.{clauses-valid}
+use Rattle.elimination_forests.proofs.Lists.{is_among as is_listed}
+use Rattle.elimination_forests.proofs.Ordering.{clauses-valid}
 use Rattle.elimination_forests.specs.declared.forks.Forks.{Forks}
 use Rattle.elimination_forests.specs.declared.steps.Step.{Step}
 use Rattle.elimination_forests.specs.declared.steps.Weight.TheVariants.{Lists}

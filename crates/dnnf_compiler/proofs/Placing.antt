@@ -12,10 +12,10 @@ use Rattle.state_rules.specs.Assignments.{Assignment}
 use Rattle.state_rules.proofs.Bits.{pointwise-refl, pointwise-equal}
 use Rattle.state_rules.proofs.Lists.{AllByRecursion-append}
 use Rattle.clause_encoder.specs.Clauses.{Clause, ClauseList, var_of, is_positive, is_true_clause, all_hold, is_clause}
-use Rattle.branch_states.specs.Branches.{is_true_by, has_true, some_passes, same_list, without}
-use Rattle.branch_states.proofs.Finding.{found-at}
-use Rattle.branch_states.proofs.Lists.{is_among as is_listed, each-map, each-filter, each-different}
-use Rattle.branch_states.proofs.Counting.{among-different}
+use Rattle.elimination_forests.specs.Branches.{is_true_by, has_true, some_passes, same_list, without}
+use Rattle.elimination_forests.proofs.Finding.{found-at}
+use Rattle.elimination_forests.proofs.Lists.{is_among as is_listed, each-map, each-filter, each-different}
+use Rattle.elimination_forests.proofs.Counting.{among-different}
 use Rattle.elimination_forests.specs.Forests.{Forest, none, tree, variables, is_among, meets, is_within, is_once, fits, is_along, is_forest_of, Place, is_dead_by, next_by, followed_by, decided, part_of, part, root, number_in}
 use Rattle.elimination_forests.proofs.Passing.{fail_by, passes_without, passes_or, passes_never, passes_full, all_fail, meets-append, meets-nil, once_back, once_front}
 use Rattle.dnnf_compiler.proofs.Meeting.{each_more}

@@ -11,9 +11,9 @@ use Rattle.state_rules.specs.Assignments.{Assignment}
 use Rattle.state_rules.specs.Graphs.{Node, at_most_one, is_true, mentions}
 use Rattle.state_rules.proofs.Bits.{pointwise-equal}
 use Rattle.state_rules.proofs.Lists.{list_any-map}
-use Rattle.branch_states.specs.Branches.{same_list}
+use Rattle.elimination_forests.specs.Branches.{same_list}
 use Rattle.branch_states.specs.declared.measuring.TheConstants.{BUDGET_LIMIT}
-use Rattle.branch_states.proofs.Lists.{is_among as is_listed}
+use Rattle.elimination_forests.proofs.Lists.{is_among as is_listed}
 use Rattle.elimination_forests.specs.declared.forks.Forks.{Forks}
 use Rattle.elimination_forests.specs.declared.steps.Step.{Step}
 use Rattle.elimination_forests.specs.declared.steps.Weight.TheVariants.{Lists}

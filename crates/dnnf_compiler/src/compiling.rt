@@ -1,12 +1,11 @@
 ghost use Rattle.std.specs.Prelude.{◌≡◌, ◌<◌, ◌≤◌, IfOk};
 ghost use Rattle.branch_states.specs.declared.measuring.TheConstants.{BUDGET_LIMIT};
 ghost use Rattle.branch_states.specs.declared.measuring.MeasureError.TheVariants.{Above};
-ghost use Rattle.branch_states.specs.Branches.{sum_of};
+ghost use Rattle.elimination_forests.specs.Branches.{sum_of};
 ghost use Rattle.dnnf_compiler.specs.Compiled.{IsCompiled, most_nodes};
 
 use crate::along::compile_along;
-use crate::forks::{find_forks, steps_down};
-use branch_states::{BUDGET_LIMIT, Descent, MeasureError};
+use branch_states::{BUDGET_LIMIT, MeasureError, descend_levels};
 use clause_encoder::Cnf;
 use node_store::Graph;
 use std::alloc::{AllocError, Global};
@@ -46,8 +45,6 @@ pub fn compile_within(alloc: Global, cnf: &Cnf, top: u32) -> Result<Compiled, Me
     ensures above { result ≡ Err Above → top < sum_of cnf.now.clauses }
     ensures compiled { IfOk result (IsCompiled cnf.now) }
 {
-    let mut descent = Descent::begin(alloc, cnf, top)?;
-    let forks = find_forks(alloc, &mut descent)?;
-    let steps = steps_down(alloc, descent.into_branches())?;
-    Ok(compile_along(alloc, cnf, &steps, &forks)?)
+    let levels = descend_levels(alloc, cnf, top)?;
+    Ok(compile_along(alloc, cnf, &levels.steps, &levels.forks)?)
 }

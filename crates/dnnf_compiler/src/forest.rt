@@ -32,9 +32,8 @@ pub fn compile_forest(
     ensures above { result ≡ Err Above → (forest : Forest) → steps.now ≡ steps_of forest → is_forest_of forest cnf.now ≡ true
         → budget < forest_sum Lists forest cnf.now.clauses }
 {
-    let found = match descend(alloc, cnf, steps, Weight::Lists, budget) {
-        Ok(found) => found,
-        Err(e) => return Err(e),
+    let Some(found) = descend(alloc, cnf, steps, Weight::Lists, budget)? else {
+        return Err(MeasureError::Above);
     };
     Ok(compile_along(alloc, cnf, steps, found.forks.as_slice())?)
 }

@@ -9,9 +9,9 @@ use Rattle.state_rules.specs.Assignments.{Assignment}
 use Rattle.state_rules.proofs.Bits.{pointwise-refl, any-suc}
 use Rattle.state_rules.proofs.Lists.{list_any-map, filter-never}
 use Rattle.clause_encoder.specs.Clauses.{Clause, ClauseList, var_of, is_positive, is_true_clause, all_hold, is_clause_list}
-use Rattle.branch_states.specs.Branches.{order, is_true_by, has_true, is_left, left, is_touched, is_covered, is_open, some_passes, is_dead, same_list, different, living, size, weight, sum_of, IsLiving}
-use Rattle.branch_states.proofs.Branching.{living_are_living}
-use Rattle.branch_states.proofs.Lists.{each-different}
+use Rattle.elimination_forests.specs.Branches.{order, is_true_by, has_true, is_left, left, is_touched, is_covered, is_open, some_passes, is_dead, same_list, different, living, size, weight, sum_of, IsLiving}
+use Rattle.elimination_forests.proofs.Branching.{living_are_living}
+use Rattle.elimination_forests.proofs.Lists.{each-different}
 use Rattle.elimination_forests.specs.declared.steps.Weight.TheVariants.{Words}
 use Rattle.elimination_forests.specs.Forests.{is_among, is_within, forest_sum, chain}
 use Rattle.elimination_forests.proofs.Chains.{covered-last, order-within, filter-same, all-by, different-different, chain-sum}
@@ -47,7 +47,7 @@ module _ (clauses : List Clause) where
   all-covered : list_all (is_covered its_order (length its_order)) clauses ≡ true
   all-covered = all-by (is_within its_order) (is_covered its_order (length its_order)) clauses (covered-last its_order) (order-within clauses)
 
-  last-size : size clauses (length its_order) ≡ 1
+  pub last-size : size clauses (length its_order) ≡ 1
   last-size = ap (λ cs. length cs / 64 + 1)
       (filter-same (is_within its_order) (is_open its_order (length its_order)) (λ c. false) clauses (order-within clauses) (λ c e. by (is_touched its_order (length its_order) c) (is_covered its_order (length its_order) c) (covered-last its_order c e)) ∙ filter-never clauses) where
         by : (x y : Bool) → y ≡ true → (x && not y) ≡ false
@@ -61,7 +61,7 @@ module _ (clauses : List Clause) where
       (none-left (is_covered its_order (length its_order)) clauses list all-covered (ap length all.0.left ∙ length-map clauses _) all.0.alive, each-last lists all.1)
 
   -- they are different ones
-  last-one : length (living clauses (length its_order)) ≤ 1
+  pub last-one : length (living clauses (length its_order)) ≤ 1
   last-one = omega (
     arith,
     ap length (different-different (filter (λ list. not (is_dead clauses (length its_order) list)) (map (left clauses) (lists_of_bits (length its_order))))),

@@ -5,7 +5,7 @@ use Rattle.std.specs.List.{list_all}
 use Rattle.std.proofs.lemmas.Bool.{false≢true, eqb-true, and_parts, and_from, or_parts, or_cases, or_from, not-true}
 use Rattle.std.proofs.lemmas.List.Folds.{list_any-append}
 use Rattle.clause_encoder.specs.Clauses.{Clause, var_of}
-use Rattle.branch_states.specs.Branches.{some_passes, without}
+use Rattle.elimination_forests.specs.Branches.{some_passes, without}
 use Rattle.elimination_forests.specs.Forests.{is_among, meets, is_once}
 
 -- ---- lists of clauses

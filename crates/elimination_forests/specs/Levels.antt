@@ -1,10 +1,14 @@
 -- The forks of a level, as they stand along the chain of an order.
-use Rattle.std.specs.Prelude.{ℕ, ◌+◌, Bool, false, true, List, map, drop, Option, option_map, replicate}
+use Rattle.std.specs.Prelude.{ℕ, ◌+◌, Bool, false, true, List, map, drop, Option, option_map, position, replicate}
 use Rattle.clause_encoder.specs.Clauses.{Clause}
-use Rattle.branch_states.specs.Branches.{order, living}
-use Rattle.branch_states.specs.Forks.{leads_to}
+use Rattle.elimination_forests.specs.Branches.{order, same_list, living, branch}
 use Rattle.elimination_forests.specs.declared.forks.Forks.{Forks}
 use Rattle.elimination_forests.specs.Forests.{trees, chain}
+
+-- Where a bit for the next variable leads from a list: the place of what it leaves among the living lists of the next level. There
+-- is none if that is dead.
+abbrev pub leads_to : List Clause → ℕ → List Bool → Bool → Option ℕ
+leads_to clauses i list bit = position (λ next. same_list next (branch clauses i list bit)) (living clauses (i + 1))
 
 -- Where a bit leads from the lists of a level: one number for the next level, and none at the last one, below which there is no tree.
 abbrev pub level_ways : List Clause → ℕ → Bool → List (Option (List ℕ))

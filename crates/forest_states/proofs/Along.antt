@@ -8,9 +8,9 @@ use Rattle.std.proofs.lemmas.List.Folds.{list_any-append}
 use Rattle.state_rules.proofs.Bits.{pointwise-refl, pointwise-equal}
 use Rattle.state_rules.proofs.Lists.{AllByRecursion-append}
 use Rattle.clause_encoder.specs.Clauses.{Clause, var_of}
-use Rattle.branch_states.specs.Branches.{same_list, different, has_true, without, bits_of}
-use Rattle.branch_states.proofs.Counting.{among-different}
-use Rattle.branch_states.proofs.Lists.{is_among as is_listed, each-different}
+use Rattle.elimination_forests.specs.Branches.{same_list, different, has_true, without, bits_of}
+use Rattle.elimination_forests.proofs.Counting.{among-different}
+use Rattle.elimination_forests.proofs.Lists.{is_among as is_listed, each-different}
 use Rattle.elimination_forests.specs.Forests.{Forest, none, tree, trees, variables, is_among, meets, Place, is_dead_by, decided, part_of, part, number_in, begins, way_by, forks_at}
 use Rattle.forest_states.specs.inner.BitLists.{is_same}
 use Rattle.forest_states.specs.inner.Walked.{lead, walked, picked, decided_states, decided_forks, part_states, column, row_at, forks_found}

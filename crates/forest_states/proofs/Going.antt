@@ -10,7 +10,7 @@ use Rattle.std.proofs.lemmas.List.Folds.{list_any-append}
 use Rattle.state_rules.specs.Bits.{bit_in}
 use Rattle.state_rules.proofs.Lists.{any-never, filter-never, list_all-at}
 use Rattle.clause_encoder.specs.Clauses.{Clause, ClauseList, is_clause, is_clause_list, var_of}
-use Rattle.branch_states.proofs.Ordering.{clauses-valid}
+use Rattle.elimination_forests.proofs.Ordering.{clauses-valid}
 use Rattle.elimination_forests.specs.declared.steps.Step.{Step}
 use Rattle.elimination_forests.specs.declared.steps.Weight.{Weight}
 use Rattle.elimination_forests.specs.declared.forks.Forks.{Forks}
@@ -248,11 +248,7 @@ module _ (weight : Weight) (all : List Step) (clauses : List Clause) (of : List 
 
 -- ---- the end
 
-abbrev pub error_or : {A E : Type 0} → E → Result A E → E
-error_or other (Ok x) = other
-error_or other (Err e) = e
-
-pub way-last : (weight : Weight) (all : List Step) (clauses : List Clause) (forest : Forest) (i : ℕ) (seen : List Bool) (found : List Forks) (sum : ℕ) (stands : List Stand) → Way weight all clauses forest i seen found sum stands → length all ≤ i
+abbrev pub way-last : (weight : Weight) (all : List Step) (clauses : List Clause) (forest : Forest) (i : ℕ) (seen : List Bool) (found : List Forks) (sum : ℕ) (stands : List Stand) → Way weight all clauses forest i seen found sum stands → length all ≤ i
     → (found ≡ forks_on forest (root clauses)) × (sum ≡ forest_sum weight forest clauses)
 way-last weight all clauses forest i seen found sum stands way high = by way.items way.later (sym way.steps ∙ drop_all i all high) way.forks way.total where
   by : (items : List Item) (later : Forest) → steps_left items ++ steps_of later ≡ [] → found ++ (forks_left clauses items ++ forks_on later (root clauses)) ≡ forks_on forest (root clauses)

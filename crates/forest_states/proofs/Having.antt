@@ -1,5 +1,6 @@
 -- The clauses that have each variable, clause by clause and literal by literal.
-use Rattle.std.proofs.Common.{◌≡◌, ℕ, zero, suc, ◌+◌, ◌<◌, ◌≤◌, Bool, true, false, ◌||◌, cond, List, [], ◌∷◌, ◌++◌, length, take, get_or, set, get_or-set_same, get_or-set_other, refl, ap, sym, ◌∙◌, arith, ℤ}
+use Rattle.std.proofs.Common.{◌≡◌, ℕ, zero, suc, ◌+◌, ◌<◌, ◌≤◌, Bool, true, false, ◌||◌, cond, List, [], ◌∷◌, ◌++◌, length, take, get_or, set, get_or-set_same, get_or-set_other, refl, ap, sym, ◌∙◌, arith, ℤ, pos, negsuc, add-one}
+use lib.IntN.{nat_abs}
 use Rattle.std.specs.Prelude.{◌==◌, nat_lt, nat_le, if◌then◌else◌}
 use Rattle.std.specs.List.{filter, list_all, range_with_len}
 use Rattle.std.proofs.lemmas.Bool.{false≢true, and_parts, or_from, ltb-true, leb-true, leb-false, lt-ltb, ne_eqb, eq-eqb, eqb-true}
@@ -7,10 +8,14 @@ use Rattle.std.proofs.lemmas.List.{take_more, append-nil, get_or_past}
 use Rattle.std.proofs.lemmas.List.Elements.{filter-append}
 use Rattle.state_rules.proofs.Lists.{any-push, range_more, filter-never, list_all-at}
 use Rattle.clause_encoder.specs.Clauses.{Clause, ClauseList, var_of, vars_rise, is_clause, is_clause_list}
-use Rattle.branch_states.proofs.Ordering.{clauses-valid}
+use Rattle.elimination_forests.proofs.Ordering.{clauses-valid}
 use Rattle.forest_states.specs.inner.Walked.{has_var}
 use Rattle.forest_states.proofs.Marking.{all-wider}
 use Rattle.forest_states.proofs.Numbers.{IsIndex, filter-within}
+
+pub abs-var : (l : ℤ) → nat_abs l ≡ var_of l
+abs-var (pos n) = refl
+abs-var (negsuc n) = sym (add-one n)
 
 -- a variable is not among the earlier ones
 rise-new : (below : ℕ) (c : Clause) (k : ℕ) (d : ℤ) → vars_rise below c ≡ true → k < length c → (below < var_of (get_or c k d)) × (has_var (var_of (get_or c k d)) (take k c) ≡ false)

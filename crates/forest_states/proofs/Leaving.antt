@@ -4,10 +4,12 @@ use Rattle.std.specs.Prelude.{Option, if◌then◌else◌}
 use Rattle.std.specs.List.{filter, AllByRecursion}
 use Rattle.std.proofs.lemmas.Bool.{false≢true, and_right, and_left, or_parts, or_from, or_left, or_right, and_from}
 use Rattle.clause_encoder.specs.Clauses.{Clause}
-use Rattle.branch_states.specs.Branches.{has_true, without, some_passes, bits_of}
+use Rattle.elimination_forests.specs.Branches.{has_true, without, some_passes, bits_of}
 use Rattle.elimination_forests.specs.Forests.{meets, is_within}
-use Rattle.forest_states.specs.declared.tables.Entry.{Entry}
-use Rattle.forest_states.specs.inner.Walked.{has_var, first_bit, other_bits, true_at, ended, walked, picked}
+use Rattle.forest_states.specs.declared.entries.Entry.{Entry}
+use Rattle.forest_states.specs.inner.BitLists.{first_bit, other_bits}
+use Rattle.forest_states.specs.inner.Tables.{true_at}
+use Rattle.forest_states.specs.inner.Walked.{has_var, ended, walked, picked}
 use Rattle.forest_states.proofs.Turned.{is_open, is_walked, meets-more, true-apart}
 
 -- what is known of the lists of a tree with these variables: a clause that does not meet them is in none, and an untouched one in each

@@ -1,12 +1,17 @@
 -- Lists and their states, if different known lists have different ones.
-use Rattle.std.proofs.Common.{◌≡◌, ◌+◌, Bool, true, false, not, ◌||◌, cond, List, [], ◌∷◌, map, refl, ap, sym, ◌∙◌, inl, inr}
-use Rattle.std.specs.List.{filter, flat_map, position_or_len, AllByRecursion}
+use Rattle.std.proofs.Common.{◌≡◌, ℕ, ◌+◌, Option, Some, None, Bool, true, false, not, ◌||◌, cond, List, [], ◌∷◌, ◌++◌, map, refl, ap, sym, ◌∙◌, subst, inl, inr}
+use Rattle.std.specs.Prelude.{is_some, option_map, IfSome}
+use Rattle.std.specs.List.{filter, flat_map, list_any, position_or_len, AllByRecursion}
 use Rattle.std.proofs.lemmas.Bool.{false≢true, cases_Bool, or_left, or_right, false_from_ne_true}
 use Rattle.std.proofs.lemmas.List.Folds.{list_any-append}
 use Rattle.state_rules.proofs.Bits.{pointwise-refl, pointwise-equal}
-use Rattle.branch_states.specs.Branches.{same_list, different}
-use Rattle.branch_states.proofs.Lists.{is_among, each-different}
+use Rattle.elimination_forests.specs.Branches.{same_list, different}
+use Rattle.elimination_forests.proofs.Lists.{is_among, each-different}
 use Rattle.forest_states.specs.inner.BitLists.{is_same}
+use Rattle.forest_states.specs.inner.Walked.{any_leads, row_at, ways_found}
+use Rattle.forest_states.specs.declared.places.Fork.{Fork}
+use Rattle.elimination_forests.specs.declared.forks.Forks.{Forks}
+use Rattle.elimination_forests.specs.Forests.{has_way, leads_on}
 
 -- ---- what is among lists
 
@@ -60,3 +65,25 @@ module _ (P : List Bool → Type 0) (e : List Bool → List Bool) (same : (x y :
   pub place-mapped : (x : List Bool) → P x → (ls : List (List Bool)) → AllByRecursion P ls → position_or_len (is_same (e x)) (map e ls) ≡ position_or_len (λ o. same_list o x) ls
   place-mapped x p [] all = refl
   place-mapped x p (l ∷ ls) all = λ j. cond (not (test-same l x all.0 p j)) (1 + place-mapped x p ls all.1 j) 0
+
+-- ---- whether a state leads on
+
+pub ways-some : (columns : List (List ℕ)) (leads : List Fork) → any_leads leads
+    ≡ (list_any is_some (ways_found columns (map (λ f. f.zero) leads)) || list_any is_some (ways_found columns (map (λ f. f.one) leads)))
+ways-some columns [] = refl
+ways-some columns (f ∷ leads) = by f.zero f.one (list_any is_some (ways_found columns (map (λ f. f.zero) leads))) (list_any is_some (ways_found columns (map (λ f. f.one) leads))) (ways-some columns leads) where
+  by : (a b : Option ℕ) (x y : Bool) → any_leads leads ≡ (x || y)
+      → ((is_some a || is_some b) || any_leads leads) ≡ ((is_some (option_map (row_at columns) a) || x) || (is_some (option_map (row_at columns) b) || y))
+  by (Some n) b x y rest = refl
+  by None (Some m) true y rest = refl
+  by None (Some m) false y rest = refl
+  by None None x y rest = rest
+
+-- one place more
+pub leads-push : (places : List Forks) (forks : Forks) → leads_on (places ++ forks ∷ []) ≡ has_way forks
+leads-push [] forks = refl
+leads-push (p ∷ []) forks = refl
+leads-push (p ∷ q ∷ places) forks = leads-push (q ∷ places) forks
+
+pub if-some : {X : Type 0} (P : X → Type 0) (o : Option X) (x : X) → o ≡ Some x → IfSome o P → P x
+if-some P o x e h = subst (λ o. IfSome o P) e h

@@ -5,7 +5,7 @@ use Rattle.std.specs.List.{filter, list_all, range_with_len, AllByRecursion}
 use Rattle.std.proofs.lemmas.Bool.{false≢true, le-ltb, lt-ltb}
 use Rattle.std.proofs.lemmas.List.{append_assoc, length-append, map-append, reverse-append}
 use Rattle.state_rules.proofs.Lists.{range_more}
-use Rattle.branch_states.proofs.Lists.{each-filter}
+use Rattle.elimination_forests.proofs.Lists.{each-filter}
 use Rattle.clause_encoder.specs.Clauses.{Clause, var_of}
 use Rattle.forest_states.specs.inner.Walked.{put_in, merged, has_var}
 

@@ -4,7 +4,7 @@ use Rattle.std.specs.Prelude.{◌==◌}
 use Rattle.std.proofs.lemmas.Bool.{false≢true, or_parts, or_from, and_left, eqb-true, eq-eqb}
 use Rattle.state_rules.specs.Bits.{same_bit}
 use Rattle.clause_encoder.specs.Clauses.{Clause, var_of, is_positive}
-use Rattle.branch_states.specs.Branches.{has_true, is_true_by}
+use Rattle.elimination_forests.specs.Branches.{has_true, is_true_by}
 use Rattle.elimination_forests.specs.Forests.{is_among, meets}
 use Rattle.forest_states.specs.inner.Walked.{has_var}
 

@@ -5,8 +5,8 @@ use Rattle.std.specs.List.{filter, list_all, position_or_len, range_with_len, Al
 use Rattle.std.proofs.lemmas.Bool.{and_parts, eqb-true}
 use Rattle.state_rules.proofs.Bits.{pointwise-refl}
 use Rattle.clause_encoder.specs.Clauses.{Clause}
-use Rattle.branch_states.specs.Branches.{same_list, different}
-use Rattle.branch_states.proofs.Lists.{each-filter}
+use Rattle.elimination_forests.specs.Branches.{same_list, different}
+use Rattle.elimination_forests.proofs.Lists.{each-filter}
 use Rattle.forest_states.specs.inner.BitLists.{is_same}
 use Rattle.forest_states.specs.inner.Walked.{picked, part_states, goes_to, Stand, column_at, stand_part}
 use Rattle.forest_states.proofs.Mapped.{mapped-agree, mapped-twice}

@@ -1,10 +1,10 @@
-ghost use Rattle.std.specs.Prelude.{◌≡◌, ◌<◌, ◌+◌, ◌*◌, ◌/◌, Bool, List, ◌^◌, [], ◌∷◌, ◌++◌, length, IfOk, OnOk};
+ghost use Rattle.std.specs.Prelude.{◌≡◌, ◌<◌, ◌≤◌, ◌+◌, ◌*◌, ◌/◌, ◌%◌, Bool, List, ◌^◌, [], ◌∷◌, ◌++◌, length, drop, IfOk, OnOk};
 ghost use Rattle.std.proofs.Common.{ap};
 ghost use Rattle.std.specs.Hash as fed;
 ghost use Rattle.std.specs.Cmp.{partial_equiv_from_equiv};
-ghost use Rattle.state_rules.specs.Bits.{bit_in};
-ghost use Rattle.branch_states.specs.Branches.{words_of};
-ghost use Rattle.forest_states.specs.inner.BitLists.{is_same, same-equal, same-laws};
+ghost use Rattle.state_rules.specs.Bits.{bit_in, row_number};
+ghost use Rattle.elimination_forests.specs.Branches.{words_of};
+ghost use Rattle.forest_states.specs.inner.BitLists.{is_same, same-equal, same-laws, copied};
 
 use smallvec::SmallVec;
 use std::alloc::{AllocError, Global};
@@ -14,7 +14,7 @@ use std::marker::Model;
 /// A list of bits.
 #[derive(Drop)]
 pub(crate) struct BitList {
-    words: SmallVec<u64, 1>,
+    words: SmallVec<u64, 2>,
     len: usize,
 }
 
@@ -62,23 +62,77 @@ impl BitList {
         requires { length self.old < 2 ^ 63 }
         ensures { OnOk result (self.new ≡ self.old ++ bit ∷ []) }
     {
-        if self.len % 64 == 63 {
+        self.put(u64::from(bit), 1)
+    }
+
+    /// Adds so many bits of another list from a place on, and 0 for those past its end.
+    pub(crate) fn append(
+        &mut self,
+        from: &BitList,
+        at: usize,
+        count: usize,
+    ) -> Result<(), AllocError>
+        requires few { length self.old + count < 2 ^ 63 }
+        requires at { at + count < 2 ^ 64 }
+        ensures { OnOk result (self.new ≡ self.old ++ copied count (drop at from.now)) }
+    {
+        let mut done = 0;
+        'pieces: while done < count {
+            let many = piece(at + done, self.len(), count - done);
+            self.put(from.read(at + done, many), many)?;
+            done += many;
+        }
+        Ok(())
+    }
+
+    // So many bits from a place on, which are in one word.
+    fn read(&self, at: usize, count: usize) -> u64
+        requires some { 0 < count }
+        requires within { at % 64 + count ≤ 64 }
+        ensures { result ≡ row_number (copied count (drop at self.now)) }
+    {
+        if at / 64 >= self.words.len() {
+            return 0;
+        }
+        (self.words[at / 64] << (64 - at % 64 - count)) >> (64 - count)
+    }
+
+    // Adds so many bits, which stay in one word.
+    fn put(&mut self, row: u64, count: usize) -> Result<(), AllocError>
+        requires some { 0 < count }
+        requires few { length self.old < 2 ^ 63 }
+        requires within { length self.old % 64 + count ≤ 64 }
+        requires row { (more : List Bool) × ((length more ≡ count) × (row ≡ row_number more)) }
+        ensures { OnOk result ((more : List Bool) → length more ≡ count → row ≡ row_number more → self.new ≡ self.old ++ more) }
+    {
+        if self.len % 64 + count == 64 {
             self.words.push(0)?;
         }
-        put_bit(self.words.as_mut_slice(), self.len, bit);
-        self.len += 1;
+        put_row(self.words.as_mut_slice(), self.len, row);
+        self.len += count;
         Ok(())
     }
 }
 
-// Writes a bit after those that the words have.
-fn put_bit(words: &mut [u64], at: usize, bit: bool)
+// How many bits to copy at once, of those that are to be copied: they are in one word here and there.
+fn piece(at: usize, len: usize, left: usize) -> usize
+    requires { 0 < left }
+    ensures some { 0 < result }
+    ensures few { result ≤ left }
+    ensures at { at % 64 + result ≤ 64 }
+    ensures len { len % 64 + result ≤ 64 }
+{
+    left.min(64 - at % 64).min(64 - len % 64)
+}
+
+// Writes bits, which stay in one word, after those that the words have.
+fn put_row(words: &mut [u64], at: usize, row: u64)
     requires { at < 64 * length words.old }
     ensures long { length words.new ≡ length words.old }
-    ensures words { (bits : List Bool) → length bits ≡ at → words.old ≡ words_of (length words.old) bits
-        → words.new ≡ words_of (length words.old) (bits ++ bit ∷ []) }
+    ensures words { (bits more : List Bool) → length bits ≡ at → at % 64 + length more ≤ 64 → row ≡ row_number more
+        → words.old ≡ words_of (length words.old) bits → words.new ≡ words_of (length words.old) (bits ++ more) }
 {
-    words[at / 64] |= u64::from(bit) << (at % 64);
+    words[at / 64] |= row << (at % 64);
 }
 
 impl PartialEq for BitList {

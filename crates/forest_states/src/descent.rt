@@ -1,12 +1,9 @@
-ghost use Rattle.std.specs.Prelude.{◌≡◌, ◌<◌, ◌≤◌, ◌+◌, ◌^◌, ◌++◌, List, [], ◌∷◌, true, false, length, map, drop, reverse, replicate, slice_set, None, IfOk, OnOk, IfSome};
-ghost use Rattle.branch_states.specs.declared.measuring.TheConstants.{BUDGET_LIMIT};
-ghost use Rattle.branch_states.specs.declared.measuring.MeasureError.TheVariants.{Above};
-ghost use Rattle.elimination_forests.specs.Forests.{Forest, steps_of, is_forest_of, root, weigh, forest_sum, forks_on};
+ghost use Rattle.std.specs.Prelude.{◌≡◌, ◌<◌, ◌≤◌, ◌+◌, ◌^◌, ◌++◌, List, [], ◌∷◌, true, false, length, map, drop, reverse, replicate, slice_set, Some, None, IfOk, OnOk, IfSome};
+ghost use Rattle.elimination_forests.specs.Forests.{Forest, steps_of, is_forest_of, root, weigh, forest_sum, forks_on, has_way, leads_on};
 ghost use Rattle.forest_states.specs.inner.Walked.{Stand, step_at, forks_of, forks_below, stands_below, or_first, stand_of, weight_of};
 
 use crate::marks::find_clauses;
 use crate::places::{Leads, Spot, go_down, next_spot};
-use branch_states::MeasureError;
 use clause_encoder::Cnf;
 use elimination_forests::{Forks, Step, Weight};
 use std::alloc::{AllocError, Global};
@@ -16,54 +13,65 @@ use std::alloc::{AllocError, Global};
 pub struct Descended {
     /// Where the lists of each place lead to, in the order of the steps.
     pub forks: Vec<Forks>,
+    pub measured: Measured,
+}
+
+/// How many lists there are along a forest.
+#[derive(Clone, Copy, Debug, PartialEq, Eq)]
+pub struct Measured {
     /// What the lists of all places count, and one for the base of all.
     pub sum: u32,
+    /// Whether a list of the last place leads on, or there is no place.
+    pub leads_on: bool,
 }
 
 /// Goes down a forest, and finds where the lists of each place lead to.
 ///
 /// The steps are those of a forest of the clauses, `weight` is what a list counts, and `top` is the limit. If the sum is above the limit,
-/// the error is `Above`, and only then.
+/// there is no answer, and only then.
 pub fn descend(
     alloc: Global,
     cnf: &Cnf,
     steps: &[Step],
     weight: Weight,
     top: u32,
-) -> Result<Descended, MeasureError>
-    requires { top ≤ BUDGET_LIMIT }
-    ensures forks { IfOk result (λ r. (forest : Forest) → steps.now ≡ steps_of forest → is_forest_of forest cnf.now ≡ true
-        → r.forks.items ≡ forks_on forest (root cnf.now.clauses)) }
-    ensures sum { IfOk result (λ r. (forest : Forest) → steps.now ≡ steps_of forest → is_forest_of forest cnf.now ≡ true
-        → r.sum ≡ forest_sum weight forest cnf.now.clauses) }
-    ensures within { IfOk result (λ r. r.sum ≤ top) }
-    ensures above { result ≡ Err Above → (forest : Forest) → steps.now ≡ steps_of forest → is_forest_of forest cnf.now ≡ true
+) -> Result<Option<Descended>, AllocError>
+    requires { top < 2 ^ 31 }
+    ensures forks { IfOk result (λ found. IfSome found (λ r. (forest : Forest) → steps.now ≡ steps_of forest → is_forest_of forest cnf.now ≡ true
+        → r.forks.items ≡ forks_on forest (root cnf.now.clauses))) }
+    ensures sum { IfOk result (λ found. IfSome found (λ r. (forest : Forest) → steps.now ≡ steps_of forest → is_forest_of forest cnf.now ≡ true
+        → r.measured.sum ≡ forest_sum weight forest cnf.now.clauses)) }
+    ensures leads_on { IfOk result (λ found. IfSome found (λ r. (forest : Forest) → steps.now ≡ steps_of forest → is_forest_of forest cnf.now ≡ true
+        → r.measured.leads_on ≡ leads_on (forks_on forest (root cnf.now.clauses)))) }
+    ensures within { IfOk result (λ found. IfSome found (λ r. r.measured.sum ≤ top)) }
+    ensures above { result ≡ Ok None → (forest : Forest) → steps.now ≡ steps_of forest → is_forest_of forest cnf.now ≡ true
         → top < forest_sum weight forest cnf.now.clauses }
 {
     go_along(alloc, cnf, steps, weight, top, true)
 }
 
-/// The sum over the places of a forest, and one for the base of all.
+/// The sum over the places of a forest, and one for the base of all, and whether the last place leads on.
 ///
-/// The arguments and errors are those of `descend`. This keeps the states of two places at a time, and of those that are begun, and no
-/// forks.
+/// The arguments are those of `descend`. This keeps the states of two places at a time, and of those that are begun, and no forks.
 pub fn measure_along(
     alloc: Global,
     cnf: &Cnf,
     steps: &[Step],
     weight: Weight,
     top: u32,
-) -> Result<u32, MeasureError>
-    requires { top ≤ BUDGET_LIMIT }
-    ensures sum { IfOk result (λ sum. (forest : Forest) → steps.now ≡ steps_of forest → is_forest_of forest cnf.now ≡ true
-        → sum ≡ forest_sum weight forest cnf.now.clauses) }
-    ensures within { IfOk result (λ sum. sum ≤ top) }
-    ensures above { result ≡ Err Above → (forest : Forest) → steps.now ≡ steps_of forest → is_forest_of forest cnf.now ≡ true
+) -> Result<Option<Measured>, AllocError>
+    requires { top < 2 ^ 31 }
+    ensures sum { IfOk result (λ found. IfSome found (λ r. (forest : Forest) → steps.now ≡ steps_of forest → is_forest_of forest cnf.now ≡ true
+        → r.sum ≡ forest_sum weight forest cnf.now.clauses)) }
+    ensures leads_on { IfOk result (λ found. IfSome found (λ r. (forest : Forest) → steps.now ≡ steps_of forest → is_forest_of forest cnf.now ≡ true
+        → r.leads_on ≡ leads_on (forks_on forest (root cnf.now.clauses)))) }
+    ensures within { IfOk result (λ found. IfSome found (λ r. r.sum ≤ top)) }
+    ensures above { result ≡ Ok None → (forest : Forest) → steps.now ≡ steps_of forest → is_forest_of forest cnf.now ≡ true
         → top < forest_sum weight forest cnf.now.clauses }
 {
-    match go_along(alloc, cnf, steps, weight, top, false) {
-        Ok(found) => Ok(found.sum),
-        Err(e) => Err(e),
+    match go_along(alloc, cnf, steps, weight, top, false)? {
+        Some(found) => Ok(Some(found.measured)),
+        None => Ok(None),
     }
 }
 
@@ -75,35 +83,40 @@ fn go_along(
     weight: Weight,
     top: u32,
     keep: bool,
-) -> Result<Descended, MeasureError>
-    requires { top ≤ BUDGET_LIMIT }
-    ensures forks { IfOk result (λ r. (forest : Forest) → steps.now ≡ steps_of forest → is_forest_of forest cnf.now ≡ true
-        → keep ≡ true → r.forks.items ≡ forks_on forest (root cnf.now.clauses)) }
-    ensures sum { IfOk result (λ r. (forest : Forest) → steps.now ≡ steps_of forest → is_forest_of forest cnf.now ≡ true
-        → r.sum ≡ forest_sum weight forest cnf.now.clauses) }
-    ensures within { IfOk result (λ r. r.sum ≤ top) }
-    ensures above { result ≡ Err Above → (forest : Forest) → steps.now ≡ steps_of forest → is_forest_of forest cnf.now ≡ true
+) -> Result<Option<Descended>, AllocError>
+    requires { top < 2 ^ 31 }
+    ensures forks { IfOk result (λ found. IfSome found (λ r. (forest : Forest) → steps.now ≡ steps_of forest → is_forest_of forest cnf.now ≡ true
+        → keep ≡ true → r.forks.items ≡ forks_on forest (root cnf.now.clauses))) }
+    ensures sum { IfOk result (λ found. IfSome found (λ r. (forest : Forest) → steps.now ≡ steps_of forest → is_forest_of forest cnf.now ≡ true
+        → r.measured.sum ≡ forest_sum weight forest cnf.now.clauses)) }
+    ensures leads_on { IfOk result (λ found. IfSome found (λ r. (forest : Forest) → steps.now ≡ steps_of forest → is_forest_of forest cnf.now ≡ true
+        → r.measured.leads_on ≡ leads_on (forks_on forest (root cnf.now.clauses)))) }
+    ensures within { IfOk result (λ found. IfSome found (λ r. r.measured.sum ≤ top)) }
+    ensures above { result ≡ Ok None → (forest : Forest) → steps.now ≡ steps_of forest → is_forest_of forest cnf.now ≡ true
         → top < forest_sum weight forest cnf.now.clauses }
 {
     if top == 0 {
-        return Err(MeasureError::Above);
+        return Ok(None);
     }
     let of = find_clauses(alloc, cnf)?;
     let mut front = Front::new(alloc, of.len())?;
     let mut forks = Vec::new(alloc);
+    let mut leads_on = true;
     for at in 0..steps.len() {
-        let found = match front.next_place(alloc, cnf, of.as_slice(), steps, at, weight, top) {
-            Ok(found) => found,
-            Err(e) => return Err(e),
+        let Some(found) = front.next_place(alloc, cnf, of.as_slice(), steps, at, weight, top)?
+        else {
+            return Ok(None);
         };
+        leads_on = found.has_way();
         if keep {
             add_forks(alloc, &found, &mut forks)?;
         }
     }
-    Ok(Descended {
-        forks,
+    let measured = Measured {
         sum: front.sum,
-    })
+        leads_on,
+    };
+    Ok(Some(Descended { forks, measured }))
 }
 
 fn add_forks(alloc: Global, found: &Leads, forks: &mut Vec<Forks>) -> Result<(), AllocError>
@@ -149,29 +162,29 @@ impl Front {
         at: usize,
         weight: Weight,
         top: u32,
-    ) -> Result<Leads, MeasureError>
+    ) -> Result<Option<Leads>, AllocError>
         requires low { at < length steps.now }
         requires within { self.old.sum ≤ top }
-        requires top { top ≤ BUDGET_LIMIT }
-        ensures within { OnOk result (self.new.sum ≤ top) }
-        ensures seen { OnOk result (self.new.seen.items ≡ slice_set self.old.seen.items (step_at steps.now at).var true) }
-        ensures numbers { OnOk result (length self.new.numbers.items ≡ length self.old.numbers.items) }
-        ensures whole { IfOk result (λ leads. length leads.columns.items ≡ leads.trees) }
-        ensures forks { IfOk result (λ leads. (s : Stand) (stands : List Stand) → s ∷ stands ≡ or_first (reverse (map stand_of self.old.pending.items))
-            → forks_of leads ≡ forks_below cnf.now.clauses (map (λ v. v.items) of.now) self.old.seen.items self.old.numbers.items (step_at steps.now at) (drop (at + 1) steps.now) s) }
-        ensures sum { OnOk result ((s : Stand) (stands : List Stand) → s ∷ stands ≡ or_first (reverse (map stand_of self.old.pending.items))
-            → self.new.sum ≡ self.old.sum + weight_of weight s) }
-        ensures pending { OnOk result ((s : Stand) (stands : List Stand) → s ∷ stands ≡ or_first (reverse (map stand_of self.old.pending.items))
+        requires top { top < 2 ^ 31 }
+        ensures within { IfOk result (λ found. IfSome found (λ _. self.new.sum ≤ top)) }
+        ensures seen { IfOk result (λ found. IfSome found (λ _. self.new.seen.items ≡ slice_set self.old.seen.items (step_at steps.now at).var true)) }
+        ensures numbers { IfOk result (λ found. IfSome found (λ _. length self.new.numbers.items ≡ length self.old.numbers.items)) }
+        ensures whole { IfOk result (λ found. IfSome found (λ leads. length leads.columns.items ≡ leads.trees)) }
+        ensures forks { IfOk result (λ found. IfSome found (λ leads. (s : Stand) (stands : List Stand) → s ∷ stands ≡ or_first (reverse (map stand_of self.old.pending.items))
+            → forks_of leads ≡ forks_below cnf.now.clauses (map (λ v. v.items) of.now) self.old.seen.items self.old.numbers.items (step_at steps.now at) (drop (at + 1) steps.now) s)) }
+        ensures sum { IfOk result (λ found. IfSome found (λ _. (s : Stand) (stands : List Stand) → s ∷ stands ≡ or_first (reverse (map stand_of self.old.pending.items))
+            → self.new.sum ≡ self.old.sum + weight_of weight s)) }
+        ensures pending { IfOk result (λ found. IfSome found (λ _. (s : Stand) (stands : List Stand) → s ∷ stands ≡ or_first (reverse (map stand_of self.old.pending.items))
             → reverse (map stand_of self.new.pending.items)
-            ≡ stands_below cnf.now.clauses (map (λ v. v.items) of.now) self.old.seen.items self.old.numbers.items (step_at steps.now at) (drop (at + 1) steps.now) s ++ stands) }
-        ensures above { result ≡ Err Above → (s : Stand) (stands : List Stand) → s ∷ stands ≡ or_first (reverse (map stand_of self.old.pending.items))
+            ≡ stands_below cnf.now.clauses (map (λ v. v.items) of.now) self.old.seen.items self.old.numbers.items (step_at steps.now at) (drop (at + 1) steps.now) s ++ stands)) }
+        ensures above { result ≡ Ok None → (s : Stand) (stands : List Stand) → s ∷ stands ≡ or_first (reverse (map stand_of self.old.pending.items))
             → top < self.old.sum + weight_of weight s }
     {
         let spot = next_spot(alloc, &mut self.pending)?;
-        self.sum = match sum_with(&spot, weight, self.sum, top) {
-            Some(more) => more,
-            None => return Err(MeasureError::Above),
+        let Some(sum) = sum_with(&spot, weight, self.sum, top) else {
+            return Ok(None);
         };
+        self.sum = sum;
         let leads = go_down(
             alloc,
             cnf,
@@ -183,14 +196,14 @@ impl Front {
             &spot,
             &mut self.pending,
         )?;
-        Ok(leads)
+        Ok(Some(leads))
     }
 }
 
 // The sum with a place more, unless it is above the limit.
 fn sum_with(spot: &Spot, weight: Weight, sum: u32, top: u32) -> Option<u32>
     requires within { sum ≤ top }
-    requires top { top ≤ BUDGET_LIMIT }
+    requires top { top < 2 ^ 31 }
     ensures sum { IfSome result (λ more. more ≡ sum + weight_of weight (stand_of spot.now)) }
     ensures within { IfSome result (λ more. more ≤ top) }
     ensures few { IfSome result (λ _. length spot.now.states.keys < 2 ^ 31) }

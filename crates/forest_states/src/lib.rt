@@ -3,8 +3,9 @@
 
 mod bit_list;
 mod descent;
+mod entries;
 mod marks;
 mod places;
 mod tables;
 
-pub use descent::{Descended, descend, measure_along};
+pub use descent::{Descended, Measured, descend, measure_along};

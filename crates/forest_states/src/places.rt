@@ -1,13 +1,13 @@
 ghost use Rattle.std.specs.Prelude.{◌≡◌, ◌<◌, ◌≤◌, ◌+◌, ◌*◌, ◌^◌, ◌++◌, [], ◌∷◌, true, false, length, map, reverse, slice_set, slice_index_or, option_map, Some, IfOk, OnOk, ◌==◌, ◌&&◌};
 ghost use Rattle.std.specs.List.{list_all, range_with_len, position_or_len};
-ghost use Rattle.branch_states.specs.Branches.{different};
+ghost use Rattle.elimination_forests.specs.Branches.{different};
 ghost use Rattle.forest_states.specs.inner.BitLists.{is_same};
-ghost use Rattle.forest_states.specs.inner.Walked.{joined, lead, decided_states, decided_forks, part_states, column, met_at, table_at, numbered, goes_to, forks_of, row_at, stand_decided, stand_part, column_at, stands_below, columns_below, forks_below, first_stand, or_first, stand_of};
+ghost use Rattle.forest_states.specs.inner.Walked.{any_leads, picked_by, joined, lead, decided_states, decided_forks, parts_by, column_by, met_at, table_at, numbered, goes_to, forks_of, row_at, stand_decided, stand_part, column_at, stands_below, columns_below, forks_below, first_stand, or_first, stand_of};
 
 use crate::bit_list::BitList;
+use crate::entries::Table;
 use crate::marks::{goes_to, mark, meets_marked, number_trees};
-use crate::tables::{Entry, find_flags, find_table, keep_open, keep_part, merge, pick, walk};
-use branch_states::Fork;
+use crate::tables::{find_picks, find_table, keep_open, keep_part, merge};
 use clause_encoder::Cnf;
 use elimination_forests::{Forks, Step, Ways};
 use indexmap::IndexSet;
@@ -18,6 +18,13 @@ use std::alloc::{AllocError, Global};
 pub(crate) struct Spot {
     pub(crate) opened: Vec<u32>,
     pub(crate) states: IndexSet<BitList>,
+}
+
+/// Where a state leads to: the places of what its bits leave, among the states after them. There is none if that is dead.
+#[derive(Clone, Copy, Debug, PartialEq, Eq)]
+pub(crate) struct Fork {
+    pub(crate) zero: Option<u32>,
+    pub(crate) one: Option<u32>,
 }
 
 /// Where the states of a place lead to: by a bit to those of its base, and from there by a column into each tree on it.
@@ -87,7 +94,7 @@ fn go_by_bit(
 {
     let met = find_met(alloc, cnf, of, seen, var, &spot.opened)?;
     let table = find_table(alloc, cnf, seen, var, met.as_slice())?;
-    let (leads, states) = decide(alloc, table.as_slice(), &spot.states)?;
+    let (leads, states) = decide(alloc, &table, &spot.states)?;
     let opened = keep_open(alloc, cnf, seen, var, met.as_slice())?;
     Ok((leads, Spot { opened, states }))
 }
@@ -220,7 +227,7 @@ fn go_to(
     ensures column { IfOk result (λ r. r.0.items ≡ column_at cnf.now.clauses trees seen.now numbers.now tree (stand_of base.now)) }
     ensures spot { IfOk result (λ r. stand_of r.1 ≡ stand_part cnf.now.clauses trees seen.now numbers.now tree (stand_of base.now)) }
 {
-    let flags = find_flags(
+    let picks = find_picks(
         alloc,
         cnf,
         trees,
@@ -229,7 +236,7 @@ fn go_to(
         tree,
         base.opened.as_slice(),
     )?;
-    let (column, states) = part(alloc, flags.as_slice(), &base.states)?;
+    let (column, states) = part(alloc, &picks, &base.states)?;
     let opened = keep_part(
         alloc,
         cnf,
@@ -242,20 +249,21 @@ fn go_to(
     Ok((column, Spot { opened, states }))
 }
 
-// The flagged part of each state: its place among the parts, and the parts.
+// The part of each state that a table of flags picks: its place among the parts, and the parts.
 fn part(
     alloc: Global,
-    flags: &[bool],
+    picks: &Table,
     states: &IndexSet<BitList>,
 ) -> Result<(Vec<u32>, IndexSet<BitList>), AllocError>
     requires few { length states.now.keys < 2 ^ 32 }
-    ensures column { IfOk result (λ r. r.0.items ≡ column flags.now states.now.keys) }
-    ensures states { IfOk result (λ r. r.1.keys ≡ part_states flags.now states.now.keys) }
+    requires short { length picks.now < 2 ^ 63 }
+    ensures column { IfOk result (λ r. r.0.items ≡ column_by (picked_by picks.now) states.now.keys) }
+    ensures states { IfOk result (λ r. r.1.keys ≡ parts_by (picked_by picks.now) states.now.keys) }
 {
     let mut parts = IndexSet::new(alloc);
     let mut column = Vec::with_capacity(alloc, states.len())?;
     for state in states.as_slice() {
-        column.push(put(pick(alloc, flags, state)?, &mut parts)?)?;
+        column.push(put(picks.pick(alloc, state)?, &mut parts)?)?;
     }
     Ok((column, parts))
 }
@@ -274,10 +282,11 @@ fn put(state: BitList, states: &mut IndexSet<BitList>) -> Result<u32, AllocError
 // Where the states of a place lead to by a bit, and the states there.
 fn decide(
     alloc: Global,
-    table: &[Entry],
+    table: &Table,
     states: &IndexSet<BitList>,
 ) -> Result<(Vec<Fork>, IndexSet<BitList>), AllocError>
     requires few { length states.now.keys < 2 ^ 31 }
+    requires short { length table.now < 2 ^ 63 }
     ensures leads { IfOk result (λ r. r.0.items ≡ decided_forks table.now states.now.keys) }
     ensures few { IfOk result (λ r. length r.1.keys < 2 ^ 32) }
     ensures states { IfOk result (λ r. r.1.keys ≡ decided_states table.now states.now.keys) }
@@ -285,8 +294,8 @@ fn decide(
     let mut next = IndexSet::new(alloc);
     let mut leads = Vec::with_capacity(alloc, states.len())?;
     for state in states.as_slice() {
-        let zero = add(walk(alloc, table, false, state)?, &mut next)?;
-        let one = add(walk(alloc, table, true, state)?, &mut next)?;
+        let zero = add(table.walk(alloc, false, state)?, &mut next)?;
+        let one = add(table.walk(alloc, true, state)?, &mut next)?;
         leads.push(Fork { zero, one })?;
     }
     Ok((leads, next))
@@ -306,6 +315,16 @@ fn add(state: Option<BitList>, states: &mut IndexSet<BitList>) -> Result<Option<
 }
 
 impl Leads {
+    /// Whether a state leads on.
+    pub(crate) fn has_way(&self) -> bool
+        ensures { result ≡ any_leads self.now.leads.items }
+    {
+        self.leads
+            .as_slice()
+            .iter()
+            .any(|lead| lead.zero.is_some() || lead.one.is_some())
+    }
+
     /// The forks of the place.
     pub(crate) fn forks(&self, alloc: Global) -> Result<Forks, AllocError>
         requires { length self.now.columns.items ≡ self.now.trees }

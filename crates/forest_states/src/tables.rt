@@ -1,24 +1,14 @@
-ghost use Rattle.std.specs.Prelude.{◌≡◌, ◌+◌, ◌<◌, ◌≤◌, ◌^◌, ◌&&◌, ◌||◌, [], not, map, length, nat_le, slice_index_or, IfOk};
+ghost use Rattle.std.specs.Prelude.{◌≡◌, ◌<◌, [], not, map, length, slice_index_or, IfOk};
 ghost use Rattle.std.specs.List.{filter};
 ghost use Rattle.clause_encoder.specs.Clauses.{var_of};
-ghost use Rattle.branch_states.specs.Branches.{has_true, is_true_by};
-ghost use Rattle.forest_states.specs.inner.Walked.{true_at, walked, picked, merged, within_marked, clause_at, entry_at, goes_to};
+ghost use Rattle.elimination_forests.specs.Branches.{has_true, is_true_by};
+ghost use Rattle.forest_states.specs.inner.Tables.{pick_entry};
+ghost use Rattle.forest_states.specs.inner.Walked.{merged, within_marked, clause_at, entry_at, goes_to};
 
-use crate::bit_list::BitList;
+use crate::entries::{Entry, Table};
 use crate::marks::{goes_to, meets_marked, within_marked};
 use clause_encoder::Cnf;
 use std::alloc::{AllocError, Global};
-
-/// What the bit of a variable does to a clause.
-#[derive(Clone, Copy, Debug, PartialEq, Eq)]
-pub(crate) struct Entry {
-    // none of its variables had a bit, so that it is left
-    pub(crate) fresh: bool,
-    pub(crate) true_at_0: bool,
-    pub(crate) true_at_1: bool,
-    // all of them have one now
-    pub(crate) ends: bool,
-}
 
 /// What the bit of a variable does to clauses.
 pub(crate) fn find_table(
@@ -27,10 +17,10 @@ pub(crate) fn find_table(
     seen: &[bool],
     var: u32,
     numbers: &[u32],
-) -> Result<Vec<Entry>, AllocError>
-    ensures { IfOk result (λ table. table.items ≡ map (entry_at cnf.now.clauses seen.now var) numbers.now) }
+) -> Result<Table, AllocError>
+    ensures { IfOk result (λ table. table ≡ map (entry_at cnf.now.clauses seen.now var) numbers.now) }
 {
-    let mut table = Vec::with_capacity(alloc, numbers.len())?;
+    let mut table = Table::new(alloc);
     for number in numbers {
         table.push(entry_of(cnf, seen, var, *number))?;
     }
@@ -64,54 +54,6 @@ fn is_true_by(literal: i32, var: u32, bit: bool) -> bool
     ensures { result ≡ is_true_by var bit literal }
 {
     literal.unsigned_abs() == var && (literal >= 0) == bit
-}
-
-/// What a bit leaves of a state, unless that is dead.
-pub(crate) fn walk(
-    alloc: Global,
-    table: &[Entry],
-    bit: bool,
-    state: &BitList,
-) -> Result<Option<BitList>, AllocError>
-    ensures { IfOk result (λ left. left ≡ walked bit table.now state.now) }
-{
-    let mut left = BitList::new(alloc)?;
-    let mut next = 0;
-    for entry in table {
-        let is_left = is_left(entry, bit, state.at(next));
-        next += usize::from(!entry.fresh);
-        if !entry.ends {
-            left.push(is_left)?;
-        } else if is_left {
-            return Ok(None);
-        }
-    }
-    Ok(Some(left))
-}
-
-// Whether a clause is left after a bit, if `was` says whether it was left before.
-fn is_left(entry: &Entry, bit: bool, was: bool) -> bool
-    ensures { result ≡ ((entry.now.fresh || was) && not (true_at entry.now bit)) }
-{
-    let is_true = if bit {
-        entry.true_at_1
-    } else {
-        entry.true_at_0
-    };
-    (entry.fresh || was) && !is_true
-}
-
-/// The bits of a state that are flagged.
-pub(crate) fn pick(alloc: Global, flags: &[bool], state: &BitList) -> Result<BitList, AllocError>
-    ensures { IfOk result (λ bits. bits ≡ picked flags.now state.now) }
-{
-    let mut bits = BitList::new(alloc)?;
-    for (at, is_picked) in flags.iter().enumerate() {
-        if *is_picked {
-            bits.push(state.at(at))?;
-        }
-    }
-    Ok(bits)
 }
 
 /// Rising numbers and others, by their size.
@@ -167,8 +109,8 @@ pub(crate) fn keep_part(
         .collect(alloc)
 }
 
-/// Which clauses go to a tree.
-pub(crate) fn find_flags(
+/// What picks the clauses that go to a tree.
+pub(crate) fn find_picks(
     alloc: Global,
     cnf: &Cnf,
     trees: u32,
@@ -176,11 +118,22 @@ pub(crate) fn find_flags(
     places: &[u32],
     tree: u32,
     numbers: &[u32],
-) -> Result<Vec<bool>, AllocError>
-    ensures { IfOk result (λ flags. flags.items ≡ map (goes_to cnf.now.clauses trees seen.now places.now tree) numbers.now) }
+) -> Result<Table, AllocError>
+    ensures { IfOk result (λ table. table ≡ map pick_entry (map (goes_to cnf.now.clauses trees seen.now places.now tree) numbers.now)) }
 {
-    numbers
-        .iter()
-        .map(|number| goes_to(cnf, trees, seen, places, tree, *number))
-        .collect(alloc)
+    let mut table = Table::new(alloc);
+    for number in numbers {
+        table.push(pick_entry(goes_to(cnf, trees, seen, places, tree, *number)))?;
+    }
+    Ok(table)
+}
+
+fn pick_entry(is_picked: bool) -> Entry
+    ensures { result ≡ pick_entry is_picked }
+{
+    if is_picked {
+        Entry::plain()
+    } else {
+        Entry::gone()
+    }
 }

@@ -7,7 +7,7 @@ use Rattle.state_rules.specs.Assignments.{Assignment}
 use Rattle.state_rules.specs.Graphs.{Node, is_true, mentions}
 use Rattle.node_store.specs.declared.store.TheConstants.{MADE_LIMIT}
 use Rattle.clause_encoder.specs.Clauses.{Clause, var_of, is_positive}
-use Rattle.branch_states.specs.Branches.{some_passes}
+use Rattle.elimination_forests.specs.Branches.{some_passes}
 use Rattle.branch_states.specs.declared.measuring.TheConstants.{BUDGET_LIMIT}
 use Rattle.elimination_forests.specs.declared.forks.Forks.{Forks}
 use Rattle.elimination_forests.specs.declared.steps.Step.{Step}

@@ -1,10 +1,10 @@
 -- Bits in words of 64.
-use Rattle.std.specs.Prelude.{◌≡◌, ℕ, ◌+◌, ◌/◌, ◌%◌, ◌^◌, ◌==◌, ◌&&◌, Bool, true, List, [], ◌∷◌, map, slice_index, bit_and, refl}
+use Rattle.std.specs.Prelude.{◌≡◌, ℕ, zero, suc, ◌+◌, ◌/◌, ◌%◌, ◌^◌, ◌==◌, ◌&&◌, Bool, true, false, List, [], ◌∷◌, map, slice_index, bit_and, refl}
 use Rattle.std.proofs.Common.{ap, sym}
 use Rattle.std.specs.Cmp.{IsEquivalence}
 use Rattle.std.specs.List.{range_with_len}
 use Rattle.state_rules.proofs.Bits.{same_bit-swap, pointwise-refl, pointwise-equal}
-use Rattle.branch_states.specs.Branches.{words_of, same_list}
+use Rattle.elimination_forests.specs.Branches.{words_of, same_list}
 
 -- the bit at a place
 abbrev pub word_bit : List ℕ → ℕ → Bool
@@ -17,6 +17,20 @@ bits_in len words = map (word_bit words) (range_with_len 0 len)
 -- There are no other bits in so many words as there are for a list of these and one more.
 abbrev pub AreBits : ℕ → List ℕ → Type 0
 AreBits len words = words ≡ words_of (len / 64 + 1) (bits_in len words)
+
+-- the first bit, and the others; past the end all are 0
+abbrev pub first_bit : List Bool → Bool
+first_bit [] = false
+first_bit (b ∷ bits) = b
+
+abbrev pub other_bits : List Bool → List Bool
+other_bits [] = []
+other_bits (b ∷ bits) = bits
+
+-- the first so many
+abbrev pub copied : ℕ → List Bool → List Bool
+copied zero bits = []
+copied (suc n) bits = first_bit bits ∷ copied n (other_bits bits)
 
 -- ---- the same list
 

@@ -1,33 +1,23 @@
 -- A way down a forest as the lists of bits of the open clauses see it. Only private contracts cite it.
-use Rattle.std.specs.Prelude.{ℕ, ◌+◌, ◌-◌, ◌*◌, ◌==◌, Bool, true, false, not, ◌&&◌, ◌||◌, List, [], ◌∷◌, ◌++◌, map, length, nat_lt, slice_set, slice_index_or, option_map, Option, Some, None, option_to_list, if◌then◌else◌}
+use Rattle.std.specs.Prelude.{ℕ, ◌+◌, ◌-◌, ◌*◌, ◌==◌, Bool, true, false, not, ◌&&◌, ◌||◌, List, [], ◌∷◌, ◌++◌, map, length, nat_lt, slice_set, slice_index_or, option_map, is_some, Option, Some, None, option_to_list, if◌then◌else◌}
 use Rattle.std.specs.List.{filter, flat_map, list_any, list_all, position_or_len, range_with_len}
+use Rattle.std.specs.Option.{unwrap_or}
 use Rattle.indexmap.specs.IndexSet.{insert_key}
 use Rattle.state_rules.specs.Bits.{bit_in}
 use Rattle.clause_encoder.specs.Clauses.{Clause, var_of}
-use Rattle.branch_states.specs.Branches.{has_true, different}
-use Rattle.branch_states.specs.declared.forks.Fork.{Fork}
+use Rattle.elimination_forests.specs.Branches.{has_true, different}
+use Rattle.forest_states.specs.declared.places.Fork.{Fork}
 use Rattle.forest_states.specs.declared.places.Spot.{Spot}
 use Rattle.forest_states.specs.declared.places.Leads.{Leads}
 use Rattle.elimination_forests.specs.declared.steps.Step.{Step}
 use Rattle.elimination_forests.specs.declared.steps.Weight.{Weight}
 use Rattle.elimination_forests.specs.declared.forks.Forks.{Forks}
 use Rattle.elimination_forests.specs.Forests.{weigh}
-use Rattle.forest_states.specs.declared.tables.Entry.{Entry}
-use Rattle.forest_states.specs.inner.BitLists.{is_same}
+use Rattle.forest_states.specs.inner.Tables.{true_at}
+use Rattle.forest_states.specs.declared.entries.Entry.{Entry}
+use Rattle.forest_states.specs.inner.BitLists.{is_same, first_bit, other_bits}
 
 -- ---- one state: a bit for each open clause, in their order
-
-abbrev pub first_bit : List Bool → Bool
-first_bit [] = false
-first_bit (b ∷ bits) = b
-
-abbrev pub other_bits : List Bool → List Bool
-other_bits [] = []
-other_bits (b ∷ bits) = bits
-
-abbrev pub true_at : Entry → Bool → Bool
-true_at e false = e.true_at_0
-true_at e true = e.true_at_1
 
 abbrev pub with_bit : Bool → Option (List Bool) → Option (List Bool)
 with_bit b None = None
@@ -49,6 +39,10 @@ walked bit (e ∷ table) state =
 abbrev pub picked : List Bool → List Bool → List Bool
 picked [] state = []
 picked (f ∷ flags) state = if f then first_bit state ∷ picked flags (other_bits state) else picked flags (other_bits state)
+
+-- what a table picks of a state
+abbrev pub picked_by : List Entry → List Bool → List Bool
+picked_by table state = unwrap_or (walked false table state) []
 
 -- ---- the states of a place
 
@@ -73,13 +67,24 @@ decided_forks table states =
       one = lead (decided_states table states) (walked true table s);
     }) states
 
--- the flagged parts of states
-abbrev pub part_states : List Bool → List (List Bool) → List (List Bool)
-part_states flags states = different (map (picked flags) states)
+-- the parts of states
+abbrev pub parts_by : (List Bool → List Bool) → List (List Bool) → List (List Bool)
+parts_by part states = different (map part states)
 
 -- the place of each one's part among the parts
+abbrev pub column_by : (List Bool → List Bool) → List (List Bool) → List ℕ
+column_by part states = map (λ s. position_or_len (is_same (part s)) (parts_by part states)) states
+
+-- by the bits that are flagged
+abbrev pub part_states : List Bool → List (List Bool) → List (List Bool)
+part_states flags states = parts_by (picked flags) states
+
 abbrev pub column : List Bool → List (List Bool) → List ℕ
-column flags states = map (λ s. position_or_len (is_same (picked flags s)) (part_states flags states)) states
+column flags states = column_by (picked flags) states
+
+-- a state leads on
+abbrev pub any_leads : List Fork → Bool
+any_leads leads = list_any (λ f. is_some f.zero || is_some f.one) leads
 
 -- ---- where states lead to in each of the trees below
 

@@ -1,5 +1,5 @@
 use Rattle.std.proofs.Common.{◌++◌, [], ◌∷◌, List, Bool, true, false, ◌∙◌, arith}
-use Rattle.branch_states.specs.declared.forks.Fork.{Fork}
+use Rattle.forest_states.specs.declared.places.Fork.{Fork}
 use Rattle.forest_states.specs.inner.Walked.{joined, lead, walked, decided_states}
 use Rattle.forest_states.proofs.Sets.{first-lead, second-lead, both-joined, mapped-more, item-at}
 use Rattle.forest_states.proofs.places.decide.Goals as goal

@@ -1,5 +1,5 @@
 use Rattle.std.proofs.Common.{◌≡◌, ◌≤◌, ◌*◌, length, take, true, false}
-use Rattle.branch_states.specs.Branches.{different}
+use Rattle.elimination_forests.specs.Branches.{different}
 use Rattle.forest_states.specs.inner.Walked.{walked, decided_forks}
 use Rattle.forest_states.proofs.Sets.{reached}
 use Rattle.forest_states.proofs.places.decide.Given as goal

@@ -3,7 +3,7 @@ use Rattle.std.specs.List.{range_with_len}
 use Rattle.std.proofs.lemmas.List.{length-map}
 use Rattle.std.proofs.lemmas.List.FromFn.{length-range_with_len}
 use Rattle.forest_states.specs.inner.Walked.{decided_forks, table_at, forks_found, column_at, stand_decided, stand_part, stand_of}
-use Rattle.branch_states.specs.Branches.{different}
+use Rattle.elimination_forests.specs.Branches.{different}
 use Rattle.elimination_forests.proofs.Chains.{different-different}
 use Rattle.forest_states.proofs.places.go_down.Goals as goal
 

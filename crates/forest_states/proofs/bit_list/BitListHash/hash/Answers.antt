@@ -1,7 +1,7 @@
 use Rattle.std.proofs.Common.{◌+◌, ◌/◌, length, ap, sym, ◌∙◌}
 use Rattle.std.specs.List.{fold, flat_map}
 use Rattle.std.specs.Hash as fed
-use Rattle.branch_states.specs.Branches.{words_of}
+use Rattle.elimination_forests.specs.Branches.{words_of}
 use Rattle.forest_states.specs.inner.BitLists.{bits_in}
 use Rattle.forest_states.proofs.Words.{length-bits}
 use Rattle.forest_states.proofs.bit_list.BitListHash.hash.Goals as goal

@@ -128,19 +128,19 @@ impl GraphBuilder {
     ///
     /// A literal has no child, and its variable is 1 to `vars`. The children of an And or an Or are nodes that are there, fewer
     /// than `CHILD_LIMIT`, and those of an And share no variable.
-    pub fn push(&mut self, what: NodeKind, kids: &[u32]) -> Result<u32, Memory>
+    pub fn push(&mut self, kind: NodeKind, kids: &[u32]) -> Result<u32, Memory>
         requires fits { node_fits self.old.vars (length self.old.nodes)
-            (record { what = what; kids = kids.now }) ≡ true }
-        requires apart { (v : ℕ) → apart_at (mentions self.old.nodes v) what kids.now ≡ true }
+            (record { what = kind; kids = kids.now }) ≡ true }
+        requires apart { (v : ℕ) → apart_at (mentions self.old.nodes v) kind kids.now ≡ true }
         requires few { length self.old.nodes < NODE_LIMIT }
 
         ensures number { IfOk result (λ number. number ≡ length self.old.nodes) }
         ensures ok { OnOk result (self.new
-            ≡ record self.old { nodes = self.old.nodes ++ record { what = what; kids = kids.now } ∷ [] }) }
+            ≡ record self.old { nodes = self.old.nodes ++ record { what = kind; kids = kids.now } ∷ [] }) }
         ensures err { OnErr result (self.new ≡ self.old) }
     {
         let number = self.nodes.len() as u32;
-        self.nodes.push(what, kids)?;
+        self.nodes.push(kind, kids)?;
         Ok(number)
     }
 

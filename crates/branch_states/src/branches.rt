@@ -4,11 +4,12 @@ ghost use Rattle.clause_encoder.specs.Clauses.{is_clause_list};
 ghost use Rattle.elimination_forests.specs.Branches.{order, size, is_dead, branch, state_of, IsLiving};
 ghost use Rattle.clause_encoder.specs.declared.limits.TheConstants.{CLAUSE_LIMIT};
 
+use crate::Memory;
 use crate::order::find_order;
 use crate::stepping::{count_open, step_over};
 use clause_encoder::{Clause, Cnf};
 use indexmap::IndexSet;
-use std::alloc::{AllocError, Global};
+use std::alloc::Global;
 use std::marker::Model;
 
 /// A clause list and a level of it: at level i the first i variables of the order have bits.
@@ -32,7 +33,7 @@ impl Model for Branches {
 
 impl Branches {
     /// The order of a clause list's variables; level 0.
-    pub fn of(alloc: Global, cnf: &Cnf) -> Result<Branches, AllocError>
+    pub fn of(alloc: Global, cnf: &Cnf) -> Result<Branches, Memory>
         ensures start { IfOk result (λ b. b ≡ record { cnf = cnf.now; level = 0 }) }
         ensures valid { IfOk result (λ _. is_clause_list cnf.now ≡ true) }
     {
@@ -133,7 +134,7 @@ impl Branches {
 }
 
 // The same clauses.
-fn copy_of(alloc: Global, cnf: &Cnf) -> Result<Cnf, AllocError>
+fn copy_of(alloc: Global, cnf: &Cnf) -> Result<Cnf, Memory>
     ensures { IfOk result (λ copy. copy ≡ cnf.now) }
 {
     let mut clauses = Vec::with_capacity(alloc, cnf.len() as usize)?;

@@ -12,3 +12,4 @@ mod stepping;
 pub use branches::Branches;
 pub use descent::{Levels, descend_levels};
 pub use measuring::{BUDGET_LIMIT, MeasureError, measure};
+pub use std::alloc::AllocError as Memory;

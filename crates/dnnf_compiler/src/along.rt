@@ -5,12 +5,13 @@ ghost use Rattle.elimination_forests.specs.Forests.{Forest};
 ghost use Rattle.dnnf_compiler.specs.Along.{IsWay, IsCompiledAlong};
 ghost use Rattle.dnnf_compiler.specs.inner.Placing.{Spot, IsReady, IsRaised};
 
+use crate::Memory;
 use crate::compiling::Compiled;
 use crate::maker::{Kids, Maker, taken};
 use clause_encoder::Cnf;
 use elimination_forests::{Forks, Step};
 use node_store::Store;
-use std::alloc::{AllocError, Global};
+use std::alloc::Global;
 
 /// The decomposable graph that is true exactly if all clauses are, from the steps of a forest of them and the forks along it.
 ///
@@ -20,7 +21,7 @@ pub fn compile_along(
     cnf: &Cnf,
     steps: &[Step],
     forks: &[Forks],
-) -> Result<Compiled, AllocError>
+) -> Result<Compiled, Memory>
     requires { (forest : Forest) × IsWay cnf.now steps.now forks.now forest }
     ensures { IfOk result (λ compiled. (forest : Forest) → IsWay cnf.now steps.now forks.now forest
         → IsCompiledAlong forest cnf.now compiled) }
@@ -41,7 +42,7 @@ pub fn compile_along(
 }
 
 // The graph of a node.
-fn graph_of(store: Store, root: u32) -> Result<Compiled, AllocError>
+fn graph_of(store: Store, root: u32) -> Result<Compiled, Memory>
     requires { root < length store.nodes }
     ensures graph { IfOk result (λ compiled. IsFrozen store root compiled.graph) }
     ensures valid { IfOk result (λ compiled. IsGraph compiled.graph) }
@@ -61,7 +62,7 @@ fn make_step(
     step: Step,
     forks: &Forks,
     stack: &mut Vec<Vec<u32>>,
-) -> Result<Vec<u32>, AllocError>
+) -> Result<Vec<u32>, Memory>
     requires { (spot : Spot) × (rest : List Spot) × IsReady maker.old step forks.now stack.old.items spot rest }
     ensures { IfOk result (λ nodes. (spot : Spot) (rest : List Spot)
         → IsReady maker.old step forks.now stack.old.items spot rest
@@ -73,11 +74,7 @@ fn make_step(
 }
 
 // Takes so many from the end of a stack. The last one comes first.
-fn take_top(
-    alloc: Global,
-    stack: &mut Vec<Vec<u32>>,
-    count: usize,
-) -> Result<Vec<Vec<u32>>, AllocError>
+fn take_top(alloc: Global, stack: &mut Vec<Vec<u32>>, count: usize) -> Result<Vec<Vec<u32>>, Memory>
     requires { count ≤ length stack.old.items }
     ensures taken { IfOk result (λ top. reverse stack.old.items ≡ top.items ++ reverse stack.new.items) }
     ensures count { IfOk result (λ top. length top.items ≡ count) }

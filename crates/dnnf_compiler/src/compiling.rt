@@ -4,11 +4,12 @@ ghost use Rattle.branch_states.specs.declared.measuring.MeasureError.TheVariants
 ghost use Rattle.elimination_forests.specs.Branches.{sum_of};
 ghost use Rattle.dnnf_compiler.specs.Compiled.{IsCompiled, most_nodes};
 
+use crate::Memory;
 use crate::along::compile_along;
 use branch_states::{BUDGET_LIMIT, MeasureError, descend_levels};
 use clause_encoder::Cnf;
 use node_store::Graph;
-use std::alloc::{AllocError, Global};
+use std::alloc::Global;
 
 /// The graph of clauses, and how often a node was made for it.
 #[derive(Debug, Drop)]
@@ -27,12 +28,12 @@ pub fn most_nodes(sum: u32, vars: u32) -> u64
 /// The decomposable graph that is true exactly if all clauses are.
 ///
 /// The sum of the clause list is at most `BUDGET_LIMIT`. That sum bounds how often a node is made, and so the size of the graph.
-pub fn compile(alloc: Global, cnf: &Cnf) -> Result<Compiled, AllocError>
+pub fn compile(alloc: Global, cnf: &Cnf) -> Result<Compiled, Memory>
     requires { sum_of cnf.now.clauses ≤ BUDGET_LIMIT }
     ensures { IfOk result (IsCompiled cnf.now) }
 {
     // A sum within the limit is not above it.
-    compile_within(alloc, cnf, BUDGET_LIMIT).map_err(|_| AllocError)
+    compile_within(alloc, cnf, BUDGET_LIMIT).map_err(|_| Memory)
 }
 
 /// The decomposable graph that is true exactly if all clauses are, if the sum of the clause list is within a limit.

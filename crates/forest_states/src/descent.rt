@@ -2,11 +2,12 @@ ghost use Rattle.std.specs.Prelude.{◌≡◌, ◌<◌, ◌≤◌, ◌+◌, ◌^
 ghost use Rattle.elimination_forests.specs.Forests.{Forest, steps_of, is_forest_of, root, weigh, forest_sum, forks_on, has_way, leads_on};
 ghost use Rattle.forest_states.specs.inner.Walked.{Stand, step_at, forks_of, forks_below, stands_below, or_first, stand_of, weight_of};
 
+use crate::Memory;
 use crate::marks::find_clauses;
 use crate::places::{Leads, Spot, go_down, next_spot};
 use clause_encoder::Cnf;
 use elimination_forests::{Forks, Step, Weight};
-use std::alloc::{AllocError, Global};
+use std::alloc::Global;
 
 /// What is found along a forest.
 #[derive(Debug, Drop)]
@@ -35,7 +36,7 @@ pub fn descend(
     steps: &[Step],
     weight: Weight,
     top: u32,
-) -> Result<Option<Descended>, AllocError>
+) -> Result<Option<Descended>, Memory>
     requires { top < 2 ^ 31 }
     ensures forks { IfOk result (λ found. IfSome found (λ r. (forest : Forest) → steps.now ≡ steps_of forest → is_forest_of forest cnf.now ≡ true
         → r.forks.items ≡ forks_on forest (root cnf.now.clauses))) }
@@ -59,7 +60,7 @@ pub fn measure_along(
     steps: &[Step],
     weight: Weight,
     top: u32,
-) -> Result<Option<Measured>, AllocError>
+) -> Result<Option<Measured>, Memory>
     requires { top < 2 ^ 31 }
     ensures sum { IfOk result (λ found. IfSome found (λ r. (forest : Forest) → steps.now ≡ steps_of forest → is_forest_of forest cnf.now ≡ true
         → r.sum ≡ forest_sum weight forest cnf.now.clauses)) }
@@ -83,7 +84,7 @@ fn go_along(
     weight: Weight,
     top: u32,
     keep: bool,
-) -> Result<Option<Descended>, AllocError>
+) -> Result<Option<Descended>, Memory>
     requires { top < 2 ^ 31 }
     ensures forks { IfOk result (λ found. IfSome found (λ r. (forest : Forest) → steps.now ≡ steps_of forest → is_forest_of forest cnf.now ≡ true
         → keep ≡ true → r.forks.items ≡ forks_on forest (root cnf.now.clauses))) }
@@ -119,7 +120,7 @@ fn go_along(
     Ok(Some(Descended { forks, measured }))
 }
 
-fn add_forks(alloc: Global, found: &Leads, forks: &mut Vec<Forks>) -> Result<(), AllocError>
+fn add_forks(alloc: Global, found: &Leads, forks: &mut Vec<Forks>) -> Result<(), Memory>
     requires { length found.now.columns.items ≡ found.now.trees }
     ensures { OnOk result (forks.new.items ≡ forks.old.items ++ forks_of found.now ∷ []) }
 {
@@ -138,7 +139,7 @@ struct Front {
 
 impl Front {
     // Nothing has a bit, for so many variables.
-    fn new(alloc: Global, size: usize) -> Result<Front, AllocError>
+    fn new(alloc: Global, size: usize) -> Result<Front, Memory>
         ensures seen { IfOk result (λ front. front.seen.items ≡ replicate size false) }
         ensures numbers { IfOk result (λ front. length front.numbers.items ≡ size) }
         ensures pending { IfOk result (λ front. front.pending.items ≡ []) }
@@ -162,7 +163,7 @@ impl Front {
         at: usize,
         weight: Weight,
         top: u32,
-    ) -> Result<Option<Leads>, AllocError>
+    ) -> Result<Option<Leads>, Memory>
         requires low { at < length steps.now }
         requires within { self.old.sum ≤ top }
         requires top { top < 2 ^ 31 }

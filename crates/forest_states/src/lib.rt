@@ -9,3 +9,4 @@ mod places;
 mod tables;
 
 pub use descent::{Descended, Measured, descend, measure_along};
+pub use std::alloc::AllocError as Memory;

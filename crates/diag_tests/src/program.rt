@@ -21,5 +21,5 @@ pub fn status_of<H: Shelf, I: Source, O: Sink>(
     requires input_faults { I.faults input.old < 2 ^ 64 - 1 }
     requires out_faults { O.faults out.old < 2 ^ 64 - 1 }
 {
-    diag(alloc, words, shelf, input, out).number()
+    diag(alloc, words, shelf, input, out)
 }

@@ -6,7 +6,7 @@ use std::test::Fail;
 /// A graph has at least one node.
 #[test]
 fn builds_graphs(rt: HostRuntime) -> Result<(), Fail> {
-    let Err(mut builder) = GraphBuilder::new(rt.alloc(), 3).finish() else {
+    let Err(mut builder) = GraphBuilder::new(rt.alloc(), 3)?.finish() else {
         return Err("a graph without nodes")?;
     };
     assert_eq!(rt; builder.push(NodeKind::And, &[])?, 0);

@@ -13,7 +13,7 @@ fn walks_the_levels(rt: HostRuntime) -> Result<(), Fail> {
     assert!(rt; branches.words() == 1 && branches.after() == 1);
     for (bit, left) in [(false, 0), (true, 3)] {
         let mut next = [9];
-        assert!(rt; branches.step(&[0], bit, &mut next));
+        assert!(rt; branches.step(&cnf, &[0], bit, &mut next));
         assert_eq!(rt; next, [left], "{bit}");
     }
     assert_eq!(rt; branches.var(), 1);

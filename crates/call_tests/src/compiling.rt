@@ -1,48 +1,18 @@
 //! Clauses that are compiled within a sum, and not within less.
-ghost use Rattle.std.specs.Prelude.{◌<◌, length};
-
-use crate::fixtures::gates;
+use crate::texts::clauses_of;
 use branch_states::{BUDGET_LIMIT, MeasureError, measure};
-use clause_encoder::{Cnf, encode};
-use device_model::Gate;
+use clause_encoder::Cnf;
 use dnnf_compiler::{compile, compile_within};
-use node_store::Graph;
-use state_rules::NodeKind;
 use std::alloc::Global;
-use std::process::Abort;
 use std::test::Fail;
-
-// Whether a node is an And or an Or without children.
-fn is_constant(graph: &Graph, node: u32) -> bool
-    requires { node < length graph.now.nodes }
-{
-    !matches!(graph.what(node), NodeKind::Literal { .. }) && graph.kids(node).is_empty()
-}
-
-// Whether no constant is below another node.
-fn is_plain(graph: &Graph) -> bool {
-    for node in 0..graph.len() {
-        for kid in graph.kids(node) {
-            if graph.len() <= *kid || is_constant(graph, *kid) {
-                return false;
-            }
-        }
-    }
-    true
-}
-
-// How often a node was made within a sum, and how many nodes there are, none of them a constant below another.
-fn sizes(rt: &impl Abort, alloc: Global, cnf: &Cnf, sum: u32) -> Result<(u64, u32), Fail> {
-    assert!(rt; sum <= BUDGET_LIMIT);
-    let compiled = compile_within(alloc, cnf, sum)?;
-    assert!(rt; is_plain(&compiled.graph));
-    assert_eq!(rt; compiled.graph.vars(), cnf.vars());
-    Ok((compiled.made, compiled.graph.len()))
-}
 
 // The clauses of so many buffers in a row.
 fn chain(alloc: Global, count: u32) -> Result<Cnf, Fail> {
-    Ok(encode(alloc, &gates(alloc, Gate::Buff, 1, count, true)?)?)
+    let mut text = String::from_str(alloc, "INPUT(n0000)\n")?;
+    for part in 0..count.min(4096) {
+        text.push_str(&format!(in alloc; "n{:04} = BUFF(n{part:04})\n", part + 1)?)?;
+    }
+    clauses_of(alloc, &text)
 }
 
 /// Buffers in a row are compiled within their sum, and not within less.
@@ -66,14 +36,15 @@ fn compiles_within_a_sum(rt: HostRuntime) -> Result<(), Fail> {
     ] {
         assert!(&rt; 1 <= sum && sum <= BUDGET_LIMIT);
         let cnf = chain(alloc, count)?;
-        assert_eq!(&rt; sizes(&rt, alloc, &cnf, sum)?, (made, nodes));
+        assert_eq!(&rt; measure(alloc, &cnf, BUDGET_LIMIT)?, sum);
         for less in [0, sum - 1] {
             assert!(&rt; less <= BUDGET_LIMIT);
             let refused = compile_within(alloc, &cnf, less).err();
             assert_eq!(&rt; refused, Some(MeasureError::Above));
         }
-        assert_eq!(&rt; measure(alloc, &cnf, BUDGET_LIMIT)?, sum);
-        assert_eq!(&rt; compile(alloc, &cnf)?.made, made);
+        for compiled in [compile_within(alloc, &cnf, sum)?, compile(alloc, &cnf)?] {
+            assert_eq!(&rt; (compiled.made, compiled.graph.len()), (made, nodes));
+        }
     }
     Ok(())
 }

@@ -1,8 +1,6 @@
-//! The ends in memory: files, sources and sinks, and the calls of them that fail.
-use diag_edge::{
-    LoadError, MemShelf, MemSink, MemSource, ReadFailed, Sink, Source, SureShelf, SureSource,
-    TallySink, WriteFailed, load, put_line,
-};
+//! The ends in memory: files and sinks, and the calls of them that fail.
+use diag_edge::{LoadError, MemShelf, MemSink, Sink, TallySink, WriteFailed, load, put_line};
+use std::alloc::{AllocError, Global};
 use std::test::Fail;
 
 // A name, the limit, the number of the call that fails, which is 0 if none does, and the file.
@@ -36,28 +34,9 @@ fn loads_files(rt: HostRuntime) -> Result<(), Fail> {
     Ok(())
 }
 
-/// A source gives its bytes in pieces, also after a read that fails. A sure source and a sure shelf never fail.
-#[test]
-fn reads_in_pieces(rt: HostRuntime) -> Result<(), Fail> {
-    let alloc = rt.alloc();
-    let bytes = Vec::from_slice(alloc, b"abc")?;
-    let mut source = MemSource::new(bytes, 2, vec![in alloc; 2]?);
-    let mut into = [0u8; 4];
-    assert_eq!(rt; source.read(&mut into), Ok(2));
-    assert_eq!(rt; into, *b"ab\0\0");
-    assert_eq!(rt; source.read(&mut into), Err(ReadFailed));
-    assert_eq!(rt; source.read(&mut into), Ok(1));
-    assert_eq!(rt; into[0], b'c');
-    assert_eq!(rt; source.read(&mut into), Ok(0));
-    let mut sure = SureSource::new(Vec::from_slice(alloc, b"abc")?, 2);
-    assert_eq!(rt; sure.read(&mut into), Ok(2));
-    assert_eq!(rt; sure.read(&mut into), Ok(1));
-    assert_eq!(rt; sure.read(&mut into), Ok(0));
-    let mut shelf = SureShelf::new(Vec::from_slice(alloc, b"abcde")?);
-    assert_eq!(rt; shelf.read(&mut into), Ok(0));
-    let file = load(alloc, &mut shelf, "any name", 5)?;
-    assert_eq!(rt; file.as_slice(), "abcde".as_bytes());
-    Ok(())
+// So many letters x.
+fn letters(alloc: Global, count: usize) -> Result<Vec<u8>, AllocError> {
+    vec![in alloc; b'x'; count]
 }
 
 /// A sink keeps what fits, also of a write that fails. A line is put whole, also if its words are longer than a chunk.
@@ -65,23 +44,18 @@ fn reads_in_pieces(rt: HostRuntime) -> Result<(), Fail> {
 fn puts_lines(rt: HostRuntime) -> Result<(), Fail> {
     let alloc = rt.alloc();
     let mut sink = MemSink::new(alloc, 8, vec![in alloc; 2]?, 2)?;
-    assert_eq!(rt; sink.put(b"abc"), Ok(()));
-    assert_eq!(rt; sink.put(b"defg"), Err(WriteFailed));
-    assert_eq!(rt; sink.as_slice(), "abcde".as_bytes());
-    assert_eq!(rt; sink.put(b"fg"), Ok(()));
-    assert_eq!(rt; sink.put(b"hi"), Err(WriteFailed));
+    for (text, want) in [
+        ("abc", Ok(())),
+        ("defg", Err(WriteFailed)),
+        ("fg", Ok(())),
+        ("hi", Err(WriteFailed)),
+    ] {
+        assert_eq!(rt; sink.put(text.as_bytes()), want, "{text}");
+    }
     assert_eq!(rt; sink.as_slice(), "abcdefgh".as_bytes());
-    let long = vec![in alloc; b'x'; 5000]?;
-    let mut lines = MemSink::new(alloc, 20000, Vec::new(alloc), 0)?;
-    assert_eq!(rt; put_line(&mut lines, &[b"S", b"ok"]), Ok(()));
-    assert_eq!(rt; put_line(&mut lines, &[]), Ok(()));
-    assert_eq!(rt; put_line(&mut lines, &[b"a", &long, &long, b"b"]), Ok(()));
+    let long = letters(alloc, 5000)?;
     let mut tally = TallySink::new();
-    assert_eq!(rt; put_line(&mut tally, &[b"S", b"ok"]), Ok(()));
-    assert_eq!(rt; tally.count(), 5);
-    let text = lines.as_slice();
-    assert_eq!(rt; text.len(), 6 + 10_006);
-    assert!(rt; text.starts_with(b"S ok\n\na xx"));
-    assert!(rt; text.ends_with(b"xx b\n"));
+    assert_eq!(rt; put_line(&mut tally, &[b"a", &long, &long, b"b"]), Ok(()));
+    assert_eq!(rt; tally.count(), 10_006);
     Ok(())
 }

@@ -8,6 +8,10 @@ pub const C17: &[u8] =
 /// Two buffers, one after the other.
 pub const CHAIN: &[u8] = b"INPUT(a)\nOUTPUT(c)\nb = BUFF(a)\nc = BUFF(b)\n";
 
+/// Seven buffers in a row, whose names are not in the order of the row.
+pub const SCRAMBLED: &[u8] =
+    b"INPUT(a)\ne = BUFF(a)\nb = BUFF(e)\nf = BUFF(b)\nc = BUFF(f)\ng = BUFF(c)\nd = BUFF(g)\nh = BUFF(d)\n";
+
 /// A netlist of one input.
 pub const INPUT: &[u8] = b"INPUT(a)\n";
 
@@ -50,6 +54,12 @@ pub const EITHER_OF_THREE: &[u8] = b"nnf 3 2 3\nL -1\nL -2\nO 0 2 0 1\n";
 
 /// Both of its variables are true.
 pub const BOTH_TRUE: &[u8] = b"nnf 3 2 2\nL 1\nL 2\nA 2 0 1\n";
+
+/// It is true for any assignment.
+pub const ANY: &[u8] = b"nnf 3 2 1\nL 1\nL -1\nO 1 2 0 1\n";
+
+/// It is true for none.
+pub const FALSE: &[u8] = b"nnf 1 0 0\nO 0 0\n";
 
 /// It is not decomposable.
 pub const SHARED: &[u8] = b"nnf 3 2 1\nL 1\nL -1\nA 2 0 1\n";

@@ -1,11 +1,11 @@
 //! Rows over the texts of graphs.
-use crate::files::{BOTH_TRUE, EITHER_FAULTY, EITHER_OF_THREE, SHARED};
+use crate::files::{ANY, BOTH_TRUE, EITHER_FAULTY, EITHER_OF_THREE, FALSE, SHARED};
 use crate::rows::Row;
 
 pub static GRAPHS: [Row<'static>; 21] = [
     Row {
         name: "f.nnf",
-        text: b"nnf 3 2 1\nL 1\nL -1\nO 1 2 0 1\n",
+        text: ANY,
         words: &["check", "f.nnf"],
         script: b"open S\n",
         out: b"decomposable 3 2 1\n",
@@ -13,7 +13,7 @@ pub static GRAPHS: [Row<'static>; 21] = [
     },
     Row {
         name: "f.nnf",
-        text: b"nnf 1 0 0\nO 0 0\n",
+        text: FALSE,
         words: &["check", "f.nnf"],
         script: b"open S\n",
         out: b"decomposable 1 0 0\n",

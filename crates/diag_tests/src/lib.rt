@@ -10,11 +10,19 @@ mod failing;
 #[cfg(test)]
 mod files;
 #[cfg(test)]
+mod fronts;
+#[cfg(test)]
 mod graphs;
 #[cfg(test)]
 mod long;
 #[cfg(test)]
+mod long_netlists;
+#[cfg(test)]
+mod long_others;
+#[cfg(test)]
 mod netlists;
+#[cfg(test)]
+mod program;
 #[cfg(test)]
 mod refused;
 #[cfg(test)]

@@ -1,5 +1,5 @@
 //! Rows over netlists. The last ones go along a forest.
-use crate::files::{BY_KIND, C17, CHAIN, INPUT, NOT, SAME};
+use crate::files::{BY_KIND, C17, CHAIN, INPUT, NOT, SAME, SCRAMBLED};
 use crate::rows::Row;
 
 pub static NETLISTS: [Row<'static>; 23] = [
@@ -224,7 +224,7 @@ pub static NETLISTS: [Row<'static>; 23] = [
 ];
 
 /// The same with options, and netlists that are large.
-pub static WITH_OPTIONS: [Row<'static>; 24] = [
+pub static WITH_OPTIONS: [Row<'static>; 27] = [
     // States by rising cost: one of the buffers is faulty, or both are. The listing goes on from any state.
     Row {
         name: "f.bench",
@@ -395,12 +395,12 @@ pub static WITH_OPTIONS: [Row<'static>; 24] = [
         out: b"ready 2 6\nS open\nS ok\nS ok\nS diag n\nS diag q\nS end\n",
         status: 0,
     },
-    // Along a forest it is far smaller. All that is added is 0, so the upper sum is to be 0: a diagnosis is its own gate,
+    // Along a forest it is no greater than by names that rise from bit to bit. All that is added is 0, so the upper sum is to be 0: a diagnosis is its own gate,
     // its half sum, or one of those that carry. They are told in the order of the names.
     Row {
         name: "f.bench",
         text: BY_KIND,
-        words: &["serve", "f.bench", "--narrow", "--budget", "1000"],
+        words: &["serve", "f.bench", "--narrow", "--budget", "242"],
         script: b"open S\nsee S in_c0=0\nsee S in_a0=0\nsee S in_b0=0\nsee S in_a1=0\nsee S in_b1=0\n\
                     see S xor_sum1=1\nmin S\nlist S 9\nprobe S or_out0\n",
         out: b"ready 10 15\nS open\nS ok\nS ok\nS ok\nS ok\nS ok\nS ok\nS min 1 and_both0\nS diag and_both0\n\
@@ -415,6 +415,31 @@ pub static WITH_OPTIONS: [Row<'static>; 24] = [
                     list S 9\n",
         out: b"ready 6 11\nS open\nS ok\nS ok\nS ok\nS ok\nS ok\nS ok\nS ok\nS min 1 10\nS diag 10\nS diag 22\n\
                  S end\n",
+        status: 0,
+    },
+    // In the order of a row the sum is five for each buffer, and two more.
+    Row {
+        name: "f.bench",
+        text: SCRAMBLED,
+        words: &["serve", "f.bench", "--budget", "37"],
+        script: b"",
+        out: b"error: sum above 37\n",
+        status: 3,
+    },
+    Row {
+        name: "f.bench",
+        text: SCRAMBLED,
+        words: &["serve", "f.bench", "--narrow", "--budget", "37"],
+        script: b"",
+        out: b"ready 7 8\n",
+        status: 0,
+    },
+    Row {
+        name: "f.bench",
+        text: INPUT,
+        words: &["plan", "f.bench", "--narrow"],
+        script: b"",
+        out: b"parts 0\nwires 1\nclauses 0\nsum 1\n",
         status: 0,
     },
     // Both of its clauses have all of its variables, so that each way through them has the same sum.

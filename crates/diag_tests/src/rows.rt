@@ -5,7 +5,7 @@ use crate::designs::DESIGNS;
 use crate::files::CHAIN;
 use crate::graphs::GRAPHS;
 use crate::netlists::{NETLISTS, WITH_OPTIONS};
-use crate::refused::REFUSED;
+use crate::refused::{REFUSED_DESIGNS, REFUSED_GRAPHS, REFUSED_NETLISTS};
 use crate::running::{Meeting, NOTHING_FAILS, run};
 use crate::scripts::SCRIPTS;
 use crate::words::WRONG;
@@ -51,51 +51,46 @@ fn answer_rows(rt: &impl Abort, alloc: Global, rows: &[Row<'_>]) -> Result<(), F
 }
 
 #[test]
-fn answers_netlists(rt: HostRuntime) -> Result<(), Fail> {
-    answer_rows(&rt, rt.alloc(), &NETLISTS)
-}
-
-#[test]
-fn answers_netlists_with_options(rt: HostRuntime) -> Result<(), Fail> {
-    answer_rows(&rt, rt.alloc(), &WITH_OPTIONS)
-}
-
-#[test]
-fn answers_designs(rt: HostRuntime) -> Result<(), Fail> {
-    answer_rows(&rt, rt.alloc(), &DESIGNS)
-}
-
-#[test]
-fn answers_graphs(rt: HostRuntime) -> Result<(), Fail> {
-    answer_rows(&rt, rt.alloc(), &GRAPHS)
-}
-
-#[test]
-fn answers_scripts(rt: HostRuntime) -> Result<(), Fail> {
-    answer_rows(&rt, rt.alloc(), &SCRIPTS)
+fn answers_rows(rt: HostRuntime) -> Result<(), Fail> {
+    let alloc = rt.alloc();
+    answer_rows(&rt, alloc, &NETLISTS)?;
+    answer_rows(&rt, alloc, &WITH_OPTIONS)?;
+    answer_rows(&rt, alloc, &DESIGNS)?;
+    answer_rows(&rt, alloc, &GRAPHS)?;
+    answer_rows(&rt, alloc, &SCRIPTS)
 }
 
 #[test]
 fn refuses_words(rt: HostRuntime) -> Result<(), Fail> {
-    for words in &WRONG {
+    let alloc = rt.alloc();
+    for line in WRONG.lines() {
+        let mut words = Vec::new(alloc);
+        if !line.is_empty() {
+            for word in line.split(' ') {
+                words.push(word)?;
+            }
+        }
         let row = Row {
             name: "f.bench",
             text: CHAIN,
-            words,
+            words: &words,
             script: b"open S\n",
             out: b"error: usage\n",
             status: 2,
         };
-        answer(&rt, rt.alloc(), &row, &NOTHING_FAILS)?;
+        answer(&rt, alloc, &row, &NOTHING_FAILS)?;
     }
     Ok(())
 }
 
-#[test]
-fn refuses_files(rt: HostRuntime) -> Result<(), Fail> {
-    for refused in &REFUSED {
-        let (name, text, out) = *refused;
-        let command = if name == "f.nnf" { "check" } else { "serve" };
+// Each file that is refused, as the file of a command.
+fn refuse(
+    rt: &impl Abort,
+    alloc: Global,
+    [command, name]: [&str; 2],
+    files: &[(&[u8], &[u8])],
+) -> Result<(), Fail> {
+    for (text, out) in files {
         let row = Row {
             name,
             text,
@@ -104,7 +99,15 @@ fn refuses_files(rt: HostRuntime) -> Result<(), Fail> {
             out,
             status: 1,
         };
-        answer(&rt, rt.alloc(), &row, &NOTHING_FAILS)?;
+        answer(rt, alloc, &row, &NOTHING_FAILS)?;
     }
     Ok(())
+}
+
+#[test]
+fn refuses_files(rt: HostRuntime) -> Result<(), Fail> {
+    let alloc = rt.alloc();
+    refuse(&rt, alloc, ["serve", "f.bench"], &REFUSED_NETLISTS)?;
+    refuse(&rt, alloc, ["serve", "f.dev"], &REFUSED_DESIGNS)?;
+    refuse(&rt, alloc, ["check", "f.nnf"], &REFUSED_GRAPHS)
 }

@@ -1,7 +1,7 @@
 //! One run of the program over ends in memory.
 ghost use Rattle.std.specs.Prelude.{◌≡◌, ◌<◌, IfOk};
 
-use diag_cli::diag;
+use crate::program::status_of;
 use diag_edge::{MemShelf, MemSink, MemSource};
 use std::alloc::{AllocError, Global};
 use std::test::Fail;
@@ -72,6 +72,6 @@ pub fn run(
     let mut input = MemSource::new(script, meeting.piece, failing_read);
     let failing_write = vec![in alloc; meeting.failing_write]?;
     let mut out = MemSink::new(alloc, ROOM, failing_write, meeting.keep)?;
-    let status = diag(alloc, &words, &mut shelf, &mut input, &mut out).number();
+    let status = status_of(alloc, &words, &mut shelf, &mut input, &mut out);
     Ok(Ran { status, out })
 }

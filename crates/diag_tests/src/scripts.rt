@@ -19,7 +19,7 @@ pub const REPORTS_OUT: &[u8] =
     b"ready 2 3\nS open\nS min 0\nS diag\nS end\nT error 6 no session\nS probe a 0 0\nS probe b 0 0\nS probe c 0 0\nS end\n\
     S blame b never\nS blame c never\nS end\n";
 
-pub static SCRIPTS: [Row<'static>; 12] = [
+pub static SCRIPTS: [Row<'static>; 13] = [
     // Two sessions side by side, and no third. In S the end of the chain is wrong, in T nothing is.
     Row {
         name: "f.bench",
@@ -67,6 +67,18 @@ pub static SCRIPTS: [Row<'static>; 12] = [
         script: b"open A\nopen B\nopen A\nclose A\nopen B\nmin A\nmin B\n",
         out: b"ready 2 3\nA open\nB error 8 full\nA error 7 open already\nA closed\nB open\nA error 6 no session\n\
                  B min 0\n",
+        status: 0,
+    },
+    // Sessions whose names are fronts of one another. What is told to one changes it alone, and one that is closed leaves room.
+    Row {
+        name: "f.bench",
+        text: CHAIN,
+        words: &["serve", "f.bench", "--sessions", "3"],
+        script: b"open m\nopen ab\nopen a\nopen z\nsee ab a=0\nsee ab c=1\nhold a b=bad\nnext a\nmin m\nmin ab\nmin a\n\
+                    unsee ab c\nmin ab\nclose ab\nnext ab\nopen ab\nmin ab\nnext a\nclose a\nmin m\nmin ab\n",
+        out: b"ready 2 3\nm open\nab open\na open\nz error 8 full\nab ok\nab ok\na ok\na diag b\nm min 0\nab min 1 b\n\
+                 a min 1 b\nab ok\nab min 0\nab closed\nab error 6 no session\nab open\nab min 0\na end\na closed\n\
+                 m min 0\nab min 0\n",
         status: 0,
     },
     // Lines that are refused before any session is looked for, and lines that have no reply.

@@ -1,24 +1,10 @@
 //! Runs over ends whose calls never fail.
 use crate::failing::WORDS;
 use crate::files::CHAIN;
+use crate::program::status_of;
 use crate::running::owned;
-use crate::scripts::{TURNS, TURNS_OUT};
-use diag_cli::diag;
-use diag_edge::{MemSink, SureShelf, SureSource, TallySink};
+use diag_edge::{SureShelf, SureSource, TallySink};
 use std::test::Fail;
-
-#[test]
-fn answers_all_where_no_call_can_fail(rt: HostRuntime) -> Result<(), Fail> {
-    let alloc = rt.alloc();
-    let words = owned(alloc, &WORDS)?;
-    let mut shelf = SureShelf::new(Vec::from_slice(alloc, CHAIN)?);
-    let mut input = SureSource::new(Vec::from_slice(alloc, TURNS)?, 4096);
-    let mut out = MemSink::new(alloc, 4096, Vec::new(alloc), 0)?;
-    let status = diag(alloc, &words, &mut shelf, &mut input, &mut out);
-    assert_eq!(rt; status.number(), 0);
-    assert_eq!(rt; out.as_slice(), TURNS_OUT);
-    Ok(())
-}
 
 // Of each `min S` the reply has eight bytes, and the two lines before them have ten and seven.
 #[test]
@@ -32,8 +18,8 @@ fn answers_a_long_script(rt: HostRuntime) -> Result<(), Fail> {
     }
     let mut input = SureSource::new(script, 4096);
     let mut out = TallySink::new();
-    let status = diag(alloc, &words, &mut shelf, &mut input, &mut out);
-    assert_eq!(rt; status.number(), 0);
+    let status = status_of(alloc, &words, &mut shelf, &mut input, &mut out);
+    assert_eq!(rt; status, 0);
     assert_eq!(rt; out.count(), 1_600_017);
     Ok(())
 }

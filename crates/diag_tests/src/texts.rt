@@ -1,5 +1,5 @@
 //! Texts of graphs that a run writes, read back.
-use crate::files::{CHAIN, FREE, INPUT, NOT, VALVE};
+use crate::files::{CHAIN, DEAR, EQUAL, FREE, INPUT, NOT, VALVE};
 use crate::rows::{Row, answer};
 use crate::running::{NOTHING_FAILS, run};
 use nnf_text::read_nnf;
@@ -27,7 +27,7 @@ struct Written {
 // no clause, and 8 of the valve. A graph that is compiled has at most three nodes for each of the sum, two for each
 // variable and two, and the text of what a session allows one more for each part that is held, and one. The text of the diagnoses has
 // at most as many nodes as a graph has nodes and edges, two for each part, and one.
-static WRITTEN: [Written; 15] = [
+static WRITTEN: [Written; 18] = [
     // where the inverter is faulty each row is allowed, and where it is ok those in which its wires differ
     Written {
         name: "f.bench",
@@ -141,6 +141,41 @@ static WRITTEN: [Written; 15] = [
         allowed: &[],
         end: b"\nO 0 0\n",
     },
+    // one of two parts is faulty: with a third that is held so; the cheaper one alone; and the one that is held so. A sum of 12 over 7
+    // variables allows 52 nodes and 78 edges.
+    Written {
+        name: "f.dev",
+        text: EQUAL,
+        words: &["serve", "f.dev", "--least"],
+        script: b"open S\nsee S a=0\nsee S y=1\nhold S r=bad\nleastnnf S\n",
+        before: b"ready 3 4\nS open\nS ok\nS ok\nS ok\nS leastnnf\n",
+        vars: 3,
+        nodes: 137,
+        allowed: &[0b001, 0b010],
+        end: b"\n",
+    },
+    Written {
+        name: "f.dev",
+        text: DEAR,
+        words: &["serve", "f.dev", "--least"],
+        script: b"open S\nsee S a=0\nsee S y=1\nleastnnf S\n",
+        before: b"ready 3 4\nS open\nS ok\nS ok\nS leastnnf\n",
+        vars: 3,
+        nodes: 137,
+        allowed: &[0b110],
+        end: b"\n",
+    },
+    Written {
+        name: "f.dev",
+        text: EQUAL,
+        words: &["serve", "f.dev", "--least"],
+        script: b"open S\nsee S a=0\nsee S y=1\nhold S q=bad\nleastnnf S\n",
+        before: b"ready 3 4\nS open\nS ok\nS ok\nS ok\nS leastnnf\n",
+        vars: 3,
+        nodes: 137,
+        allowed: &[0b101],
+        end: b"\n",
+    },
     // where a gate is faulty each row is allowed, and where it is ok those in which its output is what it is to be
     Written {
         name: "f.bench",
@@ -212,11 +247,12 @@ static WRITTEN: [Written; 15] = [
 ];
 
 // The bit for a variable, that for the first being the lowest.
-fn bit_of(bits: u32, var: u32) -> Result<bool, Fail> {
-    if var < 1 || 32 < var {
-        return Err("a variable from 1 to 32".into());
+fn bit_of(bits: u32, var: u32) -> bool {
+    let mut rest = bits;
+    for _ in 1..var {
+        rest /= 2;
     }
-    Ok((bits >> (var - 1)) & 1 == 1)
+    rest % 2 == 1
 }
 
 // Whether the root of a graph is true under bits for its variables.
@@ -233,7 +269,7 @@ fn is_true(alloc: Global, graph: &Graph, bits: u32) -> Result<bool, Fail> {
             any = any || value;
         }
         values.push(match graph.what(node) {
-            NodeKind::Literal { var, positive } => bit_of(bits, var)? == positive,
+            NodeKind::Literal { var, positive } => bit_of(bits, var) == positive,
             NodeKind::And => all,
             NodeKind::Or => any,
         })?;

@@ -1,7 +1,7 @@
 -- What is found of an adder's graph is what is told of its device.
-use Rattle.std.proofs.Common.{◌≡◌, ℕ, ◌-◌, ◌<◌, Bool, List, [], ◌∷◌, ◌++◌, length, get_or, take, Option, Some, None, IfSome, refl, ap, ap₂, sym, ◌∙◌, subst, arith, inl, inr, codes}
+use Rattle.std.proofs.Common.{◌≡◌, ℕ, ◌-◌, ◌<◌, Bool, List, [], ◌∷◌, length, get_or, take, Option, Some, None, IfSome, refl, ap, ap₂, sym, ◌∙◌, subst, arith, inl, inr, codes}
 use Rattle.std.specs.Option.{option_map}
-use Rattle.std.proofs.Math.Seq.{get_or-take, take-append_seam}
+use Rattle.std.proofs.Math.Seq.{get_or-take}
 use Rattle.std.proofs.lemmas.List.{length-map, length-take}
 use Rattle.std.specs.Prelude.{Result}
 use Rattle.text_rules.specs.Expected.{IsExpectedFault}
@@ -31,10 +31,6 @@ use Rattle.diag_cli.specs.declared.loading.Summary.{Summary}
 use Rattle.diag_cli.specs.Loads.{names_line, listed_lines}
 use Rattle.diag_cli.specs.inner.Loading.{if_found, IsSummaryOf}
 use Rattle.diag_cli.specs.inner.Serving.{IsServable}
-
--- what is written over all of a vector
-pub whole : {A : Type 0} (n : ℕ) (xs more : List A) → length xs ≡ n → take n (xs ++ more) ≡ xs
-whole n xs more long = ap (λ m. take m (xs ++ more)) (sym long) ∙ take-append_seam xs more
 
 is_case : (device : Device) (places : ℕ) → IsCaseOf (device_system device) (adder_case device places)
 is_case device places = (case_seen device places, case_held device places ∙ sym (length-map device.parts (λ (part : Component). part.name)))

@@ -12,17 +12,17 @@ ghost use Rattle.diag_cli.specs.Courses.{served_frames, served_or_refused};
 ghost use Rattle.diag_cli.specs.Frames.{sequential_in, if_unrolled};
 ghost use Rattle.diag_cli.specs.Following.{Follows};
 ghost use Rattle.diag_cli.specs.inner.Forms.{AreWithinLimits};
-ghost use Rattle.diag_cli.specs.inner.Serving.{IsFrameService, frames_told};
+ghost use Rattle.diag_cli.specs.inner.Serving.{IsFrameService};
 
 use crate::besides::compile_in_few_bits;
+use crate::refusing::not_unrolled;
 use crate::serving::{SCRIPT_LIMIT, answer};
 use crate::words::ServeOptions;
 use bench_reader::{BenchError, Sequential, read_sequential};
-use clause_encoder::CLAUSE_LIMIT;
-use device_files::{Refusal, Status, above, forest_of, tell};
-use device_model::{PART_LIMIT, WIRE_LIMIT};
+use device_files::{Refusal, Status, forest_of, tell};
+use device_model::PART_LIMIT;
 use diag_edge::{Sink, Source};
-use frame_unroller::{FRAME_LIMIT, UnrollError, Unrolled, unroll};
+use frame_unroller::{FRAME_LIMIT, Unrolled, unroll};
 use session_core::Service;
 use std::alloc::{AllocError, Global};
 use text_rules::TEXT_LIMIT;
@@ -41,18 +41,6 @@ fn sequential(alloc: Global, text: &[u8]) -> Result<Sequential, Refusal>
             name: what.name(),
         }),
         Err(BenchError::Memory) => Err(Refusal::Memory),
-    }
-}
-
-// What tells that a netlist is not unrolled.
-fn not_unrolled(error: UnrollError) -> Refusal
-    ensures { told_by result ≡ frames_told error }
-{
-    match error {
-        UnrollError::TooManyParts { count } => above("parts", count, PART_LIMIT),
-        UnrollError::TooManyWires { count } => above("wires", count, WIRE_LIMIT),
-        UnrollError::TooManyClauses { count } => above("clauses", count, CLAUSE_LIMIT as usize),
-        UnrollError::Memory => Refusal::Memory,
     }
 }
 

@@ -14,14 +14,14 @@ ghost use Rattle.diag_cli.specs.inner.Serving.{IsServable};
 
 use crate::costs::costs_of;
 use crate::graphs::compiled_by_names;
+use crate::load_memory::LoadMemory;
 use crate::words::DEFAULT_BUDGET;
-use adder_load::{Found, PLACE_LIMIT, adder_text, note_readings, sample};
+use adder_load::{Found, PLACE_LIMIT, adder_text};
 use device_files::{
     Count, Refusal, Status, clauses_of, netlist_device, put_count, put_counts, tell,
 };
 use device_model::{Device, Name};
 use diag_edge::{Sink, WriteFailed, put_line};
-use fault_graph::Distiller;
 use minimiser::Steps;
 use node_store::Graph;
 use session_core::put_faulty;
@@ -70,31 +70,17 @@ fn summary_by<L: Ledger>(
     ensures in_step { IfOk result IsInStep }
 {
     let costs = costs_of(alloc, &device)?;
-    let mut words = vec![in alloc; 0; graph.vars() as usize]?;
-    let mut values = vec![in alloc; 0; graph.len() as usize]?;
-    let mut first = vec![in alloc; 0; costs.len()]?;
-    let mut last = vec![in alloc; 0; costs.len()]?;
-    let mut distiller = Distiller::new(alloc, graph)?;
-    note_readings(&mut words, &device, places);
+    let mut memory = LoadMemory::new(alloc, graph, costs.len())?;
+    memory.note(&device, places);
     let (parts, wires) = device.take_names(alloc)?;
-    let found = sample(
-        &mut distiller,
-        graph,
-        &mut words,
-        &costs,
-        &mut values,
-        &mut first,
-        &mut last,
-        LISTED_LIMIT,
-        &mut Steps::<L>::new(blank),
-    );
+    let found = memory.sample(graph, &costs, &mut Steps::<L>::new(blank));
     Ok(Summary {
         parts,
         wires: wires.len() as u64,
         clauses,
         found,
-        first,
-        last,
+        first: memory.first,
+        last: memory.last,
     })
 }
 

@@ -7,7 +7,7 @@ ghost use Rattle.forest_states.specs.inner.Walked.{any_leads, picked_by, joined,
 use crate::bit_list::BitList;
 use crate::entries::Table;
 use crate::marks::{goes_to, mark, meets_marked, number_trees};
-use crate::tables::{find_picks, find_table, keep_open, keep_part, merge};
+use crate::tables::{find_picks, find_table, keep_part, merge};
 use clause_encoder::Cnf;
 use elimination_forests::{Forks, Step, Ways};
 use indexmap::IndexSet;
@@ -93,9 +93,8 @@ fn go_by_bit(
         ≡ stand_decided cnf.now.clauses (map (λ v. v.items) of.now) seen.now var (stand_of spot.now)) }
 {
     let met = find_met(alloc, cnf, of, seen, var, &spot.opened)?;
-    let table = find_table(alloc, cnf, seen, var, met.as_slice())?;
+    let (table, opened) = find_table(alloc, cnf, seen, var, met.as_slice())?;
     let (leads, states) = decide(alloc, &table, &spot.states)?;
-    let opened = keep_open(alloc, cnf, seen, var, met.as_slice())?;
     Ok((leads, Spot { opened, states }))
 }
 

@@ -6,7 +6,7 @@ ghost use Rattle.forest_states.specs.inner.Walked.{any_leads, picked_by, joined,
 
 use crate::bit_list::BitList;
 use crate::entries::Table;
-use crate::marks::{goes_to, mark, meets_marked, number_trees};
+use crate::marks::{mark, meets_marked, number_trees};
 use crate::tables::{find_picks, find_table, keep_part, merge};
 use clause_encoder::Cnf;
 use elimination_forests::{Forks, Step, Ways};
@@ -135,13 +135,14 @@ fn go_below(
 ) -> Result<Vec<Vec<u32>>, AllocError>
     requires few { length base.states.keys < 2 ^ 32 }
     requires once { different base.states.keys ≡ base.states.keys }
+    requires open { trees ≡ 1 → list_all (goes_to cnf.now.clauses 1 seen.now numbers.now 0) base.opened.items ≡ true }
     ensures columns { IfOk result (λ columns. map (λ v. v.items) columns.items
         ≡ map (λ j. column_at cnf.now.clauses trees seen.now numbers.now j (stand_of base)) (range_with_len 0 trees)) }
     ensures pending { OnOk result (reverse (map stand_of pending.new.items)
         ≡ map (λ j. stand_part cnf.now.clauses trees seen.now numbers.now j (stand_of base)) (range_with_len 0 trees)
         ++ reverse (map stand_of pending.old.items)) }
 {
-    if !is_whole(cnf, trees, seen, numbers, &base) {
+    if !is_whole(trees, &base) {
         return go_apart(alloc, cnf, seen, numbers, trees, &base, pending);
     }
     let mut columns = Vec::with_capacity(alloc, 1)?;
@@ -150,22 +151,11 @@ fn go_below(
     Ok(columns)
 }
 
-// Whether there is one tree on a base, and each open clause, and so each bit of a state, goes to it.
-fn is_whole(cnf: &Cnf, trees: u32, seen: &[bool], numbers: &[u32], base: &Spot) -> bool
-    ensures { result ≡ ((trees == 1) && (list_all (goes_to cnf.now.clauses trees seen.now numbers.now 0) base.now.opened.items
-        && list_all (λ s. length s == length base.now.opened.items) base.now.states.keys)) }
+// Whether there is one tree on a base, so that each open clause goes to it, and so each bit of a state.
+fn is_whole(trees: u32, base: &Spot) -> bool
+    ensures { result ≡ ((trees == 1) && list_all (λ s. length s == length base.now.opened.items) base.now.states.keys) }
 {
-    trees == 1
-        && all_go(cnf, trees, seen, numbers, base.opened.as_slice())
-        && have_len(base.opened.len(), &base.states)
-}
-
-fn all_go(cnf: &Cnf, trees: u32, seen: &[bool], numbers: &[u32], opened: &[u32]) -> bool
-    ensures { result ≡ list_all (goes_to cnf.now.clauses trees seen.now numbers.now 0) opened.now }
-{
-    opened
-        .iter()
-        .all(|number| goes_to(cnf, trees, seen, numbers, 0, *number))
+    trees == 1 && have_len(base.opened.len(), &base.states)
 }
 
 fn have_len(size: usize, states: &IndexSet<BitList>) -> bool

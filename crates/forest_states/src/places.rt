@@ -7,7 +7,7 @@ ghost use Rattle.forest_states.specs.inner.Walked.{any_leads, picked_by, joined,
 use crate::bit_list::BitList;
 use crate::entries::Table;
 use crate::marks::{mark, meets_marked, number_trees};
-use crate::tables::{find_picks, find_table, keep_part, merge};
+use crate::tables::{find_picks, find_table, merge};
 use clause_encoder::Cnf;
 use elimination_forests::{Forks, Step, Ways};
 use indexmap::IndexSet;
@@ -216,7 +216,7 @@ fn go_to(
     ensures column { IfOk result (λ r. r.0.items ≡ column_at cnf.now.clauses trees seen.now numbers.now tree (stand_of base.now)) }
     ensures spot { IfOk result (λ r. stand_of r.1 ≡ stand_part cnf.now.clauses trees seen.now numbers.now tree (stand_of base.now)) }
 {
-    let picks = find_picks(
+    let (picks, opened) = find_picks(
         alloc,
         cnf,
         trees,
@@ -226,15 +226,6 @@ fn go_to(
         base.opened.as_slice(),
     )?;
     let (column, states) = part(alloc, &picks, &base.states)?;
-    let opened = keep_part(
-        alloc,
-        cnf,
-        trees,
-        seen,
-        numbers,
-        tree,
-        base.opened.as_slice(),
-    )?;
     Ok((column, Spot { opened, states }))
 }
 

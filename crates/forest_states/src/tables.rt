@@ -89,26 +89,7 @@ pub(crate) fn merge(alloc: Global, numbers: &[u32], others: &[u32]) -> Result<Ve
     Ok(both)
 }
 
-/// The numbers of the clauses that go to a tree.
-pub(crate) fn keep_part(
-    alloc: Global,
-    cnf: &Cnf,
-    trees: u32,
-    seen: &[bool],
-    places: &[u32],
-    tree: u32,
-    numbers: &[u32],
-) -> Result<Vec<u32>, AllocError>
-    ensures { IfOk result (λ kept. kept.items ≡ filter (goes_to cnf.now.clauses trees seen.now places.now tree) numbers.now) }
-{
-    numbers
-        .iter()
-        .copied()
-        .filter(|number| goes_to(cnf, trees, seen, places, tree, *number))
-        .collect(alloc)
-}
-
-/// What picks the clauses that go to a tree.
+/// What picks the clauses that go to a tree, and their numbers.
 pub(crate) fn find_picks(
     alloc: Global,
     cnf: &Cnf,
@@ -117,14 +98,20 @@ pub(crate) fn find_picks(
     places: &[u32],
     tree: u32,
     numbers: &[u32],
-) -> Result<Table, AllocError>
-    ensures { IfOk result (λ table. table ≡ map pick_entry (map (goes_to cnf.now.clauses trees seen.now places.now tree) numbers.now)) }
+) -> Result<(Table, Vec<u32>), AllocError>
+    ensures table { IfOk result (λ r. r.0 ≡ map pick_entry (map (goes_to cnf.now.clauses trees seen.now places.now tree) numbers.now)) }
+    ensures kept { IfOk result (λ r. r.1.items ≡ filter (goes_to cnf.now.clauses trees seen.now places.now tree) numbers.now) }
 {
     let mut table = Table::new(alloc);
+    let mut kept = Vec::with_capacity(alloc, numbers.len())?;
     for number in numbers {
-        table.push(pick_entry(goes_to(cnf, trees, seen, places, tree, *number)))?;
+        let is_picked = goes_to(cnf, trees, seen, places, tree, *number);
+        if is_picked {
+            kept.push(*number)?;
+        }
+        table.push(pick_entry(is_picked))?;
     }
-    Ok(table)
+    Ok((table, kept))
 }
 
 fn pick_entry(is_picked: bool) -> Entry

@@ -1,14 +1,16 @@
 -- A base of which all goes to one tree.
-use Rattle.std.proofs.Common.{◌≡◌, ℕ, zero, suc, ◌+◌, Bool, true, false, not, ◌&&◌, cond, List, [], ◌∷◌, map, length, refl, ap, sym, ◌∙◌, subst, arith}
-use Rattle.std.specs.Prelude.{◌==◌, if◌then◌else◌}
-use Rattle.std.specs.List.{filter, list_all, position_or_len, range_with_len, AllByRecursion}
-use Rattle.std.proofs.lemmas.Bool.{and_parts, eqb-true}
+use Rattle.std.proofs.Common.{◌≡◌, ℕ, ℤ, zero, suc, ◌+◌, Bool, true, false, not, ◌&&◌, ◌||◌, cond, List, [], ◌∷◌, map, length, refl, ap, sym, ◌∙◌, subst, arith}
+use Rattle.std.specs.Prelude.{◌==◌, if◌then◌else◌, slice_set}
+use Rattle.std.specs.List.{filter, list_any, list_all, position_or_len, range_with_len, AllByRecursion}
+use Rattle.std.proofs.lemmas.Bool.{and_parts, or_right, eqb-true, eq-eqb, false≢true}
+use Rattle.std.proofs.lemmas.List.{get_or-set_other}
+use Rattle.state_rules.specs.Bits.{bit_in}
 use Rattle.state_rules.proofs.Bits.{pointwise-refl}
-use Rattle.clause_encoder.specs.Clauses.{Clause}
+use Rattle.clause_encoder.specs.Clauses.{Clause, var_of}
 use Rattle.elimination_forests.specs.Branches.{same_list, different}
 use Rattle.elimination_forests.proofs.Lists.{each-filter}
 use Rattle.forest_states.specs.inner.BitLists.{is_same}
-use Rattle.forest_states.specs.inner.Walked.{picked, part_states, goes_to, Stand, column_at, stand_part}
+use Rattle.forest_states.specs.inner.Walked.{picked, part_states, is_in_tree, goes_to, within_marked, clause_at, Stand, column_at, stand_part}
 use Rattle.forest_states.proofs.Mapped.{mapped-agree, mapped-twice}
 
 -- ---- different lists
@@ -74,16 +76,48 @@ all-picked p ns all (s ∷ states) long =
 
 -- ---- the place of the tree
 
+-- a clause that does not end with a variable has another one without a bit
+stays-open : (v : ℕ) (seen : List Bool) (numbers : List ℕ) (clause : Clause) → within_marked v seen clause ≡ false
+    → list_any (λ l. is_in_tree 1 (slice_set seen v true) numbers 0 (var_of l)) clause ≡ true
+stays-open v seen numbers [] ends = absurd (false≢true (sym ends))
+stays-open v seen numbers (l ∷ clause) ends = by (v == var_of l) refl (bit_in seen (var_of l)) refl (stays-open v seen numbers clause) ends where
+  goes : ℤ → Bool
+  goes k = is_in_tree 1 (slice_set seen v true) numbers 0 (var_of k)
+
+  by : (same : Bool) → (v == var_of l) ≡ same → (bit : Bool) → bit_in seen (var_of l) ≡ bit → (within_marked v seen clause ≡ false → list_any goes clause ≡ true)
+      → ((same || bit) && within_marked v seen clause) ≡ false → (goes l || list_any goes clause) ≡ true
+  by true e bit f next ends = or_right (goes l) (list_any goes clause) (next ends)
+  by false e true f next ends = or_right (goes l) (list_any goes clause) (next ends)
+  by false e false f next ends = ap (λ b. (not b && true) || list_any goes clause) (get_or-set_other seen v (var_of l) true false (λ same. false≢true (sym e ∙ eq-eqb v (var_of l) (sym same))) ∙ f)
+
+pub stay-open : (clauses : List Clause) (v : ℕ) (seen : List Bool) (numbers ns : List ℕ)
+    → list_all (goes_to clauses 1 (slice_set seen v true) numbers 0) (filter (λ n. not (within_marked v seen (clause_at clauses n))) ns) ≡ true
+stay-open clauses v seen numbers [] = refl
+stay-open clauses v seen numbers (n ∷ ns) = by (within_marked v seen (clause_at clauses n)) refl (stay-open clauses v seen numbers ns) where
+  goes : ℕ → Bool
+  goes = goes_to clauses 1 (slice_set seen v true) numbers 0
+
+  rest : List ℕ
+  rest = filter (λ n. not (within_marked v seen (clause_at clauses n))) ns
+
+  by : (b : Bool) → within_marked v seen (clause_at clauses n) ≡ b → list_all goes rest ≡ true → list_all goes (cond (not b) (n ∷ rest) rest) ≡ true
+  by true e all = all
+  by false e all = λ j. stays-open v seen numbers (clause_at clauses n) e j && all j
+
 module _ (clauses : List Clause) (trees : ℕ) (seen : List Bool) (numbers : List ℕ) (s : Stand) (once : different s.states ≡ s.states)
-    (whole : ((trees == 1) && (list_all (goes_to clauses trees seen numbers 0) s.opened && list_all (λ x. length x == length s.opened) s.states)) ≡ true) where
+    (given : trees ≡ 1 → list_all (goes_to clauses 1 seen numbers 0) s.opened ≡ true)
+    (whole : ((trees == 1) && list_all (λ x. length x == length s.opened) s.states) ≡ true) where
   abbrev goes : ℕ → Bool
   goes = goes_to clauses trees seen numbers 0
 
-  parts : ((trees == 1) ≡ true) × ((list_all goes s.opened && list_all (λ x. length x == length s.opened) s.states) ≡ true)
-  parts = and_parts (trees == 1) (list_all goes s.opened && list_all (λ x. length x == length s.opened) s.states) whole
+  parts : ((trees == 1) ≡ true) × (list_all (λ x. length x == length s.opened) s.states ≡ true)
+  parts = and_parts (trees == 1) (list_all (λ x. length x == length s.opened) s.states) whole
+
+  one : trees ≡ 1
+  one = eqb-true trees 1 parts.0
 
   both : (list_all goes s.opened ≡ true) × (list_all (λ x. length x == length s.opened) s.states ≡ true)
-  both = and_parts (list_all goes s.opened) (list_all (λ x. length x == length s.opened) s.states) parts.1
+  both = (ap (λ n. list_all (goes_to clauses n seen numbers 0) s.opened) one ∙ given one, parts.1)
 
   picks : map (picked (map goes s.opened)) s.states ≡ s.states
   picks = all-picked goes s.opened both.0 s.states both.1
@@ -93,12 +127,12 @@ module _ (clauses : List Clause) (trees : ℕ) (seen : List Bool) (numbers : Lis
 
   pub whole-stands : map (λ j. stand_part clauses trees seen numbers j s) (range_with_len 0 trees) ≡ s ∷ []
   whole-stands =
-      ap (λ n. map (λ j. stand_part clauses trees seen numbers j s) (range_with_len 0 n)) (eqb-true trees 1 parts.0)
+      ap (λ n. map (λ j. stand_part clauses trees seen numbers j s) (range_with_len 0 n)) one
       ∙ (λ i. (record { opened = kept goes s.opened both.0 i; states = states-same i }) ∷ [])
 
   pub whole-columns : map (λ j. column_at clauses trees seen numbers j s) (range_with_len 0 trees) ≡ range_with_len 0 (length s.states) ∷ []
   whole-columns =
-      ap (λ n. map (λ j. column_at clauses trees seen numbers j s) (range_with_len 0 n)) (eqb-true trees 1 parts.0)
+      ap (λ n. map (λ j. column_at clauses trees seen numbers j s) (range_with_len 0 n)) one
       ∙ ap (λ ns. ns ∷ []) ((λ i. map (λ x. position_or_len (is_same (picked (map goes s.opened) x)) (states-same i)) s.states)
       ∙ sym (mapped-twice (λ x. position_or_len (is_same x) s.states) (picked (map goes s.opened)) s.states)
       ∙ ap (map (λ x. position_or_len (is_same x) s.states)) picks

@@ -2,7 +2,7 @@ ghost use Rattle.std.specs.Prelude.{◌≡◌, ℕ, ◌<◌, ◌≤◌, ◌+◌,
 ghost use Rattle.std.specs.List.{filter, range_with_len};
 ghost use Rattle.clause_encoder.specs.Clauses.{vars_rise, is_clause_list, var_of};
 ghost use Rattle.state_rules.specs.Bits.{bit_in};
-ghost use Rattle.forest_states.specs.inner.Walked.{numbered, numbers_at, begun_at, goes_to, is_in_tree, has_var, meets_marked, within_marked, clause_at};
+ghost use Rattle.forest_states.specs.inner.Walked.{numbered, numbers_at, begun_at, goes_to, is_in_tree, has_var, meets_marked, clause_at};
 
 use clause_encoder::Cnf;
 use elimination_forests::Step;
@@ -74,6 +74,17 @@ fn write(numbers: &mut Vec<u32>, var: u32, number: u32)
     }
 }
 
+/// The clause of a number, and none past the last.
+pub(crate) fn clause_of(cnf: &Cnf, number: u32) -> &[i32]
+    ensures { result.now ≡ clause_at cnf.now.clauses number }
+{
+    if number < cnf.len() {
+        cnf.clause(number)
+    } else {
+        &[]
+    }
+}
+
 /// Whether a clause has a variable that is not marked and is in a tree.
 pub(crate) fn goes_to(
     cnf: &Cnf,
@@ -85,10 +96,7 @@ pub(crate) fn goes_to(
 ) -> bool
     ensures { result ≡ goes_to cnf.now.clauses trees marks.now numbers.now tree number }
 {
-    number < cnf.len()
-        && cnf.clause(number).iter().any(|literal| is_in_tree(
-            trees, marks, numbers, tree, *literal,
-        ))
+    clause_of(cnf, number).iter().any(|literal| is_in_tree(trees, marks, numbers, tree, *literal))
 }
 
 fn is_in_tree(trees: u32, marks: &[bool], numbers: &[u32], tree: u32, literal: i32) -> bool
@@ -108,23 +116,13 @@ fn number_of(numbers: &[u32], literal: i32) -> u32
 pub(crate) fn meets_marked(cnf: &Cnf, marks: &[bool], number: u32) -> bool
     ensures { result ≡ meets_marked marks.now (clause_at cnf.now.clauses number) }
 {
-    number < cnf.len()
-        && cnf
-            .clause(number)
-            .iter()
-            .any(|literal| is_marked(marks, *literal))
+    clause_of(cnf, number)
+        .iter()
+        .any(|literal| is_marked(marks, *literal))
 }
 
-/// Whether all variables of a clause but one are marked.
-pub(crate) fn within_marked(cnf: &Cnf, marks: &[bool], var: u32, number: u32) -> bool
-    ensures { result ≡ within_marked var marks.now (clause_at cnf.now.clauses number) }
-{
-    number >= cnf.len()
-        || cnf.clause(number).iter().all(|literal| var == literal.unsigned_abs()
-            || is_marked(marks, *literal))
-}
-
-fn is_marked(marks: &[bool], literal: i32) -> bool
+/// Whether the variable of a literal is marked.
+pub(crate) fn is_marked(marks: &[bool], literal: i32) -> bool
     ensures { result ≡ bit_in marks.now (var_of literal) }
 {
     let var = literal.unsigned_abs() as usize;

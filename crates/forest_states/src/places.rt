@@ -6,8 +6,8 @@ ghost use Rattle.forest_states.specs.inner.Walked.{any_leads, picked_by, joined,
 
 use crate::bit_list::BitList;
 use crate::entries::Table;
-use crate::marks::{goes_to, mark, meets_marked, number_trees};
-use crate::tables::{find_picks, find_table, keep_open, keep_part, merge};
+use crate::marks::{mark, meets_marked, number_trees};
+use crate::tables::{find_picks, find_table, merge};
 use clause_encoder::Cnf;
 use elimination_forests::{Forks, Step, Ways};
 use indexmap::IndexSet;
@@ -93,9 +93,8 @@ fn go_by_bit(
         ≡ stand_decided cnf.now.clauses (map (λ v. v.items) of.now) seen.now var (stand_of spot.now)) }
 {
     let met = find_met(alloc, cnf, of, seen, var, &spot.opened)?;
-    let table = find_table(alloc, cnf, seen, var, met.as_slice())?;
+    let (table, opened) = find_table(alloc, cnf, seen, var, met.as_slice())?;
     let (leads, states) = decide(alloc, &table, &spot.states)?;
-    let opened = keep_open(alloc, cnf, seen, var, met.as_slice())?;
     Ok((leads, Spot { opened, states }))
 }
 
@@ -136,13 +135,14 @@ fn go_below(
 ) -> Result<Vec<Vec<u32>>, AllocError>
     requires few { length base.states.keys < 2 ^ 32 }
     requires once { different base.states.keys ≡ base.states.keys }
+    requires open { trees ≡ 1 → list_all (goes_to cnf.now.clauses 1 seen.now numbers.now 0) base.opened.items ≡ true }
     ensures columns { IfOk result (λ columns. map (λ v. v.items) columns.items
         ≡ map (λ j. column_at cnf.now.clauses trees seen.now numbers.now j (stand_of base)) (range_with_len 0 trees)) }
     ensures pending { OnOk result (reverse (map stand_of pending.new.items)
         ≡ map (λ j. stand_part cnf.now.clauses trees seen.now numbers.now j (stand_of base)) (range_with_len 0 trees)
         ++ reverse (map stand_of pending.old.items)) }
 {
-    if !is_whole(cnf, trees, seen, numbers, &base) {
+    if !is_whole(trees, &base) {
         return go_apart(alloc, cnf, seen, numbers, trees, &base, pending);
     }
     let mut columns = Vec::with_capacity(alloc, 1)?;
@@ -151,22 +151,11 @@ fn go_below(
     Ok(columns)
 }
 
-// Whether there is one tree on a base, and each open clause, and so each bit of a state, goes to it.
-fn is_whole(cnf: &Cnf, trees: u32, seen: &[bool], numbers: &[u32], base: &Spot) -> bool
-    ensures { result ≡ ((trees == 1) && (list_all (goes_to cnf.now.clauses trees seen.now numbers.now 0) base.now.opened.items
-        && list_all (λ s. length s == length base.now.opened.items) base.now.states.keys)) }
+// Whether there is one tree on a base, so that each open clause goes to it, and so each bit of a state.
+fn is_whole(trees: u32, base: &Spot) -> bool
+    ensures { result ≡ ((trees == 1) && list_all (λ s. length s == length base.now.opened.items) base.now.states.keys) }
 {
-    trees == 1
-        && all_go(cnf, trees, seen, numbers, base.opened.as_slice())
-        && have_len(base.opened.len(), &base.states)
-}
-
-fn all_go(cnf: &Cnf, trees: u32, seen: &[bool], numbers: &[u32], opened: &[u32]) -> bool
-    ensures { result ≡ list_all (goes_to cnf.now.clauses trees seen.now numbers.now 0) opened.now }
-{
-    opened
-        .iter()
-        .all(|number| goes_to(cnf, trees, seen, numbers, 0, *number))
+    trees == 1 && have_len(base.opened.len(), &base.states)
 }
 
 fn have_len(size: usize, states: &IndexSet<BitList>) -> bool
@@ -227,7 +216,7 @@ fn go_to(
     ensures column { IfOk result (λ r. r.0.items ≡ column_at cnf.now.clauses trees seen.now numbers.now tree (stand_of base.now)) }
     ensures spot { IfOk result (λ r. stand_of r.1 ≡ stand_part cnf.now.clauses trees seen.now numbers.now tree (stand_of base.now)) }
 {
-    let picks = find_picks(
+    let (picks, opened) = find_picks(
         alloc,
         cnf,
         trees,
@@ -237,15 +226,6 @@ fn go_to(
         base.opened.as_slice(),
     )?;
     let (column, states) = part(alloc, &picks, &base.states)?;
-    let opened = keep_part(
-        alloc,
-        cnf,
-        trees,
-        seen,
-        numbers,
-        tree,
-        base.opened.as_slice(),
-    )?;
     Ok((column, Spot { opened, states }))
 }
 

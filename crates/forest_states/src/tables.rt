@@ -1,53 +1,69 @@
-ghost use Rattle.std.specs.Prelude.{◌≡◌, ◌<◌, [], not, map, length, slice_index_or, IfOk};
+ghost use Rattle.std.specs.Prelude.{◌≡◌, ◌<◌, [], ◌&&◌, ◌||◌, ◌==◌, true, false, not, map, IfOk};
 ghost use Rattle.std.specs.List.{filter};
 ghost use Rattle.clause_encoder.specs.Clauses.{var_of};
-ghost use Rattle.elimination_forests.specs.Branches.{has_true, is_true_by};
+ghost use Rattle.state_rules.specs.Bits.{bit_in};
+ghost use Rattle.elimination_forests.specs.Branches.{is_true_by};
 ghost use Rattle.forest_states.specs.inner.Tables.{pick_entry};
-ghost use Rattle.forest_states.specs.inner.Walked.{merged, within_marked, clause_at, entry_at, goes_to};
+ghost use Rattle.forest_states.specs.inner.Walked.{merged, within_marked, clause_at, entry_of, entry_at, goes_to};
 
 use crate::entries::{Entry, Table};
-use crate::marks::{goes_to, meets_marked, within_marked};
+use crate::marks::{clause_of, goes_to, is_marked};
 use clause_encoder::Cnf;
 use std::alloc::{AllocError, Global};
 
-/// What the bit of a variable does to clauses.
+/// What the bit of a variable does to clauses, and the numbers of those that do not end.
 pub(crate) fn find_table(
     alloc: Global,
     cnf: &Cnf,
     seen: &[bool],
     var: u32,
     numbers: &[u32],
-) -> Result<Table, AllocError>
-    ensures { IfOk result (λ table. table ≡ map (entry_at cnf.now.clauses seen.now var) numbers.now) }
+) -> Result<(Table, Vec<u32>), AllocError>
+    ensures table { IfOk result (λ r. r.0 ≡ map (entry_at cnf.now.clauses seen.now var) numbers.now) }
+    ensures kept { IfOk result (λ r. r.1.items ≡ filter (λ n. not (within_marked var seen.now (clause_at cnf.now.clauses n))) numbers.now) }
 {
     let mut table = Table::new(alloc);
+    let mut kept = Vec::with_capacity(alloc, numbers.len())?;
     for number in numbers {
-        table.push(entry_of(cnf, seen, var, *number))?;
+        let entry = entry_of(seen, var, clause_of(cnf, *number));
+        if !entry.ends {
+            kept.push(*number)?;
+        }
+        table.push(entry)?;
     }
-    Ok(table)
+    Ok((table, kept))
 }
 
-fn entry_of(cnf: &Cnf, seen: &[bool], var: u32, number: u32) -> Entry
-    ensures { result ≡ entry_at cnf.now.clauses seen.now var number }
+// What the bit of a variable does to a clause.
+fn entry_of(seen: &[bool], var: u32, clause: &[i32]) -> Entry
+    ensures { result ≡ entry_of seen.now var clause.now }
+{
+    let mut entry = Entry {
+        fresh: true,
+        true_at_0: false,
+        true_at_1: false,
+        ends: true,
+    };
+    for literal in clause {
+        entry = with_literal(entry, seen, var, *literal);
+    }
+    entry
+}
+
+fn with_literal(entry: Entry, seen: &[bool], var: u32, literal: i32) -> Entry
+    ensures { result ≡ record {
+      fresh = entry.fresh && not (bit_in seen.now (var_of literal));
+      true_at_0 = entry.true_at_0 || is_true_by var false literal;
+      true_at_1 = entry.true_at_1 || is_true_by var true literal;
+      ends = entry.ends && ((var == var_of literal) || bit_in seen.now (var_of literal));
+    } }
 {
     Entry {
-        fresh: !meets_marked(cnf, seen, number),
-        true_at_0: is_made_true(cnf, number, var, false),
-        true_at_1: is_made_true(cnf, number, var, true),
-        ends: within_marked(cnf, seen, var, number),
+        fresh: entry.fresh && !is_marked(seen, literal),
+        true_at_0: entry.true_at_0 || is_true_by(literal, var, false),
+        true_at_1: entry.true_at_1 || is_true_by(literal, var, true),
+        ends: entry.ends && (var == literal.unsigned_abs() || is_marked(seen, literal)),
     }
-}
-
-fn is_made_true(cnf: &Cnf, number: u32, var: u32, bit: bool) -> bool
-    ensures { result ≡ has_true var bit (slice_index_or cnf.now.clauses number []) }
-{
-    number < cnf.len() && has_true(cnf.clause(number), var, bit)
-}
-
-fn has_true(clause: &[i32], var: u32, bit: bool) -> bool
-    ensures { result ≡ has_true var bit clause.now }
-{
-    clause.iter().any(|literal| is_true_by(*literal, var, bit))
 }
 
 fn is_true_by(literal: i32, var: u32, bit: bool) -> bool
@@ -73,43 +89,7 @@ pub(crate) fn merge(alloc: Global, numbers: &[u32], others: &[u32]) -> Result<Ve
     Ok(both)
 }
 
-/// The numbers of the clauses of which some variable but one is not marked.
-pub(crate) fn keep_open(
-    alloc: Global,
-    cnf: &Cnf,
-    seen: &[bool],
-    var: u32,
-    numbers: &[u32],
-) -> Result<Vec<u32>, AllocError>
-    ensures { IfOk result (λ kept. kept.items ≡ filter (λ n. not (within_marked var seen.now (clause_at cnf.now.clauses n))) numbers.now) }
-{
-    numbers
-        .iter()
-        .copied()
-        .filter(|number| !within_marked(cnf, seen, var, *number))
-        .collect(alloc)
-}
-
-/// The numbers of the clauses that go to a tree.
-pub(crate) fn keep_part(
-    alloc: Global,
-    cnf: &Cnf,
-    trees: u32,
-    seen: &[bool],
-    places: &[u32],
-    tree: u32,
-    numbers: &[u32],
-) -> Result<Vec<u32>, AllocError>
-    ensures { IfOk result (λ kept. kept.items ≡ filter (goes_to cnf.now.clauses trees seen.now places.now tree) numbers.now) }
-{
-    numbers
-        .iter()
-        .copied()
-        .filter(|number| goes_to(cnf, trees, seen, places, tree, *number))
-        .collect(alloc)
-}
-
-/// What picks the clauses that go to a tree.
+/// What picks the clauses that go to a tree, and their numbers.
 pub(crate) fn find_picks(
     alloc: Global,
     cnf: &Cnf,
@@ -118,14 +98,20 @@ pub(crate) fn find_picks(
     places: &[u32],
     tree: u32,
     numbers: &[u32],
-) -> Result<Table, AllocError>
-    ensures { IfOk result (λ table. table ≡ map pick_entry (map (goes_to cnf.now.clauses trees seen.now places.now tree) numbers.now)) }
+) -> Result<(Table, Vec<u32>), AllocError>
+    ensures table { IfOk result (λ r. r.0 ≡ map pick_entry (map (goes_to cnf.now.clauses trees seen.now places.now tree) numbers.now)) }
+    ensures kept { IfOk result (λ r. r.1.items ≡ filter (goes_to cnf.now.clauses trees seen.now places.now tree) numbers.now) }
 {
     let mut table = Table::new(alloc);
+    let mut kept = Vec::with_capacity(alloc, numbers.len())?;
     for number in numbers {
-        table.push(pick_entry(goes_to(cnf, trees, seen, places, tree, *number)))?;
+        let is_picked = goes_to(cnf, trees, seen, places, tree, *number);
+        if is_picked {
+            kept.push(*number)?;
+        }
+        table.push(pick_entry(is_picked))?;
     }
-    Ok(table)
+    Ok((table, kept))
 }
 
 fn pick_entry(is_picked: bool) -> Entry

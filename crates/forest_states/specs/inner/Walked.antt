@@ -156,14 +156,17 @@ abbrev pub goes_to : List Clause → ℕ → List Bool → List ℕ → ℕ → 
 goes_to clauses trees marks numbers tree n = list_any (λ l. is_in_tree trees marks numbers tree (var_of l)) (clause_at clauses n)
 
 -- what a bit of a variable does to a clause
-abbrev pub entry_at : List Clause → List Bool → ℕ → ℕ → Entry
-entry_at clauses seen v n =
+abbrev pub entry_of : List Bool → ℕ → Clause → Entry
+entry_of seen v clause =
     record {
-      fresh = not (meets_marked seen (clause_at clauses n));
-      true_at_0 = has_true v false (clause_at clauses n);
-      true_at_1 = has_true v true (clause_at clauses n);
-      ends = within_marked v seen (clause_at clauses n);
+      fresh = not (meets_marked seen clause);
+      true_at_0 = has_true v false clause;
+      true_at_1 = has_true v true clause;
+      ends = within_marked v seen clause;
     }
+
+abbrev pub entry_at : List Clause → List Bool → ℕ → ℕ → Entry
+entry_at clauses seen v n = entry_of seen v (clause_at clauses n)
 
 -- ---- a place: its open clauses, and its states
 

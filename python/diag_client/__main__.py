@@ -10,7 +10,7 @@ import sys
 from typing import Any
 
 from . import bench, board, draw, manual, progress, shell
-from .errors import DiagError
+from .errors import DiagError, sentence
 
 OPTION = re.compile(r"\b(budget|frames|health)=(\w+)")
 
@@ -66,7 +66,7 @@ def main() -> int:
         return 1
     except (DiagError, OSError, ValueError) as error:
         # What Python gives as frames=N is an option here.
-        print("diag_client:", OPTION.sub(r"--\1 \2", str(error).replace("narrow=True", "--narrow")), file=sys.stderr)
+        print("diag_client:", OPTION.sub(r"--\1 \2", sentence(error).replace("narrow=True", "--narrow")), file=sys.stderr)
         return 1
 
 

@@ -114,7 +114,8 @@ class Lines(unittest.TestCase):
             # Only a saved case is written over.
             pathlib.Path(folder, "c17.bench").write_text("INPUT(a)\n")
             self.assertIn("not a saved case", self.say("save ~/c17.bench")[0])
-            self.assertEqual(len(self.say("save ~/case.script", "save", "load", "load ~/nowhere")), 4)
+            self.assertEqual(len(self.say("save ~/case.script", "save", "load")), 3)
+            self.assertEqual(self.say("load ~/nowhere"), [f"{folder}/nowhere: no such file or directory"])
             self.assertEqual(sorted(path.name for path in pathlib.Path(folder).iterdir()), ["c17.bench", "case.script"])
 
     def test_expect(self):

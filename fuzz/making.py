@@ -6,7 +6,7 @@ from functools import partial
 
 from rules import designs, frames, netlists
 from rules.clauses import clauses_of, sum_of, tidied
-from rules.devices import GATES, ODD_ONES
+from rules.devices import GATES, Reduction
 from rules.graphs import BITS_LIMIT
 from rules.runs import FORMS, GRAPHS, LEVELS_LIMIT
 from rules.sessions import COMMANDS, COUNT, PART, PARTS, READING, VALUES, WIRE
@@ -17,7 +17,7 @@ NAMES = [b"a", b"b", b"c", b"a1", b"a-1", b"a.1", b"10", b"2", b"22", b"INPUT", 
 PLAIN_NAMES = [name for name in NAMES if b"." not in name and name != b"AND"]
 # What may stand where a byte is broken.
 BYTES = b"(),=# \t\r\n\x0b\0.-+_~\x7f\x80\xff019aALOn"
-PARITIES = [word for word, gate in GATES.items() if gate.asked == ODD_ONES]
+PARITIES = [word for word, gate in GATES.items() if gate.reduction is Reduction.ODD_ONES]
 VARIABLES = 17
 # So many steps over all times take a tenth of a second, and a greater sum seconds.
 STEPS, SUM = 50000, 5000

@@ -8,8 +8,8 @@ from rules import designs, frames, netlists
 from rules.clauses import clauses_of, sum_of, tidied
 from rules.devices import GATES, Reduction
 from rules.graphs import BITS_LIMIT
-from rules.runs import FORMS, GRAPHS, LEVELS_LIMIT
-from rules.sessions import COMMANDS, COUNT, PART, PARTS, READING, VALUES, WIRE
+from rules.runs import FORMS, GRAPHS, LIMITS, OPTIONS
+from rules.sessions import COUNT, PART, PARTS, READING, TAKES, VALUES, WIRE
 from rules.texts import Refused
 
 NAMES = [b"a", b"b", b"c", b"a1", b"a-1", b"a.1", b"10", b"2", b"22", b"INPUT", b"and", b"AND", b"x[0]", b"~", b"!y", b"Z", b"z" * 64,
@@ -23,6 +23,11 @@ VARIABLES = 17
 STEPS, SUM = 50000, 5000
 # Sets of costs of more words, over all nodes, take the program seconds.
 WORDS = 100000
+# How often commands are in a script, by weight: one that is not named here has 2. With an option some are there so much more often.
+OFTEN = {b"close": 1, b"see": 16, b"hold": 3, b"min": 8, b"next": 10, b"list": 6, b"probe": 4, b"blame": 8,
+         b"level": 0, b"levels": 0, b"leastnnf": 0}
+WITH_OPTION = {b"level": ("--levels", 8), b"levels": ("--levels", 8), b"after": ("--levels", 4), b"leastnnf": ("--least", 8)}
+LEVELS_LIMIT = LIMITS["levels"][1]
 LEVELS = [0, 1, 1, 2, 2, 2, 3, 3, 5, 9, 31, 32, 63, 64, 999, 1000, 3003]
 
 
@@ -180,10 +185,11 @@ def broken(r, text):
 
 
 def commands(options):
-    """The commands, and how often each stands in a script under these options: one that is not allowed now and then."""
-    found = [(command, it.often) for command, it in COMMANDS.items() if it.often]
-    found += [(command, more if option in options else 0.3) for command, it in COMMANDS.items() for option, more in it.more.items()]
-    return zip(*found)
+    """How often each command is in a script under these options: one that is not allowed now and then."""
+    often = {command: OFTEN.get(command, 2) for command in TAKES}
+    for command, (option, more) in WITH_OPTION.items():
+        often[command] += more if option in options else 0.3
+    return often
 
 
 def arguments(r, takes, parts, wires):
@@ -199,8 +205,9 @@ def arguments(r, takes, parts, wires):
 
 
 def script_line(r, sessions, parts, wires, options):
-    command = r.choices(*commands(options))[0]
-    words = [command, r.choice(sessions), *arguments(r, COMMANDS[command].takes, parts, wires)]
+    often = commands(options)
+    command = r.choices([*often], often.values())[0]
+    words = [command, r.choice(sessions), *arguments(r, TAKES[command], parts, wires)]
     return r.choice([b" ", b" ", b" ", b"\t", b" \r"]).join(words)
 
 
@@ -233,7 +240,7 @@ def levels_option(r, nodes):
 def options(r, form, sum, times=0, vars=0):
     """Options in any order, a few of them wrong."""
     # of a form that knows no times, or over a design, it is wrong whatever its number
-    takes = FORMS[form].options
+    takes = OPTIONS[form]
     found = [frames_option(r, times)] if times else []
     # over several times a budget is all that shows the sum
     if "--budget" in takes and chance(r, 60 if times else 30):

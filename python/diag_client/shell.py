@@ -82,7 +82,7 @@ class Shell(cmd.Cmd):
         self.service = service
         self.session = session
         self.has_refused = False
-        self.commands = {name: usage for name, usage in manual.usages(manual.read_help()).items() if name not in ("open", "close")}
+        self.commands = {name: usage for name, usage in manual.usages().items() if name not in ("open", "close")}
         # Those that take one name, so that several are asked one after the other.
         self.for_each = {name for name, usage in self.commands.items() if len(usage.words) == 1 and usage.words[0] != "k"}
         self.intro = f"{service.title}. Type ? for help." if self.prompt else None

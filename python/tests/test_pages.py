@@ -38,7 +38,7 @@ class Help(unittest.TestCase):
             self.assertTrue(all(option.text for option in entry.options), entry.head)
 
     def test_commands(self):
-        usages = manual.usages(self.found)
+        usages = manual.usages()
         self.assertEqual(usages["see"].words, ("w=b",))
         self.assertEqual(usages["after"].words, ("p1", "..", "pk"))
         self.assertEqual(usages["min"].words, ())
@@ -102,12 +102,12 @@ class Completion(unittest.TestCase):
             if "FILE" not in file:
                 self.assertEqual(self.complete(form, ""), [])
                 continue
-            told = {head.split()[0]: len(head.split()) == 2 for head in entry.option_heads()}
+            told = entry.option_words()
             self.assertEqual(self.complete(form, *file, ""), sorted(told), form)
-            for option, takes_number in told.items():
+            for option, number in told.items():
                 follows = self.complete(form, *file, option, "")
-                self.assertEqual(follows, [] if takes_number else sorted(told.keys() - {option}))
-                given = [option, "1"] if takes_number else [option]
+                self.assertEqual(follows, [] if number else sorted(told.keys() - {option}))
+                given = [option, "1"] if number else [option]
                 self.assertEqual(self.complete(form, *file, *given, ""), sorted(told.keys() - {option}))
             if len(file) == 2:
                 self.assertEqual(self.complete(form, file[0], ""), [])

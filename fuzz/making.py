@@ -247,17 +247,13 @@ def options(r, form, sum, times=0, vars=0):
         found.append(["--budget", str(max(1, r.choice([sum - 1, sum - 1, sum, sum, sum, sum + 1, sum // 2, 8388608, 1])))])
     if "--sessions" in takes and chance(r, 40):
         found.append(["--sessions", str(r.choice([1, 1, 2, 3, 1024]))])
-    if "--narrow" in takes and chance(r, 25):
-        found.append(["--narrow"])
     if "--levels" in takes and chance(r, 35):
         found.append(levels_option(r, nodes_within(sum, vars)))
-    if "--least" in takes and chance(r, 35):
-        found.append(["--least"])
+    found += [[option] for option, number in takes.items() if not number and chance(r, 30)]
     r.shuffle(found)
     words = [word for option in found for word in option]
     if chance(r, 2):
-        words.insert(r.randrange(len(words) + 1), r.choice(["--budget", "0", "01", "--sessions", "--narrow", "--frames", "--levels",
-                                                            "--least", "8388609", "1025", "65", "-1", ""]))
+        words.insert(r.randrange(len(words) + 1), r.choice([*OPTIONS["serve"], "0", "01", "8388609", "1025", "65", "-1", ""]))
     return words
 
 
@@ -422,7 +418,7 @@ def crowded(r):
 def misspelling(r):
     """Words in no order, over a file that is there."""
     forms, names = [*FORMS, "load"], ["f.bench", "f.dev", "f.nnf", ".bench", "g.bench"]
-    others = ["1", "0", "801", "--narrow", "--budget", "--sessions", "2", "--frames", "--frames", "--levels", "--least"]
+    others = ["1", "0", "801", "2", *OPTIONS["serve"]]
     files = {"f.bench": b"INPUT(a)\ny = NOT(a)\n", "f.dev": b"block M\nend\ntop M\n", "f.nnf": b"nnf 1 0 1\nL 1\n"}
     words = [r.choice(forms), r.choice(names)]
     given = [*words, *r.choices(others, k=r.randint(0, 4))] if chance(r, 70) else r.choices(forms + names + others, k=r.randint(0, 4))

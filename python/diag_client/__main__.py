@@ -7,12 +7,12 @@ import functools
 import os
 import re
 import sys
-from typing import Any
 
 from . import bench, board, draw, manual, progress, shell
 from .errors import DiagError, sentence
+from .service import LIMITS
 
-OPTION = re.compile(r"\b(budget|frames|health)=(\w+)")
+OPTION = re.compile(rf"\b({'|'.join(LIMITS)})=(\w+)")
 
 
 def words_of() -> argparse.ArgumentParser:
@@ -51,8 +51,7 @@ def main() -> int:
             return 0
         if words.command == "bench":
             return bench.run(words)
-        names = ("narrow", "budget", "frames", "health", "levels", "least", "program")
-        given: dict[str, Any] = {name: value for name in names if (value := getattr(words, name, None)) is not None}
+        given = progress.options_in(words)
         if words.command == "picture":
             return draw.draw(words, lambda: progress.serve(words.file, **given))
         with progress.serve(words.file, **given) as service:

@@ -120,10 +120,6 @@ class Tables(unittest.TestCase):
         told = [entry.head for section in manual.read_help() if section.title == "Exit statuses" for entry in section.entries]
         self.assertEqual([*dict.fromkeys(status for status, *_ in table("docs/SCRIPT.md", "How a run ends"))], told)
 
-    def test_limits(self):
-        shown = re.findall("[0-9,]+[0-9]", " ".join(limit for _, limit in table("docs/SIZE.md", "Limits")))
-        self.assertLessEqual({f"{most:,}" for _, most in LIMITS.values()}, set(shown))
-
     def test_gates(self):
         rows = table("docs/NETLIST.md", "Gates")
         shown = {word: int(inputs.split()[-1]) for cell, _, inputs in rows for word in codes(cell)}

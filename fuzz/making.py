@@ -193,7 +193,7 @@ def commands(options):
 
 
 def arguments(r, takes, parts, wires):
-    """What stands behind the name of a session."""
+    """What follows the name of a session."""
     part, wire = (r.choice(names) if names and not chance(r, 2) else b"nobody" for names in (parts, wires))
     if takes in VALUES:
         return [(wire if takes == READING else part) + b"=" + r.choice([*VALUES[takes]])]

@@ -6,6 +6,7 @@ from diag_client import manual
 from diag_client.service import LIMITS
 
 from . import clauses, designs, frames, graphs, netlists
+from .devices import WIRES_LIMIT
 from .pieces import Bits, Graph, Sum
 from .sessions import System, replies
 from .texts import FILE_LIMIT, Refused, plain_number_in
@@ -197,8 +198,8 @@ def questioned(asked, text, script):
     health, wires = asked.number, vars - asked.number
     if wires < 0:
         raise Refused(f"error: health {health} above {vars}")
-    if wires > 16384:
-        raise Refused(f"error: wires {wires} above 16384")
+    if wires > WIRES_LIMIT:
+        raise Refused(f"error: wires {wires} above {WIRES_LIMIT}")
     if vars > VARIABLES_TRIED:
         raise TooLarge()
     names = [b"%05d" % variable for variable in range(1, vars + 1)]

@@ -16,7 +16,7 @@ TOP = pathlib.Path(__file__).resolve().parents[1]
 sys.path.insert(0, str(TOP / "python"))
 
 from diag_client import Service
-from diag_client.devices import GATES, read_device
+from diag_client.devices import GATES, Reduction, read_device
 
 # The gates have no cycles: a wire has the value that its gate reads, or if its part is faulty, any.
 ENCODING = """
@@ -41,14 +41,13 @@ puts_one(P,T) :- gate(P,K), kind(K,"odd",0), pattern(T), not odd(P,T).
 #project faulty/1.
 #show faulty/1.
 """
-KINDS = {"AND": ("all", 1), "NAND": ("all", 0), "BUFF": ("all", 1), "NOT": ("all", 0), "OR": ("any", 1), "NOR": ("any", 0),
-         "XOR": ("odd", 1), "XNOR": ("odd", 0)}
+ASKED = {Reduction.ALL_ONES: "all", Reduction.ANY_ONE: "any", Reduction.ODD_ONES: "odd"}
 CLASP = ["clasp", "--opt-strategy=usc", "--project=project", "--outf=1"]
 
 
 def facts(inputs, gates, patterns):
     """The device and its patterns below the encoding. A gate is its name, its kind and what it reads; a pattern is what is seen and held."""
-    lines = [f'kind("{word}","{asked}",{one}).' for word, (asked, one) in KINDS.items()]
+    lines = [f'kind("{word}","{ASKED[gate.reduction]}",{gate.positive:d}).' for word, gate in GATES.items()]
     lines += [f'input("{name}").' for name in inputs]
     for name, kind, reads in gates:
         lines.append(f'gate("{name}","{kind}").')

@@ -7,12 +7,12 @@ import functools
 import os
 import re
 import sys
-from typing import Any
 
 from . import bench, board, draw, manual, progress, shell
-from .errors import DiagError
+from .errors import DiagError, sentence
+from .service import LIMITS
 
-OPTION = re.compile(r"\b(budget|frames|health)=(\w+)")
+OPTION = re.compile(rf"\b({'|'.join(LIMITS)})=(\w+)")
 
 
 def words_of() -> argparse.ArgumentParser:
@@ -51,8 +51,7 @@ def main() -> int:
             return 0
         if words.command == "bench":
             return bench.run(words)
-        names = ("narrow", "budget", "frames", "health", "levels", "least", "program")
-        given: dict[str, Any] = {name: value for name in names if (value := getattr(words, name, None)) is not None}
+        given = progress.options_in(words)
         if words.command == "picture":
             return draw.draw(words, lambda: progress.serve(words.file, **given))
         with progress.serve(words.file, **given) as service:
@@ -66,7 +65,7 @@ def main() -> int:
         return 1
     except (DiagError, OSError, ValueError) as error:
         # What Python gives as frames=N is an option here.
-        print("diag_client:", OPTION.sub(r"--\1 \2", str(error).replace("narrow=True", "--narrow")), file=sys.stderr)
+        print("diag_client:", OPTION.sub(r"--\1 \2", sentence(error).replace("narrow=True", "--narrow")), file=sys.stderr)
         return 1
 
 

@@ -5,6 +5,7 @@ from __future__ import annotations
 import collections
 import contextlib
 import logging
+import math
 import os
 import selectors
 import signal
@@ -124,20 +125,19 @@ class Child:
     def expect(self, request: Request) -> None:
         """Waits for what it says unasked."""
         self._awaited.append(request)
-        self._run_until(request)
+        self._finish_reply(request)
 
     def ask(self, requests: Sequence[Request]) -> None:
         """Asks all of these at once, and waits for their replies."""
         if requests:
             self.send(requests)
-            self._run_until(requests[-1])
+            self._finish_reply(requests[-1])
 
     def follow(self, requests: Sequence[Request]) -> Iterator[None]:
         """Asks all of these at once, and comes back each time that something of the replies was read, until they are complete."""
         self.send(requests)
-        while requests and not requests[-1].is_answered:
-            self._turn_for_reply(None)
-            yield
+        if requests:
+            yield from self._run_until(requests[-1])
 
     def send(self, requests: Sequence[Request]) -> None:
         """Asks all of these at once. Their replies are taken when they come."""
@@ -166,7 +166,7 @@ class Child:
         if not self.is_own:
             raise OtherProcess(self._owner)
         if self._awaited and self._in_step and self._over is None:
-            self._run_until(self._awaited[-1])
+            self._finish_reply(self._awaited[-1])
 
     def is_behind(self) -> bool:
         """Whether something that was asked is still to be answered, once all that has come by now is read. It waits for nothing."""
@@ -200,19 +200,21 @@ class Child:
         assert self._over is not None
         return Ended(*self._over.args)
 
-    def _run_until(self, request: Request) -> None:
-        """Writes and reads until the request is answered, and all before it."""
-        deadline = None if self._timeout is None else time.monotonic() + self._timeout
-        while not request.is_answered:
-            self._turn_for_reply(deadline)
+    def _finish_reply(self, request: Request) -> None:
+        for _ in self._run_until(request):
+            pass
 
-    def _turn_for_reply(self, deadline: float | None) -> None:
-        if self._is_out():
-            self._finish()
-            raise self.ended()
-        left = LONGEST_WAIT if deadline is None else max(0.0, min(deadline - time.monotonic(), LONGEST_WAIT))
-        if not self._turn(left) and deadline is not None and self._timeout is not None and time.monotonic() >= deadline:
-            raise TimedOut(self._timeout)
+    def _run_until(self, request: Request) -> Iterator[None]:
+        """Writes and reads until the request is answered, and all before it, and comes back each time that something was."""
+        timeout = math.inf if self._timeout is None else self._timeout
+        deadline = time.monotonic() + timeout
+        while not request.is_answered:
+            if self._is_out():
+                self._finish()
+                raise self.ended()
+            if not self._turn(max(0.0, min(deadline - time.monotonic(), LONGEST_WAIT))) and time.monotonic() >= deadline:
+                raise TimedOut(timeout)
+            yield
 
     def _turn(self, seconds: float = LONGEST_WAIT) -> bool:
         """Waits until some end is ready, and serves those that are: False if none was in time. An interrupt comes while it waits."""

@@ -10,6 +10,18 @@ class DiagError(Exception):
     """All errors of this client."""
 
 
+def sentence(error: BaseException) -> str:
+    """What an error says, without the number that the operating system gives it.
+
+    >>> sentence(OSError(28, "No space left on device", "out.svg"))
+    'out.svg: no space left on device'
+    """
+    if not isinstance(error, OSError) or not error.strerror:
+        return str(error)
+    told = error.strerror[:1].lower() + error.strerror[1:]
+    return told if error.filename is None else f"{error.filename}: {told}"
+
+
 class NotBuilt(DiagError):
     """There is no program to start. The text says what to do."""
 

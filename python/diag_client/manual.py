@@ -43,10 +43,10 @@ class Entry:
     notes: str = ""
     indent: int = dataclasses.field(default=0, repr=False)
 
-    def option_heads(self) -> list[str]:
-        """The options that may follow, by whatever is said of it, with the number that follows one."""
+    def option_words(self) -> dict[str, str]:
+        """The options that may follow, by whatever is said of it, each with the letter of the number that follows it, if one does."""
         said = [self.text, self.notes] + [option.head for option in self.options]
-        return sorted(set(re.findall(r"--[a-z]+(?: [A-Z]\b)?", " ".join(said))))
+        return dict(sorted(re.findall(r"(--[a-z]+)(?: ([A-Z])\b)?", " ".join(said))))
 
 
 @dataclasses.dataclass
@@ -69,6 +69,11 @@ class Usage:
 def read_help() -> list[Section]:
     """What `diag --help` prints."""
     return sections(HELP.read_text(encoding="utf-8"))
+
+
+def forms() -> dict[str, Entry]:
+    """The forms of the command line, by their first words."""
+    return {entry.head.split()[1]: entry for entry in read_help()[0].entries}
 
 
 def sections(text: str) -> list[Section]:
@@ -111,10 +116,10 @@ def _add_line(section: Section, line: str) -> None:
         entry.text = f"{entry.text} {line.strip()}".strip()
 
 
-def usages(found: Sequence[Section]) -> dict[str, Usage]:
+def usages() -> dict[str, Usage]:
     """The commands of a script, by their words: those of the section whose entries name a session."""
     rows = {}
-    for section in found:
+    for section in read_help():
         if not section.title.startswith("Lines of a script"):
             continue
         for entry in section.entries:
@@ -160,7 +165,7 @@ def page(found: Sequence[Section]) -> str:
     ]
     launchers = [entry for section in others for entry in section.entries if entry.head.startswith("diag ")]
     for entry in forms.entries + launchers:
-        options = "".join(f" [{option}]" for option in entry.option_heads() if entry not in launchers)
+        options = "".join(f" [{' '.join(words).strip()}]" for words in entry.option_words().items() if entry not in launchers)
         lines += [f".B {_roff(entry.head + options)}", ".br"]
     lines[-1] = ".SH DESCRIPTION"
     lines.append(_roff(SUMMARY))

@@ -10,7 +10,7 @@ import sys
 import tempfile
 from collections.abc import Sequence
 
-from .errors import DiagError
+from .errors import DiagError, sentence
 from .netlist_circuit import Circuit, Node, UnusableNetlist, kind_of
 from .netlist_readers import READERS, TABLES, TO_PLAIN_CELLS
 
@@ -175,7 +175,7 @@ def main(words: Sequence[str] | None = None) -> int:
     try:
         print("\n".join(convert(given.file, given.output)))
     except (DiagError, OSError) as error:
-        print(f"diag-netlist: {'' if isinstance(error, OSError) else f'{given.file}: '}{error}", file=sys.stderr)
+        print(f"diag-netlist: {'' if isinstance(error, OSError) else f'{given.file}: '}{sentence(error)}", file=sys.stderr)
         return 1
     return 0
 

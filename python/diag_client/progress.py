@@ -2,6 +2,7 @@
 
 from __future__ import annotations
 
+import argparse
 import os
 import sys
 import threading
@@ -63,6 +64,11 @@ def compiling(file: str | os.PathLike[str], options: Mapping[str, Any]) -> Progr
     """The progress of a service while it is made."""
     work = "compiling" if options.get("narrow") is False else "searching a forest and compiling"
     return Progress(f"{work if options.get('health') is None else 'reading'} {os.path.basename(os.fspath(file))}")
+
+
+def options_in(words: argparse.Namespace) -> dict[str, Any]:
+    """The options of a service that the words give."""
+    return {name: value for name, value in vars(words).items() if name in Service.__init__.__kwdefaults__ and value is not None}
 
 
 def serve(file: str | os.PathLike[str], **options: Any) -> Service:

@@ -15,7 +15,7 @@ from typing import Any
 
 from . import graphviz, manual, picture
 from .devices import read_device
-from .errors import DiagError, Ended, Inconsistent, Refused
+from .errors import DiagError, Ended, Inconsistent, Refused, sentence
 from .progress import Progress
 from .replies import AnyLines, Lines
 from .service import Service
@@ -82,7 +82,7 @@ class Shell(cmd.Cmd):
         self.service = service
         self.session = session
         self.has_refused = False
-        self.commands = {name: usage for name, usage in manual.usages(manual.read_help()).items() if name not in ("open", "close")}
+        self.commands = {name: usage for name, usage in manual.usages().items() if name not in ("open", "close")}
         # Those that take one name, so that several are asked one after the other.
         self.for_each = {name for name, usage in self.commands.items() if len(usage.words) == 1 and usage.words[0] != "k"}
         self.intro = f"{service.title}. Type ? for help." if self.prompt else None
@@ -106,7 +106,7 @@ class Shell(cmd.Cmd):
         except (DiagError, OSError, ValueError, TypeError) as error:
             if isinstance(error, Ended) and not self.use_rawinput:
                 raise
-            self.refuse(str(error))
+            self.refuse(sentence(error))
         return False
 
     def refuse(self, text: str) -> None:
@@ -230,8 +230,10 @@ class Shell(cmd.Cmd):
         """The case as a script."""
         path = _path(rest, "save FILE: into which file? board.script, say")
         self._waited("save", self.service.catch_up)
-        if path.exists() and not path.read_bytes().startswith(b"open "):
-            raise ValueError(f"{path} is there and is not a saved case: choose another name")
+        if path.exists():
+            with path.open("rb") as there:
+                if there.read(len(b"open ")) != b"open ":
+                    raise ValueError(f"{path} is there and is not a saved case: choose another name")
         text, told = self._saved()
         beside = path.with_name(path.name + ".new")
         beside.write_text(text, encoding="utf-8", errors="surrogateescape")
@@ -475,7 +477,7 @@ def run(service: Service, begin: Callable[[Service, Session], Shell] = Shell) ->
             try:
                 readline.write_history_file(history_file())
             except OSError as error:
-                print(f"diag_client: history: {error}", file=sys.stderr)
+                print(f"diag_client: history: {sentence(error)}", file=sys.stderr)
     return int(shell.has_refused and not shell.use_rawinput)
 
 

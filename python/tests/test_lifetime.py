@@ -3,6 +3,7 @@
 import contextlib
 import gc
 import io
+import itertools
 import logging
 import os
 import pathlib
@@ -231,6 +232,15 @@ class Waits(unittest.TestCase):
             service._child._timeout = 0.2
             session.minimum()
         self.assertIsInstance(TimedOut(1), TimeoutError)
+
+    def test_timeout_of_what_is_printed_as_it_comes(self):
+        service = served("dozes")
+        self.addCleanup(service.stop)
+        request = service.session("S").requests([["min"]])
+        service._child._timeout = 0.2
+        with self.assertRaises(TimedOut):
+            # It comes back now and then without an answer, so that this ends in any case.
+            list(itertools.islice(service.follow(request), 10))
 
     def test_timeout_leaves_it_in_step(self):
         with served("sleeps") as service, service.session("S") as session:

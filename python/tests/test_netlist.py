@@ -305,6 +305,7 @@ class ByHand(Converts):
             with contextlib.redirect_stderr(io.StringIO()) as said:
                 self.assertEqual(netlist.main([str(path)]), 1)
             self.assertIn(name, said.getvalue())
+            self.assertNotIn("Errno", said.getvalue())
 
     def test_connections_in_a_ring(self):
         circuit = read_blif(".model m\n.inputs a\n.outputs y\n.names y z\n1 1\n.names z y\n1 1\n.end\n")

@@ -1,4 +1,4 @@
-"""The manual page and the completion say what the launcher's help says."""
+"""The manual page, the completion and the tables of the pages say what the launcher's help says."""
 
 import os
 import pathlib
@@ -13,6 +13,8 @@ from unittest import mock
 from support import TOP
 
 from diag_client import manual
+from diag_client.devices import GATES
+from diag_client.service import LIMITS
 
 COMPLETION = TOP / "completions/diag.bash"
 PAGE = TOP / "docs/diag.1"
@@ -38,7 +40,7 @@ class Help(unittest.TestCase):
             self.assertTrue(all(option.text for option in entry.options), entry.head)
 
     def test_commands(self):
-        usages = manual.usages(self.found)
+        usages = manual.usages()
         self.assertEqual(usages["see"].words, ("w=b",))
         self.assertEqual(usages["after"].words, ("p1", "..", "pk"))
         self.assertEqual(usages["min"].words, ())
@@ -72,6 +74,58 @@ class Page(unittest.TestCase):
                     self.assertIn(said, text)
 
 
+def table(page, heading, number=0):
+    """The rows of a table of a page, each as its cells."""
+    text = (TOP / page).read_text().split(f"\n## {heading}\n")[1].split("\n## ")[0]
+    rows = re.findall(r"(?:^\|.*\n)+", text, re.MULTILINE)[number].splitlines()[2:]
+    return [[cell.strip() for cell in row.strip("|").split("|")] for row in rows]
+
+
+def codes(cell):
+    """What is code in a cell."""
+    return re.findall("`(.*?)`", cell)
+
+
+class Tables(unittest.TestCase):
+    """What several pages say of one thing is the same, and is what the help and the client say."""
+
+    def test_commands(self):
+        shown = [codes(cell)[0] for cell, *_ in table("docs/SCRIPT.md", "Commands")]
+        self.assertEqual(shown, [" ".join([name, "S", *usage.words]) for name, usage in manual.usages().items()])
+
+    def test_forms(self):
+        heads = {word: entry.head for word, entry in manual.forms().items()}
+        self.assertEqual([codes(cell) for cell, _ in table("README.md", "The commands")], [[head] for head in heads.values()])
+        for shown, _ in table("docs/SCRIPT.md", "The command line"):
+            words, _, options = shown.strip("`").partition(" [")
+            form = words.split()[0]
+            self.assertEqual(f"diag {words}", heads.pop(form))
+            if options != "options]":
+                told = [" ".join(option).strip() for option in manual.forms()[form].option_words().items()]
+                self.assertEqual(options.rstrip("]").split("] [") if options else [], told)
+        self.assertEqual(heads, {})
+
+    def test_options(self):
+        told = {option.head: option.text for option in manual.forms()["serve"].options}
+        for head, values, default, _ in table("docs/SCRIPT.md", "The command line", 1):
+            text = told.pop(*codes(head))
+            numbers = re.sub("[^0-9 ]", "", values).split()
+            self.assertEqual(re.findall("from ([0-9]+) to ([0-9]+)", text), [tuple(numbers)] if numbers else [])
+            self.assertEqual(re.findall("; ([0-9]+) if none is given", text), re.findall("[0-9]+", default.replace(",", "")))
+            if numbers:
+                self.assertEqual(LIMITS[head.split()[0].strip("`-")], tuple(map(int, numbers)))
+        self.assertEqual(told, {})
+
+    def test_statuses(self):
+        told = [entry.head for section in manual.read_help() if section.title == "Exit statuses" for entry in section.entries]
+        self.assertEqual([*dict.fromkeys(status for status, *_ in table("docs/SCRIPT.md", "How a run ends"))], told)
+
+    def test_gates(self):
+        rows = table("docs/NETLIST.md", "Gates")
+        shown = {word: int(inputs.split()[-1]) for cell, _, inputs in rows for word in codes(cell)}
+        self.assertEqual(shown, {word: gate.most_inputs for word, gate in GATES.items()})
+
+
 class Completion(unittest.TestCase):
     """`completions/diag.bash`, asked as bash asks it."""
 
@@ -102,12 +156,12 @@ class Completion(unittest.TestCase):
             if "FILE" not in file:
                 self.assertEqual(self.complete(form, ""), [])
                 continue
-            told = {head.split()[0]: len(head.split()) == 2 for head in entry.option_heads()}
+            told = entry.option_words()
             self.assertEqual(self.complete(form, *file, ""), sorted(told), form)
-            for option, takes_number in told.items():
+            for option, number in told.items():
                 follows = self.complete(form, *file, option, "")
-                self.assertEqual(follows, [] if takes_number else sorted(told.keys() - {option}))
-                given = [option, "1"] if takes_number else [option]
+                self.assertEqual(follows, [] if number else sorted(told.keys() - {option}))
+                given = [option, "1"] if number else [option]
                 self.assertEqual(self.complete(form, *file, *given, ""), sorted(told.keys() - {option}))
             if len(file) == 2:
                 self.assertEqual(self.complete(form, file[0], ""), [])

@@ -326,7 +326,7 @@ class Served(unittest.TestCase):
     def test_says_what_is_wrong(self):
         for words, why in (
             ((C17, "-", "--session", "T"), "opens no session T"),
-            (("nowhere.bench",), "nowhere.bench"),
+            (("nowhere.bench",), ": nowhere.bench: no such file or directory\n"),
             ((C17, "nowhere.script"), "nowhere.script"),
             ((EXAMPLES / "lamps.nnf",), "lamps.nnf"),
             ((C17, "-o", "out"), "such as out.svg"),

@@ -53,7 +53,7 @@ class Lines(unittest.TestCase):
     def test_all_commands_are_there(self):
         """What the help names is answered as the program answers it."""
         words = {"w=b": "1=0", "w": "1", "p=m": "10=ok", "p": "10", "k": "2", "p1": "10", "..": "", "pk": "16"}
-        for name, usage in manual.usages(manual.read_help()).items():
+        for name, usage in manual.usages().items():
             if name not in ("open", "close"):
                 follows = " ".join(words[word] for word in usage.words)
                 told = [line.removeprefix("S ") for line in replies(["open S", f"{name} S {follows}"], "--narrow")[1:]]
@@ -114,7 +114,8 @@ class Lines(unittest.TestCase):
             # Only a saved case is written over.
             pathlib.Path(folder, "c17.bench").write_text("INPUT(a)\n")
             self.assertIn("not a saved case", self.say("save ~/c17.bench")[0])
-            self.assertEqual(len(self.say("save ~/case.script", "save", "load", "load ~/nowhere")), 4)
+            self.assertEqual(len(self.say("save ~/case.script", "save", "load")), 3)
+            self.assertEqual(self.say("load ~/nowhere"), [f"{folder}/nowhere: no such file or directory"])
             self.assertEqual(sorted(path.name for path in pathlib.Path(folder).iterdir()), ["c17.bench", "case.script"])
 
     def test_expect(self):
@@ -147,7 +148,7 @@ class Lines(unittest.TestCase):
 
     def test_help(self):
         told = self.say("?")
-        for name in [*manual.usages(manual.read_help()), *shell.MORE]:
+        for name in [*manual.usages(), *shell.MORE]:
             self.assertEqual(any(line.startswith(name) for line in told), name not in ("open", "close"), name)
         self.assertEqual(self.say("? min"), [f"{'min':18}{self.shell.commands['min'].text}"])
 

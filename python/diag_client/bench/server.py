@@ -26,6 +26,7 @@ from collections.abc import Iterator
 from typing import Any
 
 from ..errors import DiagError
+from ..progress import options_in
 from .boards import Bench, Board, Gone
 from .cases import Bad
 
@@ -320,11 +321,9 @@ def _listening(bench: Bench, words: argparse.Namespace) -> Server:
 
 def run(words: argparse.Namespace) -> int:
     """Serves the page until an interrupt, and gives the exit status."""
-    names = ("narrow", "budget", "frames", "levels", "program")
-    given = {name: getattr(words, name) for name in names if getattr(words, name) is not None}
     if not 0 <= words.port <= 65535:
         raise ValueError(f"--port is from 0 to 65535, not {words.port}")
-    bench = Bench(words.file, **given)
+    bench = Bench(words.file, **options_in(words))
     sys.setswitchinterval(SWITCH)
     try:
         with _listening(bench, words) as server:

@@ -3,7 +3,7 @@ use crate::texts::clauses_of;
 use branch_states::Branches;
 use std::test::Fail;
 
-/// An inverter has three levels, and at the first its health leaves all clauses done, or both of them open.
+/// An inverter has three variables, and after the first its health leaves all clauses done, or both of them open.
 #[test]
 fn walks_the_levels(rt: HostRuntime) -> Result<(), Fail> {
     let alloc = rt.alloc();
